@@ -9,7 +9,7 @@ use Rattle.src_parser.specs.Refusals.{token_kinds}
 use Rattle.src_parser.specs.Operands.{Reading, TokenStep, Moves, Stops, Deep, reads, whole}
 use Rattle.src_parser.specs.Expressions.{IsExpression, ExpressionBegins, FoundExpression, StrayToken, TokenTooDeep, CutExpression}
 use Rattle.src_parser.specs.ReadTokens.{reads_all, left_whole, ended}
-use Rattle.src_parser.proofs.Places.{split_at, kinds_more}
+use Rattle.src_parser.proofs.TokenPlaces.{split_at, kinds_more}
 use Rattle.src_parser.proofs.ReadTokens.{first, begins, is_expression, stops_all, deep_none, unfinished, alike, one_more, wider}
 
 -- a token that is read

@@ -44,7 +44,7 @@ HasNoName [] = Unit {0}
 HasNoName (kind.Word name ∷ tokens) = ⊥
 HasNoName (k ∷ tokens) = HasNoName tokens
 
-no_name_in_both : (ts us : List TokenKind) → HasNoName ts → HasNoName us → HasNoName (ts ++ us)
+pub no_name_in_both : (ts us : List TokenKind) → HasNoName ts → HasNoName us → HasNoName (ts ++ us)
 no_name_in_both [] us g h = h
 no_name_in_both (kind.Word name ∷ ts) us g h = absurd g
 no_name_in_both (_ ∷ ts) us g h = no_name_in_both ts us g h

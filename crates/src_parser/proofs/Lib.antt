@@ -7,11 +7,17 @@ pub mod Standing
 pub mod Steps
 pub mod Rooms
 pub mod Braces
+pub mod HeadingTokens
+pub mod PartTokens
+pub mod PartRead
+pub mod ProgramRooms
+pub mod ProgramBraces
 pub mod Refused
 pub mod Places
 pub mod ReadTokens
 pub mod ExpressionPlaces
 pub mod ExpressionTokens
+pub mod TokenPlaces
 pub mod Tokenwise
 pub mod Rendered
 pub mod LoneTokens

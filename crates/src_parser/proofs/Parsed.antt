@@ -1,18 +1,20 @@
 -- What is a program by the grammar is read as that program.
-use Rattle.std.proofs.Common.{◌≡◌, ◌≢◌, ℕ, ◌+◌, ◌<◌, List, [], ◌∷◌, ◌++◌, length, Some, None, refl, sym, ap, ◌∙◌, subst, append_assoc, arith}
+use Rattle.std.proofs.Common.{◌≡◌, ℕ, ◌<◌, List, [], ◌∷◌, ◌++◌, length, Option, Some, None, refl, sym, ap, ◌∙◌, append_assoc, arith}
 use Rattle.std.specs.Prelude.{nat_lt}
 use Rattle.std.proofs.lemmas.List.{append-nil}
 use Rattle.std.proofs.lemmas.Bool.{lt-ltb}
-use Rattle.gr_word.specs.declared.operations.Cmp.{Cmp}
 use Rattle.gr_word.specs.declared.variables.Label.TheVariants.{Public, Secret}
 use Rattle.src_lexer.specs.declared.tokens.TokenKind.{TokenKind}
 use Rattle.src_lexer.specs.declared.tokens.TokenKind.TheVariants as kind
 use Rattle.src_tree.specs.declared.trees.Decl.{Decl}
-use Rattle.src_tree.specs.Trees.{Tree, Test, Statement, SetVariable, SetElement, Choice, Loop, Block, Nothing, Then, block_of, Source}
-use Rattle.src_parser.specs.Grammar.{Limits, operator_of, comparison_of, operators, Compares, Compared, Writes, Ends, Sets, Puts, Chooses, ChoosesElse, Repeats, Declares, NoMore, Scalar, Array, Sentence, Program}
-use Rattle.src_parser.specs.Operands.{At, Wanted, Given, Stops, Joins, closing}
-use Rattle.src_parser.specs.Turns.{Form, ForChoice, ForLoop, Asked, Value, Place, Stored, Left, Right, Outer, InFirst, InSecond, InLoop, Ready, MayElse, Guarding, Guarded, Inside, Fresh, Declaring, Doing, Goes, with_braces, between_statements, chosen, elsing, in_expression, does, declared, program_of, after_turn, parsed}
-use Rattle.src_parser.proofs.Complete.{Runs, Follows, closer, complete}
+use Rattle.src_tree.specs.Trees.{Test, Statement, SetVariable, SetElement, Choice, Loop, Block, Nothing, Then, block_of, Source}
+use Rattle.src_parser.specs.Grammar.{Limits, Writes, Ends, Sets, Puts, Chooses, ChoosesElse, Repeats, Declares, NoMore, Scalar, Array, Sentence, Program}
+use Rattle.src_parser.specs.Headings.{declared}
+use Rattle.src_parser.specs.Parts.{ForChoice, ForLoop, in_expression}
+use Rattle.src_parser.specs.Tokenwise as tokenwise
+use Rattle.src_parser.specs.Tokenwise.{after_turn, mapped, with_braces}
+use Rattle.src_parser.specs.Turns.{Outer, InFirst, InSecond, InLoop, Ready, MayElse, ParserState, Between, Doing, between_statements, chosen, elsing, with_part, program_of, turned}
+use Rattle.src_parser.proofs.PartRead.{PartRuns, variable_read, element_read, guard_read}
 
 -- the statements of a block
 abbrev pub statements_of : Block → List Statement
@@ -22,6 +24,9 @@ statements_of (Then s block) = s ∷ statements_of block
 pub block_again : (block : Block) → block_of (statements_of block) ≡ block
 block_again Nothing = refl
 block_again (Then s block) = ap (Then s) (block_again block)
+
+abbrev pub parsed : Limits → ParserState → List TokenKind → Option Source
+parsed = tokenwise.parsed turned program_of
 
 -- tokens that don't begin with `else`
 abbrev pub NoElse : List TokenKind → Type 0
@@ -54,58 +59,14 @@ settled most decls outer here test first [] h = settled_end decls outer here tes
 settled most decls outer here test first (k ∷ ks) h =
     ap (λ t. after_turn t (λ next. parsed most next ks)) (settled_kind most decls outer here test first k ks h)
 
--- an expression in a statement goes on as its tokens are read
-expression_runs : (most : Limits) (decls : List Decl) (outer : List Outer) (here : List Statement) (asked : Asked) →
-    Runs most (λ x ks. parsed most (Doing decls outer here (Inside asked x)) ks)
-expression_runs most decls outer here asked = record {
-  moves = λ x y k ks e. ap (λ s. after_turn (in_expression decls outer here asked k s) (λ next. parsed most next ks)) e;
-  same = λ x y k ks e. ap (λ s. after_turn (in_expression decls outer here asked k s) (λ next. parsed most next ks)) e;
+-- a part in a statement goes on as its tokens are read
+part_runs : (most : Limits) (decls : List Decl) (outer : List Outer) (here : List Statement)
+    → PartRuns most (λ s ks. parsed most (with_part decls outer here s) ks)
+part_runs most decls outer here = record {
+  goes = λ part s k ks e. ap (λ t. after_turn (mapped (with_part decls outer here) t) (λ next. parsed most next ks)) e;
+  same = λ asked x y k ks e. ap (λ s. after_turn (mapped (with_part decls outer here) (in_expression asked k s))
+      (λ next. parsed most next ks)) e;
 }
-
-stops_whole : (used : ℕ) (tree : Tree) (depth : ℕ) (k : TokenKind)
-    → closing used k (Joins [] tree depth) ≡ Stops (At [] depth used (Given tree))
-stops_whole used tree depth kind.RParen = refl
-stops_whole used tree depth _ = refl
-
-no_operator : (k : TokenKind) (cmp : Cmp) → comparison_of k ≡ Some cmp → operator_of k ≡ None
-no_operator kind.Eq cmp e = refl
-no_operator _ cmp e = cc
-
-no_bracket : (k : TokenKind) (cmp : Cmp) → comparison_of k ≡ Some cmp → k ≢ kind.LBracket
-no_bracket k cmp e is =
-    let f : comparison_of kind.LBracket ≡ Some cmp = subst (λ z. comparison_of z ≡ Some cmp) is e in absurd (cc)
-
-right_paren : Follows 0 kind.RParen
-right_paren = closer 0 kind.RParen (λ e. absurd (cc)) refl
-
-right_bracket : Follows 0 kind.RBracket
-right_bracket = closer 0 kind.RBracket (λ e. absurd (cc)) refl
-
-semicolon : Follows 0 kind.Semi
-semicolon = closer 0 kind.Semi (λ e. absurd (cc)) refl
-
-left_ends : (most : Limits) (decls : List Decl) (outer : List Outer) (here : List Statement) (form : Form) (a : Tree)
-    (used : ℕ) (sign : TokenKind) (cmp : Cmp) → comparison_of sign ≡ Some cmp
-    → does most decls outer here (Inside (Left form) (At [] 0 used (Given a))) sign
-    ≡ Goes (Doing decls outer here (Inside (Right form cmp a) (At [] 0 used Wanted)))
-left_ends most decls outer here form a used sign cmp is =
-    rw (no_operator sign cmp is, stops_whole used a 0 sign, is) refl
-
--- a guard is read as its test
-guard_parsed : {most : Limits} {tokens : List TokenKind} {test : Test} → Compares most tokens test
-    → (decls : List Decl) (outer : List Outer) (here : List Statement) (form : Form) (ks : List TokenKind)
-    → parsed most (Doing decls outer here (Guarding form)) (kind.LParen ∷ (tokens ++ kind.RParen ∷ ks))
-    ≡ parsed most (Doing decls outer here (Guarded form test)) ks
-guard_parsed {most} (Compared {left = left} {right = right} {a = a} {b = b} cmp sign is first second fits) decls outer
-    here form ks =
-    rw (append_assoc left (sign ∷ right) (kind.RParen ∷ ks))
-    (complete most _ (expression_runs most decls outer here (Left form)) first [] 0 (operators a) sign
-    (right ++ kind.RParen ∷ ks) (omega arith) (closer 0 sign (no_bracket sign cmp is) (no_operator sign cmp is))
-    (omega arith) (omega arith) ∙
-    (ap (λ t. after_turn t (λ next. parsed most next (right ++ kind.RParen ∷ ks)))
-    (left_ends most decls outer here form a (operators a) sign cmp is) ∙
-    complete most _ (expression_runs most decls outer here (Right form cmp a)) second [] (operators a)
-    (operators a + operators b) kind.RParen ks (omega arith) right_paren refl fits))
 
 enters : (most : Limits) (decls : List Decl) (outer : List Outer) (next : Outer) (depth : ℕ) (ks : List TokenKind)
     → length outer ≡ depth → depth < most.braces
@@ -133,26 +94,23 @@ written {most} Ends decls outer here more deep free =
 written {most} (Sets {tokens = tokens} {rest = rest} {value = value} {block = block} name s fits others) decls outer
     here more deep free =
     rw (last_in tokens rest more kind.Semi)
-    (complete most _ (expression_runs most decls outer here (Value name)) s [] 0 (operators value) kind.Semi
-    (rest ++ more) (omega arith) semicolon (omega arith) fits ∙
+    (variable_read most _ (part_runs most decls outer here) name s fits (rest ++ more) ∙
     (written others decls outer (here ++ SetVariable name value ∷ []) more deep free ∙
     ap (λ z. parsed most (Doing decls outer z Ready) more) (one_more here (SetVariable name value) block)))
 written {most} (Puts {at = at} {tokens = tokens} {rest = rest} {index = index} {value = value}
     {block = block} name i s fits others) decls outer here more deep free =
     rw (last_in at (kind.Assign ∷ (tokens ++ kind.Semi ∷ rest)) more kind.RBracket, last_in tokens rest more kind.Semi)
-    (complete most _ (expression_runs most decls outer here (Place name)) i [] 0 (operators index) kind.RBracket
-    (kind.Assign ∷ (tokens ++ kind.Semi ∷ (rest ++ more))) (omega arith) right_bracket (omega arith) (omega arith) ∙
-    (complete most _ (expression_runs most decls outer here (Stored name index)) s [] (operators index)
-    (operators index + operators value) kind.Semi (rest ++ more) (omega arith) semicolon refl fits ∙
+    (element_read most _ (part_runs most decls outer here) name i s fits (rest ++ more) ∙
     (written others decls outer (here ++ SetElement name index value ∷ []) more deep free ∙
-    ap (λ z. parsed most (Doing decls outer z Ready) more) (one_more here (SetElement name index value) block))))
+    ap (λ z. parsed most (Doing decls outer z Ready) more) (one_more here (SetElement name index value) block)))
 written {most} {depth} (Chooses {guard = guard} {tokens = tokens} {rest = rest} {test = test} {first = first}
     {block = block} g room body others) decls outer here more deep free =
     rw (
       last_in guard (kind.LBrace ∷ (tokens ++ kind.RBrace ∷ rest)) more kind.RParen,
       last_in tokens rest more kind.RBrace,
     )
-    (guard_parsed g decls outer here ForChoice (kind.LBrace ∷ (tokens ++ kind.RBrace ∷ (rest ++ more))) ∙
+    (guard_read most _ (part_runs most decls outer here) g ForChoice
+    (kind.LBrace ∷ (tokens ++ kind.RBrace ∷ (rest ++ more))) ∙
     (enters most decls outer (InFirst test here) depth (tokens ++ kind.RBrace ∷ (rest ++ more)) deep room ∙
     (written body decls (InFirst test here ∷ outer) [] (kind.RBrace ∷ (rest ++ more)) (omega arith) tt ∙
     (settled most decls outer here test (statements_of first) (rest ++ more) (no_else others more free) ∙
@@ -168,7 +126,7 @@ written {most} {depth} (ChoosesElse {guard = guard} {tokens = tokens} {others = 
       last_in tokens (kind.Else ∷ kind.LBrace ∷ (others ++ kind.RBrace ∷ rest)) more kind.RBrace,
       last_in others rest more kind.RBrace,
     )
-    (guard_parsed g decls outer here ForChoice
+    (guard_read most _ (part_runs most decls outer here) g ForChoice
     (kind.LBrace ∷ (tokens ++ kind.RBrace ∷ kind.Else ∷ kind.LBrace ∷ (others ++ kind.RBrace ∷ (rest ++ more)))) ∙
     (enters most decls outer (InFirst test here) depth
     (tokens ++ kind.RBrace ∷ kind.Else ∷ kind.LBrace ∷ (others ++ kind.RBrace ∷ (rest ++ more))) deep room ∙
@@ -190,7 +148,8 @@ written {most} {depth} (Repeats {guard = guard} {tokens = tokens} {rest = rest} 
       last_in guard (kind.LBrace ∷ (tokens ++ kind.RBrace ∷ rest)) more kind.RParen,
       last_in tokens rest more kind.RBrace,
     )
-    (guard_parsed g decls outer here ForLoop (kind.LBrace ∷ (tokens ++ kind.RBrace ∷ (rest ++ more))) ∙
+    (guard_read most _ (part_runs most decls outer here) g ForLoop
+    (kind.LBrace ∷ (tokens ++ kind.RBrace ∷ (rest ++ more))) ∙
     (enters most decls outer (InLoop test here) depth (tokens ++ kind.RBrace ∷ (rest ++ more)) deep room ∙
     (written inner decls (InLoop test here ∷ outer) [] (kind.RBrace ∷ (rest ++ more)) (omega arith) tt ∙
     (ap (λ z. parsed most (Doing decls outer (here ++ Loop test z ∷ []) Ready) (rest ++ more)) (block_again body) ∙
@@ -200,31 +159,31 @@ written {most} {depth} (Repeats {guard = guard} {tokens = tokens} {rest = rest} 
 -- before the first statement
 starts_kind : (most : Limits) (decls : List Decl) (tokens : List TokenKind) {block : Block} {depth : ℕ}
     → Writes most depth tokens block
-    → parsed most (Declaring decls Fresh) tokens ≡ parsed most (Doing decls [] [] Ready) tokens
+    → parsed most (Between decls) tokens ≡ parsed most (Doing decls [] [] Ready) tokens
 starts_kind most decls tokens Ends = refl
 starts_kind most decls tokens _ = refl
 
 -- declarations are read as their list
 heads : (most : Limits) {front : List TokenKind} {decls : List Decl}
     → Declares front decls → (before : List Decl) (back : List TokenKind)
-    → parsed most (Declaring before Fresh) (front ++ back) ≡ parsed most (Declaring (before ++ decls) Fresh) back
-heads most NoMore before back = ap (λ z. parsed most (Declaring z Fresh) back) (sym (append-nil before))
+    → parsed most (Between before) (front ++ back) ≡ parsed most (Between (before ++ decls)) back
+heads most NoMore before back = ap (λ z. parsed most (Between z) back) (sym (append-nil before))
 heads most (Scalar {decls = decls} Public name rest) before back =
     heads most rest (before ++ declared Public name None ∷ []) back
-    ∙ ap (λ z. parsed most (Declaring z Fresh) back) (append_assoc before (declared Public name None ∷ []) decls)
+    ∙ ap (λ z. parsed most (Between z) back) (append_assoc before (declared Public name None ∷ []) decls)
 heads most (Scalar {decls = decls} Secret name rest) before back =
     heads most rest (before ++ declared Secret name None ∷ []) back
-    ∙ ap (λ z. parsed most (Declaring z Fresh) back) (append_assoc before (declared Secret name None ∷ []) decls)
+    ∙ ap (λ z. parsed most (Between z) back) (append_assoc before (declared Secret name None ∷ []) decls)
 heads most (Array {decls = decls} Public name n rest) before back =
     heads most rest (before ++ declared Public name (Some n) ∷ []) back
-    ∙ ap (λ z. parsed most (Declaring z Fresh) back) (append_assoc before (declared Public name (Some n) ∷ []) decls)
+    ∙ ap (λ z. parsed most (Between z) back) (append_assoc before (declared Public name (Some n) ∷ []) decls)
 heads most (Array {decls = decls} Secret name n rest) before back =
     heads most rest (before ++ declared Secret name (Some n) ∷ []) back
-    ∙ ap (λ z. parsed most (Declaring z Fresh) back) (append_assoc before (declared Secret name (Some n) ∷ []) decls)
+    ∙ ap (λ z. parsed most (Between z) back) (append_assoc before (declared Secret name (Some n) ∷ []) decls)
 
 -- a program's tokens lead to the program
 pub sentence_parsed : {most : Limits} {tokens : List TokenKind} {source : Source}
-    → Sentence most tokens source → parsed most (Declaring [] Fresh) tokens ≡ Some source
+    → Sentence most tokens source → parsed most (Between []) tokens ≡ Some source
 sentence_parsed {most} (Program {front = front} {back = back} {decls = decls} {body = body} d w) =
     heads most d [] back ∙ (starts_kind most decls back w ∙
     (ap (λ z. parsed most (Doing decls [] [] Ready) z) (sym (append-nil back)) ∙

@@ -1,17 +1,20 @@
 -- What a token does depends on the limits in one way only: it is read where there is room, and is too much where there
--- is none.
-use Rattle.std.proofs.Common.{◌≡◌, ◌≢◌, ◌⊎◌, inl, inr, ℕ, ◌+◌, ◌≤◌, pos, Bool, true, false, List, [], ◌∷◌, length, Option, Some, None, refl, ap, arith}
+-- is none. This is shown of expressions, of parts of statements and of declarations, and is kept by what is made of
+-- them.
+use Rattle.std.proofs.Common.{◌≡◌, ◌≢◌, ◌⊎◌, inl, inr, ℕ, ◌+◌, ◌≤◌, pos, Bool, true, false, List, ◌∷◌, Option, Some, None, refl, ap, arith}
 use Rattle.std.specs.Prelude.{◌&&◌, nat_lt}
-use Rattle.std.proofs.lemmas.Bool.{and_parts, and_from, ltb-true, lt-ltb, cases_lt}
+use Rattle.std.proofs.lemmas.Bool.{and_parts, and_from, ltb-true, lt-ltb}
 use Rattle.gr_word.specs.declared.operations.Op.{Op}
 use Rattle.gr_word.specs.declared.operations.Cmp.{Cmp}
 use Rattle.src_lexer.specs.declared.tokens.TokenKind.{TokenKind}
 use Rattle.src_lexer.specs.declared.tokens.TokenKind.TheVariants as kind
-use Rattle.src_tree.specs.declared.trees.Decl.{Decl}
-use Rattle.src_tree.specs.Trees.{Tree, Variable, Test, Statement}
+use Rattle.src_tree.specs.Trees.{Tree, Variable}
 use Rattle.src_parser.specs.Grammar.{Limits, operator_of, comparison_of}
 use Rattle.src_parser.specs.Operands.{Waiting, Open, Index, Reading, At, Wanted, Named, Given, TokenStep, Moves, Stops, Deep, Joint, Joins, where_room, wanting, pending, closing, having, naming, reads, whole, used_of}
-use Rattle.src_parser.specs.Turns.{Form, Asked, Value, Place, Stored, Left, Right, Outer, InFirst, Phase, Ready, MayElse, Target, Placed, Guarding, Guarded, Otherwise, Inside, Heading, Fresh, Labelled, Typed, Titled, Sizing, Sized, Closing, ParserState, Declaring, Doing, Turn, Goes, Wrong, TooMuch, with_braces, leaving, between_statements, chosen, elsing, targeting, placing, guarding, entering, otherwise, comparing, behind_expression, ending_where, in_expression, does, declares, turned, count_of}
+use Rattle.src_parser.specs.Tokenwise.{Turn, Goes, Wrong, TooMuch, mapped, with_braces}
+use Rattle.src_parser.specs.Parts.{Form, Asked, Value, Place, Stored, Left, Right, Part, Target, Placed, Guarding, Inside, PartState, Still, after_step, targeting, placing, guarding, comparing, behind_expression, ending_where, part_turned}
+use Rattle.src_parser.specs.Headings.{Heading, Labelled, Typed, Titled, Sizing, Sized, Closing, heading_turned}
+use Rattle.src_parser.proofs.Tokenwise.{Shape, Always, Where}
 
 -- a token of an expression: the same whatever the limits; or read where so many brackets may be open and so many
 -- operators used
@@ -88,250 +91,101 @@ reads_shape (At stack depth used Wanted) k = wanting_shape stack depth used k
 reads_shape (At stack depth used (Named name)) k = naming_shape stack depth used name k
 reads_shape (At stack depth used (Given tree)) k = having_shape stack depth used tree k (operator_of k)
 
--- there is room for what is needed
-pub record Fits (need most : Limits) : Type 0 where
-  pub brackets : need.brackets ≤ most.brackets
-  pub braces : need.braces ≤ most.braces
-  pub operators : need.operators ≤ most.operators
+-- a turn that is the same whatever the limits
+pub constant : {S : Type 0} {k : TokenKind} {count : ℕ} (t : Turn S) → t ≢ TooMuch → Shape S k count (λ most. t)
+constant t h = Always t h (λ most. refl)
 
--- a token of a program, likewise; braces matter only to a `{`
-pub data Shape (k : TokenKind) (count : ℕ) (f : Limits → Turn) : Type 0 where
-  Always : (t : Turn) → t ≢ TooMuch → ((most : Limits) → f most ≡ t) → Shape k count f
-  Where : (need : Limits) (next : ParserState) → ((most : Limits) → Fits need most → f most ≡ Goes next)
-      → ((most : Limits) → (f most ≡ TooMuch) ⊎ Fits need most)
-      → (need.braces ≡ 0) ⊎ ((k ≡ kind.LBrace) × (need.braces ≡ count + 1)) → Shape k count f
+pub wrong_not_much : {S : Type 0} → ◌≢◌ {A = Turn S} Wrong TooMuch
+wrong_not_much e = absurd (cc)
 
-wrong_not_much : Wrong ≢ TooMuch
-wrong_not_much e = cc
-
-much_or : {P : Type 0} (b : Bool) (x : ParserState) → (b ≡ true → P) → (with_braces b x ≡ TooMuch) ⊎ P
+much_or : {S P : Type 0} (b : Bool) (x : S) → (b ≡ true → P) → (with_braces b x ≡ TooMuch) ⊎ P
 much_or true x f = inr (f refl)
 much_or false x f = inl refl
 
-brace_room : (count : ℕ) (y : ParserState) → Shape kind.LBrace count (λ most. with_braces (nat_lt count most.braces) y)
+pub brace_room : {S : Type 0} (count : ℕ) (y : S)
+    → Shape S kind.LBrace count (λ most. with_braces (nat_lt count most.braces) y)
 brace_room count y = Where (record { brackets = 0; braces = count + 1; operators = 0 }) y
     (λ most fits. let h = fits.braces in ap (λ t. with_braces t y) (lt-ltb count most.braces (omega arith)))
     (λ most. much_or (nat_lt count most.braces) y (λ t. let h = ltb-true count most.braces t in
     record { brackets = omega arith; braces = omega arith; operators = omega arith }))
     (inr (refl, refl))
 
-constant : {k : TokenKind} {count : ℕ} (t : Turn) → t ≢ TooMuch → Shape k count (λ most. t)
-constant t h = Always t h (λ most. refl)
+pub mapped_not : {A B : Type 0} (f : A → B) (t : Turn A) → t ≢ TooMuch → mapped f t ≢ TooMuch
+mapped_not f (Goes s) h e = absurd (cc)
+mapped_not f Wrong h e = absurd (cc)
+mapped_not f TooMuch h e = h refl
 
-leaving_not : (decls : List Decl) (outer : List Outer) (here : List Statement) → leaving decls outer here ≢ TooMuch
-leaving_not decls [] here e = absurd (cc)
-leaving_not decls (InFirst test before ∷ outer) here e = absurd (cc)
-leaving_not decls (_ ∷ outer) here e = absurd (cc)
+pub mapped_shape : {A B : Type 0} {k : TokenKind} {count : ℕ} {g : Limits → Turn A} (f : A → B)
+    → Shape A k count g → Shape B k count (λ most. mapped f (g most))
+mapped_shape f (Always t h is) = Always (mapped f t) (mapped_not f t h) (λ most. ap (mapped f) (is most))
+mapped_shape f (Where need next goes much braces) =
+    Where need (f next) (λ most fits. ap (mapped f) (goes most fits))
+    (λ most. elim (much most) [ inl e ↦ inl (ap (mapped f) e) | inr w ↦ inr w ]) braces
 
-beginning_not : (decls : List Decl) (outer : List Outer) (here : List Statement) (k : TokenKind)
-    → between_statements decls outer here k ≢ TooMuch
-beginning_not decls outer here kind.RBrace e = leaving_not decls outer here e
-beginning_not decls outer here _ e = absurd (cc)
+after_not : {S : Type 0} (on : Reading → S) (over : Reading → Turn S) → ((x : Reading) → over x ≢ TooMuch)
+    → (s : TokenStep) → s ≢ Deep → after_step on over s ≢ TooMuch
+after_not on over free (Moves x) h e = absurd (cc)
+after_not on over free (Stops x) h e = free x e
+after_not on over free Deep h e = h refl
 
-elsing_not : (decls : List Decl) (outer : List Outer) (here : List Statement) (test : Test) (first : List Statement)
-    (k : TokenKind) → elsing decls outer here test first k ≢ TooMuch
-elsing_not decls outer here test first kind.Else e = absurd (cc)
-elsing_not decls outer here test first k e = beginning_not decls outer (chosen here test first) k e
-
-targeting_not : (decls : List Decl) (outer : List Outer) (here : List Statement) (name : List ℕ) (k : TokenKind)
-    → targeting decls outer here name k ≢ TooMuch
-targeting_not decls outer here name kind.Assign e = absurd (cc)
-targeting_not decls outer here name _ e = absurd (cc)
-
-placing_not : (decls : List Decl) (outer : List Outer) (here : List Statement) (name : List ℕ) (index : Tree) (used : ℕ)
-    (k : TokenKind) → placing decls outer here name index used k ≢ TooMuch
-placing_not decls outer here name index used kind.Assign e = absurd (cc)
-placing_not decls outer here name index used _ e = absurd (cc)
-
-guarding_not : (decls : List Decl) (outer : List Outer) (here : List Statement) (form : Form) (k : TokenKind)
-    → guarding decls outer here form k ≢ TooMuch
-guarding_not decls outer here form kind.LParen e = absurd (cc)
-guarding_not decls outer here form _ e = absurd (cc)
-
-comparing_not : (decls : List Decl) (outer : List Outer) (here : List Statement) (form : Form) (left : Tree) (used : ℕ)
-    (o : Option Cmp) → comparing decls outer here form left used o ≢ TooMuch
-comparing_not decls outer here form left used (Some cmp) e = absurd (cc)
-comparing_not decls outer here form left used None e = absurd (cc)
-
-ending_not : (decls : List Decl) (outer : List Outer) (here : List Statement) (asked : Asked) (tree : Tree) (used : ℕ)
-    (k : TokenKind) → behind_expression decls outer here asked tree used k ≢ TooMuch
-ending_not decls outer here (Value name) tree used kind.Semi e = absurd (cc)
-ending_not decls outer here (Place name) tree used kind.RBracket e = absurd (cc)
-ending_not decls outer here (Stored name index) tree used kind.Semi e = absurd (cc)
-ending_not decls outer here (Left form) tree used k e =
-    comparing_not decls outer here form tree used (comparison_of k) e
-ending_not decls outer here (Right form cmp left) tree used kind.RParen e = absurd (cc)
-ending_not decls outer here _ tree used _ e = absurd (cc)
-
-ending_where_not : (decls : List Decl) (outer : List Outer) (here : List Statement) (asked : Asked) (o : Option Tree)
-    (used : ℕ) (k : TokenKind) → ending_where decls outer here asked o used k ≢ TooMuch
-ending_where_not decls outer here asked None used k e = absurd (cc)
-ending_where_not decls outer here asked (Some tree) used k e = ending_not decls outer here asked tree used k e
-
-inside_not : (decls : List Decl) (outer : List Outer) (here : List Statement) (asked : Asked) (k : TokenKind)
-    (s : TokenStep)
-    → s ≢ Deep → in_expression decls outer here asked k s ≢ TooMuch
-inside_not decls outer here asked k (Moves x) h e = absurd (cc)
-inside_not decls outer here asked k (Stops x) h e = ending_where_not decls outer here asked (whole x) (used_of x) k e
-inside_not decls outer here asked k Deep h e = h refl
-
-inside_shape : (decls : List Decl) (outer : List Outer) (here : List Statement) (asked : Asked) (k : TokenKind)
-    (count : ℕ)
-    {f : Limits → TokenStep} → StepShape f → Shape k count (λ most. in_expression decls outer here asked k (f most))
-inside_shape decls outer here asked k count (Steady s h is) =
-    Always (in_expression decls outer here asked k s) (inside_not decls outer here asked k s h)
-    (λ most. ap (in_expression decls outer here asked k) (is most))
-inside_shape decls outer here asked k count (Roomy brackets operators y moves deep) =
-    Where (record { brackets = brackets; braces = 0; operators = operators }) (Doing decls outer here (Inside asked y))
-    (λ most fits. ap (in_expression decls outer here asked k) (moves most fits.brackets fits.operators))
+pub step_shape : {S : Type 0} {k : TokenKind} {count : ℕ} {g : Limits → TokenStep} (on : Reading → S)
+    (over : Reading → Turn S) → ((x : Reading) → over x ≢ TooMuch) → StepShape g
+    → Shape S k count (λ most. after_step on over (g most))
+step_shape on over free (Steady s h is) =
+    Always (after_step on over s) (after_not on over free s h) (λ most. ap (after_step on over) (is most))
+step_shape on over free (Roomy brackets operators y moves deep) =
+    Where (record { brackets = brackets; braces = 0; operators = operators }) (on y)
+    (λ most fits. ap (after_step on over) (moves most fits.brackets fits.operators))
     (λ most. elim (deep most) [
-      | inl e ↦ inl (ap (in_expression decls outer here asked k) e)
+      | inl e ↦ inl (ap (after_step on over) e)
       | inr r ↦ inr (record { brackets = r.0; braces = omega arith; operators = r.1 })
     ])
     (inl refl)
 
-entering_shape : (decls : List Decl) (outer : List Outer) (here : List Statement) (form : Form) (test : Test)
-    (k : TokenKind)
-    → Shape k (length outer) (λ most. entering most decls outer here form test k)
-entering_shape decls outer here form test kind.LBrace = brace_room (length outer) _
-entering_shape decls outer here form test _ = constant Wrong wrong_not_much
+pub targeting_not : (name : List ℕ) (k : TokenKind) → targeting name k ≢ TooMuch
+targeting_not name kind.Assign e = absurd (cc)
+targeting_not name _ e = absurd (cc)
 
-otherwise_shape : (decls : List Decl) (outer : List Outer) (here : List Statement) (test : Test)
-    (first : List Statement) (k : TokenKind)
-    → Shape k (length outer) (λ most. otherwise most decls outer here test first k)
-otherwise_shape decls outer here test first kind.LBrace = brace_room (length outer) _
-otherwise_shape decls outer here test first _ = constant Wrong wrong_not_much
+placing_not : (name : List ℕ) (index : Tree) (used : ℕ) (k : TokenKind) → placing name index used k ≢ TooMuch
+placing_not name index used kind.Assign e = absurd (cc)
+placing_not name index used _ e = absurd (cc)
 
-does_shape : (decls : List Decl) (outer : List Outer) (here : List Statement) (mode : Phase) (k : TokenKind)
-    → Shape k (length outer) (λ most. does most decls outer here mode k)
-does_shape decls outer here Ready k = constant _ (beginning_not decls outer here k)
-does_shape decls outer here (MayElse test first) k = constant _ (elsing_not decls outer here test first k)
-does_shape decls outer here (Target name) k = constant _ (targeting_not decls outer here name k)
-does_shape decls outer here (Placed name index used) k = constant _ (placing_not decls outer here name index used k)
-does_shape decls outer here (Guarding form) k = constant _ (guarding_not decls outer here form k)
-does_shape decls outer here (Guarded form test) k = entering_shape decls outer here form test k
-does_shape decls outer here (Otherwise test first) k = otherwise_shape decls outer here test first k
-does_shape decls outer here (Inside asked x) k = inside_shape decls outer here asked k (length outer) (reads_shape x k)
+guarding_not : (form : Form) (k : TokenKind) → guarding form k ≢ TooMuch
+guarding_not form kind.LParen e = absurd (cc)
+guarding_not form _ e = absurd (cc)
 
-declares_not : (decls : List Decl) (heading : Heading) (k : TokenKind) → declares decls heading k ≢ TooMuch
-declares_not decls Fresh kind.Public e = absurd (cc)
-declares_not decls Fresh kind.Secret e = absurd (cc)
-declares_not decls Fresh k e = beginning_not decls [] [] k e
-declares_not decls (Labelled label) kind.Int e = absurd (cc)
-declares_not decls (Typed label) (kind.Word name) e = absurd (cc)
-declares_not decls (Titled label name) kind.Semi e = absurd (cc)
-declares_not decls (Titled label name) kind.LBracket e = absurd (cc)
-declares_not decls (Sizing label name) (kind.Num (pos n)) e = absurd (cc)
-declares_not decls (Sized label name n) kind.RBracket e = absurd (cc)
-declares_not decls (Closing label name n) kind.Semi e = absurd (cc)
-declares_not decls _ _ e = absurd (cc)
+comparing_not : (form : Form) (left : Tree) (used : ℕ) (o : Option Cmp) → comparing form left used o ≢ TooMuch
+comparing_not form left used (Some cmp) e = absurd (cc)
+comparing_not form left used None e = absurd (cc)
 
-pub shape : (state : ParserState) (k : TokenKind) → Shape k (count_of state) (λ most. turned most state k)
-shape (Declaring decls heading) k = constant _ (declares_not decls heading k)
-shape (Doing decls outer here mode) k = does_shape decls outer here mode k
+ending_not : (asked : Asked) (tree : Tree) (used : ℕ) (k : TokenKind) → behind_expression asked tree used k ≢ TooMuch
+ending_not (Value name) tree used kind.Semi e = absurd (cc)
+ending_not (Place name) tree used kind.RBracket e = absurd (cc)
+ending_not (Stored name index) tree used kind.Semi e = absurd (cc)
+ending_not (Left form) tree used k e = comparing_not form tree used (comparison_of k) e
+ending_not (Right form cmp left) tree used kind.RParen e = absurd (cc)
+ending_not _ tree used _ e = absurd (cc)
 
--- what is read within some limits is read within wider ones
-wider_shape : {k : TokenKind} {count : ℕ} {f : Limits → Turn}
-    → Shape k count f → (most wide : Limits) (next : ParserState) → Fits most wide → f most ≡ Goes next → f wide
-    ≡ Goes next
-wider_shape (Always t h is) most wide next fits e = let a = is most in let b = is wide in cc
-wider_shape {f = f} (Where need s goes much braces) most wide next fits e =
-    elim (much most) [
-      | inl m ↦ absurd (cc)
-      | inr w ↦ (let a = w.brackets in let b = w.braces in let c = w.operators in let p = fits.brackets in
-          let q = fits.braces in let r = fits.operators in
-          let x : f wide ≡ Goes s =
-          goes wide (record { brackets = omega arith; braces = omega arith; operators = omega arith }) in
-          let y : f most ≡ Goes s = goes most w in cc)
-    ]
+ending_where_not : (asked : Asked) (o : Option Tree) (used : ℕ) (k : TokenKind)
+    → ending_where asked o used k ≢ TooMuch
+ending_where_not asked None used k e = absurd (cc)
+ending_where_not asked (Some tree) used k e = ending_not asked tree used k e
 
-pub wider : (state : ParserState) (k : TokenKind) (most wide : Limits) (next : ParserState)
-    → Fits most wide → turned most state k ≡ Goes next → turned wide state k ≡ Goes next
-wider state k = wider_shape (shape state k)
+pub part_shape : (part : Part) (k : TokenKind) (count : ℕ)
+    → Shape PartState k count (λ most. part_turned most part k)
+part_shape (Target name) k count = constant _ (targeting_not name k)
+part_shape (Placed name index used) k count = constant _ (placing_not name index used k)
+part_shape (Guarding form) k count = constant _ (guarding_not form k)
+part_shape (Inside asked x) k count =
+    step_shape (λ y. Still (Inside asked y)) (λ y. ending_where asked (whole y) (used_of y) k)
+    (λ y. ending_where_not asked (whole y) (used_of y) k) (reads_shape x k)
 
--- whatever the limits, a token that is read leads to the same state
-same_shape : {k : TokenKind} {count : ℕ} {f : Limits → Turn} → Shape k count f
-    → (most other : Limits) (next : ParserState)
-    → f most ≡ Goes next → (f other ≡ Goes next) ⊎ (f other ≡ TooMuch)
-same_shape (Always t h is) most other next e = let a = is most in let b = is other in inl (cc)
-same_shape {f = f} (Where need s goes much braces) most other next e =
-    elim (much most) [
-      | inl m ↦ absurd (cc)
-      | inr w ↦ elim (much other) [
-        | inl n ↦ inr n
-        | inr v ↦ (let x : f other ≡ Goes s = goes other v in let y : f most ≡ Goes s = goes most w in inl (cc))
-      ]
-    ]
-
-pub same : (state : ParserState) (k : TokenKind) (most other : Limits) (next : ParserState)
-    → turned most state k ≡ Goes next → (turned other state k ≡ Goes next) ⊎ (turned other state k ≡ TooMuch)
-same state k = same_shape (shape state k)
-
--- whatever the limits, a token that doesn't belong there is wrong
-wrong_shape : {k : TokenKind} {count : ℕ} {f : Limits → Turn}
-    → Shape k count f → (most other : Limits) → f most ≡ Wrong → f other ≡ Wrong
-wrong_shape (Always t h is) most other e = let a = is most in let b = is other in cc
-wrong_shape {f = f} (Where need s goes much braces) most other e =
-    elim (much most) [ inl m ↦ absurd (cc) | inr w ↦ (let y : f most ≡ Goes s = goes most w in absurd (cc)) ]
-
-pub wrong : (state : ParserState) (k : TokenKind) (most other : Limits)
-    → turned most state k ≡ Wrong → turned other state k ≡ Wrong
-wrong state k = wrong_shape (shape state k)
-
--- what is too much is read within some wider limits
-pub record ReadWider (most : Limits) (f : Limits → Turn) : Type 0 where
-  pub wide : Limits
-  pub next : ParserState
-  pub fits : Fits most wide
-  pub goes : f wide ≡ Goes next
-
-deep_shape : {k : TokenKind} {count : ℕ} {f : Limits → Turn}
-    → Shape k count f → (most : Limits) → f most ≡ TooMuch → ReadWider most f
-deep_shape (Always t h is) most e = absurd (h (let a = is most in cc))
-deep_shape (Where need s goes much braces) most e = record {
-  wide = record {
-    brackets = most.brackets + need.brackets;
-    braces = most.braces + need.braces;
-    operators = most.operators + need.operators;
-  };
-  next = s;
-  fits = record { brackets = omega arith; braces = omega arith; operators = omega arith };
-  goes = goes _ (record { brackets = omega arith; braces = omega arith; operators = omega arith });
-}
-
-pub deep : (state : ParserState) (k : TokenKind) (most : Limits)
-    → turned most state k ≡ TooMuch → ReadWider most (λ wide. turned wide state k)
-deep state k = deep_shape (shape state k)
-
--- where only the braces differ, only a brace is too much
-brace_shape : {k : TokenKind} {count : ℕ} {f : Limits → Turn} → Shape k count f
-    → (most other : Limits) (next : ParserState)
-    → most.brackets ≡ other.brackets → most.operators ≡ other.operators
-    → f most ≡ TooMuch → f other ≡ Goes next → (k ≡ kind.LBrace) × (most.braces ≤ count)
-brace_shape (Always t h is) most other next p q e g = absurd (h (let a = is most in cc))
-brace_shape {k} {count} {f} (Where need s goes much (inl none)) most other next p q e g =
-    elim (much other) [
-      | inl m ↦ absurd (cc)
-      | inr w ↦ (let a = w.brackets in let c = w.operators in
-          let y : f most ≡ Goes s =
-          goes most (record { brackets = omega arith; braces = omega arith; operators = omega arith }) in absurd (cc))
-    ]
-brace_shape {k} {count} {f} (Where need s goes much (inr some)) most other next p q e g =
-    elim (much other) [
-      | inl m ↦ absurd (cc)
-      | inr w ↦ (
-        some.0,
-        elim (cases_lt count most.braces) [
-          | inr le ↦ le
-          | inl lt ↦ (let a = w.brackets in let c = w.operators in let b = some.1 in
-              let y : f most ≡ Goes s =
-              goes most (record { brackets = omega arith; braces = omega arith; operators = omega arith }) in
-              absurd (cc))
-        ],
-      )
-    ]
-
-pub brace : (state : ParserState) (k : TokenKind) (most other : Limits) (next : ParserState)
-    → most.brackets ≡ other.brackets → most.operators ≡ other.operators → turned most state k ≡ TooMuch
-    → turned other state k ≡ Goes next → (k ≡ kind.LBrace) × (most.braces ≤ count_of state)
-brace state k = brace_shape (shape state k)
+pub heading_not : (heading : Heading) (k : TokenKind) → heading_turned heading k ≢ TooMuch
+heading_not (Labelled label) kind.Int e = absurd (cc)
+heading_not (Typed label) (kind.Word name) e = absurd (cc)
+heading_not (Titled label name) kind.Semi e = absurd (cc)
+heading_not (Titled label name) kind.LBracket e = absurd (cc)
+heading_not (Sizing label name) (kind.Num (pos n)) e = absurd (cc)
+heading_not (Sized label name n) kind.RBracket e = absurd (cc)
+heading_not (Closing label name n) kind.Semi e = absurd (cc)
+heading_not _ _ e = absurd (cc)

@@ -1,20 +1,21 @@
 -- A token that is read leads from state to state, and a whole program is a sentence of the grammar.
-use Rattle.std.proofs.Common.{◌≡◌, ℕ, ◌+◌, ◌<◌, ◌≤◌, pos, Bool, true, false, List, [], ◌∷◌, ◌++◌, length, Option, Some, None, refl, sym, subst, append_assoc, arith}
+use Rattle.std.proofs.Common.{◌≡◌, ℕ, ◌+◌, ◌<◌, Bool, true, false, List, [], ◌∷◌, ◌++◌, length, Some, refl, sym, subst, append_assoc, arith}
 use Rattle.std.proofs.lemmas.List.{append-nil}
 use Rattle.std.proofs.lemmas.Bool.{ltb-true}
-use Rattle.gr_word.specs.declared.operations.Cmp.{Cmp}
 use Rattle.gr_word.specs.declared.variables.Label.TheVariants.{Public, Secret}
 use Rattle.src_lexer.specs.declared.tokens.TokenKind.{TokenKind}
 use Rattle.src_lexer.specs.declared.tokens.TokenKind.TheVariants as kind
 use Rattle.src_tree.specs.declared.trees.Decl.{Decl}
-use Rattle.src_tree.specs.Trees.{Tree, Test, Statement, SetVariable, SetElement, Choice, Loop, Nothing, block_of, Source}
-use Rattle.src_parser.specs.Grammar.{Limits, comparison_of, operators, SpellsTree, Compares, Compared, Writes, Ends, Sets, Puts, Chooses, ChoosesElse, Repeats, Declares, NoMore, Scalar, Array, Sentence, Program}
-use Rattle.src_parser.specs.Operands.{Reading, TokenStep, Moves, Stops, Deep, reads, whole, used_of}
-use Rattle.src_parser.specs.Turns.{Form, ForChoice, ForLoop, Asked, Outer, Phase, Heading, Fresh, ParserState, Declaring, Doing, Goes, with_braces, leaving, between_statements, chosen, elsing, targeting, placing, guarding, entering, otherwise, comparing, behind_expression, ending_where, in_expression, does, declared, declares, turned}
-use Rattle.src_parser.proofs.Held.{Start}
-use Rattle.src_parser.proofs.Reached.{Reached, Wants, reaches, Ended, ends}
-use Rattle.src_parser.specs.Turns.{program_of}
-use Rattle.src_parser.proofs.Standing.{word_of, Enclosed, Top, First, Second, Looped, Asks, AsksValue, AsksPlace, AsksStored, AsksLeft, AsksRight, Stands, IsReady, IsMayElse, IsTarget, IsPlaced, IsGuarding, IsGuarded, IsOtherwise, IsInside, Heads, IsFresh, IsLabelled, IsTyped, IsTitled, IsSizing, IsSized, IsClosing, Standing, InHeading, InBlock, enclosed_depth, one_statement, declares_both}
+use Rattle.src_tree.specs.Trees.{Test, Statement, SetVariable, SetElement, Choice, Loop, Nothing, block_of, Source}
+use Rattle.src_parser.specs.Grammar.{Limits, Compares, Writes, Ends, Sets, Puts, Chooses, ChoosesElse, Repeats, Declares, NoMore, Sentence, Program}
+use Rattle.src_parser.specs.Headings.{HeadingState, Begun, Declared, heading_turned}
+use Rattle.src_parser.specs.Parts.{Form, ForChoice, ForLoop, PartState, Still, Done, part_turned}
+use Rattle.src_parser.specs.Tokenwise.{Goes, with_braces}
+use Rattle.src_parser.specs.Turns.{Outer, Phase, ParserState, Between, Doing, leaving, between_statements, chosen, elsing, with_part, entering, otherwise, does, between, with_heading, turned, program_of}
+use Rattle.src_parser.proofs.Braces.{mapped_goes}
+use Rattle.src_parser.proofs.HeadingTokens.{declares_both, IsLabelled, HeadingStands, heading_steps}
+use Rattle.src_parser.proofs.PartTokens.{word_of, IsTarget, IsGuarding, MakesVariable, MakesElement, MakesGuard, StateStands, part_steps}
+use Rattle.src_parser.proofs.Standing.{Enclosed, Top, First, Second, Looped, Stands, IsReady, IsMayElse, IsPart, IsGuarded, IsOtherwise, Standing, InBetween, InHeading, InBlock, enclosed_depth, one_statement}
 
 went : {most : Limits} {tokens : List TokenKind} (x y : ParserState)
     → Goes x ≡ Goes y → Standing most x tokens → Standing most y tokens
@@ -43,9 +44,9 @@ beginning_stands : {most : Limits} {decls : List Decl} {outer : List Outer} {dep
     {ts : List TokenKind} → Enclosed most decls outer depth here ts
     → (k : TokenKind) (next : ParserState) → between_statements decls outer here k ≡ Goes next
     → Standing most next (ts ++ k ∷ [])
-beginning_stands o (kind.Word name) next e = went _ next e (InBlock o (IsTarget name))
-beginning_stands o kind.If next e = went _ next e (InBlock o (IsGuarding ForChoice))
-beginning_stands o kind.While next e = went _ next e (InBlock o (IsGuarding ForLoop))
+beginning_stands o (kind.Word name) next e = went _ next e (InBlock o (IsPart (IsTarget name)))
+beginning_stands o kind.If next e = went _ next e (InBlock o (IsPart (IsGuarding ForChoice)))
+beginning_stands o kind.While next e = went _ next e (InBlock o (IsPart (IsGuarding ForLoop)))
 beginning_stands o kind.RBrace next e = leaving_stands o next e
 beginning_stands o _ next e = absurd (cc)
 
@@ -58,36 +59,6 @@ elsing_stands {ts = ts} {guard = guard} {inner = inner} first o g room w kind.El
     went _ next e (standing_at _ _ (simp append_assoc refl) (InBlock o (IsOtherwise g room w)))
 elsing_stands {test = test} first o g room w k next e =
     beginning_stands (one_statement (Choice test (block_of first) Nothing) o (Chooses g room w Ends)) k next e
-
-targeting_stands : {most : Limits} {decls : List Decl} {outer : List Outer} {depth : ℕ} {here : List Statement}
-    {ts : List TokenKind} (name : List ℕ) → Enclosed most decls outer depth here ts
-    → (k : TokenKind) (next : ParserState)
-    → targeting decls outer here name k ≡ Goes next → Standing most next ((ts ++ kind.Word name ∷ []) ++ k ∷ [])
-targeting_stands {most} {ts = ts} name o kind.Assign next e =
-    went _ next e (standing_at _ _ (simp (append_assoc, append-nil) refl)
-    (InBlock o (IsInside (AsksValue name) (Wants Start (omega arith) (omega arith)))))
-targeting_stands {most} {ts = ts} name o kind.LBracket next e =
-    went _ next e (standing_at _ _ (simp (append_assoc, append-nil) refl)
-    (InBlock o (IsInside (AsksPlace name) (Wants Start (omega arith) (omega arith)))))
-targeting_stands name o _ next e = absurd (cc)
-
-placing_stands : {most : Limits} {decls : List Decl} {outer : List Outer} {depth : ℕ} {here : List Statement}
-    {ts at : List TokenKind} {index : Tree} {used : ℕ} (name : List ℕ) → Enclosed most decls outer depth here ts
-    → SpellsTree most.brackets 1 0 at index → used ≡ operators index → used ≤ most.operators
-    → (k : TokenKind) (next : ParserState) → placing decls outer here name index used k ≡ Goes next
-    → Standing most next ((ts ++ (kind.Word name ∷ kind.LBracket ∷ (at ++ kind.RBracket ∷ []))) ++ k ∷ [])
-placing_stands {most} {ts = ts} {at = at} name o i is fits kind.Assign next e =
-    went _ next e (standing_at _ _ (simp (append_assoc, append-nil) refl)
-    (InBlock o (IsInside (AsksStored name i) (Wants Start (omega arith) fits))))
-placing_stands name o i is fits _ next e = absurd (cc)
-
-guarding_stands : {most : Limits} {decls : List Decl} {outer : List Outer} {depth : ℕ} {here : List Statement}
-    {ts : List TokenKind} (form : Form) → Enclosed most decls outer depth here ts → (k : TokenKind) (next : ParserState)
-    → guarding decls outer here form k ≡ Goes next → Standing most next ((ts ++ word_of form ∷ []) ++ k ∷ [])
-guarding_stands {most} {ts = ts} form o kind.LParen next e =
-    went _ next e (standing_at _ _ (simp (append_assoc, append-nil) refl)
-    (InBlock o (IsInside (AsksLeft form) (Wants Start (omega arith) (omega arith)))))
-guarding_stands form o _ next e = absurd (cc)
 
 with_room : {most : Limits} {ts : List TokenKind} (b : Bool) (x y : ParserState)
     → with_braces b x ≡ Goes y → (b ≡ true → Standing most x ts) → Standing most y ts
@@ -119,64 +90,29 @@ otherwise_stands {most} {outer = outer} {ts = ts} {guard = guard} {inner = inner
     (λ t. standing_at _ _ (simp (append_assoc, append-nil) refl) (InBlock (Second o g room w Ends) IsReady))
 otherwise_stands first o g room w _ next e = absurd (cc)
 
-comparing_stands : {most : Limits} {decls : List Decl} {outer : List Outer} {depth : ℕ} {here : List Statement}
-    {ts us : List TokenKind} (form : Form) (left : Tree) (used : ℕ) → Enclosed most decls outer depth here ts
-    → Ended most 0 0 us left used → (k : TokenKind) (o : Option Cmp) → comparison_of k ≡ o → (next : ParserState)
-    → comparing decls outer here form left used o ≡ Goes next
-    → Standing most next ((ts ++ ((word_of form ∷ kind.LParen ∷ []) ++ us)) ++ k ∷ [])
-comparing_stands {most} {ts = ts} {us = us} form left used o ended k (Some cmp) is next e =
-    let counted = ended.counted in
-    went _ next e (standing_at _ _ (simp (append_assoc, append-nil) refl)
-    (InBlock o (IsInside (AsksRight form cmp k is ended.spells) (Wants Start (omega arith) ended.fits))))
-comparing_stands form left used o ended k None is next e = absurd (cc)
+-- a part, or what it has made
+state_stands : {most : Limits} {decls : List Decl} {outer : List Outer} {depth : ℕ} {here : List Statement}
+    {ts : List TokenKind} (us : List TokenKind) → Enclosed most decls outer depth here ts → (s : PartState)
+    → StateStands most s us
+    → Standing most (with_part decls outer here s) (ts ++ us)
+state_stands us o (Still part) p = InBlock o (IsPart p)
+state_stands {ts = ts} _ o (Done _) (MakesVariable {tokens = tokens} {value = value} name s fits) =
+    standing_at _ _ (append-nil _)
+    (InBlock (one_statement (SetVariable name value) o (Sets name s fits Ends)) IsReady)
+state_stands {ts = ts} _ o (Done _) (MakesElement {at = at} {tokens = tokens} {index = index} {value = value} name i s
+    fits) =
+    standing_at _ _ (append-nil _)
+    (InBlock (one_statement (SetElement name index value) o (Puts name i s fits Ends)) IsReady)
+state_stands _ o (Done _) (MakesGuard form g) = InBlock o (IsGuarded form g)
 
-ending_stands : {most : Limits} {decls : List Decl} {outer : List Outer} {depth base start : ℕ} {here : List Statement}
-    {ts before us : List TokenKind} {asked : Asked} (tree : Tree) (used : ℕ) → Enclosed most decls outer depth here ts
-    → Asks most asked base start before → Ended most base start us tree used → (k : TokenKind) (next : ParserState)
-    → behind_expression decls outer here asked tree used k ≡ Goes next
-    → Standing most next ((ts ++ (before ++ us)) ++ k ∷ [])
-ending_stands {ts = ts} {us = us} tree used o (AsksValue name) ended kind.Semi next e =
-    let counted = ended.counted in let fits = ended.fits in
-    went _ next e (standing_at _ _ (simp (append_assoc, append-nil) refl)
-    (InBlock (one_statement (SetVariable name tree) o (Sets name ended.spells (omega arith) Ends)) IsReady))
-ending_stands tree used o (AsksValue name) ended _ next e = absurd (cc)
-ending_stands {ts = ts} {us = us} tree used o (AsksPlace name) ended kind.RBracket next e =
-    let counted = ended.counted in
-    went _ next e
-    (standing_at _ _ (simp append_assoc refl) (InBlock o (IsPlaced name ended.spells (omega arith) ended.fits)))
-ending_stands tree used o (AsksPlace name) ended _ next e = absurd (cc)
-ending_stands {ts = ts} {us = us} tree used o (AsksStored {at = at} {index = index} name i) ended kind.Semi next e =
-    let counted = ended.counted in let fits = ended.fits in
-    went _ next e (standing_at _ _ (simp (append_assoc, append-nil) refl)
-    (InBlock (one_statement (SetElement name index tree) o (Puts name i ended.spells (omega arith) Ends)) IsReady))
-ending_stands tree used o (AsksStored name i) ended _ next e = absurd (cc)
-ending_stands tree used o (AsksLeft form) ended k next e =
-    comparing_stands form tree used o ended k (comparison_of k) refl next e
-ending_stands {ts = ts} {us = us} tree used o (AsksRight {left = left} form cmp sign is a) ended kind.RParen next e =
-    let counted = ended.counted in let fits = ended.fits in
-    went _ next e (standing_at _ _ (simp append_assoc refl)
-    (InBlock o (IsGuarded form (Compared cmp sign is a ended.spells (omega arith)))))
-ending_stands tree used o (AsksRight form cmp sign is a) ended _ next e = absurd (cc)
-
-ending_where_stands : {most : Limits} {decls : List Decl} {outer : List Outer} {depth base start : ℕ}
-    {here : List Statement} {ts before us : List TokenKind} {asked : Asked} (x y : Reading)
-    → Enclosed most decls outer depth here ts → Asks most asked base start before → Reached most base start x us
-    → (k : TokenKind) → reads most x k ≡ Stops y → (w : Option Tree) → whole y ≡ w
-    → (next : ParserState) → ending_where decls outer here asked w (used_of y) k ≡ Goes next
-    → Standing most next ((ts ++ (before ++ us)) ++ k ∷ [])
-ending_where_stands x y o a r k stop None is next e = absurd (cc)
-ending_where_stands x y o a r k stop (Some tree) is next e =
-    ending_stands tree (used_of y) o a (ends r k y tree stop is) k next e
-
-inside_stands : {most : Limits} {decls : List Decl} {outer : List Outer} {depth base start : ℕ} {here : List Statement}
-    {ts before us : List TokenKind} {asked : Asked} (x : Reading) → Enclosed most decls outer depth here ts
-    → Asks most asked base start before → Reached most base start x us → (k : TokenKind) (step : TokenStep)
-    → reads most x k ≡ step → (next : ParserState) → in_expression decls outer here asked k step ≡ Goes next
-    → Standing most next ((ts ++ (before ++ us)) ++ k ∷ [])
-inside_stands {ts = ts} {before = before} {us = us} x o a r k (Moves y) is next e =
-    went _ next e (standing_at _ _ (simp append_assoc refl) (InBlock o (IsInside a (reaches r k y is))))
-inside_stands x o a r k (Stops y) is next e = ending_where_stands x y o a r k is (whole y) refl next e
-inside_stands x o a r k Deep is next e = absurd (cc)
+part_stands : {most : Limits} {decls : List Decl} {outer : List Outer} {depth : ℕ} {here : List Statement}
+    {ts : List TokenKind} (us : List TokenKind) → Enclosed most decls outer depth here ts
+    → (k : TokenKind) (s : PartState)
+    → StateStands most s (us ++ k ∷ []) → (next : ParserState) → with_part decls outer here s ≡ next
+    → Standing most next ((ts ++ us) ++ k ∷ [])
+part_stands {most} {ts = ts} us o k s p next e =
+    subst (λ z. Standing most z ((ts ++ us) ++ k ∷ [])) e
+    (standing_at _ _ (sym (append_assoc ts us (k ∷ []))) (state_stands (us ++ k ∷ []) o s p))
 
 does_stands : {most : Limits} {decls : List Decl} {outer : List Outer} {depth : ℕ} {here : List Statement}
     {mode : Phase}
@@ -186,64 +122,46 @@ does_stands : {most : Limits} {decls : List Decl} {outer : List Outer} {depth : 
 does_stands {ts = ts} o IsReady k next e =
     standing_at (ts ++ k ∷ []) _ (rw append-nil refl) (beginning_stands o k next e)
 does_stands o (IsMayElse {first = first} g room w) k next e = elsing_stands first o g room w k next e
-does_stands o (IsTarget name) k next e = targeting_stands name o k next e
-does_stands o (IsPlaced name i is fits) k next e = placing_stands name o i is fits k next e
-does_stands o (IsGuarding form) k next e = guarding_stands form o k next e
+does_stands {most} {decls} {outer} {here = here} o (IsPart {part = part} p) k next e =
+    mapped_goes (with_part decls outer here) (part_turned most part k) next e
+    (λ s is at. part_stands _ o k s (part_steps p k s is) next at)
 does_stands o (IsGuarded form g) k next e = entering_stands form o g k next e
 does_stands o (IsOtherwise {first = first} g room w) k next e = otherwise_stands first o g room w k next e
-does_stands {most} o (IsInside {x = x} a r) k next e = inside_stands x o a r k (reads most x k) refl next e
 
-one_declaration : {most : Limits} {decls : List Decl} {front : List TokenKind} (us : List TokenKind) (decl : Decl)
-    → Declares front decls → Declares us (decl ∷ [])
-    → Standing most (Declaring (decls ++ decl ∷ []) Fresh) (front ++ us)
-one_declaration {front = front} us decl d e =
-    standing_at _ _ (append-nil (front ++ us)) (InHeading (declares_both d e) IsFresh)
-
-fresh_stands : {most : Limits} {decls : List Decl} {front : List TokenKind} → Declares front decls
-    → (k : TokenKind) (next : ParserState) → declares decls Fresh k ≡ Goes next → Standing most next (front ++ k ∷ [])
-fresh_stands d kind.Public next e = went _ next e (InHeading d (IsLabelled Public))
-fresh_stands d kind.Secret next e = went _ next e (InHeading d (IsLabelled Secret))
-fresh_stands {front = front} d k next e =
+between_stands : {most : Limits} {decls : List Decl} {front : List TokenKind} → Declares front decls
+    → (k : TokenKind) (next : ParserState) → between decls k ≡ Goes next → Standing most next (front ++ k ∷ [])
+between_stands d kind.Public next e = went _ next e (InHeading d (IsLabelled Public))
+between_stands d kind.Secret next e = went _ next e (InHeading d (IsLabelled Secret))
+between_stands {front = front} d k next e =
     standing_at ((front ++ []) ++ k ∷ []) _ (rw append-nil refl) (beginning_stands {here = []} (Top d Ends) k next e)
 
-heading_stands : {most : Limits} {decls : List Decl} {front us : List TokenKind} {heading : Heading}
-    → Declares front decls → Heads heading us → (k : TokenKind) (next : ParserState) → declares decls heading k
-    ≡ Goes next
-    → Standing most next ((front ++ us) ++ k ∷ [])
-heading_stands {front = front} d IsFresh k next e =
-    standing_at (front ++ k ∷ []) _ (rw append-nil refl) (fresh_stands d k next e)
-heading_stands {front = front} d (IsLabelled label) kind.Int next e =
-    went _ next e (standing_at _ _ (simp append_assoc refl) (InHeading d (IsTyped label)))
-heading_stands d (IsLabelled label) _ next e = absurd (cc)
-heading_stands {front = front} d (IsTyped label) (kind.Word name) next e =
-    went _ next e (standing_at _ _ (simp append_assoc refl) (InHeading d (IsTitled label name)))
-heading_stands d (IsTyped label) _ next e = absurd (cc)
-heading_stands {front = front} d (IsTitled label name) kind.Semi next e =
-    went _ next e (standing_at _ _ (simp append_assoc refl)
-    (one_declaration _ (declared label name None) d (Scalar label name NoMore)))
-heading_stands {front = front} d (IsTitled label name) kind.LBracket next e =
-    went _ next e (standing_at _ _ (simp append_assoc refl) (InHeading d (IsSizing label name)))
-heading_stands d (IsTitled label name) _ next e = absurd (cc)
-heading_stands {front = front} d (IsSizing label name) (kind.Num (pos n)) next e =
-    went _ next e (standing_at _ _ (simp append_assoc refl) (InHeading d (IsSized label name n)))
-heading_stands d (IsSizing label name) _ next e = absurd (cc)
-heading_stands {front = front} d (IsSized label name n) kind.RBracket next e =
-    went _ next e (standing_at _ _ (simp append_assoc refl) (InHeading d (IsClosing label name n)))
-heading_stands d (IsSized label name n) _ next e = absurd (cc)
-heading_stands {front = front} d (IsClosing label name n) kind.Semi next e =
-    went _ next e (standing_at _ _ (simp append_assoc refl)
-    (one_declaration _ (declared label name (Some n)) d (Array label name n NoMore)))
-heading_stands d (IsClosing label name n) _ next e = absurd (cc)
+-- a declaration that is begun, or one more
+declaration_stands : {most : Limits} {decls : List Decl} {front : List TokenKind} (us : List TokenKind)
+    → Declares front decls
+    → (s : HeadingState) → HeadingStands s us → Standing most (with_heading decls s) (front ++ us)
+declaration_stands us d (Begun heading) h = InHeading d h
+declaration_stands us d (Declared decl) h = InBetween (declares_both d h)
+
+heading_stands : {most : Limits} {decls : List Decl} {front : List TokenKind} (us : List TokenKind)
+    → Declares front decls
+    → (k : TokenKind) (s : HeadingState) → HeadingStands s (us ++ k ∷ []) → (next : ParserState)
+    → with_heading decls s ≡ next → Standing most next ((front ++ us) ++ k ∷ [])
+heading_stands {most} {front = front} us d k s h next e =
+    subst (λ z. Standing most z ((front ++ us) ++ k ∷ [])) e
+    (standing_at _ _ (sym (append_assoc front us (k ∷ []))) (declaration_stands (us ++ k ∷ []) d s h))
 
 -- a token leads on
 pub steps : {most : Limits} {state : ParserState} {tokens : List TokenKind} → Standing most state tokens
     → (k : TokenKind) (next : ParserState) → turned most state k ≡ Goes next → Standing most next (tokens ++ k ∷ [])
-steps (InHeading d h) k next e = heading_stands d h k next e
+steps (InBetween d) k next e = between_stands d k next e
+steps (InHeading {decls = decls} {heading = heading} d h) k next e =
+    mapped_goes (with_heading decls) (heading_turned heading k) next e
+    (λ s is at. heading_stands _ d k s (heading_steps h k s is) next at)
 steps (InBlock o s) k next e = does_stands o s k next e
 
 -- before the first token
-pub nothing_read : {most : Limits} → Standing most (Declaring [] Fresh) []
-nothing_read = InHeading NoMore IsFresh
+pub nothing_read : {most : Limits} → Standing most (Between []) []
+nothing_read = InBetween NoMore
 
 sentence_at : {most : Limits} {source : Source} (xs ys : List TokenKind)
     → xs ≡ ys → Sentence most xs source → Sentence most ys source
@@ -272,8 +190,8 @@ whole_block _ s source e = absurd (cc)
 -- a state with a whole program has read its tokens
 pub finished : {most : Limits} {state : ParserState} {tokens : List TokenKind}
     → Standing most state tokens → (source : Source) → program_of state ≡ Some source → Sentence most tokens source
-finished {most} (InHeading {decls = decls} {front = front} d IsFresh) source e =
+finished {most} (InBetween {decls = decls} {front = front} d) source e =
     let f : record { decls = decls; body = Nothing } ≡ source = cc in
-    subst (λ z. Sentence most (front ++ []) z) f (Program d Ends)
+    subst (λ z. Sentence most front z) f (sentence_at _ _ (append-nil front) (Program d Ends))
 finished (InBlock o s) source e = whole_block o s source e
 finished _ source e = absurd (cc)

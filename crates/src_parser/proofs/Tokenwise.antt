@@ -7,12 +7,24 @@ use Rattle.src_lexer.specs.declared.tokens.TokenKind.TheVariants as kind
 use Rattle.src_lexer.specs.declared.tokens.Token.{Token}
 use Rattle.src_parser.specs.Grammar.{Limits, limits}
 use Rattle.src_parser.specs.Refusals.{token_kinds, Shallow}
+use Rattle.src_parser.proofs.TokenPlaces.{split_at, kinds_more}
 use Rattle.src_parser.specs.Tokenwise.{Turn, Goes, Wrong, TooMuch, then_turn, turns, after_turn, parsed, Completes, Begins, Stray, Deeper, Cut}
-use Rattle.src_parser.proofs.Places.{kinds_more, split_at}
-use Rattle.src_parser.proofs.Rooms.{Fits}
-use Rattle.src_parser.proofs.Braces.{Counted}
 
--- a token of a program, likewise; braces matter only to a `{`
+-- there is room for what is needed
+pub record Fits (need most : Limits) : Type 0 where
+  pub brackets : need.brackets ≤ most.brackets
+  pub braces : need.braces ≤ most.braces
+  pub operators : need.operators ≤ most.operators
+
+-- the open braces before and after a token that is read
+abbrev pub Counted : TokenKind → (most before after : ℕ) → Type 0
+Counted kind.LBrace most before after = (before < most) × (after ≡ before + 1)
+Counted kind.RBrace most before after = before ≡ after + 1
+Counted _ most before after = after ≡ before
+
+-- what a token does depends on the limits in one way only: it is read where there is room, and is too much where
+-- there is
+-- none; braces matter only to a `{`
 pub data Shape (S : Type 0) (k : TokenKind) (count : ℕ) (f : Limits → Turn S) : Type 0 where
   Always : (t : Turn S) → t ≢ TooMuch → ((most : Limits) → f most ≡ t) → Shape S k count f
   Where : (need : Limits) (next : S) → ((most : Limits) → Fits need most → f most ≡ Goes next)
@@ -121,23 +133,27 @@ deeper_step most before after kind.LBrace ks c s = subst (λ n. Shallow most n k
 deeper_step most before after kind.RBrace ks c s = subst (λ n. Shallow most n ks) (omega arith) s
 deeper_step most before after _ ks c s = subst (λ n. Shallow most n ks) (sym c) s
 
--- what is known of single tokens, and of the tokens that lead to a state
+-- what is known of single tokens, and of the states that tokens lead to (`Standing`)
 pub record Laws {S P : Type 0} (turned : Limits → S → TokenKind → Turn S) (gives : S → Option P) (count_of : S → ℕ)
-    (start : S) (Sentence : Limits → List TokenKind → P → Type 0) : Type 0 where
+    (start : S) (Sentence : Limits → List TokenKind → P → Type 0) (Standing : Limits → S → List TokenKind → Type 0)
+    : Type 0 where
   pub shape : (state : S) (k : TokenKind) → Shape S k (count_of state) (λ most. turned most state k)
   pub counted : (most : Limits) (state : S) (k : TokenKind) (next : S) → turned most state k ≡ Goes next
       → Counted k most.braces (count_of state) (count_of next)
   pub starts : count_of start ≡ 0
-  pub completes : (most : Limits) (tokens : List TokenKind) (last : S) → turns turned most start tokens ≡ Goes last
-      → count_of last < most.braces → Completes Sentence most tokens
-  pub finished : (most : Limits) (tokens : List TokenKind) (last : S) (tree : P)
-      → turns turned most start tokens ≡ Goes last → gives last ≡ Some tree → Sentence most tokens tree
+  pub nothing_read : (most : Limits) → Standing most start []
+  pub steps : (most : Limits) (state : S) (tokens : List TokenKind) → Standing most state tokens
+      → (k : TokenKind) (next : S) → turned most state k ≡ Goes next → Standing most next (tokens ++ k ∷ [])
+  pub completes : (most : Limits) (state : S) (tokens : List TokenKind) → Standing most state tokens
+      → count_of state < most.braces → Completes Sentence most tokens
+  pub finished : (most : Limits) (state : S) (tokens : List TokenKind) → Standing most state tokens
+      → (tree : P) → gives state ≡ Some tree → Sentence most tokens tree
   pub read : (most : Limits) (tokens : List TokenKind) (tree : P) → Sentence most tokens tree
       → parsed turned gives most start tokens ≡ Some tree
 
-module _ {S P : Type 0} (turned : Limits → S → TokenKind → Turn S) (gives : S → Option P) (count_of : S → ℕ)
-    (start : S) (Sentence : Limits → List TokenKind → P → Type 0)
-    (laws : Laws turned gives count_of start Sentence) where
+module _ {S P : Type 0} {turned : Limits → S → TokenKind → Turn S} {gives : S → Option P} {count_of : S → ℕ}
+    {start : S} {Sentence : Limits → List TokenKind → P → Type 0} {Standing : Limits → S → List TokenKind → Type 0}
+    (laws : Laws turned gives count_of start Sentence Standing) where
   abbrev goes_over : Limits → S → List TokenKind → Turn S
   goes_over = turns turned
 
@@ -150,6 +166,30 @@ module _ {S P : Type 0} (turned : Limits → S → TokenKind → Turn S) (gives 
   abbrev program_of : S → Option P
   program_of = gives
 
+  stands_step : (most : Limits) (tokens : List TokenKind) (k : TokenKind) (ks : List TokenKind) (state : S) (t : Turn S)
+      (last : S) → ((next : S) → Standing most next (tokens ++ k ∷ []) → goes_over most next ks ≡ Goes last
+      → Standing most last ((tokens ++ k ∷ []) ++ ks)) → Standing most state tokens → turned most state k ≡ t
+      → then_turn t (λ next. goes_over most next ks) ≡ Goes last → Standing most last (tokens ++ k ∷ ks)
+  stands_step most tokens k ks state (Goes next) last rest s is e =
+      subst (λ z. Standing most last z) (append_assoc tokens (k ∷ []) ks)
+      (rest next (laws.steps most state tokens s k next is) e)
+  stands_step most tokens k ks state Wrong last rest s is e = absurd (cc)
+  stands_step most tokens k ks state TooMuch last rest s is e = absurd (cc)
+
+  stands_many : (most : Limits) (ks tokens : List TokenKind) (state last : S) → Standing most state tokens
+      → goes_over most state ks ≡ Goes last → Standing most last (tokens ++ ks)
+  stands_many most [] tokens state last s e =
+      let f : state ≡ last = cc in
+      subst (λ z. Standing most z (tokens ++ [])) f (subst (λ z. Standing most state z) (sym (append-nil tokens)) s)
+  stands_many most (k ∷ ks) tokens state last s e =
+      stands_step most tokens k ks state (turned most state k) last
+      (λ next r g. stands_many most ks (tokens ++ k ∷ []) next last r g) s refl e
+
+  -- each state that tokens lead to has read them
+  stands : (most : Limits) (tokens : List TokenKind) (last : S) → goes_over most start tokens ≡ Goes last
+      → Standing most last tokens
+  stands most tokens last e = stands_many most tokens [] start last (laws.nothing_read most) e
+
   -- tokens that were read are within the braces
   pub record Read (most : Limits) (state : S) (tokens : List TokenKind) (last : S) : Type 0 where
     pub shallow : (more : List TokenKind)
@@ -160,12 +200,14 @@ module _ {S P : Type 0} (turned : Limits → S → TokenKind → Turn S) (gives 
 
   read_step : (most : Limits) (state : S) (k : TokenKind) (ks : List TokenKind) (t : Turn S) (last : S)
       → ((next : S) → goes_over most next ks ≡ Goes last → Read most next ks last)
-      → turned most state k ≡ t → then_turn t (λ next. goes_over most next ks) ≡ Goes last → Read most state (k ∷ ks) last
+      → turned most state k ≡ t → then_turn t (λ next. goes_over most next ks) ≡ Goes last
+      → Read most state (k ∷ ks) last
   read_step most state k ks (Goes next) last rest is e =
       let c = laws.counted most state k next is in
       let r = rest next e in
       record {
-        shallow = λ more s. shallow_step most.braces (count_of state) (count_of next) k (ks ++ more) c (r.shallow more s);
+        shallow = λ more s. shallow_step most.braces (count_of state) (count_of next) k (ks ++ more) c
+            (r.shallow more s);
         within = λ h. r.within (fewer most.braces (count_of state) (count_of next) k c h);
         deeper = λ more s. r.deeper more (deeper_step most.braces (count_of state) (count_of next) k (ks ++ more) c s);
       }
@@ -186,7 +228,8 @@ module _ {S P : Type 0} (turned : Limits → S → TokenKind → Turn S) (gives 
       → ((next : S) → goes_over most next ks ≡ Goes last → goes_over wide next ks ≡ Goes last) → turned most state k ≡ t
       → then_turn t (λ next. goes_over most next ks) ≡ Goes last → goes_over wide state (k ∷ ks) ≡ Goes last
   wider_step most wide k ks state (Goes next) last fits rest is e =
-      ap (λ t. then_turn t (λ n. goes_over wide n ks)) (wider_shape (laws.shape state k) most wide next fits is) ∙ rest next e
+      ap (λ t. then_turn t (λ n. goes_over wide n ks)) (wider_shape (laws.shape state k) most wide next fits is)
+      ∙ rest next e
   wider_step most wide k ks state Wrong last fits rest is e = absurd (cc)
   wider_step most wide k ks state TooMuch last fits rest is e = absurd (cc)
 
@@ -206,7 +249,8 @@ module _ {S P : Type 0} (turned : Limits → S → TokenKind → Turn S) (gives 
       let fits : Fits most wide = record { brackets = omega arith; braces = omega arith; operators = omega arith } in
       let begun = laws.starts in
       let within = r.within (omega arith) in
-      let c = laws.completes wide tokens last (turns_wider most wide tokens start last fits e) (omega arith) in
+      let c = laws.completes wide last tokens (stands wide tokens last (turns_wider most wide tokens start last fits e))
+      (omega arith) in
       record {
         shallow = subst (λ z. Shallow most.braces 0 z) (append-nil tokens)
             (subst (λ n. Shallow most.braces n (tokens ++ [])) laws.starts (r.shallow [] tt));
@@ -219,22 +263,26 @@ module _ {S P : Type 0} (turned : Limits → S → TokenKind → Turn S) (gives 
   through_step : (most other : Limits) (k : TokenKind) (ks more : List TokenKind) (state : S) (t : Turn S)
       (last : S)
       (p : P) → ((next : S) → goes_over most next ks ≡ Goes last → tree_of other next (ks ++ more) ≡ Some p
-      → tree_of other last more ≡ Some p) → turned most state k ≡ t → then_turn t (λ next. goes_over most next ks) ≡ Goes last
+      → tree_of other last more ≡ Some p) → turned most state k ≡ t → then_turn t (λ next. goes_over most next ks)
+      ≡ Goes last
       → after_turn (turned other state k) (λ next. tree_of other next (ks ++ more)) ≡ Some p
       → tree_of other last more ≡ Some p
   through_step most other k ks more state (Goes next) last p rest is e w =
       elim (same_shape (laws.shape state k) most other next is) [
         | inl g ↦ rest next e (sym (ap (λ t. after_turn t (λ n. tree_of other n (ks ++ more))) g) ∙ w)
         | inr m ↦
-            (let f : None ≡ Some p = sym (ap (λ t. after_turn t (λ n. tree_of other n (ks ++ more))) m) ∙ w in absurd (cc))
+            (let f : None ≡ Some p = sym (ap (λ t. after_turn t (λ n. tree_of other n (ks ++ more))) m) ∙ w in
+            absurd (cc))
       ]
   through_step most other k ks more state Wrong last p rest is e w = absurd (cc)
   through_step most other k ks more state TooMuch last p rest is e w = absurd (cc)
 
   -- a program is read through the states that its first tokens lead to, whatever the limits
   pub through : (most other : Limits) (ks more : List TokenKind) (state last : S) (p : P)
-      → goes_over most state ks ≡ Goes last → tree_of other state (ks ++ more) ≡ Some p → tree_of other last more ≡ Some p
-  through most other [] more state last p e w = let f : state ≡ last = cc in subst (λ z. tree_of other z more ≡ Some p) f w
+      → goes_over most state ks ≡ Goes last → tree_of other state (ks ++ more) ≡ Some p → tree_of other last more
+      ≡ Some p
+  through most other [] more state last p e w =
+      let f : state ≡ last = cc in subst (λ z. tree_of other z more ≡ Some p) f w
   through most other (k ∷ ks) more state last p e w =
       through_step most other k ks more state (turned most state k) last p
       (λ next g v. through most other ks more next last p g v) refl e w
@@ -249,7 +297,8 @@ module _ {S P : Type 0} (turned : Limits → S → TokenKind → Turn S) (gives 
 
   -- with a token that is wrong no program begins
   pub wrong_begins : (most other : Limits) (tokens : List TokenKind) (k : TokenKind) (last : S)
-      → goes_over most start tokens ≡ Goes last → turned most last k ≡ Wrong → ProgramBegins other (tokens ++ k ∷ []) → ⊥
+      → goes_over most start tokens ≡ Goes last → turned most last k ≡ Wrong → ProgramBegins other (tokens ++ k ∷ [])
+      → ⊥
   wrong_begins most other tokens k last e w b =
       let o : Limits = record { brackets = other.brackets; braces = b.braces; operators = other.operators } in
       let f = goes_on most o tokens k last b.more b.tree e b.sentence in
@@ -268,13 +317,15 @@ module _ {S P : Type 0} (turned : Limits → S → TokenKind → Turn S) (gives 
       → turned other last k ≡ t → after_turn t (λ n. tree_of other n more) ≡ Some p → turned most last k ≡ TooMuch
       → Shallow most.braces (count_of last) (k ∷ []) → ⊥
   much_step most other tokens k last more p (Goes next) a b is w e s =
-      let f = brace_shape (laws.shape last k) most other next a b e is in brace_fits most.braces (count_of last) k f.0 f.1 s
+      let f = brace_shape (laws.shape last k) most other next a b e is in brace_fits most.braces
+      (count_of last) k f.0 f.1 s
   much_step most other tokens k last more p Wrong a b is w e s = absurd (cc)
   much_step most other tokens k last more p TooMuch a b is w e s = absurd (cc)
 
   -- with a token that is too much no program begins within the limits
   pub much_begins : (most : Limits) (tokens : List TokenKind) (k : TokenKind) (last : S)
-      → goes_over most start tokens ≡ Goes last → turned most last k ≡ TooMuch → ProgramBegins most (tokens ++ k ∷ []) → ⊥
+      → goes_over most start tokens ≡ Goes last → turned most last k ≡ TooMuch → ProgramBegins most (tokens ++ k ∷ [])
+      → ⊥
   much_begins most tokens k last e w b =
       let o : Limits = record { brackets = most.brackets; braces = b.braces; operators = most.operators } in
       let f = goes_on most o tokens k last b.more b.tree e b.sentence in
@@ -288,14 +339,16 @@ module _ {S P : Type 0} (turned : Limits → S → TokenKind → Turn S) (gives 
 
   more_step : (most : Limits) (k : TokenKind) (ks : List TokenKind) (t : Turn S) (last next : S)
       → ((s : S) → goes_over most s ks ≡ Goes last → goes_over most s (ks ++ k ∷ []) ≡ Goes next)
-      → then_turn t (λ s. goes_over most s ks) ≡ Goes last → then_turn t (λ s. goes_over most s (ks ++ k ∷ [])) ≡ Goes next
+      → then_turn t (λ s. goes_over most s ks) ≡ Goes last → then_turn t (λ s. goes_over most s (ks ++ k ∷ []))
+      ≡ Goes next
   more_step most k ks (Goes s) last next rest e = rest s e
   more_step most k ks Wrong last next rest e = absurd (cc)
   more_step most k ks TooMuch last next rest e = absurd (cc)
 
   -- one turn more
   pub one_more_turn : (most : Limits) (ks : List TokenKind) (k : TokenKind) (state last next : S)
-      → goes_over most state ks ≡ Goes last → turned most last k ≡ Goes next → goes_over most state (ks ++ k ∷ []) ≡ Goes next
+      → goes_over most state ks ≡ Goes last → turned most last k ≡ Goes next → goes_over most state (ks ++ k ∷ [])
+      ≡ Goes next
   one_more_turn most [] k state last next e g =
       let f : state ≡ last = cc in
       turn_at (turned most state k) (λ s. Goes s) next (subst (λ z. turned most z k ≡ Goes next) (sym f) g)
@@ -321,7 +374,7 @@ module _ {S P : Type 0} (turned : Limits → S → TokenKind → Turn S) (gives 
   -- tokens that lead to a whole program are one
   pub whole_sentence : (most : Limits) (tokens : List TokenKind) (last : S) (p : P)
       → goes_over most start tokens ≡ Goes last → program_of last ≡ Some p → Sentence most tokens p
-  whole_sentence most tokens last p e w = laws.finished most tokens last p e w
+  whole_sentence most tokens last p e w = laws.finished most last tokens (stands most tokens last e) p w
 
   -- tokens that lead to no whole program are none
   pub no_sentence : (most : Limits) (tokens : List TokenKind) (last : S) (p : P)
@@ -360,15 +413,18 @@ module _ {S P : Type 0} (turned : Limits → S → TokenKind → Turn S) (gives 
 
   -- a token that the goes_over take
   pub goes_at : (tokens : List Token) (i : ℕ) (token : Token) (state next : S)
-      → i < length tokens → token ≡ get_or tokens i token → goes_over limits start (token_kinds (take i tokens)) ≡ Goes state
-      → turned limits state token.kind ≡ Goes next → goes_over limits start (token_kinds (take (i + 1) tokens)) ≡ Goes next
+      → i < length tokens → token ≡ get_or tokens i token → goes_over limits start (token_kinds (take i tokens))
+      ≡ Goes state
+      → turned limits state token.kind ≡ Goes next → goes_over limits start (token_kinds (take (i + 1) tokens))
+      ≡ Goes next
   goes_at tokens i token state next h is before now =
       ap (λ ks. goes_over limits start ks) (kinds_more tokens i token h is)
       ∙ one_more_turn limits (token_kinds (take i tokens)) token.kind start state next before now
 
   -- a token that can't stand where it stands
   pub unexpected_at : (tokens : List Token) (i : ℕ) (token : Token) (state : S)
-      → i < length tokens → token ≡ get_or tokens i token → goes_over limits start (token_kinds (take i tokens)) ≡ Goes state
+      → i < length tokens → token ≡ get_or tokens i token → goes_over limits start (token_kinds (take i tokens))
+      ≡ Goes state
       → turned limits state token.kind ≡ Wrong → Stray Sentence tokens token.start
   unexpected_at tokens i token state h is before now = record {
     before = take i tokens;
@@ -382,7 +438,8 @@ module _ {S P : Type 0} (turned : Limits → S → TokenKind → Turn S) (gives 
 
   -- a token that would nest too deep
   pub too_deep_at : (tokens : List Token) (i : ℕ) (token : Token) (state : S)
-      → i < length tokens → token ≡ get_or tokens i token → goes_over limits start (token_kinds (take i tokens)) ≡ Goes state
+      → i < length tokens → token ≡ get_or tokens i token → goes_over limits start (token_kinds (take i tokens))
+      ≡ Goes state
       → turned limits state token.kind ≡ TooMuch → Deeper Sentence tokens token.start
   too_deep_at tokens i token state h is before now =
       let wider = wider_begins limits (token_kinds (take i tokens)) token.kind state before now in
@@ -401,11 +458,13 @@ module _ {S P : Type 0} (turned : Limits → S → TokenKind → Turn S) (gives 
   all_read : (tokens : List Token) (i : ℕ) (state : S) → length tokens ≤ i
       → goes_over limits start (token_kinds (take i tokens)) ≡ Goes state → goes_over limits start (token_kinds tokens)
       ≡ Goes state
-  all_read tokens i state h e = subst (λ ts. goes_over limits start (token_kinds ts) ≡ Goes state) (take_all i tokens h) e
+  all_read tokens i state h e = subst (λ ts. goes_over limits start (token_kinds ts) ≡ Goes state)
+      (take_all i tokens h) e
 
   -- tokens that end before the program does
   pub cut_short_at : (tokens : List Token) (i : ℕ) (state : S) → length tokens ≤ i
-      → goes_over limits start (token_kinds (take i tokens)) ≡ Goes state → program_of state ≡ None → Cut Sentence tokens
+      → goes_over limits start (token_kinds (take i tokens)) ≡ Goes state → program_of state ≡ None
+      → Cut Sentence tokens
   cut_short_at tokens i state h e none = record {
     begins = begins limits (token_kinds tokens) state (all_read tokens i state h e);
     none = λ p s. no_sentence limits (token_kinds tokens) state p (all_read tokens i state h e) none s;
@@ -413,7 +472,8 @@ module _ {S P : Type 0} (turned : Limits → S → TokenKind → Turn S) (gives 
 
   -- tokens that end where the program does
   pub sentence_at : (tokens : List Token) (i : ℕ) (state : S) (p : P)
-      → length tokens ≤ i → goes_over limits start (token_kinds (take i tokens)) ≡ Goes state → program_of state ≡ Some p
+      → length tokens ≤ i → goes_over limits start (token_kinds (take i tokens)) ≡ Goes state → program_of state
+      ≡ Some p
       → Sentence limits (token_kinds tokens) p
   sentence_at tokens i state p h e some = whole_sentence limits (token_kinds tokens) state p
       (all_read tokens i state h e) some

@@ -1,6 +1,8 @@
 pub mod Grammar
 pub mod Refusals
 pub mod Operands
+pub mod Headings
+pub mod Parts
 pub mod Turns
 pub mod Seen
 pub mod Explained

@@ -1,4 +1,5 @@
--- The parser's own types as the proofs see them, and as parsers of larger things see the reading of an expression.
+-- The parser's own types as the proofs see them, and as parsers of larger things see the reading of expressions, of
+-- parts of statements and of declarations.
 use Rattle.std.specs.Prelude.{List, map, reverse}
 use Rattle.src_tree.specs.Trees.{expr_tree, test_of, statement_of, Statement}
 use Rattle.src_tree.specs.declared.trees.Stmt.{Stmt}
@@ -10,22 +11,37 @@ use Rattle.src_parser.specs.declared.readings.OperandState as operands
 use Rattle.src_parser.specs.declared.readings.Reading as readings
 use Rattle.src_parser.specs.declared.readings.TokenStep as steps
 use Rattle.src_parser.specs.declared.readings.Joint as joints
-use Rattle.src_parser.specs.declared.states.Form as forms
-use Rattle.src_parser.specs.declared.states.Form.TheVariants as form
-use Rattle.src_parser.specs.declared.states.Asked as askeds
-use Rattle.src_parser.specs.declared.states.Asked.TheVariants as asked
+use Rattle.src_parser.specs.declared.parts.Form as forms
+use Rattle.src_parser.specs.declared.parts.Form.TheVariants as form
+use Rattle.src_parser.specs.declared.parts.Asked as askeds
+use Rattle.src_parser.specs.declared.parts.Asked.TheVariants as asked
+use Rattle.src_parser.specs.declared.parts.Lead as leads
+use Rattle.src_parser.specs.declared.parts.Lead.TheVariants as lead
+use Rattle.src_parser.specs.declared.parts.Part as parts
+use Rattle.src_parser.specs.declared.parts.Part.TheVariants as part
+use Rattle.src_parser.specs.declared.parts.Made as mades
+use Rattle.src_parser.specs.declared.parts.Made.TheVariants as made
+use Rattle.src_parser.specs.declared.parts.PartTurn as part_turns
+use Rattle.src_parser.specs.declared.parts.PartTurn.TheVariants as part_turn
+use Rattle.src_parser.specs.declared.headings.Heading as headings
+use Rattle.src_parser.specs.declared.headings.Heading.TheVariants as heading
+use Rattle.src_parser.specs.declared.headings.HeadingTurn as heading_turns
+use Rattle.src_parser.specs.declared.headings.HeadingTurn.TheVariants as heading_turn
 use Rattle.src_parser.specs.declared.states.Outer as outers
 use Rattle.src_parser.specs.declared.states.Outer.TheVariants as outer
+use Rattle.src_parser.specs.declared.states.Pause as pauses
+use Rattle.src_parser.specs.declared.states.Pause.TheVariants as pause
 use Rattle.src_parser.specs.declared.states.Phase as modes
 use Rattle.src_parser.specs.declared.states.Phase.TheVariants as mode
-use Rattle.src_parser.specs.declared.states.Heading as headings
-use Rattle.src_parser.specs.declared.states.Heading.TheVariants as heading
 use Rattle.src_parser.specs.declared.states.ParserState as states
 use Rattle.src_parser.specs.declared.states.ParserState.TheVariants as state
 use Rattle.src_parser.specs.declared.states.Turn as turns
 use Rattle.src_parser.specs.declared.states.Turn.TheVariants as turn
 use Rattle.src_parser.specs.declared.states.Blocks as blocks
-use Rattle.src_parser.specs.Turns.{Form, ForChoice, ForLoop, Asked, Value, Place, Stored, Left, Right, Outer, InFirst, InSecond, InLoop, Phase, Ready, MayElse, Target, Placed, Guarding, Guarded, Otherwise, Inside, Heading, Fresh, Labelled, Typed, Titled, Sizing, Sized, Closing, ParserState, Declaring, Doing, Turn, Goes, Wrong, TooMuch}
+use Rattle.src_parser.specs.Headings.{Heading, Labelled, Typed, Titled, Sizing, Sized, Closing, HeadingState, Begun, Declared}
+use Rattle.src_parser.specs.Parts.{Form, ForChoice, ForLoop, Asked, Value, Place, Stored, Left, Right, Part, Target, Placed, Guarding, Inside, Made, VariableSet, ElementSet, GuardRead, PartState, Still, Done}
+use Rattle.src_parser.specs.Turns.{Outer, InFirst, InSecond, InLoop, Phase, Ready, MayElse, InPart, Guarded, Otherwise, ParserState, Between, Declaring, Doing}
+use Rattle.src_parser.specs.Tokenwise.{Turn, Goes, Wrong, TooMuch}
 use Rattle.src_parser.specs.Operands.{Waiting, Open, Index, Sign, Pending, OperandState, Wanted, Named, Given, Reading, At, TokenStep, Moves, Stops, Deep, Joint, Joins}
 
 abbrev pub frame_of : frames.Waiting → Waiting
@@ -46,10 +62,11 @@ operand_of (operand.Given tree) = Given (expr_tree tree)
 abbrev pub reading_of : readings.Reading → Reading
 reading_of x = At (stack_of x.stack.items) x.depth x.used (operand_of x.operand)
 
-abbrev pub step_of : steps.TokenStep → TokenStep
-step_of (step.Moves x) = Moves (reading_of x)
-step_of (step.Stops x) = Stops (reading_of x)
-step_of step.Deep = Deep
+-- by the reading that is left
+abbrev pub step_of : steps.TokenStep → Reading → TokenStep
+step_of step.Moves x = Moves x
+step_of step.Stops x = Stops x
+step_of step.Deep x = Deep
 
 abbrev pub joint_of : joints.Joint → Joint
 joint_of j = Joins (stack_of j.stack.items) (expr_tree j.tree) j.depth
@@ -65,6 +82,40 @@ asked_seen (asked.Stored name index) = Stored name (expr_tree index)
 asked_seen (asked.Left f) = Left (form_of f)
 asked_seen (asked.Right f cmp left) = Right (form_of f) cmp (expr_tree left)
 
+abbrev pub lead_of : leads.Lead → Part
+lead_of (lead.Target name) = Target name
+lead_of (lead.Placed name index used) = Placed name (expr_tree index) used
+lead_of (lead.Guarding f) = Guarding (form_of f)
+
+abbrev pub part_of : parts.Part → Part
+part_of (part.Before l) = lead_of l
+part_of (part.Inside a reading) = Inside (asked_seen a) (reading_of reading)
+
+abbrev pub made_of : mades.Made → Made
+made_of (made.Variable name value) = VariableSet name (expr_tree value)
+made_of (made.Element name index value) = ElementSet name (expr_tree index) (expr_tree value)
+made_of (made.Guard f guard) = GuardRead (form_of f) (test_of guard)
+
+-- by the part that is left
+abbrev pub part_turn_of : part_turns.PartTurn → Part → Turn PartState
+part_turn_of part_turn.Moves p = Goes (Still p)
+part_turn_of (part_turn.Ends m) p = Goes (Done (made_of m))
+part_turn_of part_turn.Wrong p = Wrong
+part_turn_of part_turn.TooMuch p = TooMuch
+
+abbrev pub heading_of : headings.Heading → Heading
+heading_of (heading.Labelled label) = Labelled label
+heading_of (heading.Typed label) = Typed label
+heading_of (heading.Titled label name) = Titled label name
+heading_of (heading.Sizing label name) = Sizing label name
+heading_of (heading.Sized label name n) = Sized label name n
+heading_of (heading.Closing label name n) = Closing label name n
+
+abbrev pub heading_turn_of : heading_turns.HeadingTurn → Turn HeadingState
+heading_turn_of (heading_turn.Goes h) = Goes (Begun (heading_of h))
+heading_turn_of (heading_turn.Ends decl) = Goes (Declared decl)
+heading_turn_of heading_turn.Wrong = Wrong
+
 abbrev pub statements_seen : List Stmt → List Statement
 statements_seen statements = map statement_of statements
 
@@ -78,33 +129,26 @@ outer_of (outer.InLoop guard before) = InLoop (test_of guard) (statements_seen b
 abbrev pub outers_of : List outers.Outer → List Outer
 outers_of outer = reverse (map outer_of outer)
 
-abbrev pub mode_of : modes.Phase → Phase
-mode_of mode.Ready = Ready
-mode_of (mode.MayElse guard first) = MayElse (test_of guard) (statements_seen first.items)
-mode_of (mode.Target name) = Target name
-mode_of (mode.Placed name index used) = Placed name (expr_tree index) used
-mode_of (mode.Guarding f) = Guarding (form_of f)
-mode_of (mode.Guarded f guard) = Guarded (form_of f) (test_of guard)
-mode_of (mode.Otherwise guard first) = Otherwise (test_of guard) (statements_seen first.items)
-mode_of (mode.Inside a reading) = Inside (asked_seen a) (reading_of reading)
+abbrev pub pause_of : pauses.Pause → Phase
+pause_of pause.Ready = Ready
+pause_of (pause.MayElse guard first) = MayElse (test_of guard) (statements_seen first.items)
+pause_of (pause.Guarded f guard) = Guarded (form_of f) (test_of guard)
+pause_of (pause.Otherwise guard first) = Otherwise (test_of guard) (statements_seen first.items)
 
-abbrev pub heading_of : headings.Heading → Heading
-heading_of heading.Fresh = Fresh
-heading_of (heading.Labelled label) = Labelled label
-heading_of (heading.Typed label) = Typed label
-heading_of (heading.Titled label name) = Titled label name
-heading_of (heading.Sizing label name) = Sizing label name
-heading_of (heading.Sized label name n) = Sized label name n
-heading_of (heading.Closing label name n) = Closing label name n
+abbrev pub mode_of : modes.Phase → Phase
+mode_of (mode.Between p) = pause_of p
+mode_of (mode.InPart p) = InPart (part_of p)
 
 abbrev pub doing : blocks.Blocks → Phase → ParserState
 doing b mode = Doing b.decls.items (outers_of b.outer.items) (statements_seen b.here.items) mode
 
 abbrev pub state_of : states.ParserState → ParserState
-state_of (state.Declaring decls heading) = Declaring decls.items (heading_of heading)
+state_of (state.Between decls) = Between decls.items
+state_of (state.Declaring decls h) = Declaring decls.items (heading_of h)
 state_of (state.Doing b mode) = doing b (mode_of mode)
 
-abbrev pub turn_of : turns.Turn → Turn
-turn_of (turn.Goes s) = Goes (state_of s)
-turn_of turn.Wrong = Wrong
-turn_of turn.TooMuch = TooMuch
+-- by the state that is left
+abbrev pub turn_of : turns.Turn → ParserState → Turn ParserState
+turn_of turn.Goes s = Goes s
+turn_of turn.Wrong s = Wrong
+turn_of turn.TooMuch s = TooMuch

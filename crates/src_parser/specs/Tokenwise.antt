@@ -1,6 +1,6 @@
 -- A parser that reads token by token, whatever its states and what it gives; and what its refusals say, by the grammar
 -- alone (`Sentence`).
-use Rattle.std.specs.Prelude.{◌≡◌, ℕ, List, [], ◌∷◌, ◌++◌, Option, None}
+use Rattle.std.specs.Prelude.{◌≡◌, ℕ, Bool, true, false, List, [], ◌∷◌, ◌++◌, Option, None}
 use Rattle.src_lexer.specs.declared.tokens.TokenKind.{TokenKind}
 use Rattle.src_lexer.specs.declared.tokens.Token.{Token}
 use Rattle.src_parser.specs.Grammar.{Limits, limits}
@@ -10,6 +10,17 @@ pub data Turn (S : Type 0) : Type 0 where
   Goes : (state : S) → Turn S
   Wrong : Turn S
   TooMuch : Turn S
+
+-- a turn of a part, as one of the whole
+abbrev pub mapped : {A B : Type 0} → (A → B) → Turn A → Turn B
+mapped f (Goes state) = Goes (f state)
+mapped f Wrong = Wrong
+mapped f TooMuch = TooMuch
+
+-- one that opens a brace, where there is room
+abbrev pub with_braces : {S : Type 0} → Bool → S → Turn S
+with_braces true state = Goes state
+with_braces false state = TooMuch
 
 abbrev pub then_turn : {S : Type 0} → Turn S → (S → Turn S) → Turn S
 then_turn (Goes state) next = next state

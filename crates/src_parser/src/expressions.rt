@@ -14,6 +14,7 @@ use gr_word::{Name, Op};
 use src_lexer::TokenKind;
 use src_tree::Expr;
 use std::alloc::Global;
+use std::mem;
 
 // The operation that a sign between two operands stands for.
 pub(crate) fn operator(kind: &TokenKind) -> Option<Op>
@@ -100,102 +101,81 @@ fn join(
 }
 
 // Opens a bracket, an index or a sign, where one more may be open.
-fn opened(
-    mut stack: Vec<Waiting>,
-    frame: Waiting,
-    depth: u32,
-    used: u32,
-) -> Result<TokenStep, Memory>
-    requires { depth < 2 ^ 32 - 1 }
-    ensures { IfOk result
-        (λ s. step_of s ≡ Moves (At (frame_of frame ∷ stack_of stack.items) (depth + 1) used Wanted)) }
+fn opened(reading: &mut Reading, frame: Waiting, used: u32) -> Result<TokenStep, Memory>
+    requires { reading.old.depth < 2 ^ 32 - 1 }
+    ensures { IfOk result (λ s. step_of s (reading_of reading.new)
+        ≡ Moves (At (frame_of frame ∷ stack_of reading.old.stack.items) (reading.old.depth + 1) used Wanted)) }
 {
-    stack.push(frame)?;
-    Ok(TokenStep::Moves(Reading {
-        stack,
-        depth: depth + 1,
-        used,
-        operand: OperandState::Wanted,
-    }))
+    reading.stack.push(frame)?;
+    reading.depth += 1;
+    reading.used = used;
+    reading.operand = OperandState::Wanted;
+    Ok(TokenStep::Moves)
 }
 
-fn bracket(stack: Vec<Waiting>, depth: u32, used: u32) -> Result<TokenStep, Memory>
-    ensures { IfOk result (λ s. step_of s ≡ wanting limits (stack_of stack.items) depth used LParen) }
+fn bracket(reading: &mut Reading) -> Result<TokenStep, Memory>
+    ensures { IfOk result (λ s. step_of s (reading_of reading.new)
+        ≡ wanting limits (stack_of reading.old.stack.items) reading.old.depth reading.old.used LParen) }
 {
+    let (depth, used) = (reading.depth, reading.used);
     if depth >= MAX_BRACKETS {
         return Ok(TokenStep::Deep);
     }
-    opened(stack, Waiting::Open(depth), depth, used)
+    opened(reading, Waiting::Open(depth), used)
 }
 
-fn sign(stack: Vec<Waiting>, depth: u32, used: u32) -> Result<TokenStep, Memory>
-    ensures { IfOk result (λ s. step_of s ≡ wanting limits (stack_of stack.items) depth used Minus) }
+fn sign(reading: &mut Reading) -> Result<TokenStep, Memory>
+    ensures { IfOk result (λ s. step_of s (reading_of reading.new)
+        ≡ wanting limits (stack_of reading.old.stack.items) reading.old.depth reading.old.used Minus) }
 {
+    let (depth, used) = (reading.depth, reading.used);
     if depth >= MAX_BRACKETS {
         return Ok(TokenStep::Deep);
     }
     if used >= MAX_OPERATORS {
         return Ok(TokenStep::Deep);
     }
-    opened(stack, Waiting::Sign(depth), depth, used + 1)
+    opened(reading, Waiting::Sign(depth), used + 1)
 }
 
-fn number(stack: Vec<Waiting>, depth: u32, used: u32, value: i64) -> TokenStep
-    ensures { step_of result ≡ wanting limits (stack_of stack.items) depth used (Num value) }
+fn number(reading: &mut Reading, value: i64) -> TokenStep
+    ensures { step_of result (reading_of reading.new)
+        ≡ wanting limits (stack_of reading.old.stack.items) reading.old.depth reading.old.used (Num value) }
 {
     if value < 0 {
-        return TokenStep::Stops(Reading {
-            stack,
-            depth,
-            used,
-            operand: OperandState::Wanted,
-        });
+        reading.operand = OperandState::Wanted;
+        return TokenStep::Stops;
     }
-    TokenStep::Moves(Reading {
-        stack,
-        depth,
-        used,
-        operand: OperandState::Given(Expr::Num(value)),
-    })
+    reading.operand = OperandState::Given(Expr::Num(value));
+    TokenStep::Moves
 }
 
 // A token where an operand is wanted.
-fn want(
-    alloc: Global,
-    stack: Vec<Waiting>,
-    depth: u32,
-    used: u32,
-    kind: &TokenKind,
-) -> Result<TokenStep, Memory>
-    ensures { IfOk result (λ s. step_of s ≡ wanting limits (stack_of stack.items) depth used kind.now) }
+fn want(alloc: Global, reading: &mut Reading, kind: &TokenKind) -> Result<TokenStep, Memory>
+    ensures { IfOk result (λ s. step_of s (reading_of reading.new)
+        ≡ wanting limits (stack_of reading.old.stack.items) reading.old.depth reading.old.used kind.now) }
 {
     match kind {
-        TokenKind::Num(value) => Ok(number(stack, depth, used, *value)),
+        TokenKind::Num(value) => Ok(number(reading, *value)),
         TokenKind::Word(name) => {
-            let operand = OperandState::Named(name.copy(alloc)?);
-            Ok(TokenStep::Moves(Reading {
-                stack,
-                depth,
-                used,
-                operand,
-            }))
+            reading.operand = OperandState::Named(name.copy(alloc)?);
+            Ok(TokenStep::Moves)
         }
-        TokenKind::LParen => bracket(stack, depth, used),
-        TokenKind::Minus => sign(stack, depth, used),
-        _ => Ok(TokenStep::Stops(Reading {
-            stack,
-            depth,
-            used,
-            operand: OperandState::Wanted,
-        })),
+        TokenKind::LParen => bracket(reading),
+        TokenKind::Minus => sign(reading),
+        _ => {
+            reading.operand = OperandState::Wanted;
+            Ok(TokenStep::Stops)
+        }
     }
 }
 
 // An operator behind an operand.
-fn pend(op: Op, used: u32, joint: Joint) -> Result<TokenStep, Memory>
-    ensures { IfOk result (λ s. step_of s ≡ pending limits op used (joint_of joint)) }
+fn pend(reading: &mut Reading, op: Op, joint: Joint) -> Result<TokenStep, Memory>
+    ensures { IfOk result (λ s. step_of s (reading_of reading.new)
+        ≡ pending limits op reading.old.used (joint_of joint)) }
 {
-    if used >= MAX_OPERATORS {
+    if reading.used >= MAX_OPERATORS {
         return Ok(TokenStep::Deep);
     }
     let Joint {
@@ -204,67 +184,63 @@ fn pend(op: Op, used: u32, joint: Joint) -> Result<TokenStep, Memory>
         depth,
     } = joint;
     stack.push(Waiting::Pending(tree, op))?;
-    Ok(TokenStep::Moves(Reading {
-        stack,
-        depth,
-        used: used + 1,
-        operand: OperandState::Wanted,
-    }))
+    reading.stack = stack;
+    reading.depth = depth;
+    reading.used += 1;
+    reading.operand = OperandState::Wanted;
+    Ok(TokenStep::Moves)
 }
 
-fn given(stack: Vec<Waiting>, depth: u32, used: u32, tree: Expr) -> Reading
-    ensures { reading_of result ≡ At (stack_of stack.items) depth used (Given (expr_tree tree)) }
+// The operand is there.
+fn give(reading: &mut Reading, stack: Vec<Waiting>, depth: u32, tree: Expr)
+    ensures { reading_of reading.new ≡ At (stack_of stack.items) depth reading.old.used (Given (expr_tree tree)) }
 {
-    Reading {
-        stack,
-        depth,
-        used,
-        operand: OperandState::Given(tree),
-    }
+    reading.stack = stack;
+    reading.depth = depth;
+    reading.operand = OperandState::Given(tree);
 }
 
 // What waits last stays, and the expression ends before the token.
 fn stay(
+    reading: &mut Reading,
     mut stack: Vec<Waiting>,
     last: Waiting,
     depth: u32,
-    used: u32,
     tree: Expr,
 ) -> Result<TokenStep, Memory>
-    ensures { IfOk result (λ s.
-        step_of s ≡ Stops (At (frame_of last ∷ stack_of stack.items) depth used (Given (expr_tree tree)))) }
+    ensures { IfOk result (λ s. step_of s (reading_of reading.new)
+        ≡ Stops (At (frame_of last ∷ stack_of stack.items) depth reading.old.used (Given (expr_tree tree)))) }
 {
     stack.push(last)?;
-    Ok(TokenStep::Stops(given(stack, depth, used, tree)))
+    give(reading, stack, depth, tree);
+    Ok(TokenStep::Stops)
 }
 
 // A `)` behind an operand.
-fn close_bracket(
-    mut stack: Vec<Waiting>,
-    depth: u32,
-    used: u32,
-    tree: Expr,
-) -> Result<TokenStep, Memory>
-    ensures { IfOk result (λ s. step_of s ≡ closing used RParen (Joins (stack_of stack.items) (expr_tree tree) depth)) }
+fn close_bracket(reading: &mut Reading, joint: Joint) -> Result<TokenStep, Memory>
+    ensures { IfOk result (λ s. step_of s (reading_of reading.new) ≡ closing reading.old.used RParen (joint_of joint)) }
 {
+    let Joint {
+        mut stack,
+        tree,
+        depth,
+    } = joint;
     match stack.pop() {
-        None => Ok(TokenStep::Stops(given(stack, depth, used, tree))),
-        Some(Waiting::Open(before)) => Ok(TokenStep::Moves(given(stack, before, used, tree))),
-        Some(Waiting::Index(before, name)) => stay(
-            stack,
-            Waiting::Index(before, name),
-            depth,
-            used,
-            tree,
-        ),
-        Some(Waiting::Sign(before)) => stay(stack, Waiting::Sign(before), depth, used, tree),
-        Some(Waiting::Pending(left, op)) => stay(
-            stack,
-            Waiting::Pending(left, op),
-            depth,
-            used,
-            tree,
-        ),
+        None => {
+            give(reading, stack, depth, tree);
+            Ok(TokenStep::Stops)
+        }
+        Some(Waiting::Open(before)) => {
+            give(reading, stack, before, tree);
+            Ok(TokenStep::Moves)
+        }
+        Some(Waiting::Index(before, name)) => {
+            stay(reading, stack, Waiting::Index(before, name), depth, tree)
+        }
+        Some(Waiting::Sign(before)) => stay(reading, stack, Waiting::Sign(before), depth, tree),
+        Some(Waiting::Pending(left, op)) => {
+            stay(reading, stack, Waiting::Pending(left, op), depth, tree)
+        }
     }
 }
 
@@ -275,93 +251,101 @@ fn element(alloc: Global, name: Name, index: Expr) -> Result<Expr, Memory>
 }
 
 // A `]` behind an operand.
-fn close_index(
-    alloc: Global,
-    mut stack: Vec<Waiting>,
-    depth: u32,
-    used: u32,
-    tree: Expr,
-) -> Result<TokenStep, Memory>
-    ensures { IfOk result (λ s. step_of s
-        ≡ closing used RBracket (Joins (stack_of stack.items) (expr_tree tree) depth)) }
+fn close_index(alloc: Global, reading: &mut Reading, joint: Joint) -> Result<TokenStep, Memory>
+    ensures { IfOk result (λ s. step_of s (reading_of reading.new)
+        ≡ closing reading.old.used RBracket (joint_of joint)) }
 {
+    let Joint {
+        mut stack,
+        tree,
+        depth,
+    } = joint;
     match stack.pop() {
-        None => Ok(TokenStep::Stops(given(stack, depth, used, tree))),
-        Some(Waiting::Index(before, name)) => {
-            let tree = element(alloc, name, tree)?;
-            Ok(TokenStep::Moves(given(stack, before, used, tree)))
+        None => {
+            give(reading, stack, depth, tree);
+            Ok(TokenStep::Stops)
         }
-        Some(Waiting::Open(before)) => stay(stack, Waiting::Open(before), depth, used, tree),
-        Some(Waiting::Sign(before)) => stay(stack, Waiting::Sign(before), depth, used, tree),
-        Some(Waiting::Pending(left, op)) => stay(
-            stack,
-            Waiting::Pending(left, op),
-            depth,
-            used,
-            tree,
-        ),
+        Some(Waiting::Index(before, name)) => {
+            give(reading, stack, before, element(alloc, name, tree)?);
+            Ok(TokenStep::Moves)
+        }
+        Some(Waiting::Open(before)) => stay(reading, stack, Waiting::Open(before), depth, tree),
+        Some(Waiting::Sign(before)) => stay(reading, stack, Waiting::Sign(before), depth, tree),
+        Some(Waiting::Pending(left, op)) => {
+            stay(reading, stack, Waiting::Pending(left, op), depth, tree)
+        }
     }
 }
 
 // A token behind an operand that is no operator.
-fn close(alloc: Global, used: u32, kind: &TokenKind, joint: Joint) -> Result<TokenStep, Memory>
-    ensures { IfOk result (λ s. step_of s ≡ closing used kind.now (joint_of joint)) }
+fn close(
+    alloc: Global,
+    reading: &mut Reading,
+    kind: &TokenKind,
+    joint: Joint,
+) -> Result<TokenStep, Memory>
+    ensures { IfOk result (λ s. step_of s (reading_of reading.new)
+        ≡ closing reading.old.used kind.now (joint_of joint)) }
 {
-    let Joint { stack, tree, depth } = joint;
     match kind {
-        TokenKind::RParen => close_bracket(stack, depth, used, tree),
-        TokenKind::RBracket => close_index(alloc, stack, depth, used, tree),
-        _ => Ok(TokenStep::Stops(given(stack, depth, used, tree))),
+        TokenKind::RParen => close_bracket(reading, joint),
+        TokenKind::RBracket => close_index(alloc, reading, joint),
+        _ => {
+            let Joint { stack, tree, depth } = joint;
+            give(reading, stack, depth, tree);
+            Ok(TokenStep::Stops)
+        }
     }
 }
 
 // A token behind an operand.
 fn have(
     alloc: Global,
-    stack: Vec<Waiting>,
-    depth: u32,
-    used: u32,
+    reading: &mut Reading,
     tree: Expr,
     kind: &TokenKind,
 ) -> Result<TokenStep, Memory>
-    ensures { IfOk result (λ s.
-        step_of s ≡ having limits (stack_of stack.items) depth used (expr_tree tree) kind.now (operator_of kind.now)) }
+    ensures { IfOk result (λ s. step_of s (reading_of reading.new)
+        ≡ having limits (stack_of reading.old.stack.items) reading.old.depth reading.old.used (expr_tree tree) kind.now
+        (operator_of kind.now)) }
 {
+    let stack = mem::replace(&mut reading.stack, Vec::new(alloc));
     match operator(kind) {
         Some(op) => {
-            let joint = join(alloc, level(op), stack, tree, depth)?;
-            pend(op, used, joint)
+            let joint = join(alloc, level(op), stack, tree, reading.depth)?;
+            pend(reading, op, joint)
         }
         None => {
-            let joint = join(alloc, 0, stack, tree, depth)?;
-            close(alloc, used, kind, joint)
+            let joint = join(alloc, 0, stack, tree, reading.depth)?;
+            close(alloc, reading, kind, joint)
         }
     }
 }
 
-fn index(stack: Vec<Waiting>, depth: u32, used: u32, name: Name) -> Result<TokenStep, Memory>
-    ensures { IfOk result (λ s. step_of s ≡ naming limits (stack_of stack.items) depth used name LBracket) }
+fn index(reading: &mut Reading, name: Name) -> Result<TokenStep, Memory>
+    ensures { IfOk result (λ s. step_of s (reading_of reading.new)
+        ≡ naming limits (stack_of reading.old.stack.items) reading.old.depth reading.old.used name LBracket) }
 {
+    let (depth, used) = (reading.depth, reading.used);
     if depth >= MAX_BRACKETS {
         return Ok(TokenStep::Deep);
     }
-    opened(stack, Waiting::Index(depth, name), depth, used)
+    opened(reading, Waiting::Index(depth, name), used)
 }
 
 // A token behind a name.
 fn behind_name(
     alloc: Global,
-    stack: Vec<Waiting>,
-    depth: u32,
-    used: u32,
+    reading: &mut Reading,
     name: Name,
     kind: &TokenKind,
 ) -> Result<TokenStep, Memory>
-    ensures { IfOk result (λ s. step_of s ≡ naming limits (stack_of stack.items) depth used name kind.now) }
+    ensures { IfOk result (λ s. step_of s (reading_of reading.new)
+        ≡ naming limits (stack_of reading.old.stack.items) reading.old.depth reading.old.used name kind.now) }
 {
     match kind {
-        TokenKind::LBracket => index(stack, depth, used, name),
-        _ => have(alloc, stack, depth, used, Expr::Var(name), kind),
+        TokenKind::LBracket => index(reading, name),
+        _ => have(alloc, reading, Expr::Var(name), kind),
     }
 }
 
@@ -378,33 +362,26 @@ pub fn fresh(alloc: Global, depth: u32, used: u32) -> Reading
     }
 }
 
-/// The next token of an expression, which is read, or ends it, or passes a limit of nesting. `Memory` says nothing of the
-/// tokens.
-pub fn read(alloc: Global, reading: Reading, kind: &TokenKind) -> Result<TokenStep, Memory>
-    ensures { IfOk result (λ s. step_of s ≡ reads limits (reading_of reading) kind.now) }
+/// The next token of an expression, which is read, or ends it, or passes a limit of nesting; after that, as after
+/// `Memory`, which says nothing of the tokens, the reading is of no use.
+pub fn read(alloc: Global, reading: &mut Reading, kind: &TokenKind) -> Result<TokenStep, Memory>
+    ensures { IfOk result (λ s. step_of s (reading_of reading.new) ≡ reads limits (reading_of reading.old) kind.now) }
 {
-    let Reading {
-        stack,
-        depth,
-        used,
-        operand,
-    } = reading;
-    match operand {
-        OperandState::Wanted => want(alloc, stack, depth, used, kind),
-        OperandState::Named(name) => behind_name(alloc, stack, depth, used, name, kind),
-        OperandState::Given(tree) => have(alloc, stack, depth, used, tree, kind),
+    match mem::replace(&mut reading.operand, OperandState::Wanted) {
+        OperandState::Wanted => want(alloc, reading, kind),
+        OperandState::Named(name) => behind_name(alloc, reading, name, kind),
+        OperandState::Given(tree) => have(alloc, reading, tree, kind),
     }
 }
 
-/// The whole expression, where nothing waits.
-pub fn finish(reading: Reading) -> Option<Expr>
-    ensures { option_map expr_tree result ≡ whole (reading_of reading) }
+/// The whole expression, where nothing waits, which is taken out of the reading.
+pub fn finish(reading: &mut Reading) -> Option<Expr>
+    ensures { option_map expr_tree result ≡ whole (reading_of reading.old) }
 {
-    let Reading { stack, operand, .. } = reading;
-    if !stack.is_empty() {
+    if !reading.stack.is_empty() {
         return None;
     }
-    match operand {
+    match mem::replace(&mut reading.operand, OperandState::Wanted) {
         OperandState::Given(tree) => Some(tree),
         OperandState::Named(_name) => None,
         OperandState::Wanted => None,

@@ -14,12 +14,12 @@ use src_tree::Expr;
 use std::alloc::Global;
 
 // The expression that was read, where it ends here.
-fn end(alloc: Global, reading: Reading) -> Result<Option<Expr>, Memory>
+fn end(alloc: Global, mut reading: Reading) -> Result<Option<Expr>, Memory>
     ensures { IfOk result (λ e. option_map expr_tree e ≡ ended limits (reading_of reading)) }
 {
-    match read(alloc, reading, &TokenKind::Semi)? {
-        TokenStep::Moves(_next) => Ok(None),
-        TokenStep::Stops(last) => Ok(finish(last)),
+    match read(alloc, &mut reading, &TokenKind::Semi)? {
+        TokenStep::Moves => Ok(None),
+        TokenStep::Stops => Ok(finish(&mut reading)),
         TokenStep::Deep => Ok(None),
     }
 }
@@ -38,9 +38,9 @@ fn expression(
 {
     let mut reading = fresh(alloc, opened, used);
     for (i, token) in tokens.iter().enumerate() {
-        match read(alloc, reading, &token.kind)? {
-            TokenStep::Moves(next) => reading = next,
-            TokenStep::Stops(last) => match finish(last) {
+        match read(alloc, &mut reading, &token.kind)? {
+            TokenStep::Moves => {}
+            TokenStep::Stops => match finish(&mut reading) {
                 Some(tree) => return Ok((tree, i)),
                 None => return Err(ParseError::Unexpected(token.start)),
             },

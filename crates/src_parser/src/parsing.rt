@@ -1,27 +1,104 @@
-ghost use Rattle.std.specs.Prelude.{◌≡◌, IfOk, IfErr, option_map};
+ghost use Rattle.std.specs.Prelude.{◌≡◌, [], IfOk, IfErr, option_map};
 ghost use Rattle.src_tree.specs.Trees.{source_of};
 ghost use Rattle.src_parser.specs.Explained.{ExplainsTokens};
 ghost use Rattle.src_parser.specs.Grammar.{limits, Sentence};
 ghost use Rattle.src_parser.specs.Refusals.{token_kinds};
-ghost use Rattle.src_parser.specs.Seen.{turn_of, state_of, doing, mode_of};
-ghost use Rattle.src_parser.specs.Turns.{turned, program_of, Ready};
+ghost use Rattle.src_parser.specs.Seen.{turn_of, state_of, doing, heading_of, mode_of};
+ghost use Rattle.src_parser.specs.Turns.{between, between_statements, turned, program_of, Declaring, Ready};
 
-use crate::declarations::declare;
 use crate::errors::ParseError;
-use crate::statements::{choose, perform};
-use crate::states::{Blocks, Heading, ParserState, Phase, Turn};
+use crate::headings::{Heading, HeadingTurn, read_heading};
+use crate::statements::{begin, choose, perform};
+use crate::states::{Blocks, ParserState, Pause, Phase, Turn};
 use gr_base::Memory;
+use gr_word::Label;
 use src_lexer::{Token, TokenKind};
-use src_tree::Program;
+use src_tree::{Decl, Program};
 use std::alloc::Global;
+use std::mem;
+
+// The first token of the statements.
+fn start(
+    alloc: Global,
+    state: &mut ParserState,
+    decls: Vec<Decl>,
+    kind: &TokenKind,
+) -> Result<Turn, Memory>
+    ensures { IfOk result (λ t. turn_of t (state_of state.new) ≡ between_statements decls.items [] [] kind.now) }
+{
+    let mut blocks = Blocks {
+        decls,
+        outer: Vec::new(alloc),
+        here: Vec::new(alloc),
+    };
+    let mut mode = Phase::Between(Pause::Ready);
+    let turn = begin(alloc, &mut blocks, &mut mode, kind)?;
+    *state = ParserState::Doing(blocks, mode);
+    Ok(turn)
+}
+
+// A token between declarations, or the first of the statements.
+fn begin_declaration(
+    alloc: Global,
+    state: &mut ParserState,
+    decls: Vec<Decl>,
+    kind: &TokenKind,
+) -> Result<Turn, Memory>
+    ensures { IfOk result (λ t. turn_of t (state_of state.new) ≡ between decls.items kind.now) }
+{
+    match kind {
+        TokenKind::Public => {
+            *state = ParserState::Declaring(decls, Heading::Labelled(Label::Public));
+            Ok(Turn::Goes)
+        }
+        TokenKind::Secret => {
+            *state = ParserState::Declaring(decls, Heading::Labelled(Label::Secret));
+            Ok(Turn::Goes)
+        }
+        _ => start(alloc, state, decls, kind),
+    }
+}
+
+// The next token of a declaration.
+fn declare(
+    alloc: Global,
+    state: &mut ParserState,
+    mut decls: Vec<Decl>,
+    heading: Heading,
+    kind: &TokenKind,
+) -> Result<Turn, Memory>
+    ensures { IfOk result (λ t. turn_of t (state_of state.new)
+        ≡ turned limits (Declaring decls.items (heading_of heading)) kind.now) }
+{
+    match read_heading(alloc, heading, kind)? {
+        HeadingTurn::Goes(next) => {
+            *state = ParserState::Declaring(decls, next);
+            Ok(Turn::Goes)
+        }
+        HeadingTurn::Ends(decl) => {
+            decls.push(decl)?;
+            *state = ParserState::Between(decls);
+            Ok(Turn::Goes)
+        }
+        HeadingTurn::Wrong => Ok(Turn::Wrong),
+    }
+}
 
 // The next token of a program.
-fn take(alloc: Global, state: ParserState, kind: &TokenKind) -> Result<Turn, Memory>
-    ensures { IfOk result (λ t. turn_of t ≡ turned limits (state_of state) kind.now) }
+fn take(alloc: Global, state: &mut ParserState, kind: &TokenKind) -> Result<Turn, Memory>
+    ensures { IfOk result (λ t. turn_of t (state_of state.new) ≡ turned limits (state_of state.old) kind.now) }
 {
     match state {
-        ParserState::Declaring(decls, heading) => declare(alloc, decls, heading, kind),
         ParserState::Doing(blocks, mode) => perform(alloc, blocks, mode, kind),
+        ParserState::Between(decls) => {
+            let decls = mem::replace(decls, Vec::new(alloc));
+            begin_declaration(alloc, state, decls, kind)
+        }
+        ParserState::Declaring(decls, heading) => {
+            let decls = mem::replace(decls, Vec::new(alloc));
+            let heading = mem::replace(heading, Heading::Labelled(Label::Public));
+            declare(alloc, state, decls, heading, kind)
+        }
     }
 }
 
@@ -36,18 +113,18 @@ fn whole(blocks: Blocks) -> Option<Program>
 }
 
 // The program, where its statements are whole.
-fn settle(alloc: Global, blocks: Blocks, mode: Phase) -> Result<Option<Program>, Memory>
+fn settle(alloc: Global, mut blocks: Blocks, mode: Phase) -> Result<Option<Program>, Memory>
     ensures { IfOk result (λ p. option_map source_of p ≡ program_of (doing blocks (mode_of mode))) }
 {
     match mode {
-        Phase::Ready => Ok(whole(blocks)),
-        Phase::MayElse(guard, first) => Ok(whole(choose(alloc, blocks, guard, first)?)),
-        Phase::Target(_name) => Ok(None),
-        Phase::Placed(_name, _index, _used) => Ok(None),
-        Phase::Guarding(_form) => Ok(None),
-        Phase::Guarded(_form, _guard) => Ok(None),
-        Phase::Otherwise(_guard, _first) => Ok(None),
-        Phase::Inside(_asked, _reading) => Ok(None),
+        Phase::Between(Pause::Ready) => Ok(whole(blocks)),
+        Phase::Between(Pause::MayElse(guard, first)) => {
+            choose(alloc, &mut blocks, guard, first)?;
+            Ok(whole(blocks))
+        }
+        Phase::Between(Pause::Guarded(_form, _guard)) => Ok(None),
+        Phase::Between(Pause::Otherwise(_guard, _first)) => Ok(None),
+        Phase::InPart(_part) => Ok(None),
     }
 }
 
@@ -57,18 +134,11 @@ fn conclude(alloc: Global, state: ParserState) -> Result<Option<Program>, Memory
 {
     match state {
         ParserState::Doing(blocks, mode) => settle(alloc, blocks, mode),
-        ParserState::Declaring(decls, heading) => match heading {
-            Heading::Fresh => Ok(Some(Program {
-                decls,
-                body: Vec::new(alloc),
-            })),
-            Heading::Labelled(_label) => Ok(None),
-            Heading::Typed(_label) => Ok(None),
-            Heading::Titled(_label, _name) => Ok(None),
-            Heading::Sizing(_label, _name) => Ok(None),
-            Heading::Sized(_label, _name, _length) => Ok(None),
-            Heading::Closing(_label, _name, _length) => Ok(None),
-        },
+        ParserState::Between(decls) => Ok(Some(Program {
+            decls,
+            body: Vec::new(alloc),
+        })),
+        ParserState::Declaring(_decls, _heading) => Ok(None),
     }
 }
 
@@ -82,10 +152,10 @@ pub fn parse(alloc: Global, tokens: &[Token]) -> Result<Program, ParseError>
     ensures parsed { IfOk result (λ program. Sentence limits (token_kinds tokens.now) (source_of program)) }
     ensures refused { IfErr result (λ error. ExplainsTokens error tokens.now) }
 {
-    let mut state = ParserState::Declaring(Vec::new(alloc), Heading::Fresh);
+    let mut state = ParserState::Between(Vec::new(alloc));
     for token in tokens {
-        match take(alloc, state, &token.kind)? {
-            Turn::Goes(next) => state = next,
+        match take(alloc, &mut state, &token.kind)? {
+            Turn::Goes => {}
             Turn::Wrong => return Err(ParseError::Unexpected(token.start)),
             Turn::TooMuch => return Err(ParseError::TooDeep(token.start)),
         }

@@ -38,8 +38,8 @@ pub struct Reading {
 /// What a token does to an expression: it is read; it doesn't go on with it; it passes a limit.
 #[derive(Drop)]
 pub enum TokenStep {
-    Moves(Reading),
-    Stops(Reading),
+    Moves,
+    Stops,
     Deep,
 }
 

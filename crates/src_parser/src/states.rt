@@ -1,26 +1,9 @@
-use crate::readings::Reading;
-use gr_word::{Cmp, Label, Name};
-use src_tree::{Decl, Expr, Guard, Stmt};
+use crate::headings::Heading;
+use crate::parts::{Form, Part};
+use src_tree::{Decl, Guard, Stmt};
 
 // The most braces that are open.
 pub(crate) const MAX_BRACES: usize = 32;
-
-// Whether a guard is that of a choice or of a loop.
-#[derive(Clone, Copy)]
-pub(crate) enum Form {
-    Choice,
-    Loop,
-}
-
-// What an expression is read for: a variable's value; an element's index, then its value; the sides of a guard.
-#[derive(Drop)]
-pub(crate) enum Asked {
-    Value(Name),
-    Place(Name),
-    Stored(Name, Expr),
-    Left(Form),
-    Right(Form, Cmp, Expr),
-}
 
 // A block that is open, with its guard, the first block of its choice, and the statements before its statement.
 #[derive(Drop)]
@@ -30,29 +13,20 @@ pub(crate) enum Outer {
     InLoop(Guard, Vec<Stmt>),
 }
 
+// What stands between two parts of statements: nothing; the first block of a choice; the guard of a block; an `else`.
+#[derive(Drop)]
+pub(crate) enum Pause {
+    Ready,
+    MayElse(Guard, Vec<Stmt>),
+    Guarded(Form, Guard),
+    Otherwise(Guard, Vec<Stmt>),
+}
+
 // Where the reading of statements stands.
 #[derive(Drop)]
 pub(crate) enum Phase {
-    Ready,
-    MayElse(Guard, Vec<Stmt>),
-    Target(Name),
-    Placed(Name, Expr, u32),
-    Guarding(Form),
-    Guarded(Form, Guard),
-    Otherwise(Guard, Vec<Stmt>),
-    Inside(Asked, Reading),
-}
-
-// Where the reading of declarations stands.
-#[derive(Drop)]
-pub(crate) enum Heading {
-    Fresh,
-    Labelled(Label),
-    Typed(Label),
-    Titled(Label, Name),
-    Sizing(Label, Name),
-    Sized(Label, Name, u64),
-    Closing(Label, Name, u64),
+    Between(Pause),
+    InPart(Part),
 }
 
 // What was read of the statements: the declarations, the open blocks, the last behind the others, and the statements of
@@ -64,9 +38,10 @@ pub(crate) struct Blocks {
     pub here: Vec<Stmt>,
 }
 
-// What was read of a program, and where the reading stands.
+// What was read of a program, and where the reading stands: between declarations, in one, or among statements.
 #[derive(Drop)]
 pub(crate) enum ParserState {
+    Between(Vec<Decl>),
     Declaring(Vec<Decl>, Heading),
     Doing(Blocks, Phase),
 }
@@ -74,7 +49,7 @@ pub(crate) enum ParserState {
 // What a token does to a program: it is read; none goes on with it; it passes a limit.
 #[derive(Drop)]
 pub(crate) enum Turn {
-    Goes(ParserState),
+    Goes,
     Wrong,
     TooMuch,
 }

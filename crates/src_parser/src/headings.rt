@@ -1,0 +1,97 @@
+ghost use Rattle.std.specs.Prelude.{◌≡◌, IfOk};
+ghost use Rattle.src_lexer.specs.declared.tokens.TokenKind.TheVariants.{Num};
+ghost use Rattle.src_parser.specs.Headings.{declared, heading_turned, Declared, Sizing, Typed};
+ghost use Rattle.src_parser.specs.Seen.{heading_of, heading_turn_of};
+ghost use Rattle.src_parser.specs.Tokenwise.{Goes};
+
+use gr_base::Memory;
+use gr_word::{Label, Name};
+use src_lexer::TokenKind;
+use src_tree::Decl;
+use std::alloc::Global;
+
+/// Where the reading of a declaration stands, once its label was read.
+#[derive(Drop)]
+pub enum Heading {
+    Labelled(Label),
+    Typed(Label),
+    Titled(Label, Name),
+    Sizing(Label, Name),
+    Sized(Label, Name, u64),
+    Closing(Label, Name, u64),
+}
+
+/// What a token does to a declaration: it is read; it ends the declaration; none goes on with it.
+#[derive(Drop)]
+pub enum HeadingTurn {
+    Goes(Heading),
+    Ends(Decl),
+    Wrong,
+}
+
+// The whole declaration.
+fn end(label: Label, name: Name, length: Option<u64>) -> HeadingTurn
+    ensures { heading_turn_of result ≡ Goes (Declared (declared label name length)) }
+{
+    HeadingTurn::Ends(Decl {
+        name,
+        label,
+        length,
+    })
+}
+
+// The length of an array.
+fn size(label: Label, name: Name, value: i64) -> HeadingTurn
+    ensures { heading_turn_of result ≡ heading_turned (Sizing label name) (Num value) }
+{
+    if value < 0 {
+        return HeadingTurn::Wrong;
+    }
+    HeadingTurn::Goes(Heading::Sized(label, name, value as u64))
+}
+
+fn typed(alloc: Global, label: Label, kind: &TokenKind) -> Result<HeadingTurn, Memory>
+    ensures { IfOk result (λ t. heading_turn_of t ≡ heading_turned (Typed label) kind.now) }
+{
+    match kind {
+        TokenKind::Word(name) => {
+            let name = name.copy(alloc)?;
+            Ok(HeadingTurn::Goes(Heading::Titled(label, name)))
+        }
+        _ => Ok(HeadingTurn::Wrong),
+    }
+}
+
+/// The next token of a declaration. `Memory` says nothing of the tokens.
+pub fn read_heading(
+    alloc: Global,
+    heading: Heading,
+    kind: &TokenKind,
+) -> Result<HeadingTurn, Memory>
+    ensures { IfOk result (λ t. heading_turn_of t ≡ heading_turned (heading_of heading) kind.now) }
+{
+    match heading {
+        Heading::Labelled(label) => match kind {
+            TokenKind::Int => Ok(HeadingTurn::Goes(Heading::Typed(label))),
+            _ => Ok(HeadingTurn::Wrong),
+        },
+        Heading::Typed(label) => typed(alloc, label, kind),
+        Heading::Titled(label, name) => match kind {
+            TokenKind::Semi => Ok(end(label, name, None)),
+            TokenKind::LBracket => Ok(HeadingTurn::Goes(Heading::Sizing(label, name))),
+            _ => Ok(HeadingTurn::Wrong),
+        },
+        Heading::Sizing(label, name) => match kind {
+            TokenKind::Num(value) => Ok(size(label, name, *value)),
+            _ => Ok(HeadingTurn::Wrong),
+        },
+        Heading::Sized(label, name, length) => match kind {
+            TokenKind::RBracket => Ok(HeadingTurn::Goes(Heading::Closing(label, name, length))),
+            _ => Ok(HeadingTurn::Wrong),
+        },
+        Heading::Closing(label, name, length) => match kind {
+            TokenKind::Semi => Ok(end(label, name, Some(length))),
+            _ => Ok(HeadingTurn::Wrong),
+        },
+    }
+}

@@ -1,0 +1,200 @@
+ghost use Rattle.std.specs.Prelude.{◌≡◌, IfOk};
+ghost use Rattle.src_tree.specs.Trees.{expr_tree};
+ghost use Rattle.src_parser.specs.Grammar.{limits, comparison_of};
+ghost use Rattle.src_parser.specs.Parts.{behind_expression, comparing, part_turned};
+ghost use Rattle.src_parser.specs.Seen.{asked_seen, form_of, lead_of, part_of, part_turn_of};
+
+use crate::expressions::{finish, fresh, read};
+use crate::readings::{Reading, TokenStep};
+use gr_base::Memory;
+use gr_word::{Cmp, Name};
+use src_lexer::TokenKind;
+use src_tree::{Expr, Guard};
+use std::alloc::Global;
+use std::mem;
+
+/// Whether a guard is that of a choice or of a loop.
+#[derive(Clone, Copy)]
+pub enum Form {
+    Choice,
+    Loop,
+}
+
+/// What an expression is read for: a variable's value; an element's index, then its value; the sides of a guard.
+#[derive(Drop)]
+pub enum Asked {
+    Value(Name),
+    Place(Name),
+    Stored(Name, Expr),
+    Left(Form),
+    Right(Form, Cmp, Expr),
+}
+
+/// What stands before an expression: the name of an assignment; a name with its index, and the operators and signs that
+/// were used; the keyword of a guard.
+#[derive(Drop)]
+pub enum Lead {
+    Target(Name),
+    Placed(Name, Expr, u32),
+    Guarding(Form),
+}
+
+/// Where the reading of a part of a statement stands: of an assignment, or of a guard.
+#[derive(Drop)]
+pub enum Part {
+    Before(Lead),
+    Inside(Asked, Reading),
+}
+
+/// What a part is once it is whole.
+#[derive(Drop)]
+pub enum Made {
+    Variable(Name, Expr),
+    Element(Name, Expr, Expr),
+    Guard(Form, Guard),
+}
+
+/// What a token does to a part: it is read; it ends the part; none goes on with it; it passes a limit.
+#[derive(Drop)]
+pub enum PartTurn {
+    Moves,
+    Ends(Made),
+    Wrong,
+    TooMuch,
+}
+
+// The comparison that a sign stands for.
+fn comparison(kind: &TokenKind) -> Option<Cmp>
+    ensures { result ≡ comparison_of kind.now }
+{
+    match kind {
+        TokenKind::Eq => Some(Cmp::Eq),
+        TokenKind::Ne => Some(Cmp::Ne),
+        TokenKind::Lt => Some(Cmp::Lt),
+        TokenKind::Le => Some(Cmp::Le),
+        TokenKind::Gt => Some(Cmp::Gt),
+        TokenKind::Ge => Some(Cmp::Ge),
+        _ => None,
+    }
+}
+
+// A token before an expression.
+fn lead_on(alloc: Global, part: &mut Part, lead: Lead, kind: &TokenKind) -> PartTurn
+    ensures { part_turn_of result (part_of part.new) ≡ part_turned limits (lead_of lead) kind.now }
+{
+    match lead {
+        Lead::Target(name) => match kind {
+            TokenKind::Assign => {
+                *part = Part::Inside(Asked::Value(name), fresh(alloc, 0, 0));
+                PartTurn::Moves
+            }
+            TokenKind::LBracket => {
+                *part = Part::Inside(Asked::Place(name), fresh(alloc, 1, 0));
+                PartTurn::Moves
+            }
+            _ => PartTurn::Wrong,
+        },
+        Lead::Placed(name, index, used) => match kind {
+            TokenKind::Assign => {
+                *part = Part::Inside(Asked::Stored(name, index), fresh(alloc, 0, used));
+                PartTurn::Moves
+            }
+            _ => PartTurn::Wrong,
+        },
+        Lead::Guarding(form) => match kind {
+            TokenKind::LParen => {
+                *part = Part::Inside(Asked::Left(form), fresh(alloc, 0, 0));
+                PartTurn::Moves
+            }
+            _ => PartTurn::Wrong,
+        },
+    }
+}
+
+// A token behind the left side of a guard.
+fn compare(
+    alloc: Global,
+    part: &mut Part,
+    form: Form,
+    left: Expr,
+    used: u32,
+    kind: &TokenKind,
+) -> PartTurn
+    ensures { part_turn_of result (part_of part.new)
+        ≡ comparing (form_of form) (expr_tree left) used (comparison_of kind.now) }
+{
+    match comparison(kind) {
+        Some(cmp) => {
+            *part = Part::Inside(Asked::Right(form, cmp, left), fresh(alloc, 0, used));
+            PartTurn::Moves
+        }
+        None => PartTurn::Wrong,
+    }
+}
+
+// A token behind the whole expression that was asked for.
+fn end(
+    alloc: Global,
+    part: &mut Part,
+    asked: Asked,
+    tree: Expr,
+    used: u32,
+    kind: &TokenKind,
+) -> PartTurn
+    ensures { part_turn_of result (part_of part.new)
+        ≡ behind_expression (asked_seen asked) (expr_tree tree) used kind.now }
+{
+    match asked {
+        Asked::Value(name) => match kind {
+            TokenKind::Semi => PartTurn::Ends(Made::Variable(name, tree)),
+            _ => PartTurn::Wrong,
+        },
+        Asked::Place(name) => match kind {
+            TokenKind::RBracket => {
+                *part = Part::Before(Lead::Placed(name, tree, used));
+                PartTurn::Moves
+            }
+            _ => PartTurn::Wrong,
+        },
+        Asked::Stored(name, index) => match kind {
+            TokenKind::Semi => PartTurn::Ends(Made::Element(name, index, tree)),
+            _ => PartTurn::Wrong,
+        },
+        Asked::Left(form) => compare(alloc, part, form, tree, used, kind),
+        Asked::Right(form, cmp, left) => match kind {
+            TokenKind::RParen => PartTurn::Ends(Made::Guard(
+                form,
+                Guard {
+                    cmp,
+                    left,
+                    right: tree,
+                },
+            )),
+            _ => PartTurn::Wrong,
+        },
+    }
+}
+
+/// The next token of a part. `Memory` says nothing of the tokens.
+pub fn read_part(alloc: Global, part: &mut Part, kind: &TokenKind) -> Result<PartTurn, Memory>
+    ensures { IfOk result (λ t. part_turn_of t (part_of part.new) ≡ part_turned limits (part_of part.old) kind.now) }
+{
+    match part {
+        Part::Before(lead) => {
+            let lead = mem::replace(lead, Lead::Guarding(Form::Choice));
+            Ok(lead_on(alloc, part, lead, kind))
+        }
+        Part::Inside(asked, reading) => match read(alloc, reading, kind)? {
+            TokenStep::Moves => Ok(PartTurn::Moves),
+            TokenStep::Stops => {
+                let asked = mem::replace(asked, Asked::Left(Form::Choice));
+                let used = reading.used;
+                match finish(reading) {
+                    None => Ok(PartTurn::Wrong),
+                    Some(tree) => Ok(end(alloc, part, asked, tree, used, kind)),
+                }
+            }
+            TokenStep::Deep => Ok(PartTurn::TooMuch),
+        },
+    }
+}
