@@ -296,11 +296,9 @@ pub(crate) fn target(object: &Object, place: usize, offset: i32) -> usize
     requires { place < 2 ^ 32 }
     ensures { result ≡ target_of object.now place offset }
 {
-    let distance = offset.unsigned_abs() as usize;
-    if offset >= 0 {
-        place + distance
-    } else if distance <= place {
-        place - distance
+    let to = place as i64 + i64::from(offset);
+    if to >= 0 {
+        to as usize
     } else {
         object.code().len()
     }
