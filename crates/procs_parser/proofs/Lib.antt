@@ -1,9 +1,9 @@
 pub mod RoomsOfFiles
 pub mod BracesOfFiles
 pub mod StandingFiles
+pub mod CompletingFiles
 pub mod StepsOfFiles
 pub mod ParsedFiles
 pub mod ReadFiles
 pub mod FileLaws
-pub mod FilePlaces
 pub mod PlainNames

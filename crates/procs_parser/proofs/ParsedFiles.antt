@@ -1,22 +1,22 @@
 -- What is a program by the grammar is read as that program.
-use Rattle.std.proofs.Common.{◌≡◌, ◌≢◌, ℕ, ◌+◌, ◌<◌, ◌≤◌, List, [], ◌∷◌, ◌++◌, Option, Some, None, refl, sym, ap, ◌∙◌, subst, append_assoc, arith}
+use Rattle.std.proofs.Common.{◌≡◌, ℕ, ◌+◌, ◌<◌, ◌≤◌, List, [], ◌∷◌, ◌++◌, Option, refl, sym, ap, ◌∙◌, subst, append_assoc, arith}
 use Rattle.std.specs.Prelude.{nat_lt}
 use Rattle.std.proofs.lemmas.List.{append-nil}
 use Rattle.std.proofs.lemmas.Bool.{lt-ltb}
-use Rattle.gr_word.specs.declared.operations.Cmp.{Cmp}
 use Rattle.src_lexer.specs.declared.tokens.TokenKind.{TokenKind}
 use Rattle.src_lexer.specs.declared.tokens.TokenKind.TheVariants as kind
 use Rattle.src_tree.specs.Trees.{Tree, Test}
 use Rattle.src_procs.specs.Trees.{Statement, SetVariable, SetElement, Choice, Loop, Call, Block, Nothing, Then, File}
 use Rattle.src_procs.specs.Seen.{block_of}
 use Rattle.src_parser.specs.Tokenwise as tokenwise
-use Rattle.src_parser.specs.Tokenwise.{Turn, Goes, after_turn}
-use Rattle.src_parser.specs.Grammar.{Limits, operator_of, comparison_of, operators, SpellsTree, Joined, Compares, Compared}
+use Rattle.src_parser.specs.Tokenwise.{after_turn, mapped, with_braces}
+use Rattle.src_parser.specs.Grammar.{Limits, operators, SpellsTree, Joined}
+use Rattle.src_parser.specs.Operands.{At, Wanted}
+use Rattle.src_parser.specs.Parts.{ForChoice, ForLoop, in_expression}
+use Rattle.src_parser.proofs.Complete.{Runs, complete}
+use Rattle.src_parser.proofs.PartRead.{PartRuns, right_paren, semicolon, variable_read, element_read, guard_read}
 use Rattle.procs_parser.specs.FileGrammar.{SpellsTrees, Last, Before, NoArgument, Given, operators_of, SpellsBlock, Ends, Sets, Puts, Calls, Chooses, ChoosesElse, Repeats}
-use Rattle.src_parser.specs.Operands as operand
-use Rattle.src_parser.specs.Operands.{Reading, At, Wanted, Stops, Joins, closing}
-use Rattle.procs_parser.specs.FileTurns.{Form, ForChoice, ForLoop, Asked, Value, Place, Stored, Left, Right, Outer, InFirst, InSecond, InLoop, Ready, MayElse, Guarding, Guarded, Inside, Doing, Front, depth_of, with_braces, between_statements, chosen, elsing, in_expression, does, program_of, turned, ParserState, Argument, Called, Calling}
-use Rattle.src_parser.proofs.Complete.{Runs, Follows, closer, complete}
+use Rattle.procs_parser.specs.FileTurns.{Outer, InFirst, InSecond, InLoop, Ready, MayElse, Calling, Argument, Called, Doing, Front, depth_of, between_statements, chosen, elsing, with_part, in_argument, program_of, turned, ParserState}
 
 -- the statements of a block
 abbrev pub statements_of : Block → List Statement
@@ -60,58 +60,24 @@ settled most front outer here test first [] h = settled_end front outer here tes
 settled most front outer here test first (k ∷ ks) h =
     ap (λ t. after_turn t (λ next. parsed most next ks)) (settled_kind most front outer here test first k ks h)
 
--- an expression in a statement goes on as its tokens are read
-expression_runs : (most : Limits) (front : Front) (outer : List Outer) (here : List Statement) (asked : Asked) →
-    Runs most (λ x ks. parsed most (Doing front outer here (Inside asked x)) ks)
-expression_runs most front outer here asked = record {
-  moves = λ x y k ks e. ap (λ s. after_turn (in_expression front outer here asked k s) (λ next. parsed most next ks)) e;
-  same = λ x y k ks e. ap (λ s. after_turn (in_expression front outer here asked k s) (λ next. parsed most next ks)) e;
+-- a part in a statement goes on as its tokens are read
+part_runs : (most : Limits) (front : Front) (outer : List Outer) (here : List Statement)
+    → PartRuns most (λ s ks. parsed most (with_part front outer here s) ks)
+part_runs most front outer here = record {
+  goes = λ part s k ks e. ap (λ t. after_turn (mapped (with_part front outer here) t) (λ next. parsed most next ks)) e;
+  same = λ asked x y k ks e. ap (λ s. after_turn (mapped (with_part front outer here) (in_expression asked k s))
+      (λ next. parsed most next ks)) e;
 }
 
-stops_whole : (used : ℕ) (tree : Tree) (depth : ℕ) (k : TokenKind)
-    → closing used k (Joins [] tree depth) ≡ Stops (At [] depth used (operand.Given tree))
-stops_whole used tree depth kind.RParen = refl
-stops_whole used tree depth _ = refl
-
-no_operator : (k : TokenKind) (cmp : Cmp) → comparison_of k ≡ Some cmp → operator_of k ≡ None
-no_operator kind.Eq cmp e = refl
-no_operator _ cmp e = cc
-
-no_bracket : (k : TokenKind) (cmp : Cmp) → comparison_of k ≡ Some cmp → k ≢ kind.LBracket
-no_bracket k cmp e is =
-    let f : comparison_of kind.LBracket ≡ Some cmp = subst (λ z. comparison_of z ≡ Some cmp) is e in absurd (cc)
-
-right_paren : Follows 0 kind.RParen
-right_paren = closer 0 kind.RParen (λ e. absurd (cc)) refl
-
-right_bracket : Follows 0 kind.RBracket
-right_bracket = closer 0 kind.RBracket (λ e. absurd (cc)) refl
-
-semicolon : Follows 0 kind.Semi
-semicolon = closer 0 kind.Semi (λ e. absurd (cc)) refl
-
-left_ends : (most : Limits) (front : Front) (outer : List Outer) (here : List Statement) (form : Form) (a : Tree)
-    (used : ℕ) (sign : TokenKind) (cmp : Cmp) → comparison_of sign ≡ Some cmp
-    → does most front outer here (Inside (Left form) (At [] 0 used (operand.Given a))) sign
-    ≡ Goes (Doing front outer here (Inside (Right form cmp a) (At [] 0 used Wanted)))
-left_ends most front outer here form a used sign cmp is =
-    rw (no_operator sign cmp is, stops_whole used a 0 sign, is) refl
-
--- a guard is read as its test
-guard_parsed : {most : Limits} {tokens : List TokenKind} {test : Test} → Compares most tokens test
-    → (front : Front) (outer : List Outer) (here : List Statement) (form : Form) (ks : List TokenKind)
-    → parsed most (Doing front outer here (Guarding form)) (kind.LParen ∷ (tokens ++ kind.RParen ∷ ks))
-    ≡ parsed most (Doing front outer here (Guarded form test)) ks
-guard_parsed {most} (Compared {left = left} {right = right} {a = a} {b = b} cmp sign is first second fits) front outer
-    here form ks =
-    rw (append_assoc left (sign ∷ right) (kind.RParen ∷ ks))
-    (complete most _ (expression_runs most front outer here (Left form)) first [] 0 (operators a) sign
-    (right ++ kind.RParen ∷ ks) (omega arith) (closer 0 sign (no_bracket sign cmp is) (no_operator sign cmp is))
-    (omega arith) (omega arith) ∙
-    (ap (λ t. after_turn t (λ next. parsed most next (right ++ kind.RParen ∷ ks)))
-    (left_ends most front outer here form a (operators a) sign cmp is) ∙
-    complete most _ (expression_runs most front outer here (Right form cmp a)) second [] (operators a)
-    (operators a + operators b) kind.RParen ks (omega arith) right_paren refl fits))
+-- and so does an argument of a call
+argument_runs : (most : Limits) (front : Front) (outer : List Outer) (here : List Statement) (name : List ℕ)
+    (before : List Tree) → Runs most (λ x ks. parsed most (Doing front outer here (Argument name before x)) ks)
+argument_runs most front outer here name before = record {
+  moves = λ x y k ks e.
+      ap (λ s. after_turn (in_argument front outer here name before k s) (λ next. parsed most next ks)) e;
+  same = λ x y k ks e.
+      ap (λ s. after_turn (in_argument front outer here name before k s) (λ next. parsed most next ks)) e;
+}
 
 -- tokens that don't begin with `)`
 abbrev NoParen : List TokenKind → Type 0
@@ -134,7 +100,7 @@ trees_start (Before {tokens = tokens} {rest = rest} s others) more =
 calling_same : (most : Limits) (front : Front) (outer : List Outer) (here : List Statement) (name : List ℕ)
     (ks : List TokenKind) → NoParen ks
     → parsed most (Doing front outer here (Calling name)) ks
-    ≡ parsed most (Doing front outer here (Inside (Argument name []) (At [] 0 0 Wanted))) ks
+    ≡ parsed most (Doing front outer here (Argument name [] (At [] 0 0 Wanted))) ks
 calling_same most front outer here name [] h = absurd h
 calling_same most front outer here name (kind.RParen ∷ ks) h = absurd h
 calling_same most front outer here name (_ ∷ ks) h = refl
@@ -142,7 +108,7 @@ calling_same most front outer here name (_ ∷ ks) h = refl
 first_argument : (most : Limits) {tokens : List TokenKind} {es : List Tree} → SpellsTrees most.brackets tokens es
     → (front : Front) (outer : List Outer) (here : List Statement) (name : List ℕ) (ks : List TokenKind)
     → parsed most (Doing front outer here (Calling name)) (tokens ++ kind.RParen ∷ ks)
-    ≡ parsed most (Doing front outer here (Inside (Argument name []) (At [] 0 0 Wanted))) (tokens ++ kind.RParen ∷ ks)
+    ≡ parsed most (Doing front outer here (Argument name [] (At [] 0 0 Wanted))) (tokens ++ kind.RParen ∷ ks)
 first_argument most s front outer here name ks =
     calling_same most front outer here name _ (trees_start s (kind.RParen ∷ ks))
 
@@ -150,16 +116,16 @@ first_argument most s front outer here name ks =
 arguments_parsed : (most : Limits) {tokens : List TokenKind} {es : List Tree} → SpellsTrees most.brackets tokens es
     → (front : Front) (outer : List Outer) (here : List Statement) (name : List ℕ) (before : List Tree) (used : ℕ)
     (ks : List TokenKind) → used + operators_of es ≤ most.operators
-    → parsed most (Doing front outer here (Inside (Argument name before) (At [] 0 used Wanted)))
+    → parsed most (Doing front outer here (Argument name before (At [] 0 used Wanted)))
     (tokens ++ kind.RParen ∷ ks)
     ≡ parsed most (Doing front outer here (Called name (before ++ es))) ks
 arguments_parsed most (Last {e = e} s) front outer here name before used ks fits =
-    complete most _ (expression_runs most front outer here (Argument name before)) s [] used (used + operators e)
+    complete most _ (argument_runs most front outer here name before) s [] used (used + operators e)
     kind.RParen ks (omega arith) right_paren refl (omega arith)
 arguments_parsed most (Before {tokens = tokens} {rest = rest} {e = e} {es = es} s more) front outer here name before
     used ks fits =
     rw (append_assoc tokens (kind.Semi ∷ rest) (kind.RParen ∷ ks))
-    (complete most _ (expression_runs most front outer here (Argument name before)) s [] used (used + operators e)
+    (complete most _ (argument_runs most front outer here name before) s [] used (used + operators e)
     kind.Semi (rest ++ kind.RParen ∷ ks) (omega arith) semicolon refl (omega arith)
     ∙ (arguments_parsed most more front outer here name (before ++ e ∷ []) (used + operators e) ks (omega arith)
     ∙ ap (λ z. parsed most (Doing front outer here (Called name z)) ks) (append_assoc before (e ∷ []) es)))
@@ -181,8 +147,10 @@ last_in : (tokens rest more : List TokenKind) (k : TokenKind) → (tokens ++ k �
 last_in tokens rest more k = append_assoc tokens (k ∷ rest) more
 
 -- statements are read as their block
-pub written : {most : Limits} {depth : ℕ} {tokens : List TokenKind} {block : Block} → SpellsBlock most depth tokens block
-    → (front : Front) (outer : List Outer) (here : List Statement) (more : List TokenKind) → depth_of front outer ≡ depth
+pub written : {most : Limits} {depth : ℕ} {tokens : List TokenKind} {block : Block}
+    → SpellsBlock most depth tokens block
+    → (front : Front) (outer : List Outer) (here : List Statement) (more : List TokenKind) → depth_of front outer
+    ≡ depth
     → NoElse more → parsed most (Doing front outer here Ready) (tokens ++ more)
     ≡ parsed most (Doing front outer (here ++ statements_of block) Ready) more
 written {most} Ends front outer here more deep free =
@@ -190,19 +158,15 @@ written {most} Ends front outer here more deep free =
 written {most} (Sets {tokens = tokens} {rest = rest} {value = value} {block = block} name s fits others) front outer
     here more deep free =
     rw (last_in tokens rest more kind.Semi)
-    (complete most _ (expression_runs most front outer here (Value name)) s [] 0 (operators value) kind.Semi
-    (rest ++ more) (omega arith) semicolon (omega arith) fits ∙
+    (variable_read most _ (part_runs most front outer here) name s fits (rest ++ more) ∙
     (written others front outer (here ++ SetVariable name value ∷ []) more deep free ∙
     ap (λ z. parsed most (Doing front outer z Ready) more) (one_more here (SetVariable name value) block)))
 written {most} (Puts {at = at} {tokens = tokens} {rest = rest} {index = index} {value = value}
     {block = block} name i s fits others) front outer here more deep free =
     rw (last_in at (kind.Assign ∷ (tokens ++ kind.Semi ∷ rest)) more kind.RBracket, last_in tokens rest more kind.Semi)
-    (complete most _ (expression_runs most front outer here (Place name)) i [] 0 (operators index) kind.RBracket
-    (kind.Assign ∷ (tokens ++ kind.Semi ∷ (rest ++ more))) (omega arith) right_bracket (omega arith) (omega arith) ∙
-    (complete most _ (expression_runs most front outer here (Stored name index)) s [] (operators index)
-    (operators index + operators value) kind.Semi (rest ++ more) (omega arith) semicolon refl fits ∙
+    (element_read most _ (part_runs most front outer here) name i s fits (rest ++ more) ∙
     (written others front outer (here ++ SetElement name index value ∷ []) more deep free ∙
-    ap (λ z. parsed most (Doing front outer z Ready) more) (one_more here (SetElement name index value) block))))
+    ap (λ z. parsed most (Doing front outer z Ready) more) (one_more here (SetElement name index value) block)))
 written {most} (Calls {tokens = tokens} {rest = rest} {block = block} name NoArgument others) front outer here more deep
     free =
     written others front outer (here ++ Call name [] ∷ []) more deep free ∙
@@ -220,7 +184,8 @@ written {most} {depth} (Chooses {guard = guard} {tokens = tokens} {rest = rest} 
       last_in guard (kind.LBrace ∷ (tokens ++ kind.RBrace ∷ rest)) more kind.RParen,
       last_in tokens rest more kind.RBrace,
     )
-    (guard_parsed g front outer here ForChoice (kind.LBrace ∷ (tokens ++ kind.RBrace ∷ (rest ++ more))) ∙
+    (guard_read most _ (part_runs most front outer here) g ForChoice
+    (kind.LBrace ∷ (tokens ++ kind.RBrace ∷ (rest ++ more))) ∙
     (enters most front outer (InFirst test here) depth (tokens ++ kind.RBrace ∷ (rest ++ more)) deep room ∙
     (written body front (InFirst test here ∷ outer) [] (kind.RBrace ∷ (rest ++ more)) (omega arith) tt ∙
     (settled most front outer here test (statements_of first) (rest ++ more) (no_else others more free) ∙
@@ -236,7 +201,7 @@ written {most} {depth} (ChoosesElse {guard = guard} {tokens = tokens} {others = 
       last_in tokens (kind.Else ∷ kind.LBrace ∷ (others ++ kind.RBrace ∷ rest)) more kind.RBrace,
       last_in others rest more kind.RBrace,
     )
-    (guard_parsed g front outer here ForChoice
+    (guard_read most _ (part_runs most front outer here) g ForChoice
     (kind.LBrace ∷ (tokens ++ kind.RBrace ∷ kind.Else ∷ kind.LBrace ∷ (others ++ kind.RBrace ∷ (rest ++ more)))) ∙
     (enters most front outer (InFirst test here) depth
     (tokens ++ kind.RBrace ∷ kind.Else ∷ kind.LBrace ∷ (others ++ kind.RBrace ∷ (rest ++ more))) deep room ∙
@@ -258,7 +223,8 @@ written {most} {depth} (Repeats {guard = guard} {tokens = tokens} {rest = rest} 
       last_in guard (kind.LBrace ∷ (tokens ++ kind.RBrace ∷ rest)) more kind.RParen,
       last_in tokens rest more kind.RBrace,
     )
-    (guard_parsed g front outer here ForLoop (kind.LBrace ∷ (tokens ++ kind.RBrace ∷ (rest ++ more))) ∙
+    (guard_read most _ (part_runs most front outer here) g ForLoop
+    (kind.LBrace ∷ (tokens ++ kind.RBrace ∷ (rest ++ more))) ∙
     (enters most front outer (InLoop test here) depth (tokens ++ kind.RBrace ∷ (rest ++ more)) deep room ∙
     (written inner front (InLoop test here ∷ outer) [] (kind.RBrace ∷ (rest ++ more)) (omega arith) tt ∙
     (ap (λ z. parsed most (Doing front outer (here ++ Loop test z ∷ []) Ready) (rest ++ more)) (block_again body) ∙

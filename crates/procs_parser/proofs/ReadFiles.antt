@@ -9,10 +9,11 @@ use Rattle.src_lexer.specs.declared.tokens.TokenKind.TheVariants as kind
 use Rattle.src_tree.specs.declared.trees.Decl.{Decl}
 use Rattle.src_procs.specs.Trees.{Block, Parameter, Procedure, File}
 use Rattle.src_parser.specs.Tokenwise as tokenwise
-use Rattle.src_parser.specs.Tokenwise.{Turn, Goes, Wrong, after_turn}
+use Rattle.src_parser.specs.Tokenwise.{Turn, Goes, Wrong, after_turn, with_braces}
+use Rattle.src_parser.specs.Headings.{declared}
 use Rattle.src_parser.specs.Grammar.{Limits, Declares, NoMore, Scalar, Array}
 use Rattle.procs_parser.specs.FileGrammar.{HasNoHiddenName, SpellsBlock, Ends, SpellsParameter, AScalar, AnArray, SpellsParameters, LastOne, Another, Parameters, NoParameter, SomeParameters, Locals, NoLocal, Local, Procedures, NoProcedure, AProcedure, SpellsFile, AFile}
-use Rattle.procs_parser.specs.FileTurns.{Ready, Fresh, Declaring, Naming, Doing, NoneYet, OneMore, Behind, AllRead, LocalFresh, Outside, Within, with_braces, declared, is_hidden_token, taken, turned, program_of, ParserState}
+use Rattle.procs_parser.specs.FileTurns.{Ready, Between, Naming, Doing, NoneYet, OneMore, Behind, AllRead, LocalFresh, Outside, Within, is_hidden_token, taken, turned, program_of, ParserState}
 use Rattle.procs_parser.proofs.ParsedFiles.{parsed, written, block_again}
 
 -- tokens that don't begin with a label
@@ -34,7 +35,7 @@ procedures_no_label _ more h = tt
 
 -- before the first statement of a file, and of a procedure
 file_starts : (most : Limits) (decls : List Decl) (tokens : List TokenKind) → NoLabel tokens
-    → parsed most (Declaring decls Fresh) tokens ≡ parsed most (Doing (Outside decls []) [] [] Ready) tokens
+    → parsed most (Between decls) tokens ≡ parsed most (Doing (Outside decls []) [] [] Ready) tokens
 file_starts most decls [] h = refl
 file_starts most decls (kind.Public ∷ ks) h = absurd h
 file_starts most decls (kind.Secret ∷ ks) h = absurd h
@@ -52,20 +53,20 @@ body_starts most decls procedures name ps ls (_ ∷ ks) h = refl
 -- declarations are read as their list
 heads : (most : Limits) {front : List TokenKind} {decls : List Decl}
     → Declares front decls → (before : List Decl) (back : List TokenKind)
-    → parsed most (Declaring before Fresh) (front ++ back) ≡ parsed most (Declaring (before ++ decls) Fresh) back
-heads most NoMore before back = ap (λ z. parsed most (Declaring z Fresh) back) (sym (append-nil before))
+    → parsed most (Between before) (front ++ back) ≡ parsed most (Between (before ++ decls)) back
+heads most NoMore before back = ap (λ z. parsed most (Between z) back) (sym (append-nil before))
 heads most (Scalar {decls = decls} Public name rest) before back =
     heads most rest (before ++ declared Public name None ∷ []) back
-    ∙ ap (λ z. parsed most (Declaring z Fresh) back) (append_assoc before (declared Public name None ∷ []) decls)
+    ∙ ap (λ z. parsed most (Between z) back) (append_assoc before (declared Public name None ∷ []) decls)
 heads most (Scalar {decls = decls} Secret name rest) before back =
     heads most rest (before ++ declared Secret name None ∷ []) back
-    ∙ ap (λ z. parsed most (Declaring z Fresh) back) (append_assoc before (declared Secret name None ∷ []) decls)
+    ∙ ap (λ z. parsed most (Between z) back) (append_assoc before (declared Secret name None ∷ []) decls)
 heads most (Array {decls = decls} Public name n rest) before back =
     heads most rest (before ++ declared Public name (Some n) ∷ []) back
-    ∙ ap (λ z. parsed most (Declaring z Fresh) back) (append_assoc before (declared Public name (Some n) ∷ []) decls)
+    ∙ ap (λ z. parsed most (Between z) back) (append_assoc before (declared Public name (Some n) ∷ []) decls)
 heads most (Array {decls = decls} Secret name n rest) before back =
     heads most rest (before ++ declared Secret name (Some n) ∷ []) back
-    ∙ ap (λ z. parsed most (Declaring z Fresh) back) (append_assoc before (declared Secret name (Some n) ∷ []) decls)
+    ∙ ap (λ z. parsed most (Between z) back) (append_assoc before (declared Secret name (Some n) ∷ []) decls)
 
 -- parameters are read as their list
 parameter_parsed : (most : Limits) {ts : List TokenKind} {p : Parameter} → SpellsParameter ts p
@@ -134,7 +135,8 @@ opens : (most : Limits) (decls : List Decl) (procedures : List Procedure) (name 
     → parsed most (Naming decls procedures name (AllRead ps)) (kind.LBrace ∷ ks)
     ≡ parsed most (Naming decls procedures name (LocalFresh ps [])) ks
 opens most decls procedures name ps ks room =
-    ap (λ t. after_turn (with_braces t (Naming decls procedures name (LocalFresh ps []))) (λ state. parsed most state ks))
+    ap (λ t. after_turn (with_braces t (Naming decls procedures name (LocalFresh ps [])))
+    (λ state. parsed most state ks))
     (lt-ltb 0 most.braces room)
 
 -- procedures are read as their list
@@ -167,7 +169,7 @@ procedures_parsed most (AProcedure {ps = ps} {ls = ls} {body = body} {rest = res
     others))))))))
 
 file_parsed : {most : Limits} {tokens : List TokenKind} {f : File} → SpellsFile most tokens f
-    → parsed most (Declaring [] Fresh) tokens ≡ Some f
+    → parsed most (Between []) tokens ≡ Some f
 file_parsed {most} (AFile {front = front} {middle = middle} {back = back} {decls = decls} {procedures = procedures}
     {body = body} shown d p w) =
     heads most d [] (middle ++ back)
@@ -211,5 +213,5 @@ file_shown (AFile shown d p w) = shown
 
 -- a file's tokens lead to the file
 pub file_read : {most : Limits} {tokens : List TokenKind} {f : File} → SpellsFile most tokens f
-    → tokenwise.parsed taken program_of most (Declaring [] Fresh) tokens ≡ Some f
-file_read {most} {tokens} s = taken_all most tokens (Declaring [] Fresh) (file_shown s) ∙ file_parsed s
+    → tokenwise.parsed taken program_of most (Between []) tokens ≡ Some f
+file_read {most} {tokens} s = taken_all most tokens (Between []) (file_shown s) ∙ file_parsed s

@@ -1,10 +1,9 @@
--- A token that is read leads from state to state, and a whole program is a sentence of the grammar.
-use Rattle.std.proofs.Common.{◌≡◌, ℕ, ◌+◌, ◌<◌, ◌≤◌, pos, Bool, true, false, List, [], ◌∷◌, ◌++◌, Option, Some, None, refl, ap, sym, subst, append_assoc, arith}
+-- A token that is read leads from state to state.
+use Rattle.std.proofs.Common.{◌≡◌, ℕ, ◌+◌, ◌<◌, Bool, true, false, List, [], ◌∷◌, ◌++◌, Option, Some, None, refl, ap, sym, subst, append_assoc, arith}
 use Rattle.std.specs.Prelude.{bytes_eq}
 use Rattle.std.proofs.lemmas.Slice.Eq.{bytes_eq-Decides}
 use Rattle.std.proofs.lemmas.List.{append-nil}
 use Rattle.std.proofs.lemmas.Bool.{ltb-true}
-use Rattle.gr_word.specs.declared.operations.Cmp.{Cmp}
 use Rattle.gr_word.specs.declared.variables.Label.TheVariants.{Public, Secret}
 use Rattle.src_lexer.specs.declared.tokens.TokenKind.{TokenKind}
 use Rattle.src_lexer.specs.declared.tokens.TokenKind.TheVariants as kind
@@ -13,14 +12,19 @@ use Rattle.src_tree.specs.Trees.{Tree, Test}
 use Rattle.src_procs.specs.Trees.{Statement, SetVariable, SetElement, Choice, Loop, Call, Nothing, Parameter, Procedure}
 use Rattle.src_procs.specs.Seen.{block_of}
 use Rattle.procs_parser.specs.FileGrammar.{AScalar, AnArray, NoParameter, SomeParameters, NoLocal, NoProcedure, proc_word, Last, Arguments, NoArgument, Given, SpellsBlock, Ends, Sets, Puts, Calls, Chooses, ChoosesElse, Repeats}
-use Rattle.src_parser.specs.Tokenwise.{Goes}
-use Rattle.src_parser.specs.Grammar.{Limits, comparison_of, operators, SpellsTree, Compares, Compared, Declares, NoMore, Scalar, Array}
-use Rattle.src_parser.specs.Operands.{Reading, TokenStep, Moves, Stops, Deep, reads, whole, used_of}
-use Rattle.procs_parser.specs.FileTurns.{Form, ForChoice, ForLoop, Asked, Outer, Phase, Heading, Fresh, ParserState, Declaring, HeadPhase, NoneYet, LocalFresh, Front, Outside, Within, depth_of, opening, parameter_begins, names_next, with_braces, leaving, between_statements, elsing, targeting, calling, calling_ends, placing, guarding, entering, otherwise, comparing, behind_expression, ending_where, in_expression, does, declared, declares, turned}
+use Rattle.src_parser.specs.Grammar.{Limits, Compares, Declares, NoMore}
+use Rattle.src_parser.specs.Headings.{HeadingState, Begun, Declared, heading_turned}
+use Rattle.src_parser.specs.Operands.{Reading, At, Wanted, TokenStep, Moves, Stops, Deep, reads, whole, used_of}
+use Rattle.src_parser.specs.Parts.{Form, ForChoice, ForLoop, PartState, Still, Done, targeting, part_turned}
+use Rattle.src_parser.specs.Tokenwise.{Goes, with_braces}
+use Rattle.src_parser.proofs.Braces.{mapped_goes}
 use Rattle.src_parser.proofs.Held.{Start}
+use Rattle.src_parser.proofs.HeadingTokens.{declares_both, IsLabelled, HeadingStands, heading_steps}
+use Rattle.src_parser.proofs.PartTokens.{word_of, IsTarget, IsGuarding, MakesVariable, MakesElement, MakesGuard, StateStands, part_steps}
 use Rattle.src_parser.proofs.Reached.{Reached, Wants, reaches, Ended, ends}
-use Rattle.src_parser.specs.Operands.{At, Wanted}
-use Rattle.procs_parser.proofs.StandingFiles.{word_of, Begun, AtTop, InBody, ParametersBefore, NoneBefore, SomeBefore, head_of, Names, IsOpening, IsNoneYet, IsOneMore, IsScalarLabelled, IsScalarTyped, IsArrayTyped, IsArrayTitled, IsArrayClosing, IsBehind, IsAllRead, IsLocalFresh, IsLocalLabelled, IsLocalTyped, IsLocalTitled, one_parameter, one_local, procedure_ends, Enclosed, Top, First, Second, Looped, Asks, AsksValue, AsksPlace, AsksStored, AsksFirst, AsksNext, trees_more, operators_more, AsksLeft, AsksRight, Stands, IsReady, IsMayElse, IsTarget, IsPlaced, IsCalling, IsCalled, IsGuarding, IsGuarded, IsOtherwise, IsInside, Heads, IsFresh, IsLabelled, IsTyped, IsTitled, IsSizing, IsSized, IsClosing, Standing, InHeading, InHead, InBlock, enclosed_depth, one_statement, declares_both}
+use Rattle.procs_parser.specs.FileTurns.{Outer, Phase, ParserState, Between, HeadPhase, NoneYet, LocalFresh, Front, Outside, Within, depth_of, opening, parameter_begins, names_next, leaving, between_statements, elsing, with_part, behind_name, behind_argument, argument_ends, in_argument, calling, calling_ends, entering, otherwise, does, between, with_heading, turned}
+use Rattle.procs_parser.proofs.StandingFiles as files
+use Rattle.procs_parser.proofs.StandingFiles.{AtTop, InBody, ParametersBefore, NoneBefore, SomeBefore, head_of, Names, IsOpening, IsNoneYet, IsOneMore, IsScalarLabelled, IsScalarTyped, IsArrayTyped, IsArrayTitled, IsArrayClosing, IsBehind, IsAllRead, IsLocalFresh, IsLocalLabelled, IsLocalTyped, IsLocalTitled, one_parameter, one_local, procedure_ends, Enclosed, Top, First, Second, Looped, Argues, IsFirst, IsNext, trees_more, operators_more, Stands, IsReady, IsMayElse, IsNamed, IsCalling, IsArgument, IsCalled, IsPart, IsGuarded, IsOtherwise, Standing, InBetween, InHeading, InHead, InBlock, enclosed_depth, one_statement}
 
 went : {most : Limits} {tokens : List TokenKind} (x y : ParserState)
     → Goes x ≡ Goes y → Standing most x tokens → Standing most y tokens
@@ -52,9 +56,9 @@ beginning_stands : {most : Limits} {front : Front} {outer : List Outer} {depth :
     {ts : List TokenKind} → Enclosed most front outer depth here ts
     → (k : TokenKind) (next : ParserState) → between_statements front outer here k ≡ Goes next
     → Standing most next (ts ++ k ∷ [])
-beginning_stands o (kind.Word name) next e = went _ next e (InBlock o (IsTarget name))
-beginning_stands o kind.If next e = went _ next e (InBlock o (IsGuarding ForChoice))
-beginning_stands o kind.While next e = went _ next e (InBlock o (IsGuarding ForLoop))
+beginning_stands o (kind.Word name) next e = went _ next e (InBlock o (IsNamed name))
+beginning_stands o kind.If next e = went _ next e (InBlock o (IsPart (IsGuarding ForChoice)))
+beginning_stands o kind.While next e = went _ next e (InBlock o (IsPart (IsGuarding ForLoop)))
 beginning_stands o kind.RBrace next e = leaving_stands o next e
 beginning_stands o _ next e = absurd (cc)
 
@@ -104,21 +108,41 @@ opening_stands {front = front} {here = here} name other (Second o g room w v) c 
 opening_stands {front = front} {here = here} name other (Looped o g room w) c is next e =
     absurd (in_block front _ _ here c other next e)
 
-targeting_stands : {most : Limits} {front : Front} {outer : List Outer} {depth : ℕ} {here : List Statement}
+-- a part, or what it has made
+state_stands : {most : Limits} {front : Front} {outer : List Outer} {depth : ℕ} {here : List Statement}
+    {ts : List TokenKind} (us : List TokenKind) → Enclosed most front outer depth here ts → (s : PartState)
+    → StateStands most s us
+    → Standing most (with_part front outer here s) (ts ++ us)
+state_stands us o (Still part) p = InBlock o (IsPart p)
+state_stands {ts = ts} _ o (Done _) (MakesVariable {tokens = tokens} {value = value} name s fits) =
+    standing_at _ _ (append-nil _)
+    (InBlock (one_statement (SetVariable name value) o (Sets name s fits Ends)) IsReady)
+state_stands {ts = ts} _ o (Done _) (MakesElement {at = at} {tokens = tokens} {index = index} {value = value} name i s
+    fits) =
+    standing_at _ _ (append-nil _)
+    (InBlock (one_statement (SetElement name index value) o (Puts name i s fits Ends)) IsReady)
+state_stands _ o (Done _) (MakesGuard form g) = InBlock o (IsGuarded form g)
+
+part_stands : {most : Limits} {front : Front} {outer : List Outer} {depth : ℕ} {here : List Statement}
+    {ts : List TokenKind} (us : List TokenKind) → Enclosed most front outer depth here ts
+    → (k : TokenKind) (s : PartState)
+    → StateStands most s (us ++ k ∷ []) → (next : ParserState) → with_part front outer here s ≡ next
+    → Standing most next ((ts ++ us) ++ k ∷ [])
+part_stands {most} {ts = ts} us o k s p next e =
+    subst (λ z. Standing most z ((ts ++ us) ++ k ∷ [])) e
+    (standing_at _ _ (sym (append_assoc ts us (k ∷ []))) (state_stands (us ++ k ∷ []) o s p))
+
+named_stands : {most : Limits} {front : Front} {outer : List Outer} {depth : ℕ} {here : List Statement}
     {ts : List TokenKind} (name : List ℕ) → Enclosed most front outer depth here ts
     → (k : TokenKind) (next : ParserState)
-    → targeting front outer here name k ≡ Goes next → Standing most next ((ts ++ kind.Word name ∷ []) ++ k ∷ [])
-targeting_stands {most} {ts = ts} name o kind.Assign next e =
-    went _ next e (standing_at _ _ (simp (append_assoc, append-nil) refl)
-    (InBlock o (IsInside (AsksValue name) (Wants Start (omega arith) (omega arith)))))
-targeting_stands {most} {ts = ts} name o kind.LBracket next e =
-    went _ next e (standing_at _ _ (simp (append_assoc, append-nil) refl)
-    (InBlock o (IsInside (AsksPlace name) (Wants Start (omega arith) (omega arith)))))
-targeting_stands {ts = ts} name o kind.LParen next e =
+    → behind_name front outer here name k ≡ Goes next → Standing most next ((ts ++ kind.Word name ∷ []) ++ k ∷ [])
+named_stands {ts = ts} name o kind.LParen next e =
     went _ next e (standing_at _ _ (simp append_assoc refl) (InBlock o (IsCalling name)))
-targeting_stands name o (kind.Word other) next e =
+named_stands name o (kind.Word other) next e =
     opening_stands name other o (bytes_eq name proc_word) refl next e
-targeting_stands name o _ next e = absurd (cc)
+named_stands {most} {front} {outer} {here = here} name o k next e =
+    mapped_goes (with_part front outer here) (targeting name k) next e
+    (λ s is at. part_stands _ o k s (part_steps (IsTarget name) k s is) next at)
 
 called_stands : {most : Limits} {front : Front} {outer : List Outer} {depth : ℕ} {here : List Statement}
     {ts tokens : List TokenKind} {es : List Tree} (name : List ℕ) → Enclosed most front outer depth here ts
@@ -129,24 +153,6 @@ called_stands {ts = ts} {tokens = tokens} {es = es} name o given kind.Semi next 
     went _ next e (standing_at _ _ (simp (append_assoc, append-nil) refl)
     (InBlock (one_statement (Call name es) o (Calls name given Ends)) IsReady))
 called_stands name o given _ next e = absurd (cc)
-
-placing_stands : {most : Limits} {front : Front} {outer : List Outer} {depth : ℕ} {here : List Statement}
-    {ts at : List TokenKind} {index : Tree} {used : ℕ} (name : List ℕ) → Enclosed most front outer depth here ts
-    → SpellsTree most.brackets 1 0 at index → used ≡ operators index → used ≤ most.operators
-    → (k : TokenKind) (next : ParserState) → placing front outer here name index used k ≡ Goes next
-    → Standing most next ((ts ++ (kind.Word name ∷ kind.LBracket ∷ (at ++ kind.RBracket ∷ []))) ++ k ∷ [])
-placing_stands {most} {ts = ts} {at = at} name o i is fits kind.Assign next e =
-    went _ next e (standing_at _ _ (simp (append_assoc, append-nil) refl)
-    (InBlock o (IsInside (AsksStored name i) (Wants Start (omega arith) fits))))
-placing_stands name o i is fits _ next e = absurd (cc)
-
-guarding_stands : {most : Limits} {front : Front} {outer : List Outer} {depth : ℕ} {here : List Statement}
-    {ts : List TokenKind} (form : Form) → Enclosed most front outer depth here ts → (k : TokenKind) (next : ParserState)
-    → guarding front outer here form k ≡ Goes next → Standing most next ((ts ++ word_of form ∷ []) ++ k ∷ [])
-guarding_stands {most} {ts = ts} form o kind.LParen next e =
-    went _ next e (standing_at _ _ (simp (append_assoc, append-nil) refl)
-    (InBlock o (IsInside (AsksLeft form) (Wants Start (omega arith) (omega arith)))))
-guarding_stands form o _ next e = absurd (cc)
 
 with_room : {most : Limits} {ts : List TokenKind} (b : Bool) (x y : ParserState)
     → with_braces b x ≡ Goes y → (b ≡ true → Standing most x ts) → Standing most y ts
@@ -173,89 +179,60 @@ otherwise_stands : {most : Limits} {front : Front} {outer : List Outer} {depth :
     → Standing most next
     ((ts ++ (kind.If ∷ kind.LParen ∷ (guard ++ kind.RParen ∷ kind.LBrace ∷ (inner ++ kind.RBrace ∷ kind.Else ∷ []))))
     ++ k ∷ [])
-otherwise_stands {most} {front = front} {outer = outer} {ts = ts} {guard = guard} {inner = inner} first o g room w kind.LBrace next e =
+otherwise_stands {most} {front = front} {outer = outer} {ts = ts} {guard = guard}
+    {inner = inner} first o g room w kind.LBrace next e =
     with_room _ _ next e
     (λ t. standing_at _ _ (simp (append_assoc, append-nil) refl) (InBlock (Second o g room w Ends) IsReady))
 otherwise_stands first o g room w _ next e = absurd (cc)
 
-comparing_stands : {most : Limits} {front : Front} {outer : List Outer} {depth : ℕ} {here : List Statement}
-    {ts us : List TokenKind} (form : Form) (left : Tree) (used : ℕ) → Enclosed most front outer depth here ts
-    → Ended most 0 0 us left used → (k : TokenKind) (o : Option Cmp) → comparison_of k ≡ o → (next : ParserState)
-    → comparing front outer here form left used o ≡ Goes next
-    → Standing most next ((ts ++ ((word_of form ∷ kind.LParen ∷ []) ++ us)) ++ k ∷ [])
-comparing_stands {most} {ts = ts} {us = us} form left used o ended k (Some cmp) is next e =
+-- a token behind an argument of a call
+behind_argument_stands : {most : Limits} {front : Front} {outer : List Outer} {depth start : ℕ}
+    {here : List Statement} {ts before us : List TokenKind} {name : List ℕ} {es : List Tree} (tree : Tree) (used : ℕ)
+    → Enclosed most front outer depth here ts → Argues most name es start before → Ended most 0 start us tree used
+    → (k : TokenKind) (next : ParserState) → behind_argument front outer here name es tree used k ≡ Goes next
+    → Standing most next ((ts ++ (before ++ us)) ++ k ∷ [])
+behind_argument_stands {ts = ts} {us = us} {name = name} tree used o IsFirst ended kind.Semi next e =
     let counted = ended.counted in
     went _ next e (standing_at _ _ (simp (append_assoc, append-nil) refl)
-    (InBlock o (IsInside (AsksRight form cmp k is ended.spells) (Wants Start (omega arith) ended.fits))))
-comparing_stands form left used o ended k None is next e = absurd (cc)
-
-ending_stands : {most : Limits} {front : Front} {outer : List Outer} {depth base start : ℕ} {here : List Statement}
-    {ts before us : List TokenKind} {asked : Asked} (tree : Tree) (used : ℕ) → Enclosed most front outer depth here ts
-    → Asks most asked base start before → Ended most base start us tree used → (k : TokenKind) (next : ParserState)
-    → behind_expression front outer here asked tree used k ≡ Goes next
-    → Standing most next ((ts ++ (before ++ us)) ++ k ∷ [])
-ending_stands {ts = ts} {us = us} tree used o (AsksValue name) ended kind.Semi next e =
-    let counted = ended.counted in let fits = ended.fits in
-    went _ next e (standing_at _ _ (simp (append_assoc, append-nil) refl)
-    (InBlock (one_statement (SetVariable name tree) o (Sets name ended.spells (omega arith) Ends)) IsReady))
-ending_stands tree used o (AsksValue name) ended _ next e = absurd (cc)
-ending_stands {ts = ts} {us = us} tree used o (AsksFirst name) ended kind.Semi next e =
-    let counted = ended.counted in let fits = ended.fits in
-    went _ next e (standing_at _ _ (simp (append_assoc, append-nil) refl)
-    (InBlock o (IsInside (AsksNext name (Last ended.spells)) (Wants Start (omega arith) (omega arith)))))
-ending_stands {ts = ts} {us = us} tree used o (AsksFirst name) ended kind.RParen next e =
+    (InBlock o (IsArgument name (IsNext (Last ended.spells)) (Wants Start (omega arith) ended.fits))))
+behind_argument_stands {ts = ts} {us = us} {name = name} tree used o IsFirst ended kind.RParen next e =
     let counted = ended.counted in let fits = ended.fits in
     went _ next e (standing_at _ _ (simp append_assoc refl)
     (InBlock o (IsCalled name (Given (Last ended.spells) (omega arith)))))
-ending_stands tree used o (AsksFirst name) ended _ next e = absurd (cc)
-ending_stands {ts = ts} {us = us} tree used o (AsksNext {tokens = tokens} {es = es} name read) ended kind.Semi next e =
-    let counted = ended.counted in let fits = ended.fits in let all = operators_more es tree in
+behind_argument_stands tree used o IsFirst ended _ next e = absurd (cc)
+behind_argument_stands {ts = ts} {us = us} {name = name} tree used o (IsNext {tokens = tokens} {es = es} read) ended
+    kind.Semi next e =
+    let counted = ended.counted in let all = operators_more es tree in
     went _ next e (standing_at _ _ (simp (append_assoc, append-nil) refl)
-    (InBlock o (IsInside (AsksNext name (trees_more read ended.spells))
-    (Wants Start (omega (arith, all, counted)) (omega (arith, fits))))))
-ending_stands {ts = ts} {us = us} tree used o (AsksNext {tokens = tokens} {es = es} name read) ended kind.RParen next
-    e =
+    (InBlock o (IsArgument name (IsNext (trees_more read ended.spells))
+    (Wants Start (omega (arith, all, counted)) ended.fits))))
+behind_argument_stands {ts = ts} {us = us} {name = name} tree used o (IsNext {tokens = tokens} {es = es} read) ended
+    kind.RParen next e =
     let counted = ended.counted in let fits = ended.fits in let all = operators_more es tree in
     went _ next e (standing_at _ _ (simp append_assoc refl)
     (InBlock o (IsCalled name (Given (trees_more read ended.spells) (omega (arith, all, counted, fits))))))
-ending_stands tree used o (AsksNext name read) ended _ next e = absurd (cc)
-ending_stands {ts = ts} {us = us} tree used o (AsksPlace name) ended kind.RBracket next e =
-    let counted = ended.counted in
-    went _ next e
-    (standing_at _ _ (simp append_assoc refl) (InBlock o (IsPlaced name ended.spells (omega arith) ended.fits)))
-ending_stands tree used o (AsksPlace name) ended _ next e = absurd (cc)
-ending_stands {ts = ts} {us = us} tree used o (AsksStored {at = at} {index = index} name i) ended kind.Semi next e =
-    let counted = ended.counted in let fits = ended.fits in
-    went _ next e (standing_at _ _ (simp (append_assoc, append-nil) refl)
-    (InBlock (one_statement (SetElement name index tree) o (Puts name i ended.spells (omega arith) Ends)) IsReady))
-ending_stands tree used o (AsksStored name i) ended _ next e = absurd (cc)
-ending_stands tree used o (AsksLeft form) ended k next e =
-    comparing_stands form tree used o ended k (comparison_of k) refl next e
-ending_stands {ts = ts} {us = us} tree used o (AsksRight {left = left} form cmp sign is a) ended kind.RParen next e =
-    let counted = ended.counted in let fits = ended.fits in
-    went _ next e (standing_at _ _ (simp append_assoc refl)
-    (InBlock o (IsGuarded form (Compared cmp sign is a ended.spells (omega arith)))))
-ending_stands tree used o (AsksRight form cmp sign is a) ended _ next e = absurd (cc)
+behind_argument_stands tree used o (IsNext read) ended _ next e = absurd (cc)
 
-ending_where_stands : {most : Limits} {front : Front} {outer : List Outer} {depth base start : ℕ}
-    {here : List Statement} {ts before us : List TokenKind} {asked : Asked} (x y : Reading)
-    → Enclosed most front outer depth here ts → Asks most asked base start before → Reached most base start x us
+argument_ends_stands : {most : Limits} {front : Front} {outer : List Outer} {depth start : ℕ}
+    {here : List Statement} {ts before us : List TokenKind} {name : List ℕ} {es : List Tree} (x y : Reading)
+    → Enclosed most front outer depth here ts → Argues most name es start before → Reached most 0 start x us
     → (k : TokenKind) → reads most x k ≡ Stops y → (w : Option Tree) → whole y ≡ w
-    → (next : ParserState) → ending_where front outer here asked w (used_of y) k ≡ Goes next
+    → (next : ParserState) → argument_ends front outer here name es w (used_of y) k ≡ Goes next
     → Standing most next ((ts ++ (before ++ us)) ++ k ∷ [])
-ending_where_stands x y o a r k stop None is next e = absurd (cc)
-ending_where_stands x y o a r k stop (Some tree) is next e =
-    ending_stands tree (used_of y) o a (ends r k y tree stop is) k next e
+argument_ends_stands x y o a r k stop None is next e = absurd (cc)
+argument_ends_stands x y o a r k stop (Some tree) is next e =
+    behind_argument_stands tree (used_of y) o a (ends r k y tree stop is) k next e
 
-inside_stands : {most : Limits} {front : Front} {outer : List Outer} {depth base start : ℕ} {here : List Statement}
-    {ts before us : List TokenKind} {asked : Asked} (x : Reading) → Enclosed most front outer depth here ts
-    → Asks most asked base start before → Reached most base start x us → (k : TokenKind) (step : TokenStep)
-    → reads most x k ≡ step → (next : ParserState) → in_expression front outer here asked k step ≡ Goes next
+argument_stands : {most : Limits} {front : Front} {outer : List Outer} {depth start : ℕ} {here : List Statement}
+    {ts before us : List TokenKind} (name : List ℕ) {es : List Tree} (x : Reading)
+    → Enclosed most front outer depth here ts → Argues most name es start before → Reached most 0 start x us
+    → (k : TokenKind) (step : TokenStep) → reads most x k ≡ step → (next : ParserState)
+    → in_argument front outer here name es k step ≡ Goes next
     → Standing most next ((ts ++ (before ++ us)) ++ k ∷ [])
-inside_stands {ts = ts} {before = before} {us = us} x o a r k (Moves y) is next e =
-    went _ next e (standing_at _ _ (simp append_assoc refl) (InBlock o (IsInside a (reaches r k y is))))
-inside_stands x o a r k (Stops y) is next e = ending_where_stands x y o a r k is (whole y) refl next e
-inside_stands x o a r k Deep is next e = absurd (cc)
+argument_stands {ts = ts} {before = before} {us = us} name x o a r k (Moves y) is next e =
+    went _ next e (standing_at _ _ (simp append_assoc refl) (InBlock o (IsArgument name a (reaches r k y is))))
+argument_stands name x o a r k (Stops y) is next e = argument_ends_stands x y o a r k is (whole y) refl next e
+argument_stands name x o a r k Deep is next e = absurd (cc)
 
 calling_stands : {most : Limits} {front : Front} {outer : List Outer} {depth : ℕ} {here : List Statement}
     {ts : List TokenKind} (name : List ℕ) → Enclosed most front outer depth here ts
@@ -265,7 +242,7 @@ calling_stands {ts = ts} name o kind.RParen next e =
     went _ next e (standing_at _ _ (simp append_assoc refl) (InBlock o (IsCalled name NoArgument)))
 calling_stands {most} {ts = ts} name o k next e =
     standing_at _ _ (simp (append_assoc, append-nil) refl)
-    (inside_stands (At [] 0 0 Wanted) o (AsksFirst name) (Wants Start (omega arith) (omega arith)) k
+    (argument_stands name (At [] 0 0 Wanted) o IsFirst (Wants Start (omega arith) (omega arith)) k
     (reads most (At [] 0 0 Wanted) k) refl next e)
 
 does_stands : {most : Limits} {front : Front} {outer : List Outer} {depth : ℕ} {here : List Statement}
@@ -276,60 +253,43 @@ does_stands : {most : Limits} {front : Front} {outer : List Outer} {depth : ℕ}
 does_stands {ts = ts} o IsReady k next e =
     standing_at (ts ++ k ∷ []) _ (rw append-nil refl) (beginning_stands o k next e)
 does_stands o (IsMayElse {first = first} g room w) k next e = elsing_stands first o g room w k next e
-does_stands o (IsTarget name) k next e = targeting_stands name o k next e
+does_stands o (IsNamed name) k next e = named_stands name o k next e
 does_stands o (IsCalling name) k next e = calling_stands name o k next e
+does_stands {most} o (IsArgument {x = x} name a r) k next e =
+    argument_stands name x o a r k (reads most x k) refl next e
 does_stands o (IsCalled name given) k next e = called_stands name o given k next e
-does_stands o (IsPlaced name i is fits) k next e = placing_stands name o i is fits k next e
-does_stands o (IsGuarding form) k next e = guarding_stands form o k next e
+does_stands {most} {front} {outer} {here = here} o (IsPart {part = part} p) k next e =
+    mapped_goes (with_part front outer here) (part_turned most part k) next e
+    (λ s is at. part_stands _ o k s (part_steps p k s is) next at)
 does_stands o (IsGuarded form g) k next e = entering_stands form o g k next e
 does_stands o (IsOtherwise {first = first} g room w) k next e = otherwise_stands first o g room w k next e
-does_stands {most} o (IsInside {x = x} a r) k next e = inside_stands x o a r k (reads most x k) refl next e
 
-one_declaration : {most : Limits} {decls : List Decl} {first : List TokenKind} (us : List TokenKind) (decl : Decl)
-    → Declares first decls → Declares us (decl ∷ [])
-    → Standing most (Declaring (decls ++ decl ∷ []) Fresh) (first ++ us)
-one_declaration {first = first} us decl d e =
-    standing_at _ _ (append-nil (first ++ us)) (InHeading (declares_both d e) IsFresh)
-
-fresh_stands : {most : Limits} {decls : List Decl} {first : List TokenKind} → Declares first decls
-    → (k : TokenKind) (next : ParserState) → declares decls Fresh k ≡ Goes next → Standing most next (first ++ k ∷ [])
-fresh_stands d kind.Public next e = went _ next e (InHeading d (IsLabelled Public))
-fresh_stands d kind.Secret next e = went _ next e (InHeading d (IsLabelled Secret))
-fresh_stands {first = first} d k next e =
+between_stands : {most : Limits} {decls : List Decl} {first : List TokenKind} → Declares first decls
+    → (k : TokenKind) (next : ParserState) → between decls k ≡ Goes next → Standing most next (first ++ k ∷ [])
+between_stands d kind.Public next e = went _ next e (InHeading d (IsLabelled Public))
+between_stands d kind.Secret next e = went _ next e (InHeading d (IsLabelled Secret))
+between_stands {first = first} d k next e =
     standing_at (((first ++ []) ++ []) ++ k ∷ []) _ (rw (append-nil, append-nil) refl)
     (beginning_stands {here = []} (Top (AtTop d NoProcedure) Ends) k next e)
 
-heading_stands : {most : Limits} {decls : List Decl} {first us : List TokenKind} {heading : Heading}
-    → Declares first decls → Heads heading us → (k : TokenKind) (next : ParserState) → declares decls heading k
-    ≡ Goes next
-    → Standing most next ((first ++ us) ++ k ∷ [])
-heading_stands {first = first} d IsFresh k next e =
-    standing_at (first ++ k ∷ []) _ (rw append-nil refl) (fresh_stands d k next e)
-heading_stands {first = first} d (IsLabelled label) kind.Int next e =
-    went _ next e (standing_at _ _ (simp append_assoc refl) (InHeading d (IsTyped label)))
-heading_stands d (IsLabelled label) _ next e = absurd (cc)
-heading_stands {first = first} d (IsTyped label) (kind.Word name) next e =
-    went _ next e (standing_at _ _ (simp append_assoc refl) (InHeading d (IsTitled label name)))
-heading_stands d (IsTyped label) _ next e = absurd (cc)
-heading_stands {first = first} d (IsTitled label name) kind.Semi next e =
-    went _ next e (standing_at _ _ (simp append_assoc refl)
-    (one_declaration _ (declared label name None) d (Scalar label name NoMore)))
-heading_stands {first = first} d (IsTitled label name) kind.LBracket next e =
-    went _ next e (standing_at _ _ (simp append_assoc refl) (InHeading d (IsSizing label name)))
-heading_stands d (IsTitled label name) _ next e = absurd (cc)
-heading_stands {first = first} d (IsSizing label name) (kind.Num (pos n)) next e =
-    went _ next e (standing_at _ _ (simp append_assoc refl) (InHeading d (IsSized label name n)))
-heading_stands d (IsSizing label name) _ next e = absurd (cc)
-heading_stands {first = first} d (IsSized label name n) kind.RBracket next e =
-    went _ next e (standing_at _ _ (simp append_assoc refl) (InHeading d (IsClosing label name n)))
-heading_stands d (IsSized label name n) _ next e = absurd (cc)
-heading_stands {first = first} d (IsClosing label name n) kind.Semi next e =
-    went _ next e (standing_at _ _ (simp append_assoc refl)
-    (one_declaration _ (declared label name (Some n)) d (Array label name n NoMore)))
-heading_stands d (IsClosing label name n) _ next e = absurd (cc)
+-- a declaration that is begun, or one more
+declaration_stands : {most : Limits} {decls : List Decl} {first : List TokenKind} (us : List TokenKind)
+    → Declares first decls
+    → (s : HeadingState) → HeadingStands s us → Standing most (with_heading decls s) (first ++ us)
+declaration_stands us d (Begun heading) h = InHeading d h
+declaration_stands us d (Declared decl) h = InBetween (declares_both d h)
+
+heading_stands : {most : Limits} {decls : List Decl} {first : List TokenKind} (us : List TokenKind)
+    → Declares first decls
+    → (k : TokenKind) (s : HeadingState) → HeadingStands s (us ++ k ∷ []) → (next : ParserState)
+    → with_heading decls s ≡ next → Standing most next ((first ++ us) ++ k ∷ [])
+heading_stands {most} {first = first} us d k s h next e =
+    subst (λ z. Standing most z ((first ++ us) ++ k ∷ [])) e
+    (standing_at _ _ (sym (append_assoc first us (k ∷ []))) (declaration_stands (us ++ k ∷ []) d s h))
 
 parameter_stands : {most : Limits} {decls : List Decl} {procedures : List Procedure} (name : List ℕ)
-    {before ts : List TokenKind} {ps : List Parameter} → Begun most (Outside decls procedures) 0 before → ParametersBefore ts ps
+    {before ts : List TokenKind} {ps : List Parameter} → files.Begun most (Outside decls procedures) 0 before
+    → ParametersBefore ts ps
     → (k : TokenKind) (next : ParserState) → parameter_begins decls procedures name ps k ≡ Goes next
     → Standing most next ((before ++ head_of name ts) ++ k ∷ [])
 parameter_stands name {before = before} {ts = ts} b p kind.Public next e =
@@ -341,7 +301,7 @@ parameter_stands name {before = before} {ts = ts} b p kind.Int next e =
 parameter_stands name b p _ next e = absurd (cc)
 
 first_stands : {most : Limits} {decls : List Decl} {procedures : List Procedure} (name : List ℕ)
-    {before : List TokenKind} → Begun most (Outside decls procedures) 0 before
+    {before : List TokenKind} → files.Begun most (Outside decls procedures) 0 before
     → (k : TokenKind) (next : ParserState) → names_next most decls procedures name NoneYet k ≡ Goes next
     → Standing most next ((before ++ head_of name []) ++ k ∷ [])
 first_stands name {before = before} b kind.RParen next e =
@@ -350,7 +310,7 @@ first_stands name b k next e = parameter_stands name b NoneBefore k next e
 
 local_stands : {most : Limits} {decls : List Decl} {procedures : List Procedure} {name : List ℕ}
     {before us : List TokenKind} {ps : List Parameter} {ls : List Decl}
-    → Begun most (Outside decls procedures) 0 before → Names most name (LocalFresh ps ls) us
+    → files.Begun most (Outside decls procedures) 0 before → Names most name (LocalFresh ps ls) us
     → (k : TokenKind) (next : ParserState) → names_next most decls procedures name (LocalFresh ps ls) k ≡ Goes next
     → Standing most next ((before ++ us) ++ k ∷ [])
 local_stands {before = before} b (IsLocalFresh {ts = ts} {us = us} p room l) kind.Public next e =
@@ -362,7 +322,7 @@ local_stands {name = name} {before = before} b (IsLocalFresh {ts = ts} {us = us}
     (beginning_stands {here = []} (Top (InBody name b p room l) Ends) k next e)
 
 names_stand : {most : Limits} {decls : List Decl} {procedures : List Procedure} {name : List ℕ} {phase : HeadPhase}
-    {before us : List TokenKind} → Begun most (Outside decls procedures) 0 before → Names most name phase us
+    {before us : List TokenKind} → files.Begun most (Outside decls procedures) 0 before → Names most name phase us
     → (k : TokenKind) (next : ParserState) → names_next most decls procedures name phase k ≡ Goes next
     → Standing most next ((before ++ us) ++ k ∷ [])
 names_stand {before = before} b IsOpening kind.LParen next e =
@@ -410,10 +370,13 @@ names_stand b (IsLocalTitled label x p room l) _ next e = absurd (cc)
 -- a token leads on
 pub steps : {most : Limits} {state : ParserState} {tokens : List TokenKind} → Standing most state tokens
     → (k : TokenKind) (next : ParserState) → turned most state k ≡ Goes next → Standing most next (tokens ++ k ∷ [])
-steps (InHeading d h) k next e = heading_stands d h k next e
+steps (InBetween d) k next e = between_stands d k next e
+steps (InHeading {decls = decls} {heading = heading} d h) k next e =
+    mapped_goes (with_heading decls) (heading_turned heading k) next e
+    (λ s is at. heading_stands _ d k s (heading_steps h k s is) next at)
 steps (InHead b n) k next e = names_stand b n k next e
 steps (InBlock o s) k next e = does_stands o s k next e
 
 -- before the first token
-pub nothing_read : {most : Limits} → Standing most (Declaring [] Fresh) []
-nothing_read = InHeading NoMore IsFresh
+pub nothing_read : {most : Limits} → Standing most (Between []) []
+nothing_read = InBetween NoMore

@@ -1,4 +1,5 @@
--- The grammar of files with procedures: which tokens are a block, a procedure, a file, and with which tree. Expressions,
+-- The grammar of files with procedures: which tokens are a block, a procedure, a file, and with which tree.
+-- Expressions,
 -- guards and declarations are those of programs.
 use Rattle.std.specs.Prelude.{◌≡◌, ℕ, ◌+◌, ◌<◌, ◌≤◌, List, [], ◌∷◌, ◌++◌, None, false}
 use Rattle.gr_word.specs.declared.variables.Label.{Label}

@@ -1,6 +1,5 @@
 -- For the proofs and for private clauses only: how a file is read token by token.
-use Rattle.std.specs.Prelude.{ℕ, ◌+◌, nat_lt, Bool, true, false, pos, List, [], ◌∷◌, ◌++◌, length, bytes_eq, if◌then◌else◌, Option, Some, None}
-use Rattle.gr_word.specs.declared.operations.Cmp.{Cmp}
+use Rattle.std.specs.Prelude.{ℕ, ◌+◌, nat_lt, Bool, true, false, List, [], ◌∷◌, ◌++◌, length, bytes_eq, if◌then◌else◌, Option, Some, None}
 use Rattle.gr_word.specs.declared.variables.Label.{Label}
 use Rattle.gr_word.specs.declared.variables.Label.TheVariants.{Public, Secret}
 use Rattle.src_lexer.specs.declared.tokens.TokenKind.{TokenKind}
@@ -8,26 +7,14 @@ use Rattle.src_lexer.specs.declared.tokens.TokenKind.TheVariants as kind
 use Rattle.src_tree.specs.declared.trees.Decl.{Decl}
 use Rattle.src_tree.specs.Trees.{Tree, Test}
 use Rattle.src_procs.specs.Trees.{Statement, SetVariable, SetElement, Choice, Loop, Call, Nothing, Parameter, OfValue, OfVariable, Procedure, File}
-use Rattle.procs_parser.specs.FileGrammar.{proc_word}
 use Rattle.src_procs.specs.Inlined.{is_hidden}
 use Rattle.src_procs.specs.Seen.{block_of}
-use Rattle.src_parser.specs.Tokenwise.{Turn, Goes, Wrong, TooMuch}
-use Rattle.src_parser.specs.Grammar.{Limits, comparison_of}
-use Rattle.src_parser.specs.Operands.{Reading, At, Wanted, TokenStep, Moves, Stops, Deep, reads, whole, used_of}
-
--- whether a guard is that of a choice or of a loop
-pub data Form : Type 0 where
-  ForChoice : Form
-  ForLoop : Form
-
--- what an expression is read for: a variable's value; an element's index, then its value; the sides of a guard
-pub data Asked : Type 0 where
-  Value : (name : List ℕ) → Asked
-  Argument : (name : List ℕ) (before : List Tree) → Asked
-  Place : (name : List ℕ) → Asked
-  Stored : (name : List ℕ) (index : Tree) → Asked
-  Left : (form : Form) → Asked
-  Right : (form : Form) (cmp : Cmp) (left : Tree) → Asked
+use Rattle.src_parser.specs.Grammar.{Limits}
+use Rattle.src_parser.specs.Headings.{Heading, Labelled, HeadingState, Begun, Declared, declared, heading_turned}
+use Rattle.src_parser.specs.Operands.{Reading, At, Wanted, TokenStep, reads, whole, used_of}
+use Rattle.src_parser.specs.Parts.{Form, ForChoice, ForLoop, Part, Guarding, VariableSet, ElementSet, GuardRead, PartState, Still, Done, after_step, targeting, part_turned}
+use Rattle.src_parser.specs.Tokenwise.{Turn, Goes, Wrong, mapped, with_braces}
+use Rattle.procs_parser.specs.FileGrammar.{proc_word}
 
 -- a block that is open, with its guard, the statements before its statement, and the first block of its choice
 pub data Outer : Type 0 where
@@ -39,24 +26,13 @@ pub data Outer : Type 0 where
 pub data Phase : Type 0 where
   Ready : Phase
   MayElse : (test : Test) (first : List Statement) → Phase
-  Target : (name : List ℕ) → Phase
+  Named : (name : List ℕ) → Phase
   Calling : (name : List ℕ) → Phase
+  Argument : (name : List ℕ) (before : List Tree) (reading : Reading) → Phase
   Called : (name : List ℕ) (arguments : List Tree) → Phase
-  Placed : (name : List ℕ) (index : Tree) (used : ℕ) → Phase
-  Guarding : (form : Form) → Phase
+  InPart : (part : Part) → Phase
   Guarded : (form : Form) (test : Test) → Phase
   Otherwise : (test : Test) (first : List Statement) → Phase
-  Inside : (asked : Asked) (reading : Reading) → Phase
-
--- where the reading of declarations stands
-pub data Heading : Type 0 where
-  Fresh : Heading
-  Labelled : (label : Label) → Heading
-  Typed : (label : Label) → Heading
-  Titled : (label : Label) (name : List ℕ) → Heading
-  Sizing : (label : Label) (name : List ℕ) → Heading
-  Sized : (label : Label) (name : List ℕ) (n : ℕ) → Heading
-  Closing : (label : Label) (name : List ℕ) (n : ℕ) → Heading
 
 -- where the reading of a procedure's head and of its locals stands, by the parameters, and the locals, read so far
 pub data HeadPhase : Type 0 where
@@ -81,7 +57,9 @@ pub data Front : Type 0 where
   Within : (decls : List Decl) (procedures : List Procedure) (name : List ℕ) (parameters : List Parameter)
       (locals : List Decl) → Front
 
+-- between declarations, in one, in a procedure's head or locals, or among statements
 pub data ParserState : Type 0 where
+  Between : (decls : List Decl) → ParserState
   Declaring : (decls : List Decl) (heading : Heading) → ParserState
   Naming : (decls : List Decl) (procedures : List Procedure) (name : List ℕ) (phase : HeadPhase) → ParserState
   Doing : (front : Front) (outer : List Outer) (here : List Statement) (mode : Phase) → ParserState
@@ -94,10 +72,6 @@ front_depth (Within decls procedures name parameters locals) = 1
 -- how many braces are open
 abbrev pub depth_of : Front → List Outer → ℕ
 depth_of front outer = front_depth front + length outer
-
-abbrev pub with_braces : Bool → ParserState → Turn ParserState
-with_braces true state = Goes state
-with_braces false state = TooMuch
 
 -- a closing brace
 abbrev pub leaving : Front → List Outer → List Statement → Turn ParserState
@@ -114,13 +88,29 @@ leaving front (InSecond test first before ∷ outer) here =
 leaving front (InLoop test before ∷ outer) here =
     Goes (Doing front outer (before ++ Loop test (block_of here) ∷ []) Ready)
 
+-- what begins, or ends, between statements
+pub data Beginning : Type 0 where
+  BeginsName : (name : List ℕ) → Beginning
+  BeginsGuard : (form : Form) → Beginning
+  EndsBlock : Beginning
+  BeginsNothing : Beginning
+
+abbrev pub begins : TokenKind → Beginning
+begins (kind.Word name) = BeginsName name
+begins kind.If = BeginsGuard ForChoice
+begins kind.While = BeginsGuard ForLoop
+begins kind.RBrace = EndsBlock
+begins _ = BeginsNothing
+
+abbrev pub begun : Front → List Outer → List Statement → Beginning → Turn ParserState
+begun front outer here (BeginsName name) = Goes (Doing front outer here (Named name))
+begun front outer here (BeginsGuard form) = Goes (Doing front outer here (InPart (Guarding form)))
+begun front outer here EndsBlock = leaving front outer here
+begun front outer here BeginsNothing = Wrong
+
 -- a token between statements
 abbrev pub between_statements : Front → List Outer → List Statement → TokenKind → Turn ParserState
-between_statements front outer here (kind.Word name) = Goes (Doing front outer here (Target name))
-between_statements front outer here kind.If = Goes (Doing front outer here (Guarding ForChoice))
-between_statements front outer here kind.While = Goes (Doing front outer here (Guarding ForLoop))
-between_statements front outer here kind.RBrace = leaving front outer here
-between_statements front outer here _ = Wrong
+between_statements front outer here k = begun front outer here (begins k)
 
 -- the statements once a choice has no second block
 abbrev pub chosen : List Statement → Test → List Statement → List Statement
@@ -136,27 +126,25 @@ abbrev pub opening : Front → List Outer → List Statement → Bool → List �
 opening (Outside decls procedures) [] [] true name = Goes (Naming decls procedures name Opening)
 opening front outer here b name = Wrong
 
+-- a part, or what it has made
+abbrev pub with_part : Front → List Outer → List Statement → PartState → ParserState
+with_part front outer here (Still part) = Doing front outer here (InPart part)
+with_part front outer here (Done (VariableSet name value)) =
+    Doing front outer (here ++ SetVariable name value ∷ []) Ready
+with_part front outer here (Done (ElementSet name index value)) =
+    Doing front outer (here ++ SetElement name index value ∷ []) Ready
+with_part front outer here (Done (GuardRead form test)) = Doing front outer here (Guarded form test)
+
 -- a token behind a name
-abbrev pub targeting : Front → List Outer → List Statement → List ℕ → TokenKind → Turn ParserState
-targeting front outer here name kind.Assign = Goes (Doing front outer here (Inside (Value name) (At [] 0 0 Wanted)))
-targeting front outer here name kind.LBracket = Goes (Doing front outer here (Inside (Place name) (At [] 1 0 Wanted)))
-targeting front outer here name kind.LParen = Goes (Doing front outer here (Calling name))
-targeting front outer here name (kind.Word other) = opening front outer here (bytes_eq name proc_word) other
-targeting front outer here name _ = Wrong
+abbrev pub behind_name : Front → List Outer → List Statement → List ℕ → TokenKind → Turn ParserState
+behind_name front outer here name kind.LParen = Goes (Doing front outer here (Calling name))
+behind_name front outer here name (kind.Word other) = opening front outer here (bytes_eq name proc_word) other
+behind_name front outer here name k = mapped (with_part front outer here) (targeting name k)
 
 -- a token behind the brackets of a call
 abbrev pub calling_ends : Front → List Outer → List Statement → List ℕ → List Tree → TokenKind → Turn ParserState
 calling_ends front outer here name es kind.Semi = Goes (Doing front outer (here ++ Call name es ∷ []) Ready)
 calling_ends front outer here name es _ = Wrong
-
-abbrev pub placing : Front → List Outer → List Statement → List ℕ → Tree → ℕ → TokenKind → Turn ParserState
-placing front outer here name index used kind.Assign =
-    Goes (Doing front outer here (Inside (Stored name index) (At [] 0 used Wanted)))
-placing front outer here name index used _ = Wrong
-
-abbrev pub guarding : Front → List Outer → List Statement → Form → TokenKind → Turn ParserState
-guarding front outer here form kind.LParen = Goes (Doing front outer here (Inside (Left form) (At [] 0 0 Wanted)))
-guarding front outer here form _ = Wrong
 
 -- the block behind a guard
 abbrev pub block_opened : Form → Test → List Statement → Outer
@@ -168,89 +156,62 @@ entering most front outer here form test kind.LBrace =
     with_braces (nat_lt (depth_of front outer) most.braces) (Doing front (block_opened form test here ∷ outer) [] Ready)
 entering most front outer here form test _ = Wrong
 
-abbrev pub otherwise : Limits → Front → List Outer → List Statement → Test → List Statement → TokenKind → Turn ParserState
+abbrev pub otherwise : Limits → Front → List Outer → List Statement → Test → List Statement → TokenKind
+    → Turn ParserState
 otherwise most front outer here test first kind.LBrace =
     with_braces (nat_lt (depth_of front outer) most.braces) (Doing front (InSecond test first here ∷ outer) [] Ready)
 otherwise most front outer here test first _ = Wrong
 
--- a comparison, or none
-abbrev pub comparing : Front → List Outer → List Statement → Form → Tree → ℕ → Option Cmp → Turn ParserState
-comparing front outer here form left used (Some cmp) =
-    Goes (Doing front outer here (Inside (Right form cmp left) (At [] 0 used Wanted)))
-comparing front outer here form left used None = Wrong
-
--- a token behind the whole expression that was asked for
-abbrev pub behind_expression : Front → List Outer → List Statement → Asked → Tree → ℕ → TokenKind → Turn ParserState
-behind_expression front outer here (Value name) tree used kind.Semi =
-    Goes (Doing front outer (here ++ SetVariable name tree ∷ []) Ready)
-behind_expression front outer here (Value name) tree used _ = Wrong
-behind_expression front outer here (Argument name before) tree used kind.Semi =
-    Goes (Doing front outer here (Inside (Argument name (before ++ tree ∷ [])) (At [] 0 used Wanted)))
-behind_expression front outer here (Argument name before) tree used kind.RParen =
+-- a token behind an argument of a call
+abbrev pub behind_argument : Front → List Outer → List Statement → List ℕ → List Tree → Tree → ℕ → TokenKind
+    → Turn ParserState
+behind_argument front outer here name before tree used kind.Semi =
+    Goes (Doing front outer here (Argument name (before ++ tree ∷ []) (At [] 0 used Wanted)))
+behind_argument front outer here name before tree used kind.RParen =
     Goes (Doing front outer here (Called name (before ++ tree ∷ [])))
-behind_expression front outer here (Argument name before) tree used _ = Wrong
-behind_expression front outer here (Place name) tree used kind.RBracket = Goes
-    (Doing front outer here (Placed name tree used))
-behind_expression front outer here (Place name) tree used _ = Wrong
-behind_expression front outer here (Stored name index) tree used kind.Semi =
-    Goes (Doing front outer (here ++ SetElement name index tree ∷ []) Ready)
-behind_expression front outer here (Stored name index) tree used _ = Wrong
-behind_expression front outer here (Left form) tree used k = comparing front outer here form tree used (comparison_of k)
-behind_expression front outer here (Right form cmp left) tree used kind.RParen =
-    Goes (Doing front outer here (Guarded form (record { cmp = cmp; left = left; right = tree })))
-behind_expression front outer here (Right form cmp left) tree used _ = Wrong
+behind_argument front outer here name before tree used _ = Wrong
 
-abbrev pub ending_where : Front → List Outer → List Statement → Asked → Option Tree → ℕ → TokenKind → Turn ParserState
-ending_where front outer here asked None used k = Wrong
-ending_where front outer here asked (Some tree) used k = behind_expression front outer here asked tree used k
+abbrev pub argument_ends : Front → List Outer → List Statement → List ℕ → List Tree → Option Tree → ℕ → TokenKind
+    → Turn ParserState
+argument_ends front outer here name before None used k = Wrong
+argument_ends front outer here name before (Some tree) used k =
+    behind_argument front outer here name before tree used k
 
--- a token where an expression is read
-abbrev pub in_expression : Front → List Outer → List Statement → Asked → TokenKind → TokenStep → Turn ParserState
-in_expression front outer here asked k (Moves x) = Goes (Doing front outer here (Inside asked x))
-in_expression front outer here asked k (Stops x) = ending_where front outer here asked (whole x) (used_of x) k
-in_expression front outer here asked k Deep = TooMuch
+-- a token where an argument is read
+abbrev pub in_argument : Front → List Outer → List Statement → List ℕ → List Tree → TokenKind → TokenStep
+    → Turn ParserState
+in_argument front outer here name before k s =
+    after_step (λ x. Doing front outer here (Argument name before x))
+    (λ x. argument_ends front outer here name before (whole x) (used_of x) k) s
 
 -- the first token of a call's arguments
 abbrev pub calling : Limits → Front → List Outer → List Statement → List ℕ → TokenKind → Turn ParserState
 calling most front outer here name kind.RParen = Goes (Doing front outer here (Called name []))
 calling most front outer here name k =
-    in_expression front outer here (Argument name []) k (reads most (At [] 0 0 Wanted) k)
+    in_argument front outer here name [] k (reads most (At [] 0 0 Wanted) k)
 
 -- a token of a statement
 abbrev pub does : Limits → Front → List Outer → List Statement → Phase → TokenKind → Turn ParserState
 does most front outer here Ready k = between_statements front outer here k
 does most front outer here (MayElse test first) k = elsing front outer here test first k
-does most front outer here (Target name) k = targeting front outer here name k
+does most front outer here (Named name) k = behind_name front outer here name k
 does most front outer here (Calling name) k = calling most front outer here name k
 does most front outer here (Called name es) k = calling_ends front outer here name es k
-does most front outer here (Placed name index used) k = placing front outer here name index used k
-does most front outer here (Guarding form) k = guarding front outer here form k
+does most front outer here (Argument name before x) k = in_argument front outer here name before k (reads most x k)
+does most front outer here (InPart part) k = mapped (with_part front outer here) (part_turned most part k)
 does most front outer here (Guarded form test) k = entering most front outer here form test k
 does most front outer here (Otherwise test first) k = otherwise most front outer here test first k
-does most front outer here (Inside asked x) k = in_expression front outer here asked k (reads most x k)
 
--- a declaration
-abbrev pub declared : Label → List ℕ → Option ℕ → Decl
-declared label name size = record { name = name; label = label; length = size }
+-- a token between declarations, or the first of the statements
+abbrev pub between : List Decl → TokenKind → Turn ParserState
+between decls kind.Public = Goes (Declaring decls (Labelled Public))
+between decls kind.Secret = Goes (Declaring decls (Labelled Secret))
+between decls k = between_statements (Outside decls []) [] [] k
 
--- a token of a declaration
-abbrev pub declares : List Decl → Heading → TokenKind → Turn ParserState
-declares decls Fresh kind.Public = Goes (Declaring decls (Labelled Public))
-declares decls Fresh kind.Secret = Goes (Declaring decls (Labelled Secret))
-declares decls Fresh k = between_statements (Outside decls []) [] [] k
-declares decls (Labelled label) kind.Int = Goes (Declaring decls (Typed label))
-declares decls (Labelled label) _ = Wrong
-declares decls (Typed label) (kind.Word name) = Goes (Declaring decls (Titled label name))
-declares decls (Typed label) _ = Wrong
-declares decls (Titled label name) kind.Semi = Goes (Declaring (decls ++ declared label name None ∷ []) Fresh)
-declares decls (Titled label name) kind.LBracket = Goes (Declaring decls (Sizing label name))
-declares decls (Titled label name) _ = Wrong
-declares decls (Sizing label name) (kind.Num (pos n)) = Goes (Declaring decls (Sized label name n))
-declares decls (Sizing label name) _ = Wrong
-declares decls (Sized label name n) kind.RBracket = Goes (Declaring decls (Closing label name n))
-declares decls (Sized label name n) _ = Wrong
-declares decls (Closing label name n) kind.Semi = Goes (Declaring (decls ++ declared label name (Some n) ∷ []) Fresh)
-declares decls (Closing label name n) _ = Wrong
+-- a declaration that is begun, or one more
+abbrev pub with_heading : List Decl → HeadingState → ParserState
+with_heading decls (Begun heading) = Declaring decls heading
+with_heading decls (Declared decl) = Between (decls ++ decl ∷ [])
 
 -- the first token of a parameter
 abbrev pub parameter_begins : List Decl → List Procedure → List ℕ → List Parameter → TokenKind → Turn ParserState
@@ -305,7 +266,8 @@ names_next most decls procedures name (LocalTitled ps ls label x) _ = Wrong
 
 -- a token, where each name is shown
 abbrev pub turned : Limits → ParserState → TokenKind → Turn ParserState
-turned most (Declaring decls heading) k = declares decls heading k
+turned most (Between decls) k = between decls k
+turned most (Declaring decls heading) k = mapped (with_heading decls) (heading_turned heading k)
 turned most (Naming decls procedures name phase) k = names_next most decls procedures name phase k
 turned most (Doing front outer here mode) k = does most front outer here mode k
 
@@ -326,7 +288,7 @@ file_at _ _ _ = None
 
 -- the file that was read, where it is whole
 abbrev pub program_of : ParserState → Option File
-program_of (Declaring decls Fresh) = Some (record { decls = decls; procedures = []; body = Nothing })
+program_of (Between decls) = Some (record { decls = decls; procedures = []; body = Nothing })
 program_of (Doing front outer here Ready) = file_at front outer here
 program_of (Doing front outer here (MayElse test first)) = file_at front outer (chosen here test first)
 program_of _ = None
@@ -341,6 +303,6 @@ head_depth _ = 0
 
 -- how many braces are open
 abbrev pub count_of : ParserState → ℕ
-count_of (Declaring decls heading) = 0
 count_of (Naming decls procedures name phase) = head_depth phase
 count_of (Doing front outer here mode) = depth_of front outer
+count_of _ = 0

@@ -1,12 +1,13 @@
 ghost use Rattle.std.specs.Prelude.{◌≡◌, ◌++◌, ◌∷◌, [], IfOk, None, map};
 ghost use Rattle.src_parser.specs.Grammar.{limits};
 ghost use Rattle.src_parser.specs.Tokenwise.{Goes};
-ghost use Rattle.procs_parser.specs.FileTurns.{names_next, parameter_begins, declared, Behind, ScalarTyped, ArrayTyped, ArrayTitled, NoneYet, LocalFresh, LocalTyped};
+ghost use Rattle.procs_parser.specs.FileTurns.{names_next, parameter_begins, Behind, ScalarTyped, ArrayTyped, ArrayTitled, NoneYet, LocalFresh, LocalTyped};
 ghost use Rattle.src_procs.specs.Seen.{parameter_of, procedure_of};
-ghost use Rattle.procs_parser.specs.StatesSeen.{turn_of, named, head_phase_of};
+ghost use Rattle.src_parser.specs.Headings.{declared};
+ghost use Rattle.procs_parser.specs.StatesSeen.{turn_of, state_of, named, head_phase_of};
 
-use crate::statements::begin;
-use crate::states::{Blocks, Front, Head, HeadPhase, ParserState, Turn};
+use crate::declarations::start_statements;
+use crate::states::{Front, Head, HeadPhase, ParserState, Start, Turn};
 use gr_base::Memory;
 use gr_word::{Label, Name};
 use src_lexer::TokenKind;
@@ -14,60 +15,78 @@ use src_procs::Param;
 use src_tree::Decl;
 use std::alloc::Global;
 
-fn goes(head: Head, phase: HeadPhase) -> Turn
-    ensures { turn_of result ≡ Goes (named head (head_phase_of phase)) }
+fn goes(state: &mut ParserState, head: Head, phase: HeadPhase) -> Turn
+    ensures { turn_of result (state_of state.new) ≡ Goes (named head (head_phase_of phase)) }
 {
-    Turn::Goes(ParserState::Naming(head, phase))
+    *state = ParserState::Before(Start::Naming(head, phase));
+    Turn::Goes
 }
 
 // The first token of a parameter.
-fn parameter(head: Head, params: Vec<Param>, kind: &TokenKind) -> Turn
-    ensures { turn_of result ≡ parameter_begins head.decls.items (map procedure_of head.procs.items) head.name
+fn parameter(state: &mut ParserState, head: Head, params: Vec<Param>, kind: &TokenKind) -> Turn
+    ensures { turn_of result (state_of state.new)
+        ≡ parameter_begins head.decls.items (map procedure_of head.procs.items) head.name
         (map parameter_of params.items) kind.now }
 {
     match kind {
-        TokenKind::Public => goes(head, HeadPhase::ScalarLabelled(params, Label::Public)),
-        TokenKind::Secret => goes(head, HeadPhase::ScalarLabelled(params, Label::Secret)),
-        TokenKind::Int => goes(head, HeadPhase::ArrayTyped(params)),
+        TokenKind::Public => goes(
+            state,
+            head,
+            HeadPhase::ScalarLabelled(params, Label::Public),
+        ),
+        TokenKind::Secret => goes(
+            state,
+            head,
+            HeadPhase::ScalarLabelled(params, Label::Secret),
+        ),
+        TokenKind::Int => goes(state, head, HeadPhase::ArrayTyped(params)),
         _ => Turn::Wrong,
     }
 }
 
 // The first token behind the bracket of a head.
-fn first(alloc: Global, head: Head, kind: &TokenKind) -> Turn
-    ensures { turn_of result ≡ names_next limits head.decls.items (map procedure_of head.procs.items) head.name NoneYet
+fn first(alloc: Global, state: &mut ParserState, head: Head, kind: &TokenKind) -> Turn
+    ensures { turn_of result (state_of state.new)
+        ≡ names_next limits head.decls.items (map procedure_of head.procs.items) head.name NoneYet
         kind.now }
 {
     match kind {
-        TokenKind::RParen => goes(head, HeadPhase::AllRead(Vec::new(alloc))),
-        _ => parameter(head, Vec::new(alloc), kind),
+        TokenKind::RParen => goes(state, head, HeadPhase::AllRead(Vec::new(alloc))),
+        _ => parameter(state, head, Vec::new(alloc), kind),
     }
 }
 
 // One more parameter.
-fn add(head: Head, mut params: Vec<Param>, param: Param) -> Result<Turn, Memory>
-    ensures { IfOk result (λ t. turn_of t
+fn add(
+    state: &mut ParserState,
+    head: Head,
+    mut params: Vec<Param>,
+    param: Param,
+) -> Result<Turn, Memory>
+    ensures { IfOk result (λ t. turn_of t (state_of state.new)
         ≡ Goes (named head (Behind (map parameter_of params.items ++ parameter_of param ∷ [])))) }
 {
     params.push(param)?;
-    Ok(goes(head, HeadPhase::Behind(params)))
+    Ok(goes(state, head, HeadPhase::Behind(params)))
 }
 
 // The name of a scalar parameter.
 fn scalar_name(
     alloc: Global,
+    state: &mut ParserState,
     head: Head,
     params: Vec<Param>,
     label: Label,
     kind: &TokenKind,
 ) -> Result<Turn, Memory>
-    ensures { IfOk result (λ t. turn_of t ≡ names_next limits head.decls.items (map procedure_of head.procs.items)
+    ensures { IfOk result (λ t. turn_of t (state_of state.new)
+        ≡ names_next limits head.decls.items (map procedure_of head.procs.items)
         head.name (ScalarTyped (map parameter_of params.items) label) kind.now) }
 {
     match kind {
         TokenKind::Word(name) => {
             let name = name.copy(alloc)?;
-            add(head, params, Param::Scalar(label, name))
+            add(state, head, params, Param::Scalar(label, name))
         }
         _ => Ok(Turn::Wrong),
     }
@@ -76,17 +95,19 @@ fn scalar_name(
 // The name of an array parameter.
 fn array_name(
     alloc: Global,
+    state: &mut ParserState,
     head: Head,
     params: Vec<Param>,
     kind: &TokenKind,
 ) -> Result<Turn, Memory>
-    ensures { IfOk result (λ t. turn_of t ≡ names_next limits head.decls.items (map procedure_of head.procs.items)
+    ensures { IfOk result (λ t. turn_of t (state_of state.new)
+        ≡ names_next limits head.decls.items (map procedure_of head.procs.items)
         head.name (ArrayTyped (map parameter_of params.items)) kind.now) }
 {
     match kind {
         TokenKind::Word(name) => {
             let name = name.copy(alloc)?;
-            Ok(goes(head, HeadPhase::ArrayTitled(params, name)))
+            Ok(goes(state, head, HeadPhase::ArrayTitled(params, name)))
         }
         _ => Ok(Turn::Wrong),
     }
@@ -95,50 +116,53 @@ fn array_name(
 // A token where a local may begin, or the first statement.
 fn start(
     alloc: Global,
+    state: &mut ParserState,
     head: Head,
     params: Vec<Param>,
     locals: Vec<Decl>,
     kind: &TokenKind,
 ) -> Result<Turn, Memory>
-    ensures { IfOk result (λ t. turn_of t ≡ names_next limits head.decls.items (map procedure_of head.procs.items)
+    ensures { IfOk result (λ t. turn_of t (state_of state.new)
+        ≡ names_next limits head.decls.items (map procedure_of head.procs.items)
         head.name (LocalFresh (map parameter_of params.items) locals.items) kind.now) }
 {
     match kind {
         TokenKind::Public => Ok(goes(
+            state,
             head,
             HeadPhase::LocalLabelled(params, locals, Label::Public),
         )),
         TokenKind::Secret => Ok(goes(
+            state,
             head,
             HeadPhase::LocalLabelled(params, locals, Label::Secret),
         )),
-        _ => {
-            let blocks = Blocks {
-                front: Front::Within(head, params, locals),
-                outer: Vec::new(alloc),
-                here: Vec::new(alloc),
-            };
-            begin(alloc, blocks, kind)
-        }
+        _ => { start_statements(alloc, state, Front::Within(head, params, locals), kind) }
     }
 }
 
 // The name of a local.
 fn local_name(
     alloc: Global,
+    state: &mut ParserState,
     head: Head,
     params: Vec<Param>,
     locals: Vec<Decl>,
     label: Label,
     kind: &TokenKind,
 ) -> Result<Turn, Memory>
-    ensures { IfOk result (λ t. turn_of t ≡ names_next limits head.decls.items (map procedure_of head.procs.items)
+    ensures { IfOk result (λ t. turn_of t (state_of state.new)
+        ≡ names_next limits head.decls.items (map procedure_of head.procs.items)
         head.name (LocalTyped (map parameter_of params.items) locals.items label) kind.now) }
 {
     match kind {
         TokenKind::Word(name) => {
             let name = name.copy(alloc)?;
-            Ok(goes(head, HeadPhase::LocalTitled(params, locals, label, name)))
+            Ok(goes(
+                state,
+                head,
+                HeadPhase::LocalTitled(params, locals, label, name),
+            ))
         }
         _ => Ok(Turn::Wrong),
     }
@@ -146,13 +170,15 @@ fn local_name(
 
 // One more local.
 fn add_local(
+    state: &mut ParserState,
     head: Head,
     params: Vec<Param>,
     mut locals: Vec<Decl>,
     label: Label,
     name: Name,
 ) -> Result<Turn, Memory>
-    ensures { IfOk result (λ t. turn_of t ≡ Goes (named head (LocalFresh (map parameter_of params.items)
+    ensures { IfOk result (λ t. turn_of t (state_of state.new)
+        ≡ Goes (named head (LocalFresh (map parameter_of params.items)
         (locals.items ++ declared label name None ∷ [])))) }
 {
     locals.push(Decl {
@@ -160,59 +186,67 @@ fn add_local(
         label,
         length: None,
     })?;
-    Ok(goes(head, HeadPhase::LocalFresh(params, locals)))
+    Ok(goes(state, head, HeadPhase::LocalFresh(params, locals)))
 }
 
 // The next token of a procedure's head, or of its locals.
 pub(crate) fn name_next(
     alloc: Global,
+    state: &mut ParserState,
     head: Head,
     phase: HeadPhase,
     kind: &TokenKind,
 ) -> Result<Turn, Memory>
-    ensures { IfOk result (λ t. turn_of t ≡ names_next limits head.decls.items (map procedure_of head.procs.items)
+    ensures { IfOk result (λ t. turn_of t (state_of state.new)
+        ≡ names_next limits head.decls.items (map procedure_of head.procs.items)
         head.name (head_phase_of phase) kind.now) }
 {
     match phase {
         HeadPhase::Opening => match kind {
-            TokenKind::LParen => Ok(goes(head, HeadPhase::NoneYet)),
+            TokenKind::LParen => Ok(goes(state, head, HeadPhase::NoneYet)),
             _ => Ok(Turn::Wrong),
         },
-        HeadPhase::NoneYet => Ok(first(alloc, head, kind)),
-        HeadPhase::OneMore(params) => Ok(parameter(head, params, kind)),
+        HeadPhase::NoneYet => Ok(first(alloc, state, head, kind)),
+        HeadPhase::OneMore(params) => Ok(parameter(state, head, params, kind)),
         HeadPhase::ScalarLabelled(params, label) => match kind {
-            TokenKind::Int => Ok(goes(head, HeadPhase::ScalarTyped(params, label))),
+            TokenKind::Int => Ok(goes(state, head, HeadPhase::ScalarTyped(params, label))),
             _ => Ok(Turn::Wrong),
         },
-        HeadPhase::ScalarTyped(params, label) => scalar_name(alloc, head, params, label, kind),
-        HeadPhase::ArrayTyped(params) => array_name(alloc, head, params, kind),
+        HeadPhase::ScalarTyped(params, label) => scalar_name(
+            alloc, state, head, params, label, kind,
+        ),
+        HeadPhase::ArrayTyped(params) => array_name(alloc, state, head, params, kind),
         HeadPhase::ArrayTitled(params, name) => match kind {
-            TokenKind::LBracket => Ok(goes(head, HeadPhase::ArrayClosing(params, name))),
+            TokenKind::LBracket => Ok(goes(state, head, HeadPhase::ArrayClosing(params, name))),
             _ => Ok(Turn::Wrong),
         },
         HeadPhase::ArrayClosing(params, name) => match kind {
-            TokenKind::RBracket => add(head, params, Param::Array(name)),
+            TokenKind::RBracket => add(state, head, params, Param::Array(name)),
             _ => Ok(Turn::Wrong),
         },
         HeadPhase::Behind(params) => match kind {
-            TokenKind::Semi => Ok(goes(head, HeadPhase::OneMore(params))),
-            TokenKind::RParen => Ok(goes(head, HeadPhase::AllRead(params))),
+            TokenKind::Semi => Ok(goes(state, head, HeadPhase::OneMore(params))),
+            TokenKind::RParen => Ok(goes(state, head, HeadPhase::AllRead(params))),
             _ => Ok(Turn::Wrong),
         },
         HeadPhase::AllRead(params) => match kind {
-            TokenKind::LBrace => Ok(goes(head, HeadPhase::LocalFresh(params, Vec::new(alloc)))),
+            TokenKind::LBrace => Ok(goes(
+                state,
+                head,
+                HeadPhase::LocalFresh(params, Vec::new(alloc)),
+            )),
             _ => Ok(Turn::Wrong),
         },
-        HeadPhase::LocalFresh(params, locals) => start(alloc, head, params, locals, kind),
+        HeadPhase::LocalFresh(params, locals) => start(alloc, state, head, params, locals, kind),
         HeadPhase::LocalLabelled(params, locals, label) => match kind {
-            TokenKind::Int => Ok(goes(head, HeadPhase::LocalTyped(params, locals, label))),
+            TokenKind::Int => Ok(goes(state, head, HeadPhase::LocalTyped(params, locals, label))),
             _ => Ok(Turn::Wrong),
         },
         HeadPhase::LocalTyped(params, locals, label) => {
-            local_name(alloc, head, params, locals, label, kind)
+            local_name(alloc, state, head, params, locals, label, kind)
         }
         HeadPhase::LocalTitled(params, locals, label, name) => match kind {
-            TokenKind::Semi => add_local(head, params, locals, label, name),
+            TokenKind::Semi => add_local(state, head, params, locals, label, name),
             _ => Ok(Turn::Wrong),
         },
     }

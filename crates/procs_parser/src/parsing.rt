@@ -7,17 +7,18 @@ ghost use Rattle.procs_parser.specs.FileRefusals.{ExplainsFile};
 ghost use Rattle.procs_parser.specs.FileTurns.{turned, taken, is_hidden_token, program_of, file_at, Ready};
 ghost use Rattle.src_procs.specs.Promise.{ArePlain};
 ghost use Rattle.src_procs.specs.Seen.{file_of};
-ghost use Rattle.procs_parser.specs.StatesSeen.{turn_of, state_of, doing, mode_of};
+ghost use Rattle.procs_parser.specs.StatesSeen.{turn_of, start_of, state_of, doing, mode_of};
 
-use crate::declarations::declare;
+use crate::declarations::{begin_declaration, declare};
 use crate::heads::name_next;
 use crate::statements::{choose, perform};
-use crate::states::{Blocks, Front, Heading, ParserState, Phase, Turn};
+use crate::states::{Blocks, Front, HeadPhase, ParserState, Pause, Phase, Start, Turn};
 use gr_base::Memory;
 use src_lexer::{Token, TokenKind};
 use src_parser::ParseError;
 use src_procs::{ProcFile, is_hidden};
 use std::alloc::Global;
+use std::mem;
 
 // Whether a token is a name that begins with `__`.
 fn is_hidden_token(kind: &TokenKind) -> bool
@@ -29,20 +30,38 @@ fn is_hidden_token(kind: &TokenKind) -> bool
     }
 }
 
+// A token before statements.
+fn start(
+    alloc: Global,
+    state: &mut ParserState,
+    start: Start,
+    kind: &TokenKind,
+) -> Result<Turn, Memory>
+    ensures { IfOk result (λ t. turn_of t (state_of state.new) ≡ turned limits (start_of start) kind.now) }
+{
+    match start {
+        Start::Between(decls) => begin_declaration(alloc, state, decls, kind),
+        Start::Declaring(decls, heading) => declare(alloc, state, decls, heading, kind),
+        Start::Naming(head, phase) => name_next(alloc, state, head, phase, kind),
+    }
+}
+
 // The next token of a file, whatever its name.
-fn turn(alloc: Global, state: ParserState, kind: &TokenKind) -> Result<Turn, Memory>
-    ensures { IfOk result (λ t. turn_of t ≡ turned limits (state_of state) kind.now) }
+fn turn(alloc: Global, state: &mut ParserState, kind: &TokenKind) -> Result<Turn, Memory>
+    ensures { IfOk result (λ t. turn_of t (state_of state.new) ≡ turned limits (state_of state.old) kind.now) }
 {
     match state {
-        ParserState::Declaring(decls, heading) => declare(alloc, decls, heading, kind),
-        ParserState::Naming(head, phase) => name_next(alloc, head, phase, kind),
         ParserState::Doing(blocks, mode) => perform(alloc, blocks, mode, kind),
+        ParserState::Before(before) => {
+            let before = mem::replace(before, Start::Between(Vec::new(alloc)));
+            start(alloc, state, before, kind)
+        }
     }
 }
 
 // The next token of a file.
-fn take(alloc: Global, state: ParserState, kind: &TokenKind) -> Result<Turn, Memory>
-    ensures { IfOk result (λ t. turn_of t ≡ taken limits (state_of state) kind.now) }
+fn take(alloc: Global, state: &mut ParserState, kind: &TokenKind) -> Result<Turn, Memory>
+    ensures { IfOk result (λ t. turn_of t (state_of state.new) ≡ taken limits (state_of state.old) kind.now) }
 {
     if is_hidden_token(kind) {
         return Ok(Turn::Wrong);
@@ -68,20 +87,22 @@ fn whole(blocks: Blocks) -> Option<ProcFile>
 }
 
 // The file, where its statements are whole.
-fn settle(alloc: Global, blocks: Blocks, mode: Phase) -> Result<Option<ProcFile>, Memory>
+fn settle(alloc: Global, mut blocks: Blocks, mode: Phase) -> Result<Option<ProcFile>, Memory>
     ensures { IfOk result (λ p. option_map file_of p ≡ program_of (doing blocks (mode_of mode))) }
 {
     match mode {
-        Phase::Ready => Ok(whole(blocks)),
-        Phase::MayElse(guard, first) => Ok(whole(choose(alloc, blocks, guard, first)?)),
-        Phase::Target(_name) => Ok(None),
-        Phase::Calling(_name) => Ok(None),
-        Phase::Called(_name, _arguments) => Ok(None),
-        Phase::Placed(_name, _index, _used) => Ok(None),
-        Phase::Guarding(_form) => Ok(None),
-        Phase::Guarded(_form, _guard) => Ok(None),
-        Phase::Otherwise(_guard, _first) => Ok(None),
-        Phase::Inside(_asked, _reading) => Ok(None),
+        Phase::Between(Pause::Ready) => Ok(whole(blocks)),
+        Phase::Between(Pause::MayElse(guard, first)) => {
+            choose(alloc, &mut blocks, guard, first)?;
+            Ok(whole(blocks))
+        }
+        Phase::Between(Pause::Named(_name)) => Ok(None),
+        Phase::Between(Pause::Calling(_name)) => Ok(None),
+        Phase::Between(Pause::Argument(_name, _before, _reading)) => Ok(None),
+        Phase::Between(Pause::Called(_name, _arguments)) => Ok(None),
+        Phase::Between(Pause::Guarded(_form, _guard)) => Ok(None),
+        Phase::Between(Pause::Otherwise(_guard, _first)) => Ok(None),
+        Phase::InPart(_part) => Ok(None),
     }
 }
 
@@ -91,20 +112,13 @@ fn conclude(alloc: Global, state: ParserState) -> Result<Option<ProcFile>, Memor
 {
     match state {
         ParserState::Doing(blocks, mode) => settle(alloc, blocks, mode),
-        ParserState::Naming(_head, _phase) => Ok(None),
-        ParserState::Declaring(decls, heading) => match heading {
-            Heading::Fresh => Ok(Some(ProcFile {
-                decls,
-                procs: Vec::new(alloc),
-                body: Vec::new(alloc),
-            })),
-            Heading::Labelled(_label) => Ok(None),
-            Heading::Typed(_label) => Ok(None),
-            Heading::Titled(_label, _name) => Ok(None),
-            Heading::Sizing(_label, _name) => Ok(None),
-            Heading::Sized(_label, _name, _length) => Ok(None),
-            Heading::Closing(_label, _name, _length) => Ok(None),
-        },
+        ParserState::Before(Start::Between(decls)) => Ok(Some(ProcFile {
+            decls,
+            procs: Vec::new(alloc),
+            body: Vec::new(alloc),
+        })),
+        ParserState::Before(Start::Declaring(_decls, _heading)) => Ok(None),
+        ParserState::Before(Start::Naming(_head, _phase)) => Ok(None),
     }
 }
 
@@ -122,10 +136,14 @@ pub fn parse_procs(alloc: Global, tokens: &[Token]) -> Result<ProcFile, ParseErr
     ensures plain { IfOk result (λ f. ArePlain f.decls.items) }
     ensures refused { IfErr result (λ error. ExplainsFile error tokens.now) }
 {
-    let mut state = ParserState::Declaring(Vec::new(alloc), Heading::Fresh);
+    let mut state = ParserState::Before(Start::Between(Vec::new(alloc)));
     for token in tokens {
-        match take(alloc, state, &token.kind)? {
-            Turn::Goes(next) => state = next,
+        match take(alloc, &mut state, &token.kind)? {
+            Turn::Goes => {}
+            Turn::Opens(head) => state = ParserState::Before(Start::Naming(
+                head,
+                HeadPhase::Opening,
+            )),
             Turn::Wrong => return Err(ParseError::Unexpected(token.start)),
             Turn::TooMuch => return Err(ParseError::TooDeep(token.start)),
         }

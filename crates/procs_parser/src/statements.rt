@@ -1,70 +1,46 @@
-ghost use Rattle.std.specs.Prelude.{◌≡◌, ◌++◌, ◌+◌, ◌==◌, ◌∷◌, [], IfOk, IfSome, Some, length, map, nat_lt, true, bytes_eq};
+ghost use Rattle.std.specs.Prelude.{◌≡◌, ◌++◌, ◌+◌, ◌==◌, ◌∷◌, [], IfOk, length, nat_lt, bytes_eq};
 ghost use Rattle.src_tree.specs.Trees.{expr_tree, test_of};
-ghost use Rattle.src_parser.specs.Grammar.{limits, comparison_of};
-ghost use Rattle.src_parser.specs.Operands.{At, Wanted, reads, whole};
-ghost use Rattle.src_parser.specs.Seen.{reading_of, step_of};
-ghost use Rattle.src_parser.specs.Tokenwise.{Goes};
+ghost use Rattle.src_parser.specs.Grammar.{limits};
+ghost use Rattle.src_parser.specs.Operands.{reads};
+ghost use Rattle.src_parser.specs.Parts.{Done, targeting};
+ghost use Rattle.src_parser.specs.Seen.{form_of, made_of, reading_of};
+ghost use Rattle.src_parser.specs.Tokenwise.{Goes, mapped, with_braces};
 ghost use Rattle.procs_parser.specs.FileGrammar.{proc_word};
-ghost use Rattle.procs_parser.specs.FileTurns.{leaving, between_statements, chosen, elsing, opening, targeting, calling, calling_ends, placing, guarding, entering, otherwise, comparing, behind_expression, in_expression, does, ending_where, with_braces, Argument, depth_of, front_depth, Doing, Ready};
-ghost use Rattle.src_procs.specs.Seen.{parameter_of, procedure_of, statement_of, trees_of, block_of};
-ghost use Rattle.procs_parser.specs.StatesSeen.{turn_of, outer_of, doing, outers_of, calls_seen, form_of, front_of, asked_seen, mode_of};
-ghost use Rattle.src_procs.specs.Trees.{Call, Choice, Loop, Nothing};
+ghost use Rattle.procs_parser.specs.FileTurns.{behind_argument, behind_name, begins, begun, between_statements, calling, calling_ends, chosen, depth_of, does, elsing, entering, front_depth, in_argument, leaving, opening, otherwise, with_part, Doing, Ready};
+ghost use Rattle.src_procs.specs.Seen.{statement_of, trees_of};
+ghost use Rattle.procs_parser.specs.StatesSeen.{beginning_of, opened, turn_of, outer_of, doing, outers_of, calls_seen, front_of, pause_of, mode_of};
 
-use crate::states::{
-    Asked, Blocks, Form, Front, Head, HeadPhase, MAX_BRACES, Outer, ParserState, Phase, Turn,
-};
+use crate::states::{Beginning, Blocks, Front, Head, MAX_BRACES, Outer, Pause, Phase, Turn};
 use gr_base::Memory;
-use gr_word::{Cmp, Name};
+use gr_word::Name;
 use src_lexer::TokenKind;
 use src_parser::expressions::{finish, fresh, read};
+use src_parser::parts::{Form, Lead, Made, Part, PartTurn, read_part};
 use src_parser::readings::{Reading, TokenStep};
 use src_procs::{PStmt, Proc};
 use src_tree::{Expr, Guard};
 use std::alloc::Global;
-
-// The comparison that a sign stands for.
-fn comparison(kind: &TokenKind) -> Option<Cmp>
-    ensures { result ≡ comparison_of kind.now }
-{
-    match kind {
-        TokenKind::Eq => Some(Cmp::Eq),
-        TokenKind::Ne => Some(Cmp::Ne),
-        TokenKind::Lt => Some(Cmp::Lt),
-        TokenKind::Le => Some(Cmp::Le),
-        TokenKind::Gt => Some(Cmp::Gt),
-        TokenKind::Ge => Some(Cmp::Ge),
-        _ => None,
-    }
-}
-
-fn goes(blocks: Blocks, mode: Phase) -> Turn
-    ensures { turn_of result ≡ Goes (doing blocks (mode_of mode)) }
-{
-    Turn::Goes(ParserState::Doing(blocks, mode))
-}
+use std::mem;
 
 // One more statement, and then the next may begin.
-fn add(blocks: Blocks, statement: PStmt) -> Result<Blocks, Memory>
-    ensures front { IfOk result (λ b. b.front ≡ blocks.front) }
-    ensures outer { IfOk result (λ b. b.outer ≡ blocks.outer) }
-    ensures here { IfOk result
-        (λ b. calls_seen b.here.items ≡ calls_seen blocks.here.items ++ statement_of statement ∷ []) }
+fn add(blocks: &mut Blocks, mode: &mut Phase, statement: PStmt) -> Result<Turn, Memory>
+    ensures { IfOk result (λ t. turn_of t (doing blocks.new (mode_of mode.new))
+        ≡ Goes (Doing (front_of blocks.old.front) (outers_of blocks.old.outer.items)
+        (calls_seen blocks.old.here.items ++ statement_of statement ∷ []) Ready)) }
 {
-    let Blocks {
-        front,
-        outer,
-        mut here,
-    } = blocks;
-    here.push(statement)?;
-    Ok(Blocks { front, outer, here })
+    blocks.here.push(statement)?;
+    *mode = Phase::Between(Pause::Ready);
+    Ok(Turn::Goes)
 }
 
 // The closing brace of a procedure, where one is open.
-fn close(alloc: Global, front: Front, outer: Vec<Outer>, here: Vec<PStmt>) -> Result<Turn, Memory>
-    requires { outer.items ≡ [] }
-    ensures { IfOk result (λ t. turn_of t ≡ leaving (front_of front) [] (calls_seen here.items)) }
+fn close(alloc: Global, blocks: &mut Blocks, mode: &mut Phase) -> Result<Turn, Memory>
+    requires { blocks.old.outer.items ≡ [] }
+    ensures { IfOk result (λ t. turn_of t (doing blocks.new (mode_of mode.new))
+        ≡ leaving (front_of blocks.old.front) [] (calls_seen blocks.old.here.items)) }
 {
-    match front {
+    let front = Front::Outside(Vec::new(alloc), Vec::new(alloc));
+    match mem::replace(&mut blocks.front, front) {
         Front::Outside(_decls, _procs) => Ok(Turn::Wrong),
         Front::Within(head, params, locals) => {
             let Head {
@@ -72,110 +48,133 @@ fn close(alloc: Global, front: Front, outer: Vec<Outer>, here: Vec<PStmt>) -> Re
                 mut procs,
                 name,
             } = head;
+            let body = mem::replace(&mut blocks.here, Vec::new(alloc));
             procs.push(Proc {
                 name,
                 params,
                 locals,
-                body: here,
+                body,
             })?;
-            let blocks = Blocks {
-                front: Front::Outside(decls, procs),
-                outer,
-                here: Vec::new(alloc),
-            };
-            Ok(goes(blocks, Phase::Ready))
+            blocks.front = Front::Outside(decls, procs);
+            *mode = Phase::Between(Pause::Ready);
+            Ok(Turn::Goes)
         }
     }
 }
 
 // A closing brace.
-fn leave(alloc: Global, blocks: Blocks) -> Result<Turn, Memory>
-    ensures { IfOk result (λ t.
-        turn_of t ≡ leaving (front_of blocks.front) (outers_of blocks.outer.items) (calls_seen blocks.here.items)) }
+fn leave(alloc: Global, blocks: &mut Blocks, mode: &mut Phase) -> Result<Turn, Memory>
+    ensures { IfOk result (λ t. turn_of t (doing blocks.new (mode_of mode.new))
+        ≡ leaving (front_of blocks.old.front) (outers_of blocks.old.outer.items) (calls_seen blocks.old.here.items)) }
 {
-    let Blocks {
-        front,
-        mut outer,
-        here,
-    } = blocks;
-    match outer.pop() {
-        None => close(alloc, front, outer, here),
+    match blocks.outer.pop() {
+        None => close(alloc, blocks, mode),
         Some(Outer::InFirst(guard, before)) => {
-            let blocks = Blocks {
-                front,
-                outer,
-                here: before,
-            };
-            Ok(goes(blocks, Phase::MayElse(guard, here)))
+            let first = mem::replace(&mut blocks.here, before);
+            *mode = Phase::Between(Pause::MayElse(guard, first));
+            Ok(Turn::Goes)
         }
         Some(Outer::InSecond(guard, first, before)) => {
-            let blocks = Blocks {
-                front,
-                outer,
-                here: before,
-            };
-            Ok(goes(add(blocks, PStmt::If(guard, first, here))?, Phase::Ready))
+            let second = mem::replace(&mut blocks.here, before);
+            add(blocks, mode, PStmt::If(guard, first, second))
         }
         Some(Outer::InLoop(guard, before)) => {
-            let blocks = Blocks {
-                front,
-                outer,
-                here: before,
-            };
-            Ok(goes(add(blocks, PStmt::While(guard, here))?, Phase::Ready))
+            let body = mem::replace(&mut blocks.here, before);
+            add(blocks, mode, PStmt::While(guard, body))
         }
     }
 }
 
-// A token between statements.
-pub(crate) fn begin(alloc: Global, blocks: Blocks, kind: &TokenKind) -> Result<Turn, Memory>
-    ensures { IfOk result (λ t. turn_of t
-        ≡ between_statements (front_of blocks.front) (outers_of blocks.outer.items) (calls_seen blocks.here.items)
-        kind.now) }
+// What a token begins, or ends, between statements.
+fn beginning(alloc: Global, kind: &TokenKind) -> Result<Beginning, Memory>
+    ensures { IfOk result (λ b. beginning_of b ≡ begins kind.now) }
 {
     match kind {
-        TokenKind::Word(name) => {
-            let mode = Phase::Target(name.copy(alloc)?);
-            Ok(goes(blocks, mode))
-        }
-        TokenKind::If => Ok(goes(blocks, Phase::Guarding(Form::Choice))),
-        TokenKind::While => Ok(goes(blocks, Phase::Guarding(Form::Loop))),
-        TokenKind::RBrace => leave(alloc, blocks),
-        _ => Ok(Turn::Wrong),
+        TokenKind::Word(name) => Ok(Beginning::Name(name.copy(alloc)?)),
+        TokenKind::If => Ok(Beginning::Guard(Form::Choice)),
+        TokenKind::While => Ok(Beginning::Guard(Form::Loop)),
+        TokenKind::RBrace => Ok(Beginning::Closing),
+        _ => Ok(Beginning::Nothing),
     }
+}
+
+// What begins is begun.
+fn take_up(
+    alloc: Global,
+    blocks: &mut Blocks,
+    mode: &mut Phase,
+    beginning: Beginning,
+) -> Result<Turn, Memory>
+    ensures { IfOk result (λ t. turn_of t (doing blocks.new (mode_of mode.new))
+        ≡ begun (front_of blocks.old.front) (outers_of blocks.old.outer.items)
+        (calls_seen blocks.old.here.items) (beginning_of beginning)) }
+{
+    match beginning {
+        Beginning::Name(name) => {
+            *mode = Phase::Between(Pause::Named(name));
+            Ok(Turn::Goes)
+        }
+        Beginning::Guard(form) => {
+            *mode = Phase::InPart(Part::Before(Lead::Guarding(form)));
+            Ok(Turn::Goes)
+        }
+        Beginning::Closing => leave(alloc, blocks, mode),
+        Beginning::Nothing => Ok(Turn::Wrong),
+    }
+}
+
+// A token between statements.
+pub(crate) fn begin(
+    alloc: Global,
+    blocks: &mut Blocks,
+    mode: &mut Phase,
+    kind: &TokenKind,
+) -> Result<Turn, Memory>
+    ensures { IfOk result (λ t. turn_of t (doing blocks.new (mode_of mode.new))
+        ≡ between_statements (front_of blocks.old.front) (outers_of blocks.old.outer.items)
+        (calls_seen blocks.old.here.items) kind.now) }
+{
+    let beginning = beginning(alloc, kind)?;
+    take_up(alloc, blocks, mode, beginning)
 }
 
 // The statements once a choice has no second block.
 pub(crate) fn choose(
     alloc: Global,
-    blocks: Blocks,
+    blocks: &mut Blocks,
     guard: Guard,
     first: Vec<PStmt>,
-) -> Result<Blocks, Memory>
-    ensures front { IfOk result (λ b. b.front ≡ blocks.front) }
-    ensures outer { IfOk result (λ b. b.outer ≡ blocks.outer) }
-    ensures here { IfOk result (λ b. calls_seen b.here.items
-        ≡ chosen (calls_seen blocks.here.items) (test_of guard) (calls_seen first.items)) }
+) -> Result<(), Memory>
+    ensures front { IfOk result (λ _. blocks.new.front ≡ blocks.old.front) }
+    ensures outer { IfOk result (λ _. blocks.new.outer ≡ blocks.old.outer) }
+    ensures here { IfOk result (λ _. calls_seen blocks.new.here.items
+        ≡ chosen (calls_seen blocks.old.here.items) (test_of guard) (calls_seen first.items)) }
 {
-    add(blocks, PStmt::If(guard, first, Vec::new(alloc)))
+    blocks.here.push(PStmt::If(guard, first, Vec::new(alloc)))?;
+    Ok(())
 }
 
 // A token behind the first block of a choice.
 fn may_else(
     alloc: Global,
-    blocks: Blocks,
+    blocks: &mut Blocks,
+    mode: &mut Phase,
     guard: Guard,
     first: Vec<PStmt>,
     kind: &TokenKind,
 ) -> Result<Turn, Memory>
-    ensures { IfOk result (λ t. turn_of t ≡ elsing (front_of blocks.front) (outers_of blocks.outer.items)
-        (calls_seen blocks.here.items) (test_of guard) (calls_seen first.items) kind.now) }
+    ensures { IfOk result (λ t. turn_of t (doing blocks.new (mode_of mode.new))
+        ≡ elsing (front_of blocks.old.front) (outers_of blocks.old.outer.items) (calls_seen blocks.old.here.items)
+        (test_of guard) (calls_seen first.items) kind.now) }
 {
     match kind {
-        TokenKind::Else => Ok(goes(blocks, Phase::Otherwise(guard, first))),
+        TokenKind::Else => {
+            *mode = Phase::Between(Pause::Otherwise(guard, first));
+            Ok(Turn::Goes)
+        }
         _ => {
-            let blocks = choose(alloc, blocks, guard, first)?;
-            begin(alloc, blocks, kind)
+            choose(alloc, blocks, guard, first)?;
+            begin(alloc, blocks, mode, kind)
         }
     }
 }
@@ -187,96 +186,182 @@ fn is_proc(name: &Name) -> bool
     name.bytes() == b"proc".as_slice()
 }
 
-// A procedure begins where its name stands behind the name `proc`, and no statement before.
-fn open(blocks: Blocks, is_proc: bool, name: Name) -> Turn
-    ensures { turn_of result ≡ opening (front_of blocks.front) (outers_of blocks.outer.items)
-        (calls_seen blocks.here.items) is_proc name }
+// What stands before a procedure that begins with its name behind `proc`, where no statement stands before it.
+fn open(alloc: Global, blocks: &mut Blocks, is_proc: bool, name: Name) -> Option<Head>
+    ensures { opened result ≡ opening (front_of blocks.old.front) (outers_of blocks.old.outer.items)
+        (calls_seen blocks.old.here.items) is_proc name }
 {
     if !is_proc {
-        return Turn::Wrong;
+        return None;
     }
-    let Blocks { front, outer, here } = blocks;
-    if !outer.is_empty() {
-        return Turn::Wrong;
+    if !blocks.outer.is_empty() {
+        return None;
     }
-    if !here.is_empty() {
-        return Turn::Wrong;
+    if !blocks.here.is_empty() {
+        return None;
     }
-    match front {
-        Front::Outside(decls, procs) => Turn::Goes(ParserState::Naming(
-            Head { decls, procs, name },
-            HeadPhase::Opening,
-        )),
-        Front::Within(_head, _params, _locals) => Turn::Wrong,
+    let front = Front::Outside(Vec::new(alloc), Vec::new(alloc));
+    match mem::replace(&mut blocks.front, front) {
+        Front::Outside(decls, procs) => Some(Head { decls, procs, name }),
+        Front::Within(_head, _params, _locals) => None,
+    }
+}
+
+// What a part has made.
+fn settle(blocks: &mut Blocks, mode: &mut Phase, made: Made) -> Result<Turn, Memory>
+    ensures { IfOk result (λ t. turn_of t (doing blocks.new (mode_of mode.new))
+        ≡ Goes (with_part (front_of blocks.old.front) (outers_of blocks.old.outer.items)
+        (calls_seen blocks.old.here.items) (Done (made_of made)))) }
+{
+    match made {
+        Made::Variable(name, value) => add(blocks, mode, PStmt::Set(name, value)),
+        Made::Element(name, index, value) => add(blocks, mode, PStmt::Put(name, index, value)),
+        Made::Guard(form, guard) => {
+            *mode = Phase::Between(Pause::Guarded(form, guard));
+            Ok(Turn::Goes)
+        }
+    }
+}
+
+// An assignment goes on behind its name.
+fn assign(
+    alloc: Global,
+    blocks: &mut Blocks,
+    mode: &mut Phase,
+    name: Name,
+    kind: &TokenKind,
+) -> Result<Turn, Memory>
+    ensures { IfOk result (λ t. turn_of t (doing blocks.new (mode_of mode.new))
+        ≡ mapped (with_part (front_of blocks.old.front) (outers_of blocks.old.outer.items)
+        (calls_seen blocks.old.here.items)) (targeting name kind.now)) }
+{
+    let mut part = Part::Before(Lead::Target(name));
+    match read_part(alloc, &mut part, kind)? {
+        PartTurn::Moves => {
+            *mode = Phase::InPart(part);
+            Ok(Turn::Goes)
+        }
+        PartTurn::Ends(made) => settle(blocks, mode, made),
+        PartTurn::Wrong => Ok(Turn::Wrong),
+        PartTurn::TooMuch => Ok(Turn::TooMuch),
     }
 }
 
 // A token behind a name.
-fn target(alloc: Global, blocks: Blocks, name: Name, kind: &TokenKind) -> Result<Turn, Memory>
-    ensures { IfOk result (λ t. turn_of t ≡ targeting (front_of blocks.front) (outers_of blocks.outer.items)
-        (calls_seen blocks.here.items) name kind.now) }
+fn named(
+    alloc: Global,
+    blocks: &mut Blocks,
+    mode: &mut Phase,
+    name: Name,
+    kind: &TokenKind,
+) -> Result<Turn, Memory>
+    ensures { IfOk result (λ t. turn_of t (doing blocks.new (mode_of mode.new))
+        ≡ behind_name (front_of blocks.old.front) (outers_of blocks.old.outer.items)
+        (calls_seen blocks.old.here.items) name kind.now) }
 {
     match kind {
-        TokenKind::Assign => Ok(goes(
-            blocks,
-            Phase::Inside(Asked::Value(name), fresh(alloc, 0, 0)),
-        )),
-        TokenKind::LBracket => Ok(goes(
-            blocks,
-            Phase::Inside(Asked::Place(name), fresh(alloc, 1, 0)),
-        )),
-        TokenKind::LParen => Ok(goes(blocks, Phase::Calling(name))),
+        TokenKind::LParen => {
+            *mode = Phase::Between(Pause::Calling(name));
+            Ok(Turn::Goes)
+        }
         TokenKind::Word(other) => {
             let is_proc = is_proc(&name);
-            Ok(open(blocks, is_proc, other.copy(alloc)?))
+            match open(alloc, blocks, is_proc, other.copy(alloc)?) {
+                Some(head) => Ok(Turn::Opens(head)),
+                None => Ok(Turn::Wrong),
+            }
+        }
+        _ => assign(alloc, blocks, mode, name, kind),
+    }
+}
+
+// A token behind an argument of a call.
+fn behind_argument(
+    alloc: Global,
+    blocks: &Blocks,
+    mode: &mut Phase,
+    name: Name,
+    mut arguments: Vec<Expr>,
+    tree: Expr,
+    used: u32,
+    kind: &TokenKind,
+) -> Result<Turn, Memory>
+    ensures { IfOk result (λ t. turn_of t (doing blocks.now (mode_of mode.new))
+        ≡ behind_argument (front_of blocks.now.front) (outers_of blocks.now.outer.items)
+        (calls_seen blocks.now.here.items) name (trees_of arguments.items) (expr_tree tree) used kind.now) }
+{
+    match kind {
+        TokenKind::Semi => {
+            arguments.push(tree)?;
+            *mode = Phase::Between(Pause::Argument(name, arguments, fresh(alloc, 0, used)));
+            Ok(Turn::Goes)
+        }
+        TokenKind::RParen => {
+            arguments.push(tree)?;
+            *mode = Phase::Between(Pause::Called(name, arguments));
+            Ok(Turn::Goes)
         }
         _ => Ok(Turn::Wrong),
     }
 }
 
-// A token behind the brackets of a call.
-fn called(
-    blocks: Blocks,
+// A token of an argument of a call, behind those before it.
+fn argue(
+    alloc: Global,
+    blocks: &Blocks,
+    mode: &mut Phase,
     name: Name,
-    arguments: Vec<Expr>,
+    before: Vec<Expr>,
+    mut reading: Reading,
     kind: &TokenKind,
 ) -> Result<Turn, Memory>
-    ensures { IfOk result (λ t. turn_of t ≡ calling_ends (front_of blocks.front) (outers_of blocks.outer.items)
-        (calls_seen blocks.here.items) name (trees_of arguments.items) kind.now) }
+    ensures { IfOk result (λ t. turn_of t (doing blocks.now (mode_of mode.new))
+        ≡ in_argument (front_of blocks.now.front) (outers_of blocks.now.outer.items)
+        (calls_seen blocks.now.here.items) name (trees_of before.items) kind.now
+        (reads limits (reading_of reading) kind.now)) }
 {
-    match kind {
-        TokenKind::Semi => Ok(goes(add(blocks, PStmt::Call(name, arguments))?, Phase::Ready)),
-        _ => Ok(Turn::Wrong),
+    match read(alloc, &mut reading, kind)? {
+        TokenStep::Moves => {
+            *mode = Phase::Between(Pause::Argument(name, before, reading));
+            Ok(Turn::Goes)
+        }
+        TokenStep::Stops => {
+            let used = reading.used;
+            match finish(&mut reading) {
+                None => Ok(Turn::Wrong),
+                Some(tree) => behind_argument(alloc, blocks, mode, name, before, tree, used, kind),
+            }
+        }
+        TokenStep::Deep => Ok(Turn::TooMuch),
     }
 }
 
-fn place(
+// The first token of a call's arguments.
+fn call(
     alloc: Global,
-    blocks: Blocks,
+    blocks: &Blocks,
+    mode: &mut Phase,
     name: Name,
-    index: Expr,
-    used: u32,
     kind: &TokenKind,
-) -> Turn
-    ensures { turn_of result ≡ placing (front_of blocks.front) (outers_of blocks.outer.items)
-        (calls_seen blocks.here.items) name (expr_tree index) used kind.now }
+) -> Result<Turn, Memory>
+    ensures { IfOk result (λ t. turn_of t (doing blocks.now (mode_of mode.new))
+        ≡ calling limits (front_of blocks.now.front) (outers_of blocks.now.outer.items)
+        (calls_seen blocks.now.here.items) name kind.now) }
 {
     match kind {
-        TokenKind::Assign => goes(
+        TokenKind::RParen => {
+            *mode = Phase::Between(Pause::Called(name, Vec::new(alloc)));
+            Ok(Turn::Goes)
+        }
+        _ => argue(
+            alloc,
             blocks,
-            Phase::Inside(Asked::Stored(name, index), fresh(alloc, 0, used)),
+            mode,
+            name,
+            Vec::new(alloc),
+            fresh(alloc, 0, 0),
+            kind,
         ),
-        _ => Turn::Wrong,
-    }
-}
-
-fn guard(alloc: Global, blocks: Blocks, form: Form, kind: &TokenKind) -> Turn
-    ensures { turn_of result ≡ guarding (front_of blocks.front) (outers_of blocks.outer.items)
-        (calls_seen blocks.here.items) (form_of form) kind.now }
-{
-    match kind {
-        TokenKind::LParen => goes(blocks, Phase::Inside(Asked::Left(form), fresh(alloc, 0, 0))),
-        _ => Turn::Wrong,
     }
 }
 
@@ -299,44 +384,41 @@ fn has_room(front: &Front, outer: &[Outer]) -> bool
 }
 
 // Opens a block, where one more may be open. The statements before it are in `next`.
-fn nest(alloc: Global, front: Front, mut outer: Vec<Outer>, next: Outer) -> Result<Turn, Memory>
-    ensures { IfOk result (λ t. turn_of t ≡ with_braces (nat_lt (depth_of (front_of front) (outers_of outer.items)) 32)
-        (Doing (front_of front) (outer_of next ∷ outers_of outer.items) [] Ready)) }
+fn nest(alloc: Global, blocks: &mut Blocks, mode: &mut Phase, next: Outer) -> Result<Turn, Memory>
+    ensures { IfOk result (λ t. turn_of t (doing blocks.new (mode_of mode.new))
+        ≡ with_braces (nat_lt (depth_of (front_of blocks.old.front) (outers_of blocks.old.outer.items)) 32)
+        (Doing (front_of blocks.old.front) (outer_of next ∷ outers_of blocks.old.outer.items) [] Ready)) }
 {
-    if !has_room(&front, outer.as_slice()) {
+    if !has_room(&blocks.front, blocks.outer.as_slice()) {
         return Ok(Turn::TooMuch);
     }
-    outer.push(next)?;
-    let here = Vec::new(alloc);
-    Ok(goes(Blocks { front, outer, here }, Phase::Ready))
+    blocks.outer.push(next)?;
+    blocks.here = Vec::new(alloc);
+    *mode = Phase::Between(Pause::Ready);
+    Ok(Turn::Goes)
 }
 
 // The block behind a guard.
 fn enter(
     alloc: Global,
-    blocks: Blocks,
+    blocks: &mut Blocks,
+    mode: &mut Phase,
     form: Form,
     guard: Guard,
     kind: &TokenKind,
 ) -> Result<Turn, Memory>
-    ensures { IfOk result (λ t. turn_of t ≡ entering limits (front_of blocks.front) (outers_of blocks.outer.items)
-        (calls_seen blocks.here.items) (form_of form) (test_of guard) kind.now) }
+    ensures { IfOk result (λ t. turn_of t (doing blocks.new (mode_of mode.new))
+        ≡ entering limits (front_of blocks.old.front) (outers_of blocks.old.outer.items)
+        (calls_seen blocks.old.here.items) (form_of form) (test_of guard) kind.now) }
 {
     match kind {
-        TokenKind::LBrace => match form {
-            Form::Choice => nest(
-                alloc,
-                blocks.front,
-                blocks.outer,
-                Outer::InFirst(guard, blocks.here),
-            ),
-            Form::Loop => nest(
-                alloc,
-                blocks.front,
-                blocks.outer,
-                Outer::InLoop(guard, blocks.here),
-            ),
-        },
+        TokenKind::LBrace => {
+            let before = mem::replace(&mut blocks.here, Vec::new(alloc));
+            match form {
+                Form::Choice => nest(alloc, blocks, mode, Outer::InFirst(guard, before)),
+                Form::Loop => nest(alloc, blocks, mode, Outer::InLoop(guard, before)),
+            }
+        }
         _ => Ok(Turn::Wrong),
     }
 }
@@ -344,197 +426,75 @@ fn enter(
 // The block behind `else`.
 fn other(
     alloc: Global,
-    blocks: Blocks,
+    blocks: &mut Blocks,
+    mode: &mut Phase,
     guard: Guard,
     first: Vec<PStmt>,
     kind: &TokenKind,
 ) -> Result<Turn, Memory>
-    ensures { IfOk result (λ t. turn_of t ≡ otherwise limits (front_of blocks.front) (outers_of blocks.outer.items)
-        (calls_seen blocks.here.items) (test_of guard) (calls_seen first.items) kind.now) }
+    ensures { IfOk result (λ t. turn_of t (doing blocks.new (mode_of mode.new))
+        ≡ otherwise limits (front_of blocks.old.front) (outers_of blocks.old.outer.items)
+        (calls_seen blocks.old.here.items) (test_of guard) (calls_seen first.items) kind.now) }
 {
     match kind {
-        TokenKind::LBrace => nest(
-            alloc,
-            blocks.front,
-            blocks.outer,
-            Outer::InSecond(guard, first, blocks.here),
-        ),
-        _ => Ok(Turn::Wrong),
-    }
-}
-
-// A token behind the left side of a guard.
-fn compare(
-    alloc: Global,
-    blocks: Blocks,
-    form: Form,
-    left: Expr,
-    used: u32,
-    kind: &TokenKind,
-) -> Turn
-    ensures { turn_of result ≡ comparing (front_of blocks.front) (outers_of blocks.outer.items)
-        (calls_seen blocks.here.items) (form_of form) (expr_tree left) used (comparison_of kind.now) }
-{
-    match comparison(kind) {
-        Some(cmp) => goes(
-            blocks,
-            Phase::Inside(Asked::Right(form, cmp, left), fresh(alloc, 0, used)),
-        ),
-        None => Turn::Wrong,
-    }
-}
-
-// A token behind an argument of a call.
-fn behind_argument(
-    alloc: Global,
-    blocks: Blocks,
-    name: Name,
-    mut arguments: Vec<Expr>,
-    tree: Expr,
-    used: u32,
-    kind: &TokenKind,
-) -> Result<Turn, Memory>
-    ensures { IfOk result (λ t. turn_of t ≡ behind_expression (front_of blocks.front) (outers_of blocks.outer.items)
-        (calls_seen blocks.here.items) (Argument name (trees_of arguments.items)) (expr_tree tree) used kind.now) }
-{
-    match kind {
-        TokenKind::Semi => {
-            arguments.push(tree)?;
-            let asked = Asked::Argument(name, arguments);
-            Ok(goes(blocks, Phase::Inside(asked, fresh(alloc, 0, used))))
-        }
-        TokenKind::RParen => {
-            arguments.push(tree)?;
-            Ok(goes(blocks, Phase::Called(name, arguments)))
+        TokenKind::LBrace => {
+            let before = mem::replace(&mut blocks.here, Vec::new(alloc));
+            nest(alloc, blocks, mode, Outer::InSecond(guard, first, before))
         }
         _ => Ok(Turn::Wrong),
     }
 }
 
-// A token behind the whole expression that was asked for.
-fn end(
+// A token between two parts.
+fn go_on(
     alloc: Global,
-    blocks: Blocks,
-    asked: Asked,
-    tree: Expr,
-    used: u32,
+    blocks: &mut Blocks,
+    mode: &mut Phase,
+    pause: Pause,
     kind: &TokenKind,
 ) -> Result<Turn, Memory>
-    ensures { IfOk result (λ t. turn_of t ≡ behind_expression (front_of blocks.front) (outers_of blocks.outer.items)
-        (calls_seen blocks.here.items) (asked_seen asked) (expr_tree tree) used kind.now) }
+    ensures { IfOk result (λ t. turn_of t (doing blocks.new (mode_of mode.new))
+        ≡ does limits (front_of blocks.old.front) (outers_of blocks.old.outer.items) (calls_seen blocks.old.here.items)
+        (pause_of pause) kind.now) }
 {
-    match asked {
-        Asked::Value(name) => match kind {
-            TokenKind::Semi => Ok(goes(add(blocks, PStmt::Set(name, tree))?, Phase::Ready)),
+    match pause {
+        Pause::Ready => begin(alloc, blocks, mode, kind),
+        Pause::MayElse(guard, first) => may_else(alloc, blocks, mode, guard, first, kind),
+        Pause::Named(name) => named(alloc, blocks, mode, name, kind),
+        Pause::Calling(name) => call(alloc, blocks, mode, name, kind),
+        Pause::Argument(name, before, reading) => argue(
+            alloc, blocks, mode, name, before, reading, kind,
+        ),
+        Pause::Called(name, arguments) => match kind {
+            TokenKind::Semi => add(blocks, mode, PStmt::Call(name, arguments)),
             _ => Ok(Turn::Wrong),
         },
-        Asked::Argument(name, arguments) => {
-            behind_argument(alloc, blocks, name, arguments, tree, used, kind)
-        }
-        Asked::Place(name) => match kind {
-            TokenKind::RBracket => Ok(goes(blocks, Phase::Placed(name, tree, used))),
-            _ => Ok(Turn::Wrong),
-        },
-        Asked::Stored(name, index) => match kind {
-            TokenKind::Semi => Ok(goes(add(blocks, PStmt::Put(name, index, tree))?, Phase::Ready)),
-            _ => Ok(Turn::Wrong),
-        },
-        Asked::Left(form) => Ok(compare(alloc, blocks, form, tree, used, kind)),
-        Asked::Right(form, cmp, left) => match kind {
-            TokenKind::RParen => {
-                let guard = Guard {
-                    cmp,
-                    left,
-                    right: tree,
-                };
-                Ok(goes(blocks, Phase::Guarded(form, guard)))
-            }
-            _ => Ok(Turn::Wrong),
-        },
-    }
-}
-
-// A token behind what is no longer the expression.
-fn end_where(
-    alloc: Global,
-    blocks: Blocks,
-    asked: Asked,
-    reading: Reading,
-    kind: &TokenKind,
-) -> Result<Turn, Memory>
-    ensures { IfOk result (λ t. turn_of t ≡ ending_where (front_of blocks.front) (outers_of blocks.outer.items)
-        (calls_seen blocks.here.items) (asked_seen asked) (whole (reading_of reading)) reading.used kind.now) }
-{
-    let used = reading.used;
-    match finish(reading) {
-        None => Ok(Turn::Wrong),
-        Some(tree) => end(alloc, blocks, asked, tree, used, kind),
-    }
-}
-
-// A token where an expression is read.
-fn within(
-    alloc: Global,
-    blocks: Blocks,
-    asked: Asked,
-    reading: Reading,
-    kind: &TokenKind,
-) -> Result<Turn, Memory>
-    ensures { IfOk result (λ t. turn_of t ≡ in_expression (front_of blocks.front) (outers_of blocks.outer.items)
-        (calls_seen blocks.here.items) (asked_seen asked) kind.now (reads limits (reading_of reading) kind.now)) }
-{
-    match read(alloc, reading, kind)? {
-        TokenStep::Moves(next) => Ok(goes(blocks, Phase::Inside(asked, next))),
-        TokenStep::Stops(last) => end_where(alloc, blocks, asked, last, kind),
-        TokenStep::Deep => Ok(Turn::TooMuch),
-    }
-}
-
-// The first token of an argument.
-fn first_argument(
-    alloc: Global,
-    blocks: Blocks,
-    name: Name,
-    kind: &TokenKind,
-) -> Result<Turn, Memory>
-    ensures { IfOk result (λ t. turn_of t ≡ in_expression (front_of blocks.front) (outers_of blocks.outer.items)
-        (calls_seen blocks.here.items) (Argument name []) kind.now (reads limits (At [] 0 0 Wanted) kind.now)) }
-{
-    let asked = Asked::Argument(name, Vec::new(alloc));
-    within(alloc, blocks, asked, fresh(alloc, 0, 0), kind)
-}
-
-// The first token of a call's arguments.
-fn call(alloc: Global, blocks: Blocks, name: Name, kind: &TokenKind) -> Result<Turn, Memory>
-    ensures { IfOk result (λ t. turn_of t ≡ calling limits (front_of blocks.front) (outers_of blocks.outer.items)
-        (calls_seen blocks.here.items) name kind.now) }
-{
-    match kind {
-        TokenKind::RParen => Ok(goes(blocks, Phase::Called(name, Vec::new(alloc)))),
-        _ => first_argument(alloc, blocks, name, kind),
+        Pause::Guarded(form, guard) => enter(alloc, blocks, mode, form, guard, kind),
+        Pause::Otherwise(guard, first) => other(alloc, blocks, mode, guard, first, kind),
     }
 }
 
 // The next token of a statement.
 pub(crate) fn perform(
     alloc: Global,
-    blocks: Blocks,
-    mode: Phase,
+    blocks: &mut Blocks,
+    mode: &mut Phase,
     kind: &TokenKind,
 ) -> Result<Turn, Memory>
-    ensures { IfOk result (λ t. turn_of t ≡ does limits (front_of blocks.front) (outers_of blocks.outer.items)
-        (calls_seen blocks.here.items) (mode_of mode) kind.now) }
+    ensures { IfOk result (λ t. turn_of t (doing blocks.new (mode_of mode.new))
+        ≡ does limits (front_of blocks.old.front) (outers_of blocks.old.outer.items) (calls_seen blocks.old.here.items)
+        (mode_of mode.old) kind.now) }
 {
     match mode {
-        Phase::Ready => begin(alloc, blocks, kind),
-        Phase::MayElse(guard, first) => may_else(alloc, blocks, guard, first, kind),
-        Phase::Target(name) => target(alloc, blocks, name, kind),
-        Phase::Calling(name) => call(alloc, blocks, name, kind),
-        Phase::Called(name, arguments) => called(blocks, name, arguments, kind),
-        Phase::Placed(name, index, used) => Ok(place(alloc, blocks, name, index, used, kind)),
-        Phase::Guarding(form) => Ok(guard(alloc, blocks, form, kind)),
-        Phase::Guarded(form, guard) => enter(alloc, blocks, form, guard, kind),
-        Phase::Otherwise(guard, first) => other(alloc, blocks, guard, first, kind),
-        Phase::Inside(asked, reading) => within(alloc, blocks, asked, reading, kind),
+        Phase::InPart(part) => match read_part(alloc, part, kind)? {
+            PartTurn::Moves => Ok(Turn::Goes),
+            PartTurn::Ends(made) => settle(blocks, mode, made),
+            PartTurn::Wrong => Ok(Turn::Wrong),
+            PartTurn::TooMuch => Ok(Turn::TooMuch),
+        },
+        Phase::Between(pause) => {
+            let pause = mem::replace(pause, Pause::Ready);
+            go_on(alloc, blocks, mode, pause, kind)
+        }
     }
 }

@@ -1,28 +1,12 @@
-use gr_word::{Cmp, Label, Name};
+use gr_word::{Label, Name};
+use src_parser::headings::Heading;
+use src_parser::parts::{Form, Part};
 use src_parser::readings::Reading;
 use src_procs::{PStmt, Param, Proc};
 use src_tree::{Decl, Expr, Guard};
 
 // The most braces that are open.
 pub(crate) const MAX_BRACES: usize = 32;
-
-// Whether a guard is that of a choice or of a loop.
-#[derive(Clone, Copy)]
-pub(crate) enum Form {
-    Choice,
-    Loop,
-}
-
-// What an expression is read for: a variable's value; an argument of a call, with those before it; an element's index, then its value; the sides of a guard.
-#[derive(Drop)]
-pub(crate) enum Asked {
-    Value(Name),
-    Argument(Name, Vec<Expr>),
-    Place(Name),
-    Stored(Name, Expr),
-    Left(Form),
-    Right(Form, Cmp, Expr),
-}
 
 // A block that is open, with its guard, the first block of its choice, and the statements before its statement.
 #[derive(Drop)]
@@ -32,31 +16,35 @@ pub(crate) enum Outer {
     InLoop(Guard, Vec<PStmt>),
 }
 
+// What stands between two parts of statements: nothing; the first block of a choice; a name, of an assignment, of a
+// call or `proc`; a call up to its arguments, in one with those before it, and behind them; the guard of a block; an
+// `else`.
+#[derive(Drop)]
+pub(crate) enum Pause {
+    Ready,
+    MayElse(Guard, Vec<PStmt>),
+    Named(Name),
+    Calling(Name),
+    Argument(Name, Vec<Expr>, Reading),
+    Called(Name, Vec<Expr>),
+    Guarded(Form, Guard),
+    Otherwise(Guard, Vec<PStmt>),
+}
+
 // Where the reading of statements stands.
 #[derive(Drop)]
 pub(crate) enum Phase {
-    Ready,
-    MayElse(Guard, Vec<PStmt>),
-    Target(Name),
-    Calling(Name),
-    Called(Name, Vec<Expr>),
-    Placed(Name, Expr, u32),
-    Guarding(Form),
-    Guarded(Form, Guard),
-    Otherwise(Guard, Vec<PStmt>),
-    Inside(Asked, Reading),
+    Between(Pause),
+    InPart(Part),
 }
 
-// Where the reading of declarations stands.
+// What a token begins, or ends, between statements.
 #[derive(Drop)]
-pub(crate) enum Heading {
-    Fresh,
-    Labelled(Label),
-    Typed(Label),
-    Titled(Label, Name),
-    Sizing(Label, Name),
-    Sized(Label, Name, u64),
-    Closing(Label, Name, u64),
+pub(crate) enum Beginning {
+    Name(Name),
+    Guard(Form),
+    Closing,
+    Nothing,
 }
 
 // Where the reading of a procedure's head and of its locals stands, by the parameters, and the locals, read so far.
@@ -103,18 +91,27 @@ pub(crate) struct Blocks {
     pub here: Vec<PStmt>,
 }
 
+// Where the reading stands before statements: between declarations, in one, or in a procedure's head or locals.
+#[derive(Drop)]
+pub(crate) enum Start {
+    Between(Vec<Decl>),
+    Declaring(Vec<Decl>, Heading),
+    Naming(Head, HeadPhase),
+}
+
 // What was read of a file, and where the reading stands.
 #[derive(Drop)]
 pub(crate) enum ParserState {
-    Declaring(Vec<Decl>, Heading),
-    Naming(Head, HeadPhase),
+    Before(Start),
     Doing(Blocks, Phase),
 }
 
-// What a token does to a file: it is read; none goes on with it; it passes a limit.
+// What a token does to a file: it is read; it is the name of a procedure that begins; none goes on with it; it passes a
+// limit.
 #[derive(Drop)]
 pub(crate) enum Turn {
-    Goes(ParserState),
+    Goes,
+    Opens(Head),
     Wrong,
     TooMuch,
 }
