@@ -100,3 +100,11 @@ module _ (all : ℕ) (bytes : List ℕ) where
       (subst₂ (λ x (l : Limits). x ≤ l.a) ea m la) (subst₂ (λ x (l : Limits). x ≤ l.b) eb m lb)
       (subst₂ (λ x (l : Limits). x ≤ l.c) ec m lc)
       (subst₂ (λ x (l : Limits). x ≤ l.offset) o m lo) (subst₂ (λ x (l : Limits). x ≤ l.constant) k m lk))
+
+-- the bytes behind an instruction, as a slice to their end
+pub behind_whole : (all banks : ℕ) (bytes : List ℕ) (instr : Instr)
+    → instruction_at banks all bytes ≡ Ok (instr, drop 16 bytes)
+    → instruction_at banks all bytes ≡ Ok (instr, take (length bytes - 16) (drop 16 bytes))
+behind_whole all banks bytes instr read =
+    let same = take_all (length bytes - 16) (drop 16 bytes) (omega (arith, length-drop 16 bytes)) in
+    rw same read

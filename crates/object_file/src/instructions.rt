@@ -108,15 +108,6 @@ fn instruction_by_fields(all: u32, banks: u8, bytes: &[u8]) -> Result<(Instr, &[
     Ok((instruction_of(kind, operands), rest))
 }
 
-fn instruction(all: u32, banks: u8, bytes: &[u8]) -> Result<(Instr, &[u8]), DecodeError>
-    ensures { Decodes (λ x. (x.0, x.1.now)) result (instruction_at banks all bytes.now) }
-{
-    match whole_instruction(banks, bytes) {
-        Some(instr) => Ok((instr, &bytes[INSTRUCTION_BYTES..])),
-        None => instruction_by_fields(all, banks, bytes),
-    }
-}
-
 /// So many instructions. Room is made once, for no more than the bytes can spell.
 fn instruction_list(
     alloc: Global,
@@ -132,9 +123,17 @@ fn instruction_list(
     let mut code = Vec::with_capacity(alloc, room)?;
     let mut rest = bytes;
     for _ in 0..count {
-        let (instr, after) = instruction(all, banks, rest)?;
-        code.push(instr)?;
-        rest = after;
+        match whole_instruction(banks, rest) {
+            Some(instr) => {
+                code.push(instr)?;
+                rest = &rest[INSTRUCTION_BYTES..];
+            }
+            None => {
+                let (instr, after) = instruction_by_fields(all, banks, rest)?;
+                code.push(instr)?;
+                rest = after;
+            }
+        }
     }
     Ok((code, rest))
 }

@@ -3,7 +3,7 @@ ghost use Rattle.std.specs.Hash as fed;
 ghost use Rattle.std.specs.Hash.FoldHasher as folding;
 
 use lt_isa::Instr;
-use lt_isa::instruction_table::{kind_of, opcode_of, operands_of};
+use lt_isa::instruction_table::{Kind, opcode_of};
 use std::hash::{BuildHasher, FoldHasher, Hasher};
 
 // How the nodes of an object's values are hashed: between two keys that the object's whole code gives. So nobody can
@@ -26,11 +26,7 @@ impl CodeHash {
     pub(crate) fn of(code: &[Instr]) -> CodeHash {
         let mut digest = Digest::new();
         for instruction in code {
-            let operands = operands_of(*instruction);
-            let opcode = opcode_of(kind_of(*instruction));
-            let small = u32::from_le_bytes([opcode, operands.a, operands.b, operands.c]);
-            let offset = operands.offset.cast_unsigned();
-            digest.read(u64::from(small) | u64::from(offset) << 32);
+            digest.read(word_of(*instruction));
             if let Instr::Li { value, .. } = *instruction {
                 digest.read(value.cast_unsigned());
             }
@@ -45,6 +41,38 @@ impl CodeHash {
             },
         }
     }
+}
+
+// The opcode and the operands of an instruction in one word, where a constant has no room.
+fn word_of(instruction: Instr) -> u64 {
+    match instruction {
+        Instr::Nop => packed(Kind::Nop, 0, 0, 0),
+        Instr::Halt => packed(Kind::Halt, 0, 0, 0),
+        Instr::Li { rd, .. } => packed(Kind::Li, rd, 0, 0),
+        Instr::Alu { op, rd, ra, rb } => packed(Kind::Alu(op), rd, ra, rb),
+        Instr::Ldb { slot, bank, reg } => packed(Kind::Ldb, slot, bank, reg),
+        Instr::Stb { slot } => packed(Kind::Stb, slot, 0, 0),
+        Instr::Idb { rd, slot } => packed(Kind::Idb, rd, slot, 0),
+        Instr::Ldw { rd, slot, off } => packed(Kind::Ldw, rd, slot, off),
+        Instr::Stw { rs, slot, off } => packed(Kind::Stw, rs, slot, off),
+        Instr::Jmp { offset } => packed(Kind::Jmp, 0, 0, 0) | shifted(offset),
+        Instr::Br {
+            cmp,
+            ra,
+            rb,
+            offset,
+        } => packed(Kind::Br(cmp), ra, rb, 0) | shifted(offset),
+    }
+}
+
+#[inline(always)]
+fn packed(kind: Kind, a: u8, b: u8, c: u8) -> u64 {
+    u64::from(opcode_of(kind)) | u64::from(a) << 8 | u64::from(b) << 16 | u64::from(c) << 24
+}
+
+#[inline(always)]
+fn shifted(offset: i32) -> u64 {
+    u64::from(offset.cast_unsigned()) << 32
 }
 
 // SipHash-1-3 of words, with an answer of 128 bits and both keys 0. It reads a word in a third of the steps of the
