@@ -1,22 +1,18 @@
 -- Windows of one plan: in no cycle are two of them open, nor two transfers on the bus.
-use Rattle.std.proofs.Common.{◌≡◌, ◌≢◌, ℕ, suc, ◌+◌, ◌-◌, ◌*◌, ◌/◌, ◌%◌, ◌<◌, ◌≤◌, List, length, sym, ap, ◌∙◌, subst, ⊎_elim, arith}
+use Rattle.std.proofs.Common.{◌≡◌, ◌≢◌, ℕ, ◌+◌, ◌-◌, ◌*◌, ◌/◌, ◌%◌, ◌<◌, ◌≤◌, List, length, sym, ap, ◌∙◌, subst, ⊎_elim, arith}
 use Rattle.std.proofs.lemmas.Bool.{cases_lt, cases_eq}
 use Rattle.std.proofs.lemmas.Option.{slice_get_within}
 use Rattle.std.proofs.lemmas.Nat.{mod-mul-add, mod_below, div-add-mod'}
-use Rattle.std.proofs.Math.Nat.{mul-le-mul_right, suc-mul}
 use Rattle.lt_isa.specs.Object.{Parts, latency_of}
 use Rattle.lt_isa.specs.Windows.{IsOpen}
 use Rattle.lt_isa.proofs.Cycles.{latency-greatest}
+use Rattle.lt_isa.proofs.Windows.{periods}
 use Rattle.bus_arbiter.specs.declared.shares.Share.{Share}
 use Rattle.bus_arbiter.specs.Cores.{Core}
 use Rattle.bus_arbiter.specs.Shares.{InReach, IsPlan, share_at, share_of}
 use Rattle.bus_arbiter.specs.Rounds.{Between, IsLive, IsNext}
 use Rattle.bus_arbiter.specs.Transfers.{IsDuring, Transfer, bank_used}
 use Rattle.bus_arbiter.proofs.CoreTransfers.{Moves}
-
--- the whole periods before a later one end where that one begins, or before
-pub periods : (width q r : ℕ) → q < r → q * width + width ≤ r * width
-periods width q r less = omega (arith, mul-le-mul_right {m = suc q} {n = r} width less, suc-mul q width)
 
 -- where a cycle is in the period that it is of
 pub part-of : (width q into : ℕ) → into < width → (q * width + into) % width ≡ into
