@@ -185,7 +185,8 @@ cut (b ∷ t) ascii = on_test (is_part b)
     ap (slice_split is_blank) (code_more b t line no_comment) ∙ rw blank refl in
     record { behind = slice_split is_blank (code t); split = rw none more; same = rw none (rw more refl) })
     (λ (no_blank : is_blank b ≡ false).
-    absurd (let bad : true ≡ false = sym ascii ∙ ascii_not b t line (foreign b other no_blank no_comment line) in cc)))))
+    let not_ascii = ascii_not b t line (foreign b other no_blank no_comment line) in
+    absurd (let bad : true ≡ false = sym ascii ∙ not_ascii in cc)))))
 
 -- the first word of a line, and the words behind it
 pub first_word : (b : ℕ) (t : List ℕ) → is_part b ≡ true → is_ascii_line (first_line (b ∷ t)) ≡ true
@@ -254,7 +255,8 @@ ends (b ∷ t) = on_test (is_comment b)
     (ends_in_line (b ∷ t) t (drop (prefix_len is_comment t) t)
     (in_line_more b t t h.0 h.1 (record { ascii = refl; behind = refl })) (ends t)))
     (λ (other : is_comment b ≡ false). rw other (on_test (eqb b 10)
-    (λ (feed : eqb b 10 ≡ true). of_true _ _ (eqb b 10) feed (ap is_ascii_line (first_none b t feed), behind_feed b t feed))
+    (λ (feed : eqb b 10 ≡ true).
+    of_true _ _ (eqb b 10) feed (ap is_ascii_line (first_none b t feed), behind_feed b t feed))
     (λ (line : eqb b 10 ≡ false).
     of_false _ _ (eqb b 10) line (ascii_not b t line (comment_last (eqb b 10) (is_ascii b) other line)))))
 

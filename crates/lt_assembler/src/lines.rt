@@ -97,7 +97,8 @@ pub fn split_line<'a>(
 ) -> Option<(usize, &'a [u8])>
     ensures split { MatchOption result
         (is_ascii_line (first_line text.now) ≡ true → 10 < length (line_words text.now))
-        (λ x. (is_ascii_line (first_line text.now) ≡ true) × (map (λ w. w.now) (take x.0 list.new) ≡ line_words text.now)) }
+        (λ x. (is_ascii_line (first_line text.now) ≡ true)
+        × (map (λ w. w.now) (take x.0 list.new) ≡ line_words text.now)) }
     ensures few { IfSome result (λ x. x.0 ≤ 10) }
     ensures behind { IfSome result (λ x. x.1.now ≡ behind_line text.now) }
 {

@@ -70,7 +70,8 @@ pub fn read_line<'a>(
     list: &mut [&'a [u8]; MOST_WORDS],
 ) -> Result<&'a [u8], Fault>
     ensures read { Becomes result (draft_of draft.new)
-        (line_read number (instruction_follows (lines (behind_line text.now))) (first_line text.now) (draft_of draft.old)) }
+        (line_read number (instruction_follows (lines (behind_line text.now))) (first_line text.now)
+        (draft_of draft.old)) }
     ensures behind { IfOk result (λ x. x.now ≡ behind_line text.now) }
 {
     match split_line(text, list) {

@@ -31,7 +31,8 @@ loop-list-preserved c =
     let bytes = ap length is in
     record {
       read = ap (λ ls. read_lines (c.loop-list.number + 1) ls (draft_of c.read_line.new.draft)) lines_is
-          ∙ sym (read_one c.loop-list.number (first_line c.loop-list.rest.now) (lines (behind_line c.loop-list.rest.now))
+          ∙ sym (read_one c.loop-list.number (first_line c.loop-list.rest.now)
+          (lines (behind_line c.loop-list.rest.now))
           (draft_of c.loop-list.draft) (draft_of c.read_line.new.draft) c.in-Ok.ensures.read)
           ∙ ap (λ ls. read_lines c.loop-list.number ls (draft_of c.loop-list.draft)) (sym front)
           ∙ c.loop-list.invariant.read;
