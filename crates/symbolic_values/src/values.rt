@@ -72,6 +72,7 @@ impl Values {
 
     /// The number of the tree that a node makes of those that it names: the one that it has already, or else that of a
     /// new node. Earlier numbers keep their trees. Want of memory leaves the table as it was.
+    #[inline(always)]
     pub fn add(&mut self, node: Node) -> Result<u32, Memory>
         requires names { NamesBelow (length self.old) node }
         requires room { length self.old < 2 ^ 32 - 1 }
@@ -95,6 +96,7 @@ impl Values {
 
 // The place of a node among others, where it goes last if it isn't there. The place `next` is tried first, and becomes
 // the one behind.
+#[inline(always)]
 fn put(nodes: &mut IndexSet<Node, CodeHash>, next: &mut u32, node: Node) -> Result<u32, Memory>
     requires { length nodes.old.keys < 2 ^ 32 - 1 }
     ensures place { IfOk result (λ i. PlacedAt nodes.old.keys node i nodes.new.keys) }
@@ -115,6 +117,7 @@ fn put(nodes: &mut IndexSet<Node, CodeHash>, next: &mut u32, node: Node) -> Resu
 }
 
 // Whether a node stands at a place.
+#[inline(always)]
 fn stands_at(nodes: &[Node], place: u32, node: Node) -> bool
     ensures { result ≡ true → slice_get nodes.now place ≡ Some node }
 {
