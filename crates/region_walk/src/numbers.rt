@@ -7,6 +7,7 @@ use gr_base::Memory;
 use symbolic_values::{Node, Values};
 
 /// The number of the tree that a node makes of those that it names. At most one value is new.
+#[inline(always)]
 pub fn number_for(values: &mut Values, node: Node) -> Result<u32, Memory>
     requires table { IsTable values.old }
     requires room { length values.old + 1 < 2 ^ 32 }

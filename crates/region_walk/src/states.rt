@@ -86,16 +86,20 @@ impl RegionState {
             self.registers[register] = self.registers[register].common(other.registers[register]);
         }
         for slot in 0..8usize {
-            self.slots[slot] = common_slot(self.slots[slot], other.slots[slot]);
+            keep_common_slot(&mut self.slots[slot], other.slots[slot]);
         }
     }
 }
 
-// What two states have in common of a slot.
-fn common_slot(ours: Slot, theirs: Slot) -> Slot
-    ensures { IsCommonOf Slot.Any ours theirs result }
+// Keeps what is known of a slot, where the same is known of it in another state. A slot that is kept isn't written.
+#[inline(always)]
+fn keep_common_slot(ours: &mut Slot, theirs: Slot)
+    ensures { IsCommonOf Slot.Any ours.old theirs ours.new }
 {
-    if ours == theirs { ours } else { Slot::Any }
+    if *ours == theirs {
+        return;
+    }
+    *ours = Slot::Any;
 }
 
 impl RegionState {

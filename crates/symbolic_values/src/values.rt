@@ -1,4 +1,4 @@
-ghost use Rattle.std.specs.Prelude.{◌≡◌, ◌<◌, ◌-◌, ◌^◌, [], Some, length, take, slice_get, IfOk, OnOk, OnErr};
+ghost use Rattle.std.specs.Prelude.{◌≡◌, ◌<◌, ◌-◌, ◌^◌, [], Some, true, length, take, slice_get, IfOk, OnOk, OnErr};
 ghost use Rattle.symbolic_values.specs.Trees.{NamesBelow, built, trees_of};
 ghost use Rattle.symbolic_values.specs.Tables.{IsTable, IsNumber, KeepsTrees, PlacedAt};
 
@@ -14,6 +14,9 @@ use std::marker::Model;
 #[derive(Drop)]
 pub struct Values {
     nodes: IndexSet<Node, CodeHash>,
+    // The number behind that which was found last. Arms that do the same look for the same nodes in the same order, so
+    // it is tried before the node is hashed.
+    next: u32,
 }
 
 impl Model for Values {
@@ -45,6 +48,7 @@ impl Values {
     {
         Values {
             nodes: IndexSet::with_hasher(alloc, CodeHash::of(code)),
+            next: 0,
         }
     }
 
@@ -68,6 +72,7 @@ impl Values {
 
     /// The number of the tree that a node makes of those that it names: the one that it has already, or else that of a
     /// new node. Earlier numbers keep their trees. Want of memory leaves the table as it was.
+    #[inline(always)]
     pub fn add(&mut self, node: Node) -> Result<u32, Memory>
         requires names { NamesBelow (length self.old) node }
         requires room { length self.old < 2 ^ 32 - 1 }
@@ -77,7 +82,7 @@ impl Values {
         ensures table { IsTable self.new }
         ensures unchanged { OnErr result (self.new ≡ self.old) }
     {
-        put(&mut self.nodes, node)
+        put(&mut self.nodes, &mut self.next, node)
     }
 
     /// Keeps so many nodes, the first ones, and the room that the others took.
@@ -89,8 +94,43 @@ impl Values {
     }
 }
 
-// The place of a node among others, where it goes last if it isn't there.
-fn put(nodes: &mut IndexSet<Node, CodeHash>, node: Node) -> Result<u32, Memory>
+// The place of a node among others, where it goes last if it isn't there. The place `next` is tried first, and becomes
+// the one behind.
+#[inline(always)]
+fn put(nodes: &mut IndexSet<Node, CodeHash>, next: &mut u32, node: Node) -> Result<u32, Memory>
+    requires { length nodes.old.keys < 2 ^ 32 - 1 }
+    ensures place { IfOk result (λ i. PlacedAt nodes.old.keys node i nodes.new.keys) }
+    ensures unchanged { OnErr result (nodes.new.keys ≡ nodes.old.keys) }
+{
+    let guess = *next;
+    if stands_at(nodes.as_slice(), guess, node) {
+        *next = guess.wrapping_add(1);
+        return Ok(guess);
+    }
+    match insert(nodes, node) {
+        Err(_) => Err(Memory),
+        Ok(place) => {
+            *next = place.wrapping_add(1);
+            Ok(place)
+        }
+    }
+}
+
+// Whether a node stands at a place.
+#[inline(always)]
+fn stands_at(nodes: &[Node], place: u32, node: Node) -> bool
+    ensures { result ≡ true → slice_get nodes.now place ≡ Some node }
+{
+    match nodes.get(place as usize) {
+        None => false,
+        Some(found) => *found == node,
+    }
+}
+
+// The same by the hash of the node. It stays a function of its own, so that a node that stands at the place that is
+// tried costs no room for this.
+#[inline(never)]
+fn insert(nodes: &mut IndexSet<Node, CodeHash>, node: Node) -> Result<u32, Memory>
     requires { length nodes.old.keys < 2 ^ 32 - 1 }
     ensures place { IfOk result (λ i. PlacedAt nodes.old.keys node i nodes.new.keys) }
     ensures unchanged { OnErr result (nodes.new.keys ≡ nodes.old.keys) }

@@ -9,9 +9,9 @@ loop-slot-preserved c =
     let ys = c.args.other.now.slots in
     let zs = l.self.slots in
     record {
-      done = common-more xs ys zs l.slot c.common_slot.result
-          (omega arith) l.invariant.rest l.invariant.done c.common_slot.ensures;
-      rest = rest-more xs ys zs l.slot c.common_slot.result (omega arith) l.invariant.rest;
-      size = length-set zs l.slot c.common_slot.result ∙ l.invariant.size;
+      done = common-more xs ys zs l.slot c.keep_common_slot.new.ours
+          (omega arith) l.invariant.rest l.invariant.done c.keep_common_slot.ensures;
+      rest = rest-more xs ys zs l.slot c.keep_common_slot.new.ours (omega arith) l.invariant.rest;
+      size = length-set zs l.slot c.keep_common_slot.new.ours ∙ l.invariant.size;
       registers = l.invariant.registers;
     }

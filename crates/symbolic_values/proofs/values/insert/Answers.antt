@@ -2,7 +2,7 @@ use Rattle.symbolic_values.specs.contracts.nodes.NodePartialEq.TheImpl.{ghosts}
 use Rattle.symbolic_values.specs.contracts.nodes.NodeEq.TheImpl.Laws.{laws-law}
 use Rattle.symbolic_values.proofs.NodeEquality.{same_node}
 use Rattle.symbolic_values.proofs.TableLaws.{inserted}
-use Rattle.symbolic_values.proofs.values.put.Goals as goal
+use Rattle.symbolic_values.proofs.values.insert.Goals as goal
 
 pub returns-clause-place : goal.returns-clause-place
 returns-clause-place c =
