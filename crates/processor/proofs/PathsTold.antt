@@ -63,10 +63,10 @@ told_one b place event events paths bank is counted one first mine later true sa
           ∙ sym (ap (λ f. cond (is_bank b f) (event.stamp ∷ stamps_of b events) (stamps_of b events)) is
           ∙ ap (λ c. cond c (event.stamp ∷ stamps_of b events) (stamps_of b events)) same);
       places =
-          ap (λ l. place + 1 ∷ l) told.places
-          ∙ sym (ap (λ f. cond (is_bank b f) (place + 1 ∷ places_of b (place + 1) events)
+          ap (λ l. (place + 1) ∷ l) told.places
+          ∙ sym (ap (λ f. cond (is_bank b f) ((place + 1) ∷ places_of b (place + 1) events)
           (places_of b (place + 1) events)) is
-          ∙ ap (λ c. cond c (place + 1 ∷ places_of b (place + 1) events) (places_of b (place + 1) events)) same);
+          ∙ ap (λ c. cond c ((place + 1) ∷ places_of b (place + 1) events) (places_of b (place + 1) events)) same);
     })
 told_one b place event events paths bank is counted one first mine later false same =
     let none : length (paths b) ≡ 0 + accesses_shown b events =
@@ -86,9 +86,9 @@ told_one b place event events paths bank is counted one first mine later false s
           ∙ ap (λ c. cond c (event.stamp ∷ stamps_of b events) (stamps_of b events)) same);
       places =
           told.places
-          ∙ sym (ap (λ f. cond (is_bank b f) (place + 1 ∷ places_of b (place + 1) events)
+          ∙ sym (ap (λ f. cond (is_bank b f) ((place + 1) ∷ places_of b (place + 1) events)
           (places_of b (place + 1) events)) is
-          ∙ ap (λ c. cond c (place + 1 ∷ places_of b (place + 1) events) (places_of b (place + 1) events)) same);
+          ∙ ap (λ c. cond c ((place + 1) ∷ places_of b (place + 1) events) (places_of b (place + 1) events)) same);
     })
 
 -- one event more, in front
@@ -106,7 +106,7 @@ told_first b place event events paths None is counted rest later =
       stamps = told.stamps
           ∙ sym (ap (λ f. cond (is_bank b f) (event.stamp ∷ stamps_of b events) (stamps_of b events)) is);
       places = told.places
-          ∙ sym (ap (λ f. cond (is_bank b f) (place + 1 ∷ places_of b (place + 1) events)
+          ∙ sym (ap (λ f. cond (is_bank b f) ((place + 1) ∷ places_of b (place + 1) events)
           (places_of b (place + 1) events)) is);
     }
 told_first b place event events paths (Some bank) is counted rest later =

@@ -1,7 +1,8 @@
 -- What a watcher that keeps what it is told has heard in no call and in many, and that its events are one list. For the
 -- laws of such a watcher, and for proofs.
-use Rattle.std.specs.Prelude.{◌≡◌, ℕ, zero, suc, ◌+◌, List, [], ◌∷◌, ◌++◌, length}
+use Rattle.std.specs.Prelude.{◌≡◌, ℕ, ◌+◌, List, [], ◌∷◌, ◌++◌, length}
 use Rattle.std.proofs.Common.{refl, sym, ap, subst, ◌∙◌, add-zero, add_assoc, append_assoc, length-append}
+use Rattle.std.proofs.Math.Numerals.{one-add}
 use Rattle.std.proofs.lemmas.List.{append-nil, append_cancel_left}
 use Rattle.processor.specs.ListWatching.{Heard, KeepsMore, path_at, paths_in}
 use Rattle.processor.specs.Watching.{WatcherTold, AnEvent, APath, TellsMore, events_in}
@@ -12,16 +13,12 @@ events_in-append [] ys = refl
 events_in-append (AnEvent event ∷ xs) ys = ap (λ l. event ∷ l) (events_in-append xs ys)
 events_in-append (APath stamp bank leaves ∷ xs) ys = events_in-append xs ys
 
-suc_is : (n : ℕ) → 1 + n ≡ suc n
-suc_is zero = refl
-suc_is (suc n) = ap suc (suc_is n)
-
 paths_in-append : (place : ℕ) (xs ys : List WatcherTold)
     → paths_in place (xs ++ ys) ≡ paths_in place xs ++ paths_in (place + length (events_in xs)) ys
 paths_in-append place [] ys = ap (λ n. paths_in n ys) (sym (add-zero place))
 paths_in-append place (AnEvent event ∷ xs) ys =
     let further : place + 1 + length (events_in xs) ≡ place + length (event ∷ events_in xs) =
-    add_assoc place 1 (length (events_in xs)) ∙ ap (λ n. place + n) (suc_is (length (events_in xs))) in
+    add_assoc place 1 (length (events_in xs)) ∙ ap (λ n. place + n) (one-add (length (events_in xs))) in
     paths_in-append (place + 1) xs ys ∙ ap (λ n. paths_in (place + 1) xs ++ paths_in n ys) further
 paths_in-append place (APath stamp bank leaves ∷ xs) ys =
     ap (λ l. path_at place stamp bank leaves ∷ l) (paths_in-append place xs ys)

@@ -26,7 +26,7 @@ abbrev pub places_of : ℕ → ℕ → List Stamped → List ℕ
 places_of b before [] = []
 places_of b before (event ∷ events) =
     if is_bank b (oblivious event.event)
-    then before + 1 ∷ places_of b (before + 1) events
+    then (before + 1) ∷ places_of b (before + 1) events
     else places_of b (before + 1) events
 
 -- These paths are those that bank b shows in some events: just what it shows, in order, each with the stamp of its

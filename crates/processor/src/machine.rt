@@ -119,7 +119,7 @@ impl<'a, B: Bank + Drop> Machine<'a, B> {
         ensures in_range { IsInRange self.now.object }
     {
         let _ = self.object.code();
-        let _ = self.banks.words;
+        let _words = self.banks.words;
         self.live
     }
 
@@ -131,7 +131,7 @@ impl<'a, B: Bank + Drop> Machine<'a, B> {
         ensures in_range { IsInRange self.now.object }
     {
         let _ = self.object.code();
-        let _ = self.banks.words;
+        let _words = self.banks.words;
         self.cycle
     }
 
