@@ -1,65 +1,20 @@
 -- The accesses of a run that is cut, and of the run that goes on from there.
-use Rattle.std.proofs.Common.{◌≡◌, ℕ, zero, suc, ◌+◌, ◌<◌, ◌≤◌, Bool, true, false, cond, ℤ, List, [], ◌++◌, Option, Some, None, refl, sym, ap, ◌∙◌, subst, ⊎_elim, arith}
-use Rattle.std.specs.Prelude.{slice_get}
+use Rattle.std.proofs.Common.{◌≡◌, ℕ, zero, suc, ◌+◌, ◌<◌, ◌≤◌, [], ◌++◌, Option, None, refl, sym, ap, ◌∙◌, subst, ⊎_elim, arith}
 use Rattle.std.proofs.lemmas.Bool.{cases_lt}
 use Rattle.std.proofs.lemmas.List.{append_assoc}
 use Rattle.std.proofs.lemmas.List.Elements.{Contains-append_right}
-use Rattle.gr_word.specs.Words.{compared}
-use Rattle.lt_isa.specs.declared.instructions.Instr.{Instr}
-use Rattle.lt_isa.specs.declared.instructions.Instr.TheVariants.{Nop, Halt, Li, Alu, Ldb, Stb, Idb, Ldw, Stw, Jmp, Br}
 use Rattle.lt_isa.specs.Object.{Parts}
 use Rattle.lt_isa.specs.Ranges.{IsInRange}
-use Rattle.lt_isa.specs.Machine.{State, Slot, Unbound, Bound, Observed, Halted, slot, register, write_event}
-use Rattle.lt_isa.specs.Step.{Outcome, Goes, Stops, Faults, with_bound, executed, executed_if, step, step_start}
+use Rattle.lt_isa.specs.Machine.{State, Observed, Halted}
+use Rattle.lt_isa.specs.Step.{Outcome, Goes, Stops, Faults, step, step_start}
 use Rattle.lt_isa.specs.Shape.{IsShaped}
 use Rattle.lt_isa.specs.Trace.{HaltsAt, seen_at, stamped, trace_from, final_from}
 use Rattle.lt_isa.proofs.Runs.{trace_from-goes, trace_from-stops, final_from-past, final_from-goes, final_from-faults}
 use Rattle.lt_isa.proofs.Steps.{step_start-least, step-later}
 use Rattle.lt_isa.proofs.Shapes.{step-shaped}
-use Rattle.processor.specs.Accesses.{Access, access_on, accessed, accessed_by, accessed_if, accesses_from, at_most_one}
+use Rattle.processor.specs.Accesses.{ShowsItsAccess, accessed, accesses_from, at_most_one}
+use Rattle.processor.proofs.ShownAccesses.{shows_its_access}
 use Rattle.processor.proofs.AccessRuns.{accesses_from-past, accesses_from-step}
-
--- a fault accesses nothing
-abbrev pub NoneIfFaulty : Outcome → Option Access → Type 0
-NoneIfFaulty (Goes event t) made = Unit {0}
-NoneIfFaulty (Stops t) made = Unit {0}
-NoneIfFaulty Faults made = made ≡ None
-
-quiet_fault : (held : Slot) (next : ℕ → ℕ → List ℤ → State)
-    → NoneIfFaulty (with_bound held (λ b a words. Goes None (next b a words))) None
-quiet_fault Unbound next = refl
-quiet_fault (Bound b a words) next = tt
-
-stored_fault : (held : Slot) (next : ℕ → ℕ → List ℤ → State)
-    → NoneIfFaulty (with_bound held (λ b a words. Goes (Some (write_event b a words)) (next b a words)))
-    (access_on held)
-stored_fault Unbound next = refl
-stored_fault (Bound b a words) next = tt
-
-branch_fault : (holds : Bool) (one two : State) → NoneIfFaulty (cond holds (Goes None one) (Goes None two)) None
-branch_fault true one two = tt
-branch_fault false one two = tt
-
-executed_fault : (o : Parts) (s : State) (i : Instr) → NoneIfFaulty (executed o s i) (accessed_by o s i)
-executed_fault o s Nop = tt
-executed_fault o s Halt = tt
-executed_fault o s (Li rd value) = tt
-executed_fault o s (Alu op rd ra rb) = tt
-executed_fault o s (Ldb k b r) = tt
-executed_fault o s (Stb k) = stored_fault (slot s k) _
-executed_fault o s (Idb rd k) = quiet_fault (slot s k) _
-executed_fault o s (Ldw rd k ro) = quiet_fault (slot s k) _
-executed_fault o s (Stw rs k ro) = quiet_fault (slot s k) _
-executed_fault o s (Jmp offset) = tt
-executed_fault o s (Br cmp ra rb offset) = branch_fault (compared cmp (register s ra) (register s rb)) _ _
-
-step_fault : (o : Parts) (s : State) → NoneIfFaulty (step o s) (accessed o s)
-unfolding step accessed
-step_fault o s = found (slice_get o.code s.place)
-  where
-    found : (i : Option Instr) → NoneIfFaulty (executed_if o s i) (accessed_if o s i)
-    found None = refl
-    found (Some i) = executed_fault o s i
 
 module _ (o : Parts) (fits : IsInRange o) where
   -- one step, by how it ends; `rest` says the same of the state behind it
@@ -87,7 +42,7 @@ module _ (o : Parts) (fits : IsInRange o) where
       absurd (none (step_start o s) (subst (λ es. HaltsAt es (step_start o s))
       (sym (trace_from-stops o fits s t n shaped is less)) (0, omega arith, refl)))
   resumed_step s shaped n m le less none rest Faults is =
-      let nothing : accessed o s ≡ None = subst (λ outcome. NoneIfFaulty outcome (accessed o s)) is (step_fault o s) in
+      let nothing : accessed o s ≡ None = subst (λ outcome. ShowsItsAccess outcome (accessed o s)) is (shows_its_access o s) in
       let first : accesses_from o s n ≡ [] =
       accesses_from-step o fits s Faults n shaped is less ∙ ap (λ made. at_most_one made ++ []) nothing in
       let state : final_from o s n ≡ s = final_from-faults o fits s n shaped is in

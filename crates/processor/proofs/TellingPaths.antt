@@ -1,24 +1,22 @@
 -- What is told of a step, and what is left to be told behind it.
-use Rattle.std.proofs.Common.{◌≡◌, ◌≢◌, ℕ, ℤ, zero, suc, ◌≤◌, ◌<◌, Bool, true, false, cond, List, [], ◌∷◌, ◌++◌, drop, get_or, Option, Some, None, refl, sym, ap, ◌∙◌, ⊎_elim, arith}
+use Rattle.std.proofs.Common.{◌≡◌, ◌≢◌, ℕ, zero, suc, ◌≤◌, ◌<◌, cond, List, [], ◌∷◌, ◌++◌, drop, get_or, Option, Some, None, refl, sym, ap, ◌∙◌, ⊎_elim, arith}
 use Rattle.std.proofs.lemmas.Bool.{cases_eq, eq-eqb, ne_eqb, false≢true}
-use Rattle.std.specs.Prelude.{◌==◌, IsSome, slice_get}
-use Rattle.gr_word.specs.Words.{compared}
-use Rattle.lt_isa.specs.declared.instructions.Instr.{Instr}
-use Rattle.lt_isa.specs.declared.instructions.Instr.TheVariants.{Nop, Halt, Li, Alu, Ldb, Stb, Idb, Ldw, Stw, Jmp, Br}
-use Rattle.lt_isa.specs.Object.{Parts, is_eram, is_ram}
+use Rattle.std.specs.Prelude.{◌==◌, IsSome}
+use Rattle.lt_isa.specs.Object.{Parts}
 use Rattle.lt_isa.specs.Ranges.{IsInRange}
-use Rattle.lt_isa.specs.Machine.{State, Slot, Unbound, Bound, Observed, RamRead, RamWrite, EncRead, EncWrite, Oram, Halted, slot, register, write_event}
+use Rattle.lt_isa.specs.Machine.{State, Observed, RamRead, RamWrite, EncRead, EncWrite, Oram, Halted}
 use Rattle.lt_isa.specs.Shape.{IsShaped}
-use Rattle.lt_isa.specs.Step.{Outcome, Goes, Stops, Faults, executed, executed_if, step, step_start, with_bound}
+use Rattle.lt_isa.specs.Step.{Outcome, Goes, Stops, Faults, step, step_start}
 use Rattle.lt_isa.specs.Trace.{Stamped, seen_at, stamped, trace_from}
 use Rattle.lt_isa.proofs.Runs.{trace_from-goes, trace_from-stops, trace_from-faults}
 use Rattle.processor.specs.declared.banks.Leaves.{Leaves}
 use Rattle.processor.specs.Banks.{no_leaves}
-use Rattle.processor.specs.Accesses.{Access, access_on, accessed, accessed_by, accessed_if, accesses_from, in_bank, at_most_one}
+use Rattle.processor.specs.Accesses.{Access, ShowsAccess, ShowsItsAccess, accessed, accesses_from, in_bank, at_most_one}
 use Rattle.processor.specs.ObliviousBanks.{Accessed, MayAccess, OfBoth, oram_of, paths_shown, shown_of}
 use Rattle.processor.specs.Stepping.{may_show, told_of_step}
 use Rattle.processor.specs.Watching.{WatcherTold, AnEvent, APath, events_in, left_paths, next_of, oblivious, path_behind, run_shown, with_path, with_paths}
 use Rattle.processor.specs.Keeping.{events_in-append}
+use Rattle.processor.proofs.ShownAccesses.{shows_its_access}
 use Rattle.processor.proofs.AccessRuns.{accesses_from-step}
 
 -- the same paths are told where each bank shows the same
@@ -80,57 +78,31 @@ event_of_outcome (Goes event t) = event
 event_of_outcome (Stops t) = Some Halted
 event_of_outcome Faults = None
 
--- an event on a bank tells the bank if it is an oblivious one
-bank_told : (plain sealed : Observed) → oblivious plain ≡ None → oblivious sealed ≡ None → (b : ℕ)
-    → oblivious (cond (is_ram b) plain (cond (is_eram b) sealed (Oram b))) ≡ if_oblivious b
-bank_told plain sealed none none' zero = none
-bank_told plain sealed none none' (suc zero) = none'
-bank_told plain sealed none none' (suc (suc i)) =
-    ap (λ ram. oblivious (cond ram plain (cond (is_eram (suc (suc i))) sealed (Oram (suc (suc i))))))
-    (ne_eqb (suc (suc i)) 0 (λ is. omega arith))
-    ∙ ap (λ eram. oblivious (cond eram sealed (Oram (suc (suc i))))) (ne_eqb (suc (suc i)) 1 (λ is. omega arith))
-
--- nothing is told of an instruction that only uses the block of a slot
-silent : (held : Slot) (next : ℕ → ℕ → List ℤ → State)
-    → told_bank (event_of_outcome (with_bound held (λ b a words. Goes None (next b a words)))) ≡ None
-silent Unbound next = refl
-silent (Bound b a words) next = refl
-
--- what is told of an instruction is an access to an oblivious bank exactly where it makes one
-executed_bank : (o : Parts) (s : State) (i : Instr)
-    → told_bank (event_of_outcome (executed o s i)) ≡ made_bank (accessed_by o s i)
-executed_bank o s Nop = refl
-executed_bank o s Halt = refl
-executed_bank o s (Li rd value) = refl
-executed_bank o s (Alu op rd ra rb) = refl
-executed_bank o s (Ldb k b r) = bank_told (RamRead _ _) (EncRead _) refl refl b
-executed_bank o s (Stb k) = stored (slot s k) _
+-- an event that shows an access tells its bank, where that is an oblivious one
+bank_shown : (event : Observed) (access : Access) → ShowsAccess event access → oblivious event ≡ if_oblivious access.bank
+bank_shown (RamRead block words) access shows = sym (ap if_oblivious shows.0)
+bank_shown (RamWrite block words) access shows = sym (ap if_oblivious shows.0)
+bank_shown (EncRead block) access shows = sym (ap if_oblivious shows.0)
+bank_shown (EncWrite block) access shows = sym (ap if_oblivious shows.0)
+bank_shown (Oram bank) access shows = sym (ap if_oblivious shows.0 ∙ itself bank shows.1)
   where
-    stored : (held : Slot) (next : ℕ → ℕ → List ℤ → State)
-        → told_bank
-        (event_of_outcome (with_bound held (λ b a words. Goes (Some (write_event b a words)) (next b a words))))
-        ≡ made_bank (access_on held)
-    stored Unbound next = refl
-    stored (Bound b a words) next = bank_told (RamWrite a words) (EncWrite a) refl refl b
-executed_bank o s (Idb rd k) = silent (slot s k) _
-executed_bank o s (Ldw rd k ro) = silent (slot s k) _
-executed_bank o s (Stw rs k ro) = silent (slot s k) _
-executed_bank o s (Jmp offset) = refl
-executed_bank o s (Br cmp ra rb offset) = either (compared cmp (register s ra) (register s rb)) _ _
-  where
-    either : (holds : Bool) (one two : State)
-        → told_bank (event_of_outcome (cond holds (Goes None one) (Goes None two))) ≡ None
-    either true one two = refl
-    either false one two = refl
+    itself : (b : ℕ) → 2 ≤ b → if_oblivious b ≡ Some b
+    itself zero two = absurd (omega arith)
+    itself (suc zero) two = absurd (omega arith)
+    itself (suc (suc i)) two = refl
+bank_shown Halted access shows = absurd shows
+
+outcome_bank : (outcome : Outcome) (made : Option Access)
+    → ShowsItsAccess outcome made → told_bank (event_of_outcome outcome) ≡ made_bank made
+outcome_bank (Goes None t) made shows = sym (ap made_bank shows)
+outcome_bank (Goes (Some event) t) made shows =
+    bank_shown event shows.0 shows.2 ∙ sym (ap made_bank shows.1)
+outcome_bank (Stops t) made shows = sym (ap made_bank shows)
+outcome_bank Faults made shows = sym (ap made_bank shows)
 
 -- the bank that a step tells is the one that it accesses
 pub step-bank : (o : Parts) (s : State) → told_bank (event_of_outcome (step o s)) ≡ made_bank (accessed o s)
-unfolding step accessed
-step-bank o s = found (slice_get o.code s.place)
-  where
-    found : (i : Option Instr) → told_bank (event_of_outcome (executed_if o s i)) ≡ made_bank (accessed_if o s i)
-    found None = refl
-    found (Some i) = executed_bank o s i
+step-bank o s = outcome_bank (step o s) (accessed o s) (shows_its_access o s)
 
 -- the blocks of a bank
 in_bank-this : (b : ℕ) (access : Access) (rest : List Access)
