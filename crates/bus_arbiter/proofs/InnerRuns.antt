@@ -7,7 +7,7 @@ use Rattle.processor.specs.declared.banks.Leaves.{Leaves}
 use Rattle.processor.specs.Accesses.{accesses_from}
 use Rattle.processor.specs.Ends.{Broke}
 use Rattle.processor.specs.ObliviousBanks.{paths_shown}
-use Rattle.processor.specs.Watching.{WatcherTold, events_in, run_shown}
+use Rattle.processor.specs.Watching.{WatcherTold, run_shown}
 use Rattle.processor.proofs.TellingPaths.{events_in-with_paths}
 use Rattle.bus_arbiter.specs.Inner.{HearsMoves, moves_of, torn_by}
 use Rattle.bus_arbiter.specs.Telling.{FailedAt, TellsOn}

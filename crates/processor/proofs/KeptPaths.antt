@@ -18,10 +18,3 @@ pub keeps-path : (before now : Heard) (stamp bank : ℕ) (leaves : Leaves) → n
     → KeepsMore before (APath stamp bank leaves ∷ []) now
 keeps-path before now stamp bank leaves events paths =
     record { events = events ∙ sym (append-nil before.told.events); paths = paths }
-
-pub keeps-alike : (before now : Heard)
-    → now.told.events ≡ before.told.events → now.paths ≡ before.paths → KeepsMore before [] now
-keeps-alike before now events paths = record {
-  events = events ∙ sym (append-nil before.told.events);
-  paths = paths ∙ sym (append-nil before.paths);
-}

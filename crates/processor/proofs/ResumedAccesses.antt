@@ -42,7 +42,8 @@ module _ (o : Parts) (fits : IsInRange o) where
       absurd (none (step_start o s) (subst (λ es. HaltsAt es (step_start o s))
       (sym (trace_from-stops o fits s t n shaped is less)) (0, omega arith, refl)))
   resumed_step s shaped n m le less none rest Faults is =
-      let nothing : accessed o s ≡ None = subst (λ outcome. ShowsItsAccess outcome (accessed o s)) is (shows_its_access o s) in
+      let nothing : accessed o s ≡ None =
+      subst (λ outcome. ShowsItsAccess outcome (accessed o s)) is (shows_its_access o s) in
       let first : accesses_from o s n ≡ [] =
       accesses_from-step o fits s Faults n shaped is less ∙ ap (λ made. at_most_one made ++ []) nothing in
       let state : final_from o s n ≡ s = final_from-faults o fits s n shaped is in

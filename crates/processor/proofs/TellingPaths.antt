@@ -79,7 +79,8 @@ event_of_outcome (Stops t) = Some Halted
 event_of_outcome Faults = None
 
 -- an event that shows an access tells its bank, where that is an oblivious one
-bank_shown : (event : Observed) (access : Access) → ShowsAccess event access → oblivious event ≡ if_oblivious access.bank
+bank_shown : (event : Observed) (access : Access)
+    → ShowsAccess event access → oblivious event ≡ if_oblivious access.bank
 bank_shown (RamRead block words) access shows = sym (ap if_oblivious shows.0)
 bank_shown (RamWrite block words) access shows = sym (ap if_oblivious shows.0)
 bank_shown (EncRead block) access shows = sym (ap if_oblivious shows.0)
