@@ -6,8 +6,8 @@ use Rattle.gr_base.proofs.Counts.{rose_before}
 use Rattle.gr_outside.specs.Shelf.{ShelfSeen}
 use Rattle.gr_outside.specs.Sink.{SinkSeen}
 use Rattle.ghost_cli.specs.Outside.{Outside, outside, PutsSaid, LeftBy, Unread, Long, Judged, Written, NotWritten, Starved, Explains, NoWork, NoRoom, Worked}
-use Rattle.ghost_cli.specs.Texts.{Said}
-use Rattle.ghost_cli.specs.Work.{Ending, Work}
+use Rattle.ghost_cli.specs.Texts.{Said, usage, unread, unwritten, no_memory, too_long, wrote}
+use Rattle.ghost_cli.specs.Work.{Ending, IsVerdict, Work, said_at}
 
 -- of a sink that tells nothing, nothing is said
 untold : (before now : Option (List ℕ)) (text : List ℕ) → now ≡ None → AddsLess before now text
@@ -18,9 +18,9 @@ untold before (Some held) text none = absurd (let f : ◌≡◌ {A = Option (Lis
 -- Behind a call, the sink's count rose and it tells nothing.
 module _ {mid now : SinkSeen} (none : mid.held ≡ None) (same : now.held ≡ mid.held)
     (rose : Rose mid.faults now.faults) (count : mid.faults ≤ now.faults) where
-  cut_put : {before : SinkSeen} {said : Said} {status : ℕ} → PutsSaid before mid said status
+  cut_put : (before : SinkSeen) (said : Said) (status : ℕ) → PutsSaid before mid said status
       → PutsSaid before now said 4
-  cut_put {before} {said} put =
+  cut_put before said status put =
       inr (
         refl,
         ⊎_elim (λ done. subst (λ n. Rose n now.faults) done.2 rose)
@@ -30,20 +30,25 @@ module _ {mid now : SinkSeen} (none : mid.held ≡ None) (same : now.held ≡ mi
 
   cut_left : {before : Outside} {shelf : ShelfSeen} {status : ℕ} {ending : Ending}
       → LeftBy before (outside shelf mid) status ending → LeftBy before (outside shelf now) 4 ending
-  cut_left (Unread name only put) = Unread name only (cut_put put)
-  cut_left (Long name limit shelf put) = Long name limit shelf (cut_put put)
-  cut_left (Judged seen verdict shelf put) = Judged seen verdict shelf (cut_put put)
-  cut_left (Written name bytes done shelf put) = Written name bytes done shelf (cut_put put)
-  cut_left (NotWritten name bytes done refused failed starved put) =
-      NotWritten name bytes done refused failed starved (cut_put put)
-  cut_left (Starved name bytes done refused starved failed put) =
-      Starved name bytes done refused starved failed (cut_put put)
+  cut_left {before} {shelf} {status} (Unread name only put) =
+      Unread name only (cut_put before.sink (unread name) status put)
+  cut_left {before} {shelf} {status} (Long name limit stays put) =
+      Long name limit stays (cut_put before.sink (too_long name limit) status put)
+  cut_left {before} {shelf} {status} (Judged seen verdict stays put) =
+      Judged seen verdict stays (cut_put before.sink (said_at (IsVerdict seen verdict)) status put)
+  cut_left {before} {shelf} {status} (Written name bytes done written put) =
+      Written name bytes done written (cut_put before.sink (wrote done) status put)
+  cut_left {before} {shelf} {status} (NotWritten name bytes done refused failed starved put) =
+      NotWritten name bytes done refused failed starved (cut_put before.sink (unwritten name) status put)
+  cut_left {before} {shelf} {status} (Starved name bytes done refused starved failed put) =
+      Starved name bytes done refused starved failed (cut_put before.sink no_memory status put)
 
   -- the call is explained as before, with the status 4
   pub cut_explains : {before : Outside} {shelf : ShelfSeen} {status : ℕ} {asked : Option Work}
       → Explains before (outside shelf mid) status asked → Explains before (outside shelf now) 4 asked
-  cut_explains (NoWork shelf put) = NoWork shelf (cut_put put)
-  cut_explains (NoRoom asked only put) = NoRoom asked only (cut_put put)
+  cut_explains {before} {shelf} {status} (NoWork stays put) = NoWork stays (cut_put before.sink usage status put)
+  cut_explains {before} {shelf} {status} (NoRoom asked only put) =
+      NoRoom asked only (cut_put before.sink no_memory status put)
   cut_explains (Worked work ending ends left) = Worked work ending ends (cut_left left)
 
 -- a sink that handed on all is seen as before

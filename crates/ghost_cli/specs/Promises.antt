@@ -190,7 +190,7 @@ pub record Promises (asked : Option Work) (before after : Outside) (status : ℕ
   pub line : status ≡ 4 → (name : List ℕ) → Gained before.sink.held after.sink.held (unwritten name).text
       → Rose before.shelf.write_faults after.shelf.write_faults
   pub no_room : status ≡ 5 → NoMemory asked before after
-  -- At every other status no write and no put has failed.
+  -- At every other status no write, no put and no flush has failed.
   pub calm : status ≢ 4 → IsCalm before after
   -- No read has failed but at 3, 4 and 5, and no write has wanted memory but at 5 and 4.
   pub reads : status ≢ 3 → status ≢ 4 → status ≢ 5 → after.shelf.read_faults ≡ before.shelf.read_faults
