@@ -16,3 +16,4 @@ pub mod NameFits
 pub mod RoomForInputs
 pub mod NumbersAdded
 pub mod Pruning
+pub mod HandedOn

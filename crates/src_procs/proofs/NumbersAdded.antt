@@ -32,7 +32,7 @@ same_tests false false f g = refl
 equal_then : (x y : List ℕ) → bytes_eq x y ≡ true → bytes_eq y x ≡ true
 equal_then x y e = ap (λ z. bytes_eq y z) ((bytes_eq-Decides x y).0 e) ∙ bytes_eq-own y
 
-flipped : (x y : List ℕ) → bytes_eq x y ≡ bytes_eq y x
+pub flipped : (x y : List ℕ) → bytes_eq x y ≡ bytes_eq y x
 flipped x y = same_tests (bytes_eq x y) (bytes_eq y x) (equal_then x y) (equal_then y x)
 
 -- a number, as a procedure before some place
@@ -46,6 +46,18 @@ is_before ps callable k lt within =
 
 is_behind : (ps : List Procedure) (callable k : ℕ) → callable ≤ k → found_before ps callable (Some k) ≡ None
 is_behind ps callable k le = ap (placed ps k) (le-ltb k (min callable (length ps)) (omega (arith, le)))
+
+-- what is found before some place is found before a later one
+pub still_found : (ps : List Procedure) (k callable : ℕ) (o : Option ℕ) (f : Found) → k ≤ callable
+    → found_before ps k o ≡ Some f → found_before ps callable o ≡ Some f
+still_found ps k callable None f le e = absurd (cc)
+still_found ps k callable (Some j) f le e =
+    elim (cases_lt j (min k (length ps))) [
+      | inl lt ↦ is_before ps callable j (omega (arith, lt, le)) (omega (arith, lt))
+          ∙ (sym (is_before ps k j (omega (arith, lt)) (omega (arith, lt))) ∙ e)
+      | inr more ↦ (let none : found_before ps k (Some j) ≡ None =
+          ap (placed ps j) (le-ltb j (min k (length ps)) more) in absurd (cc))
+    ]
 
 -- a new name gets number i, which is no procedure before place i
 kept : (ps : List Procedure) (numbers : Names) (i callable : ℕ) (x name : List ℕ) → callable ≤ i → numbers x ≡ None

@@ -11,3 +11,4 @@ pub mod InlineFaults
 pub mod Measured
 pub mod Numbered
 pub mod Pruned
+pub mod Handed

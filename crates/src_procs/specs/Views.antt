@@ -2,7 +2,8 @@
 use Rattle.std.specs.Prelude.{ℕ, List, [], map, take, reverse, slice_index_or, Option, Some, None}
 use Rattle.std.specs.Borrow.{Bor}
 use Rattle.src_tree.specs.Trees as plain
-use Rattle.src_tree.specs.Trees.{expr_tree, test_of}
+use Rattle.src_tree.specs.Trees.{Tree, expr_tree, test_of}
+use Rattle.src_tree.specs.declared.trees.Expr.{Expr}
 use Rattle.src_tree.specs.declared.trees.Stmt.{Stmt}
 use Rattle.std.specs.Global.{Vec}
 use Rattle.src_procs.specs.declared.trees.PStmt.{PStmt}
@@ -20,7 +21,7 @@ use Rattle.src_procs.specs.declared.live.Live.TheOpen.{Live-F}
 use Rattle.src_procs.specs.declared.live.Live.TheOpen as open_live
 use Rattle.src_procs.specs.declared.live.Live.TheFolds.{fold-Live}
 use Rattle.src_procs.specs.Inlined.{Renaming, kept_name}
-use Rattle.src_procs.specs.Seen.{block_of, block_of_all, procedure_of, trees_of}
+use Rattle.src_procs.specs.Seen.{block_of, block_of_all, procedure_of}
 use Rattle.src_procs.specs.Trees.{Statement, SetVariable, SetElement, Choice, Loop, Call, Block, Nothing, Procedure, File}
 use Rattle.src_procs.specs.Expanding.{Binding, Found, looked_up, Pending, Rest, Return, Open, EndChoice, EndLoop, Scope, Held}
 
@@ -58,12 +59,16 @@ held_of procs x = record {
   labels = x.labels.items;
 }
 
+-- arguments that are held by reference
+abbrev pub trees_seen : List (Bor Expr) → List Tree
+trees_seen arguments = map (λ (b : Bor Expr). expr_tree b.now) arguments
+
 abbrev pub live_step : Live-F Statement → Statement
 live_step (open_live.Set x e) = SetVariable x.now (expr_tree e.now)
 live_step (open_live.Put x i e) = SetElement x.now (expr_tree i.now) (expr_tree e.now)
 live_step (open_live.If g a b) = Choice (test_of g.now) (block_of a.items) (block_of b.items)
 live_step (open_live.While g a) = Loop (test_of g.now) (block_of a.items)
-live_step (open_live.Call x es) = Call x.now (trees_of es.now)
+live_step (open_live.Call x es) = Call x.now (trees_seen es.items)
 
 abbrev pub live_of : Live → Statement
 live_of = fold-Live Statement live_step

@@ -4,8 +4,8 @@ ghost use Rattle.src_procs.specs.Expanding as spec;
 ghost use Rattle.src_procs.specs.Frames.{named_by};
 ghost use Rattle.src_procs.specs.Inlined as inlined;
 ghost use Rattle.src_procs.specs.Inlined.{no_name};
-ghost use Rattle.src_procs.specs.Seen.{parameter_of, trees_of};
-ghost use Rattle.src_procs.specs.Views.{binding_of, names_of};
+ghost use Rattle.src_procs.specs.Seen.{parameter_of};
+ghost use Rattle.src_procs.specs.Views.{binding_of, names_of, trees_seen};
 
 use crate::expanding::put_statement;
 use crate::scopes::{Bound, Naming, new_name_of, no_name, renamed};
@@ -133,18 +133,18 @@ pub(crate) fn with_parameters<'a>(
     caller: &Naming<'_>,
     b: Binding<'a>,
     params: &'a [Param],
-    arguments: &[Expr],
+    arguments: &[&Expr],
 ) -> Result<Binding<'a>, Memory>
     ensures { IfOk result (λ r. binding_of r
         ≡ spec.with_parameters (names_of caller.now) (binding_of b.entry) (map parameter_of params.now)
-        (trees_of arguments.now)) }
+        (trees_seen arguments.now)) }
 {
     let mut b = b;
     for (i, param) in params.iter().enumerate() {
         if i >= arguments.len() {
             return Ok(b);
         }
-        b = with_parameter(alloc, caller, b, param, &arguments[i])?;
+        b = with_parameter(alloc, caller, b, param, arguments[i])?;
     }
     Ok(b)
 }

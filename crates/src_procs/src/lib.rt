@@ -11,6 +11,7 @@ mod call_faults;
 pub mod errors;
 mod expanding;
 mod finding;
+mod handing;
 pub mod inlining;
 pub mod laws;
 mod live;

@@ -3,10 +3,11 @@ ghost use Rattle.gr_base.specs.NameMaps.{found_under};
 ghost use Rattle.src_procs.specs.Measured.{HasSizes, sizes_by};
 ghost use Rattle.src_procs.specs.Numbered.{AreNumbered, by_number};
 ghost use Rattle.src_procs.specs.Pruned.{ArePruned, SameCode, behind, kept, pruned, with_first};
-ghost use Rattle.src_procs.specs.Seen.{block_of_all, procedure_of, statement_of};
+ghost use Rattle.src_procs.specs.Seen.{block_of_all, procedure_of, statement_of, trees_of};
 ghost use Rattle.src_procs.specs.Trees.{Block};
-ghost use Rattle.src_procs.specs.Views.{bodies_of, live_block, live_of};
+ghost use Rattle.src_procs.specs.Views.{bodies_of, live_block, live_of, trees_seen};
 
+use crate::handing::come_down;
 use crate::own_names::Numbers;
 use crate::sizes::call_size;
 use crate::trees::{PStmt, Proc};
@@ -22,7 +23,18 @@ pub(crate) enum Live<'a> {
     Put(&'a Name, &'a Expr, &'a Expr),
     If(&'a Guard, Vec<Live<'a>>, Vec<Live<'a>>),
     While(&'a Guard, Vec<Live<'a>>),
-    Call(&'a Name, &'a [Expr]),
+    Call(&'a Name, Vec<&'a Expr>),
+}
+
+// Each of some arguments.
+fn each<'a>(alloc: Global, arguments: &'a [Expr]) -> Result<Vec<&'a Expr>, Memory>
+    ensures { IfOk result (λ all. trees_seen all.items ≡ trees_of arguments.now) }
+{
+    let mut all = Vec::new(alloc);
+    for argument in arguments {
+        all.push(argument)?;
+    }
+    Ok(all)
 }
 
 // Statements, and one more behind them, where there is one.
@@ -71,7 +83,7 @@ fn live_one<'a>(
             if call_size(procs, numbers, sizes, callable, name, arguments) == 0 {
                 return Ok(None);
             }
-            Ok(Some(Live::Call(name, arguments)))
+            Ok(Some(Live::Call(name, each(alloc, arguments)?)))
         }
     }
 }
@@ -116,7 +128,8 @@ pub(crate) fn live_statements<'a>(
     Ok(all)
 }
 
-// The body of each procedure, without the calls that add nothing.
+// The body of each procedure, without the calls that add nothing. One that is one call comes down to what that comes down
+// to, so that a chain of such procedures is one call.
 pub(crate) fn live_bodies<'a>(
     alloc: Global,
     procs: &'a [Proc],
@@ -131,7 +144,8 @@ pub(crate) fn live_bodies<'a>(
     let mut bodies = Vec::new(alloc);
     for (i, p) in procs.iter().enumerate() {
         let body = live_statements(alloc, procs, numbers, sizes, i, p.body.as_slice())?;
-        bodies.push(body)?;
+        let less = come_down(alloc, procs, numbers, bodies.as_slice(), i, body)?;
+        bodies.push(less)?;
     }
     Ok(bodies)
 }

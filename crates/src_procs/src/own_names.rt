@@ -46,7 +46,7 @@ pub(crate) fn add_name<'a>(names: &mut Numbers<'a>, name: &'a [u8], n: usize) ->
     }
 }
 
-fn parameter_name<'a>(param: &'a Param) -> &'a [u8]
+pub(crate) fn parameter_name<'a>(param: &'a Param) -> &'a [u8]
     ensures { result.now ≡ spec.parameter_name (parameter_of param.now) }
 {
     match param {

@@ -31,7 +31,7 @@ fn with_parameter(count: u64, param: &Param) -> u64
 }
 
 // How many parameters are scalars.
-fn scalars(params: &[Param]) -> u64
+pub(crate) fn scalars(params: &[Param]) -> u64
     ensures { result ≡ shown_number (scalars (map parameter_of params.now)) }
 {
     let mut count = 0u64;

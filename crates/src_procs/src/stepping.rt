@@ -4,9 +4,9 @@ ghost use Rattle.src_tree.specs.Trees.{test_of};
 ghost use Rattle.src_procs.specs.Expanding.{Rest, Return, assigned_one, begun, expanded, expanded_one, finished, found, with_scope};
 ghost use Rattle.src_procs.specs.Numbered.{AreNumbered};
 ghost use Rattle.src_procs.specs.Pruned.{ArePruned};
-ghost use Rattle.src_procs.specs.Seen.{procedure_of, trees_of};
+ghost use Rattle.src_procs.specs.Seen.{procedure_of};
 ghost use Rattle.src_procs.specs.Trees.{Block, Call, Choice, Loop, Then};
-ghost use Rattle.src_procs.specs.Views.{bodies_of, found_at, held_of, live_block, live_of, names_of, no_procedure, pending_all, pending_of, scope_of};
+ghost use Rattle.src_procs.specs.Views.{bodies_of, found_at, held_of, live_block, live_of, names_of, no_procedure, pending_all, pending_of, scope_of, trees_seen};
 
 use crate::binding::{Binding, with_locals, with_parameters};
 use crate::expanding::{
@@ -44,14 +44,14 @@ fn begin_call<'a>(
     alloc: Global,
     procs: &'a [Proc],
     k: usize,
-    arguments: &'a [Expr],
+    arguments: &[&Expr],
     scope: Scope<'a>,
     held: Held<'a>,
 ) -> Result<Held<'a>, Memory>
     requires { k < length procs.now }
     ensures { IfOk result (λ h. held_of procs.now h
         ≡ begun (slice_index_or (map procedure_of procs.now) k no_procedure)
-        (reverse (take k (map procedure_of procs.now))) (names_of scope.entry.names) (trees_of arguments.now)
+        (reverse (take k (map procedure_of procs.now))) (names_of scope.entry.names) (trees_seen arguments.now)
         (with_scope (scope_of procs.now scope.entry) (held_of procs.now held.entry))) }
 {
     let p = &procs[k];
@@ -106,7 +106,7 @@ fn call<'b, 'a>(
     bodies: &'b [Vec<Live<'a>>],
     waiting: Vec<Pending<'b, 'a>>,
     name: &'a Name,
-    arguments: &'a [Expr],
+    arguments: &[&Expr],
     callable: usize,
     scope: Scope<'a>,
     held: Held<'a>,
@@ -116,7 +116,7 @@ fn call<'b, 'a>(
     requires bodies { ArePruned (map procedure_of procs.now) (bodies_of bodies.now) }
     requires whole { length procs.now ≤ length bodies.now }
     ensures { IfOk result (λ w. finished (pending_all w.waiting.items) (held_of procs.now w.held)
-        ≡ finished (pending_all waiting.entry.items) (expanded_one (Call name.now (trees_of arguments.now))
+        ≡ finished (pending_all waiting.entry.items) (expanded_one (Call name.now (trees_seen arguments.now))
         (with_scope (scope_of procs.now scope.entry) (held_of procs.now held.entry)))) }
 {
     let k = match called(procs, numbers, callable, name.bytes()) {
@@ -256,7 +256,16 @@ fn statement<'b, 'a>(
         Live::Call(name, arguments) => {
             let callable = scope.callable;
             call(
-                alloc, procs, numbers, bodies, waiting, *name, *arguments, callable, scope, held,
+                alloc,
+                procs,
+                numbers,
+                bodies,
+                waiting,
+                *name,
+                arguments.as_slice(),
+                callable,
+                scope,
+                held,
             )
         }
     }

@@ -1,4 +1,4 @@
-use Rattle.std.proofs.Common.{List, map, sym, subst, arith}
+use Rattle.std.proofs.Common.{List, map, sym, ◌∙◌, subst, arith}
 use Rattle.std.specs.Global.{Vec}
 use Rattle.src_procs.specs.declared.live.Live.{Live}
 use Rattle.src_procs.specs.Pruned.{ArePruned}
@@ -15,6 +15,6 @@ loop-i-preserved c =
       subst (λ (bs : List (Vec Live)). ArePruned (map procedure_of c.args.procs.now) (bodies_of bs))
           (sym c.in_ok-push.ensures.items)
           (one_live_more c.args.procs.now c.loop-i.bodies.items c.index-procs-i.result c.as_slice.result.now c.loop-i.i
-          c.in_ok-body.body long c.loop-i-test.true c.index-procs-i.is c.as_slice.ensures.value c.loop-i.invariant.1
-          c.in_ok-body.ensures),
+          c.in_ok-less.less long c.loop-i-test.true c.index-procs-i.is c.as_slice.ensures.value c.loop-i.invariant.1
+          (λ names next. c.in_ok-less.ensures names next ∙ c.in_ok-body.ensures names next)),
     )

@@ -5,9 +5,9 @@ use Rattle.gr_base.specs.NameMaps.{found_under}
 use Rattle.src_procs.specs.declared.live.Live.{Live}
 use Rattle.src_procs.specs.Expanding.{finished, Found, Rest, Return}
 use Rattle.src_procs.specs.Pruned.{SameCode}
-use Rattle.src_procs.specs.Seen.{procedure_of, trees_of}
+use Rattle.src_procs.specs.Seen.{procedure_of}
 use Rattle.src_procs.specs.Trees.{Block, Nothing}
-use Rattle.src_procs.specs.Views.{held_of, live_block, pending_all, scope_of, no_procedure}
+use Rattle.src_procs.specs.Views.{held_of, live_block, pending_all, scope_of, no_procedure, trees_seen}
 use Rattle.src_procs.proofs.NumbersAdded.{found_so}
 use Rattle.src_procs.proofs.OneStep.{none_expanded}
 use Rattle.src_procs.proofs.Pruning.{called_so}
@@ -16,7 +16,7 @@ use Rattle.src_procs.proofs.stepping.call.Goals as goal
 pub returns-in-None : goal.returns-in-None
 returns-in-None c =
     ap (finished (pending_all c.args.waiting.items)) (c.in_ok-held-in-None.ensures
-    ∙ none_expanded c.args.name.now (trees_of c.args.arguments.now) (scope_of c.args.procs.now c.args.scope)
+    ∙ none_expanded c.args.name.now (trees_seen c.args.arguments.now) (scope_of c.args.procs.now c.args.scope)
     (held_of c.args.procs.now c.args.held)
     (found_so (map procedure_of c.args.procs.now) (found_under c.args.numbers.now) c.requires.numbers c.args.callable
     c.args.scope.callable c.bytes.result.now c.args.name.now None c.requires.callable c.bytes.ensures.bytes
@@ -31,7 +31,7 @@ returns c =
     let within = c.in-Some.ensures.within in
     let whole = c.requires.whole in
     let inside : k < length c.args.bodies.now = omega (within, whole, arith) in
-    called_so c.args.name.now (trees_of c.args.arguments.now) (scope_of c.args.procs.now c.args.scope)
+    called_so c.args.name.now (trees_seen c.args.arguments.now) (scope_of c.args.procs.now c.args.scope)
     (held_of c.args.procs.now c.args.held) f (pending_all c.args.waiting.items)
     (pending_all c.in_ok-waiting.waiting.items) (live_block c.index-bodies-k.result.items)
     (held_of c.args.procs.now c.in_ok-held.held)
