@@ -31,6 +31,7 @@ pub(crate) fn answer<F: Shelf, O: Sink>(
     ensures plainly { result ≡ 0
         → (text : List ℕ) × (All IsPlain text × Adds (O.seen sink.old).held (O.seen sink.new).held text) }
     ensures not_put { result ≡ 4 → Rose (O.seen sink.old).faults (O.seen sink.new).faults }
+    ensures calm { result ≢ 4 → (O.seen sink.new).faults ≡ (O.seen sink.old).faults }
     ensures unread { result ≡ 5 → O.seen sink.new ≡ O.seen sink.old }
     ensures no_file { (F.seen shelf.new).files ≡ (F.seen shelf.old).files }
 {
@@ -49,6 +50,7 @@ fn put_out<O: Sink>(text: &[u8], sink: &mut O) -> u8
     ensures statuses { (result ≡ 0) ⊎ (result ≡ 4) }
     ensures put { result ≡ 0 → Adds (O.seen sink.old).held (O.seen sink.new).held text.now }
     ensures not_put { result ≡ 4 → Rose (O.seen sink.old).faults (O.seen sink.new).faults }
+    ensures calm { result ≢ 4 → (O.seen sink.new).faults ≡ (O.seen sink.old).faults }
 {
     match sink.put(text) {
         Ok(()) => {}

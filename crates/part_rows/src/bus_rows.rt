@@ -144,6 +144,7 @@ impl BusWatch for Marks {
 
     ghost same = { λ before after. Unit {0} };
 
+    #[tactic(auto, using(gr_base::proofs::Counts::rose_by_one))]
     fn transfer(&mut self, core: u8, stamp: u32, event: &Event) -> Result<(), WatchFailed> {
         if self.marks.len() < self.room {
             match self.marks.push((core, stamp, zeros_read(event))) {

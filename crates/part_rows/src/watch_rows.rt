@@ -1,5 +1,5 @@
 use lt_isa::Event;
-use processor::{Bank, Leaves, ListWatch, NoWatch, PlainBank, Watch, WatchFailed};
+use processor::{Bank, Leaves, ListWatch, NoWatch, PlainBank, Watch, WatchFailed, paths_told};
 use std::alloc::Global;
 use std::test::Fail;
 
@@ -58,4 +58,9 @@ fn blocks_are_written_and_read(rt: HostRuntime) -> Result<(), Fail> {
     assert_eq!(rt; block, written);
     assert_eq!(rt; (bank.word(1, 7), bank.word(0, 7)), (-8, 0));
     Ok(())
+}
+
+#[test]
+fn the_laws_of_paths_hold_of_a_plain_list(_rt: HostRuntime) {
+    paths_told::<PlainBank>();
 }
