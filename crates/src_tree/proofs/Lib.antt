@@ -6,6 +6,8 @@ pub mod InOrder
 pub mod DeclaredOnce
 pub mod Faultless
 pub mod FirstAmong
+mod FirstDeclaration
+mod FirstFaults
 pub mod Contexts
 pub mod NamesDiffer
 pub mod ProgramStatements

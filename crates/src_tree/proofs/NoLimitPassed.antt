@@ -27,12 +27,12 @@ true_back true true e f = refl
 true_back true false e f = absurd cc
 true_back false b e f = absurd cc
 
-fits : (length : Option ℕ) → not (length_fits length) ≡ false → LengthFits length
-fits None e = tt
-fits (Some n) e =
+pub length_is_fit : (length : Option ℕ) → not (length_fits length) ≡ false → LengthFits length
+length_is_fit None e = tt
+length_is_fit (Some n) e =
     let s = both_true (nat_le 1 n) (nat_le n max_length) e in (leb-true 1 n s.0, leb-true n max_length s.1)
 
-fits_back : (length : Option ℕ) → LengthFits length → not (length_fits length) ≡ false
+pub fits_back : (length : Option ℕ) → LengthFits length → not (length_fits length) ≡ false
 fits_back None h = refl
 fits_back (Some n) h = true_back (nat_le 1 n) (nat_le n max_length) (le-leb 1 n h.0) (le-leb n max_length h.1)
 
@@ -42,7 +42,7 @@ lengths_fit n [] e = tt
 lengths_fit n (d ∷ ds) e =
     let s = neither (where_true (not (length_fits d.length)) (Limit ArrayLength (shown_number n)))
     (length_fault (n + 1) ds) e in
-    (fits d.length (not_true _ _ s.first), lengths_fit (n + 1) ds s.second)
+    (length_is_fit d.length (not_true _ _ s.first), lengths_fit (n + 1) ds s.second)
 
 -- lengths that fit have no fault
 pub lengths_back : (n : ℕ) (ds : List Decl) → AllByRecursion (λ d. LengthFits d.length) ds → length_fault n ds ≡ None

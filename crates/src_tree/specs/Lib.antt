@@ -8,4 +8,5 @@ pub mod Typing
 pub mod Limits
 pub mod Statements
 pub mod FirstFault
+pub mod Causes
 pub mod PartByPart

@@ -7,6 +7,7 @@ ghost use Rattle.src_tree.specs.Statements.{in_order};
 ghost use Rattle.src_tree.specs.Typing.{IsTyped};
 ghost use Rattle.src_tree.specs.Limits.{IsWithinLimits};
 ghost use Rattle.src_tree.specs.FirstFault.{StatementFault, IsFirstAt, statements_fault, first_fault};
+ghost use Rattle.src_tree.specs.Causes.{IsFirstFault};
 
 /// Laws of faults: a program has no first fault exactly where it is well typed and within the limits.
 pub fn no_fault()
@@ -22,4 +23,10 @@ pub fn first_statement()
         → IsFirstAt fault 0 (in_order (context_of p.decls) Public p.body) k e → statements_fault fault p ≡ Some e }
     ensures only { (fault : StatementFault) (p : Source) (e : TypeError) → statements_fault fault p ≡ Some e
         → (k : ℕ) × IsFirstAt fault 0 (in_order (context_of p.decls) Public p.body) k e }
+{}
+
+/// Laws of the first fault: it is the one that the relation in words names, and no other.
+pub fn first_cause()
+    ensures found { (p : Source) (e : TypeError) → IsFirstFault p e → first_fault p ≡ Some e }
+    ensures only { (p : Source) (e : TypeError) → first_fault p ≡ Some e → IsFirstFault p e }
 {}
