@@ -3,8 +3,8 @@ use Rattle.std.proofs.Common.{◌≡◌, ℕ, List, ap, subst}
 use Rattle.lt_isa.specs.Object.{Parts}
 use Rattle.lt_isa.specs.Machine.{State}
 use Rattle.lt_isa.specs.Trace.{trace_from}
-use Rattle.processor.specs.declared.banks.Leaves.{Leaves}
-use Rattle.processor.specs.Accesses.{accesses_from}
+use Rattle.banks.specs.declared.bank.Leaves.{Leaves}
+use Rattle.banks.specs.Accesses.{accesses_from}
 use Rattle.processor.specs.Ends.{Broke}
 use Rattle.processor.specs.ObliviousBanks.{paths_shown}
 use Rattle.processor.specs.Watching.{WatcherTold, run_shown}

@@ -11,8 +11,8 @@ use Rattle.lt_isa.specs.Ranges.{IsInRange}
 use Rattle.lt_isa.specs.Start.{start_bank}
 use Rattle.lt_isa.proofs.Cycles.{bank-fits}
 use Rattle.lt_isa.proofs.Starts.{length-start_bank}
-use Rattle.processor.specs.Banks.{one_leaf}
-use Rattle.processor.specs.Blocks.{Blocks}
+use Rattle.banks.specs.Banks.{one_leaf}
+use Rattle.banks.specs.Blocks.{Blocks}
 use Rattle.processor.specs.Starting.{starting_bank}
 use Rattle.path_oram.specs.Orams.{Oram, paths_ahead}
 use Rattle.path_oram.specs.Places.{first_places}

@@ -7,7 +7,7 @@ use Rattle.lt_isa.specs.Machine.{Observed, State}
 use Rattle.lt_isa.specs.Object.{Parts}
 use Rattle.lt_isa.specs.Step.{Outcome, Goes, Stops, Faults, step, step_start}
 use Rattle.lt_isa.specs.Trace.{Stamped, seen_at, stamped, shown_then, trace_within, trace_from}
-use Rattle.processor.specs.declared.banks.Leaves.{Leaves}
+use Rattle.banks.specs.declared.bank.Leaves.{Leaves}
 use Rattle.processor.specs.Watching.{AnEvent, APath, TellsMore, events_in, with_paths}
 use Rattle.processor.specs.Keeping.{events_in-append}
 use Rattle.processor.proofs.TellingPaths.{events_in-with_paths}

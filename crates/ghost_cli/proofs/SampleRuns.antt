@@ -4,7 +4,7 @@ use Rattle.lt_isa.specs.Machine.{State}
 use Rattle.lt_isa.specs.Object.{Parts}
 use Rattle.lt_isa.specs.Start.{FitsObject, start_state, trace, wants_of}
 use Rattle.lt_isa.specs.Trace.{HaltsAt, Stamped, trace_from}
-use Rattle.processor.specs.declared.banks.Leaves.{Leaves}
+use Rattle.banks.specs.declared.bank.Leaves.{Leaves}
 use Rattle.processor.specs.Watching.{with_paths}
 use Rattle.ghost_cli.specs.Counting.{Counts, how_many, is_plain, is_encrypted, is_second}
 use Rattle.ghost_cli.specs.Histogram.{sample_cycles, sample_inputs, sample_trace}

@@ -1,6 +1,9 @@
 -- What a run over the banks that it begins with shows, and where it leaves their blocks.
 use Rattle.std.proofs.Common.{◌≡◌, ℕ, ◌-◌, ◌<◌, ◌≤◌, ◌^◌, ℤ, List, [], length, map, get_or, Option, Some, None, refl, sym, ap, ◌∙◌, subst, arith}
 use Rattle.std.specs.List.{All}
+use Rattle.banks.specs.declared.bank.Leaves.{Leaves}
+use Rattle.banks.specs.Accesses.{accesses_from}
+use Rattle.banks.proofs.AccessBounds.{blocks-exist}
 use Rattle.ghost_cli.specs.Showing.{run_seen}
 use Rattle.std.proofs.lemmas.List.{length-map}
 use Rattle.std.proofs.lemmas.List.Elements.{All-map}
@@ -10,11 +13,8 @@ use Rattle.lt_isa.specs.Object.{Parts, blocks_of}
 use Rattle.lt_isa.specs.Ranges.{IsInRange}
 use Rattle.lt_isa.specs.Start.{FitsObject, start_state}
 use Rattle.lt_isa.proofs.Starts.{IsShaped-start}
-use Rattle.processor.specs.declared.banks.Leaves.{Leaves}
-use Rattle.processor.specs.Accesses.{accesses_from}
 use Rattle.processor.specs.ObliviousBanks.{oram_of, paths_shown, shown_of}
 use Rattle.processor.specs.Watching.{run_shown}
-use Rattle.processor.proofs.AccessBounds.{blocks-exist}
 use Rattle.path_oram.specs.LeavesAlike.{touched}
 use Rattle.path_oram.specs.Orams.{Oram, paths_ahead}
 use Rattle.path_oram.specs.Places.{Places, first_places}

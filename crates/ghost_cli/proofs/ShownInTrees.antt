@@ -5,11 +5,11 @@ use Rattle.lt_isa.specs.Object.{Parts}
 use Rattle.lt_isa.specs.Ranges.{IsInRange}
 use Rattle.lt_isa.specs.Start.{FitsObject, start_state}
 use Rattle.lt_isa.proofs.Starts.{IsShaped-start}
-use Rattle.processor.specs.declared.banks.Leaves.{Leaves}
-use Rattle.processor.specs.Accesses.{accesses_from}
+use Rattle.banks.specs.declared.bank.Leaves.{Leaves}
+use Rattle.banks.specs.Accesses.{accesses_from}
+use Rattle.banks.proofs.AccessBounds.{blocks-exist}
 use Rattle.processor.specs.ObliviousBanks.{oram_of, paths_shown, shown_of}
 use Rattle.processor.specs.Watching.{run_shown}
-use Rattle.processor.proofs.AccessBounds.{blocks-exist}
 use Rattle.path_oram.specs.LeavesAlike.{touched}
 use Rattle.path_oram.specs.Words.{first_words}
 use Rattle.recursive_oram.specs.Levels.{shown_ahead}

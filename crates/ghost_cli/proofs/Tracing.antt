@@ -11,7 +11,7 @@ use Rattle.gr_outside.specs.Sink.{SinkSeen}
 use Rattle.lt_isa.specs.Machine.{State}
 use Rattle.lt_isa.specs.Object.{Parts}
 use Rattle.lt_isa.specs.Trace.{Stamped}
-use Rattle.processor.specs.Accesses.{accesses_from, in_bank}
+use Rattle.banks.specs.Accesses.{accesses_from, in_bank}
 use Rattle.processor.specs.ObliviousBanks.{ComeBy, OfBoth, oram_of}
 use Rattle.processor.specs.Watching.{WatcherTold}
 use Rattle.path_oram.specs.Orams.{ComesBy, Oram}

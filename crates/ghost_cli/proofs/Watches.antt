@@ -6,7 +6,7 @@ use Rattle.gr_base.specs.Added.{Adds, AddsLess}
 use Rattle.lt_isa.specs.Trace.{Stamped}
 use Rattle.std.specs.Prelude.{codes, decimal, flat_map}
 use Rattle.run_data.specs.TraceText.{event_line, event_text}
-use Rattle.processor.specs.declared.banks.Leaves.{Leaves}
+use Rattle.banks.specs.declared.bank.Leaves.{Leaves}
 use Rattle.processor.specs.Watching.{WatcherTold, AnEvent, APath, TellsMore, events_in}
 use Rattle.run_data.specs.PathText.{leaves_text}
 use Rattle.ghost_cli.specs.Watched.{Lines, HoldsLines, HoldsTold, Tears, Grows, kept}

@@ -4,7 +4,7 @@ use Rattle.std.specs.Prelude.{◌≡◌, ℕ, ◌+◌, ◌-◌, ◌*◌, ◌<◌
 use Rattle.std.specs.List.{All}
 use Rattle.lt_isa.specs.Object.{Parts, block_words, blocks_of}
 use Rattle.lt_isa.specs.Start.{start_bank, start_state}
-use Rattle.processor.specs.Banks.{one_leaf}
+use Rattle.banks.specs.Banks.{one_leaf}
 use Rattle.processor.specs.Machines.{Running}
 use Rattle.path_oram.specs.Orams.{Oram, paths_ahead}
 use Rattle.path_oram.specs.Places.{first_places}

@@ -6,7 +6,7 @@ use Rattle.lt_isa.specs.Machine.{State}
 use Rattle.lt_isa.specs.Object.{Parts}
 use Rattle.gr_outside.specs.Sink.{SinkSeen}
 use Rattle.gr_outside.specs.declared.sink.SinkFailed.{SinkFailed}
-use Rattle.processor.specs.Accesses.{accesses_from, in_bank}
+use Rattle.banks.specs.Accesses.{accesses_from, in_bank}
 use Rattle.processor.specs.ObliviousBanks.{oram_of}
 use Rattle.rand_chacha.specs.ChaCha.{ChaCha}
 use Rattle.rand_core.specs.Stream.{Stream}

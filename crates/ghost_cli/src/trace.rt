@@ -1,6 +1,7 @@
 ghost use Rattle.std.specs.Prelude.{◌≡◌, ◌≢◌, ◌≤◌, [], length, IfOk, IfSome, IsTrue, Some, false, true};
 ghost use Rattle.std.specs.Option.{option_map};
 ghost use Rattle.clap.specs.Words.{app_of};
+ghost use Rattle.banks.specs.Accesses.{accesses_from};
 ghost use Rattle.ghost_cli.specs.Options.{texts};
 ghost use Rattle.ghost_cli.specs.Outside.{Explains, outside};
 ghost use Rattle.ghost_cli.specs.Texts.{comes_to};
@@ -12,7 +13,6 @@ ghost use Rattle.lt_isa.specs.Ranges.{IsInRange};
 ghost use Rattle.lt_isa.specs.Start.{FitsObject};
 ghost use Rattle.lt_isa.specs.Trace.{trace_from};
 ghost use Rattle.path_oram.specs.Orams.{paths_ahead};
-ghost use Rattle.processor.specs.Accesses.{accesses_from};
 ghost use Rattle.processor.specs.ObliviousBanks.{ComeBy};
 ghost use Rattle.processor.specs.Watching.{run_shown};
 ghost use Rattle.ghost_cli.specs.Seeds.{stream_from};

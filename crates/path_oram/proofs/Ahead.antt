@@ -3,8 +3,8 @@ use Rattle.std.proofs.Common.{◌≡◌, ℕ, zero, suc, ◌+◌, ◌<◌, ◌�
 use Rattle.std.proofs.lemmas.Bool.{cases_eq, eq-eqb, ne_eqb}
 use Rattle.std.proofs.lemmas.List.{get_or-map, length-map, length-set, map-append}
 use Rattle.rand_core.specs.Stream.{Stream, next_u64}
-use Rattle.processor.specs.declared.banks.Leaves.{Leaves}
-use Rattle.processor.specs.Banks.{one_leaf}
+use Rattle.banks.specs.declared.bank.Leaves.{Leaves}
+use Rattle.banks.specs.Banks.{one_leaf}
 use Rattle.path_oram.specs.Moves.{MovesBy}
 use Rattle.path_oram.specs.Orams.{leaves_ahead, paths_ahead}
 use Rattle.path_oram.specs.Places.{Places}

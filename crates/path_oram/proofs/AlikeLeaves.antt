@@ -5,8 +5,8 @@ use Rattle.lt_isa.specs.Oblivious.{IsOblivious}
 use Rattle.lt_isa.specs.Ranges.{IsInRange}
 use Rattle.lt_isa.specs.Start.{start_state}
 use Rattle.lt_isa.proofs.Starts.{IsShaped-start}
-use Rattle.processor.specs.Watching.{accesses_shown}
-use Rattle.processor.proofs.AccessBounds.{accesses-counted, blocks-exist}
+use Rattle.banks.specs.ObliviousEvents.{accesses_shown}
+use Rattle.banks.proofs.AccessBounds.{accesses-counted, blocks-exist}
 use Rattle.path_oram.specs.LeavesAlike.{LeavesAlike, touched}
 use Rattle.path_oram.proofs.Rearranging.{rearrangement}
 use Rattle.path_oram.proofs.ShownAlike.{shows_the_same}

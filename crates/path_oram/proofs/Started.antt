@@ -5,7 +5,7 @@ use Rattle.std.proofs.lemmas.List.Elements.{All-map}
 use Rattle.std.proofs.lemmas.Nat.{pow_pos}
 use Rattle.std.proofs.Math.Nat.{mod-lt}
 use Rattle.rand_core.specs.Stream.{Stream}
-use Rattle.processor.specs.Banks.{one_leaf}
+use Rattle.banks.specs.Banks.{one_leaf}
 use Rattle.path_oram.specs.Orams.{paths_ahead}
 use Rattle.path_oram.specs.Places.{Places, first_places}
 use Rattle.path_oram.specs.Words.{first_words, leaf_of, words_left}

@@ -2,11 +2,11 @@
 use Rattle.std.proofs.Common.{◌≡◌, ℕ, suc, List, [], ◌∷◌, ◌++◌, length, get_or, set, refl, sym, ap, ◌∙◌, subst}
 use Rattle.std.proofs.lemmas.List.{length-map}
 use Rattle.rand_core.specs.Stream.{Stream, next_u64}
+use Rattle.banks.specs.Banks.{one_leaf}
 use Rattle.path_oram.specs.Places.{Places}
 use Rattle.path_oram.specs.GreedyPath.{GreedyPath}
 use Rattle.path_oram.specs.Moves.{Moves, MovesBy, MovesTo, Stays, Then}
 use Rattle.path_oram.specs.Orams.{ComesBy, leaves_ahead, paths_ahead}
-use Rattle.processor.specs.Banks.{one_leaf}
 use Rattle.path_oram.specs.Words.{first_words, leaf_of, words_left}
 
 pub moves-then : (p q r : Places) (blocks words more others : List ℕ)

@@ -4,7 +4,7 @@
 use Rattle.std.specs.Prelude.{◌≡◌, ℕ, ◌+◌, ◌<◌, ◌≤◌, ℤ, List, length, slice_index}
 use Rattle.lt_isa.specs.Object.{Parts, blocks_of}
 use Rattle.lt_isa.specs.Start.{Agree, start_state}
-use Rattle.processor.specs.Accesses.{accesses_from, in_bank}
+use Rattle.banks.specs.Accesses.{accesses_from, in_bank}
 use Rattle.path_oram.specs.Rearranged.{IsRearrangement}
 use Rattle.path_oram.specs.WordsRead.{leaves_shown}
 

@@ -2,8 +2,8 @@
 -- (Stefanov et al., Path ORAM, CCS 2013: an access shows the path of the block's leaf before.)
 use Rattle.std.specs.Prelude.{◌≡◌, ℕ, ℤ, List, [], ◌∷◌, length, map, slice_index, slice_set}
 use Rattle.rand_core.specs.Stream.{Stream, next_u64}
-use Rattle.processor.specs.declared.banks.Leaves.{Leaves}
-use Rattle.processor.specs.Banks.{one_leaf}
+use Rattle.banks.specs.declared.bank.Leaves.{Leaves}
+use Rattle.banks.specs.Banks.{one_leaf}
 use Rattle.path_oram.specs.Places.{Places}
 use Rattle.path_oram.specs.Moves.{Moves}
 use Rattle.path_oram.specs.Words.{first_words, leaf_of, words_left}

@@ -2,7 +2,7 @@
 //! access.
 //!
 //! [`PathTree`] is the tree with its stash, without a position map: an access to a block names its leaf.
-//! [`PathOram`] is a bank of the processor whose blocks stand so, over any source of random words. It alone has a
+//! [`PathOram`] is a bank of memory whose blocks stand so, over any source of random words. It alone has a
 //! position map. [`Positions`] says where the blocks stand, by their numbers alone. [`Positions::access`] shows the
 //! path of the leaf that it is told, gives the block a new leaf there, and leads from the places before to those after
 //! by the greedy write-back.

@@ -2,8 +2,8 @@ ghost use Rattle.std.specs.Prelude.{◌≡◌, ◌+◌, ◌/◌, ◌%◌, ◌<�
 ghost use Rattle.std.specs.List.{All};
 ghost use Rattle.lt_isa.specs.Limits.{most_blocks};
 ghost use Rattle.lt_isa.specs.Machine.{word_in};
-ghost use Rattle.processor.specs.Banks.{block_numbered};
-ghost use Rattle.processor.specs.Blocks.{in_blocks};
+ghost use Rattle.banks.specs.Banks.{block_numbered};
+ghost use Rattle.banks.specs.Blocks.{in_blocks};
 ghost use Rattle.path_oram.specs.Moves.{MovesTo};
 ghost use Rattle.path_oram.specs.Places.{bucket_number, first_places, held};
 ghost use Rattle.path_oram.specs.Settles.{StandsOn};
@@ -12,8 +12,8 @@ ghost use Rattle.path_oram.specs.Whole.{IsHeightFor, IsWhole};
 
 use crate::first::height_for;
 use crate::positions::Positions;
+use banks::{Bank, PlainBank};
 use gr_base::Memory;
-use processor::{Bank, PlainBank};
 use std::alloc::Global;
 use std::marker::Model;
 

@@ -7,7 +7,7 @@ use Rattle.std.specs.Prelude.{slice_get, IsSome}
 use Rattle.std.proofs.lemmas.List.{get_or-set_same, get_or-set_other, length-set}
 use Rattle.std.proofs.lemmas.Option.{slice_get-get_or, slice_get_past}
 use Rattle.std.proofs.lemmas.Bool.{cases_lt}
-use Rattle.processor.specs.declared.banks.Leaves.{Leaves}
+use Rattle.banks.specs.declared.bank.Leaves.{Leaves}
 use Rattle.processor.specs.Machines.{bank_numbered}
 use Rattle.processor.specs.ObliviousBanks.{Accessed, OfBoth, oram_of}
 use Rattle.processor.specs.Stores.{Memories}

@@ -1,23 +1,11 @@
 -- How the oblivious banks of a machine come from those before by the accesses that were made to them.
-use Rattle.std.proofs.Common.{◌≡◌, ◌≢◌, ℕ, cond, List, [], ◌∷◌, ◌++◌, length, Option, Some, None, Bool, true, false, refl, sym, ap, ◌∙◌, subst, ⊎_elim, append_assoc}
+use Rattle.std.proofs.Common.{◌≡◌, ◌≢◌, ℕ, cond, List, [], ◌∷◌, ◌++◌, length, Option, Some, None, sym, ap, ◌∙◌, subst, ⊎_elim, append_assoc}
 use Rattle.std.proofs.lemmas.List.{append-nil, nil_from_length}
 use Rattle.std.proofs.lemmas.Bool.{cases_eq, eq-eqb, ne_eqb}
-use Rattle.std.specs.Prelude.{◌==◌}
-use Rattle.processor.specs.declared.banks.Leaves.{Leaves}
-use Rattle.processor.specs.Accesses.{Access, in_bank, at_most_one}
+use Rattle.banks.specs.declared.bank.Leaves.{Leaves}
+use Rattle.banks.specs.Accesses.{Access, in_bank, at_most_one}
+use Rattle.banks.proofs.InBank.{in_bank-append}
 use Rattle.processor.specs.ObliviousBanks.{ComeBy, MayAccess, OfBoth, ShowsOn, oram_of}
-
--- the accesses to a bank in two stretches
-pub in_bank-append : (b : ℕ) (xs ys : List Access) → in_bank b (xs ++ ys) ≡ in_bank b xs ++ in_bank b ys
-in_bank-append b [] ys = refl
-in_bank-append b (x ∷ xs) ys =
-    ap (λ rest. cond (b == x.bank) (x.block ∷ rest) rest) (in_bank-append b xs ys) ∙ chosen (b == x.bank)
-  where
-    chosen : (same : Bool)
-        → cond same (x.block ∷ (in_bank b xs ++ in_bank b ys)) (in_bank b xs ++ in_bank b ys)
-        ≡ cond same (x.block ∷ in_bank b xs) (in_bank b xs) ++ in_bank b ys
-    chosen true = refl
-    chosen false = refl
 
 -- what each bank shows goes on by each access
 module _ {B : Type 0} (shows : B → List ℕ → List Leaves) (shows_each : (bank : B) (blocks : List ℕ)

@@ -6,9 +6,9 @@ use Rattle.lt_isa.specs.Costs.{cost_of}
 use Rattle.lt_isa.specs.Machine.{Slot, Unbound, Bound, slot, register, bank_blocks, block_at, set_block, read_event, write_event}
 use Rattle.lt_isa.specs.Step.{Goes, with_bound, loaded, block_named}
 use Rattle.lt_isa.specs.Windows.{access_start}
-use Rattle.processor.specs.declared.banks.Leaves.{Leaves}
+use Rattle.banks.specs.declared.bank.Leaves.{Leaves}
+use Rattle.banks.specs.Accesses.{access_on}
 use Rattle.processor.specs.declared.done.Untold.TheVariants as done
-use Rattle.processor.specs.Accesses.{access_on}
 use Rattle.processor.specs.Machines.{Running}
 use Rattle.processor.specs.ObliviousBanks.{Accessed, MayAccess}
 use Rattle.processor.specs.Stepping.{IsReady, Executes, on_slot, outcome_of}

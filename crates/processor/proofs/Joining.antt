@@ -7,11 +7,11 @@ use Rattle.lt_isa.specs.Machine.{State, Halted}
 use Rattle.lt_isa.specs.Shape.{IsShaped}
 use Rattle.lt_isa.specs.Trace.{Stamped, seen_at, trace_from, final_from}
 use Rattle.lt_isa.proofs.Ends.{trace_resumed, final_resumed}
+use Rattle.banks.proofs.ResumedAccesses.{accesses_resumed}
 use Rattle.processor.specs.declared.ends.End.{End}
 use Rattle.processor.specs.declared.ends.End.TheVariants as end
 use Rattle.processor.specs.Ends.{EndsAs}
 use Rattle.processor.specs.Joining.{RunsJoin}
-use Rattle.processor.proofs.ResumedAccesses.{accesses_resumed}
 
 -- some events without a halt, followed by others, end as the others do
 ends_behind : (es fs : List Stamped) (how : End) → EndsAs es end.Spent → EndsAs fs how → EndsAs (es ++ fs) how

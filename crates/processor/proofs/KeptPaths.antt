@@ -2,7 +2,7 @@
 use Rattle.std.proofs.Common.{◌≡◌, ℕ, [], ◌∷◌, ◌++◌, length, sym, ◌∙◌}
 use Rattle.std.proofs.lemmas.List.{append-nil}
 use Rattle.lt_isa.specs.Trace.{Stamped}
-use Rattle.processor.specs.declared.banks.Leaves.{Leaves}
+use Rattle.banks.specs.declared.bank.Leaves.{Leaves}
 use Rattle.processor.specs.ListWatching.{Heard, KeepsMore, path_at}
 use Rattle.processor.specs.Watching.{AnEvent, APath}
 

@@ -1,23 +1,17 @@
-pub mod Blocks
-pub mod FrontWords
 pub mod StartImages
 pub mod KeptEvents
 pub mod BankLists
 pub mod Sounds
 pub mod Executed
 pub mod Cells
-pub mod AccessRuns
 pub mod TellingPaths
 pub mod KeptPaths
 pub mod ComingBy
-pub mod AccessBounds
 pub mod CountedPaths
 pub mod Progress
 pub mod ToldSteps
-pub mod ShownAccesses
 pub mod PathsTold
 pub mod QuickRuns
-mod ResumedAccesses
 pub mod FlatCode
 pub mod AtOnce
 pub mod Joining

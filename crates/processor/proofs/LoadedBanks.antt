@@ -12,7 +12,7 @@ use Rattle.lt_isa.specs.Ranges.{IsInRange}
 use Rattle.lt_isa.specs.Shape.{IsShaped, IsBlock}
 use Rattle.lt_isa.specs.Start.{FitsObject, start_bank, start_banks, start_state}
 use Rattle.lt_isa.proofs.Starts.{IsShaped-start}
-use Rattle.processor.specs.Blocks.{Blocks}
+use Rattle.banks.specs.Blocks.{Blocks}
 use Rattle.processor.specs.Machines.{AreBanksOf, Running, fresh_state}
 use Rattle.processor.specs.Starting.{starting_bank}
 use Rattle.processor.proofs.Sounds.{fresh_state-start}

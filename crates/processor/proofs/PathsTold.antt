@@ -8,18 +8,19 @@ use Rattle.lt_isa.specs.Ranges.{IsInRange}
 use Rattle.lt_isa.specs.Machine.{State}
 use Rattle.lt_isa.specs.Shape.{IsShaped}
 use Rattle.lt_isa.specs.Trace.{Stamped, final_from, trace_from}
-use Rattle.processor.specs.declared.banks.Leaves.{Leaves}
+use Rattle.banks.specs.declared.bank.Leaves.{Leaves}
+use Rattle.banks.specs.Accesses.{Access, accesses_from, in_bank}
+use Rattle.banks.specs.Banks.{no_leaves}
+use Rattle.banks.specs.ObliviousEvents.{accesses_shown, if_it_is, oblivious}
+use Rattle.banks.proofs.AccessBounds.{accesses-counted}
+use Rattle.banks.proofs.InBank.{in_bank-append}
 use Rattle.processor.specs.declared.ends.End.TheVariants as end
 use Rattle.processor.specs.declared.list_watch.ShownPaths.{ShownPaths}
-use Rattle.processor.specs.Accesses.{Access, accesses_from, in_bank}
-use Rattle.processor.specs.Banks.{no_leaves}
 use Rattle.processor.specs.Ends.{EndsAs}
 use Rattle.processor.specs.ListWatching.{path_at, paths_in}
 use Rattle.processor.specs.ObliviousBanks.{ComeBy, OfBoth, ShowsOn, oram_of, paths_shown, shown_of}
 use Rattle.processor.specs.PathsTold.{ArePathsOf, is_bank, paths_of, places_of, stamps_of}
-use Rattle.processor.specs.Watching.{WatcherTold, accesses_shown, if_it_is, left_paths, next_of, oblivious, path_behind, run_shown, with_path, with_paths}
-use Rattle.processor.proofs.AccessBounds.{accesses-counted}
-use Rattle.processor.proofs.ComingBy.{in_bank-append}
+use Rattle.processor.specs.Watching.{WatcherTold, left_paths, next_of, path_behind, run_shown, with_path, with_paths}
 use Rattle.processor.proofs.Joining.{runs_join}
 use Rattle.processor.proofs.TellingPaths.{with_paths-same}
 

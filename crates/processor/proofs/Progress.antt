@@ -11,22 +11,23 @@ use Rattle.lt_isa.specs.Trace.{Stamped, seen_at, stamped, trace_from, final_from
 use Rattle.lt_isa.proofs.Steps.{step-later, step_start-least}
 use Rattle.lt_isa.proofs.Runs.{trace_from-past, trace_from-goes, trace_from-stops, trace_from-faults, final_from-past, final_from-goes, final_from-stops, final_from-faults}
 use Rattle.lt_isa.proofs.Ends.{step-no_halt, stamped-halt}
+use Rattle.banks.specs.declared.bank.Leaves.{Leaves}
+use Rattle.banks.specs.Accesses.{Access, accessed, accessed_then, accesses_from, at_most_one}
+use Rattle.banks.proofs.AccessRuns.{accesses_from-past, accesses_from-step}
+use Rattle.banks.proofs.ShownAccesses.{event_of_outcome, step-bank, told_bank}
 use Rattle.processor.specs.declared.done.Untold.{Untold}
 use Rattle.processor.specs.declared.done.Untold.TheVariants as done
 use Rattle.processor.specs.declared.ends.End.{End}
 use Rattle.processor.specs.declared.ends.End.TheVariants as end
-use Rattle.processor.specs.declared.banks.Leaves.{Leaves}
-use Rattle.processor.specs.Accesses.{Access, accessed, accessed_then, accesses_from, at_most_one}
 use Rattle.processor.specs.Ends.{Broke, BrokeOff, EndsAs, NoHalt, oblivious_count, path_count}
 use Rattle.processor.specs.ObliviousBanks.{ComeBy, MayAccess, OfBoth, ShowsOn, oram_of, paths_shown}
 use Rattle.processor.specs.Stepping.{on_slot, outcome_of, told_of_step, went_of, CameTo, StaysOnFault, StaysIfFaulted, StepBroke, StepTold}
 use Rattle.processor.specs.Machines.{Running}
 use Rattle.processor.specs.declared.done.Went.TheVariants as went
 use Rattle.processor.specs.Watching.{WatcherTold, run_shown, with_paths}
-use Rattle.processor.proofs.AccessRuns.{accesses_from-past, accesses_from-step}
 use Rattle.processor.proofs.ComingBy.{access-shows_on, come-on, shows_on-none, shows_on-then}
 use Rattle.processor.proofs.CountedPaths.{counts_on, most_one, none_before, oblivious_count-append, path_count-append, step_counted}
-use Rattle.processor.proofs.TellingPaths.{event_of_outcome, left_behind, run_shown-step, step-bank, told_bank}
+use Rattle.processor.proofs.TellingPaths.{left_behind, run_shown-step}
 
 -- A run up to cycle n has come from one state to another, and its oblivious banks with it: the watcher was told a front
 -- of what the run shows, without a halt, and what is left is what the run from there on shows.

@@ -13,15 +13,15 @@ use Rattle.lt_isa.specs.Trace.{trace_from}
 use Rattle.lt_isa.proofs.Steps.{step-at, step_start-at}
 use Rattle.lt_isa.proofs.Runs.{trace_from-goes, final_from-goes}
 use Rattle.lt_isa.proofs.Shapes.{step-shaped}
+use Rattle.banks.specs.Accesses.{accessed, accessed_by, accesses_from, at_most_one}
+use Rattle.banks.specs.declared.bank.Leaves.{Leaves}
+use Rattle.banks.proofs.AccessRuns.{accessed-at, accesses_from-step}
 use Rattle.processor.specs.declared.quick.Point.{Point}
-use Rattle.processor.specs.Accesses.{accessed, accessed_by, accesses_from, at_most_one}
 use Rattle.processor.specs.Quick.{CameAlike, PassesQuickly, RunsAlike, state_at}
 use Rattle.processor.specs.Stores.{Pad}
-use Rattle.processor.specs.declared.banks.Leaves.{Leaves}
 use Rattle.processor.specs.ObliviousBanks.{paths_shown}
 use Rattle.processor.specs.Watching.{WatcherTold, with_paths}
 use Rattle.processor.proofs.Progress.{Progress}
-use Rattle.processor.proofs.AccessRuns.{accessed-at, accesses_from-step}
 
 -- an instruction that shows nothing accesses nothing and waits for nothing
 record IsSilent (o : Parts) (s : State) (i : Instr) : Type 0 where

@@ -11,9 +11,9 @@ use Rattle.lt_isa.specs.Ranges.{IsInRange, SymbolFits}
 use Rattle.lt_isa.specs.Start.{FitsObject, covers, start_word, start_block, start_bank}
 use Rattle.lt_isa.proofs.StartOutputs.{fitting-count, fitting-length}
 use Rattle.gr_base.proofs.EachAfter.{EachAfter-at}
+use Rattle.banks.specs.Blocks.{Blocks, block_of_words, cut, filled_up, in_blocks, words_of_blocks}
+use Rattle.banks.proofs.Blocks.{length-cut, block-cut, length-block_of_words, words_of_cut, length-filled_up, get_or-filled_up}
 use Rattle.processor.specs.Starting.{starting_bank}
-use Rattle.processor.specs.Blocks.{Blocks, block_of_words, cut, filled_up, in_blocks, words_of_blocks}
-use Rattle.processor.proofs.Blocks.{length-cut, block-cut, length-block_of_words, words_of_cut, length-filled_up, get_or-filled_up}
 
 -- what stands in some words, and behind them zeros, once the variables from number k on were put there
 abbrev pub IsFilled : ℕ → List Symbol → List (List ℤ) → ℕ → ℕ → List ℤ → Type 0

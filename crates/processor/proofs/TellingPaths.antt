@@ -4,20 +4,22 @@ use Rattle.std.proofs.lemmas.Bool.{cases_eq, eq-eqb, ne_eqb, false≢true}
 use Rattle.std.specs.Prelude.{◌==◌, IsSome}
 use Rattle.lt_isa.specs.Object.{Parts}
 use Rattle.lt_isa.specs.Ranges.{IsInRange}
-use Rattle.lt_isa.specs.Machine.{State, Observed, RamRead, RamWrite, EncRead, EncWrite, Oram, Halted}
+use Rattle.lt_isa.specs.Machine.{State, Observed}
 use Rattle.lt_isa.specs.Shape.{IsShaped}
 use Rattle.lt_isa.specs.Step.{Outcome, Goes, Stops, Faults, step, step_start}
 use Rattle.lt_isa.specs.Trace.{Stamped, seen_at, stamped, trace_from}
 use Rattle.lt_isa.proofs.Runs.{trace_from-goes, trace_from-stops, trace_from-faults}
-use Rattle.processor.specs.declared.banks.Leaves.{Leaves}
-use Rattle.processor.specs.Banks.{no_leaves}
-use Rattle.processor.specs.Accesses.{Access, ShowsAccess, ShowsItsAccess, accessed, accesses_from, in_bank, at_most_one}
+use Rattle.banks.specs.declared.bank.Leaves.{Leaves}
+use Rattle.banks.specs.Banks.{no_leaves}
+use Rattle.banks.specs.Accesses.{Access, accessed, accesses_from, in_bank, at_most_one}
+use Rattle.banks.specs.ObliviousEvents.{oblivious}
+use Rattle.banks.proofs.InBank.{in_bank-other, in_bank-this}
+use Rattle.banks.proofs.ShownAccesses.{event_of_outcome, if_oblivious, made_bank, step-bank, told_bank}
+use Rattle.banks.proofs.AccessRuns.{accesses_from-step}
 use Rattle.processor.specs.ObliviousBanks.{Accessed, MayAccess, OfBoth, oram_of, paths_shown, shown_of}
 use Rattle.processor.specs.Stepping.{may_show, told_of_step}
-use Rattle.processor.specs.Watching.{WatcherTold, AnEvent, APath, events_in, left_paths, next_of, oblivious, path_behind, run_shown, with_path, with_paths}
+use Rattle.processor.specs.Watching.{WatcherTold, AnEvent, APath, events_in, left_paths, next_of, path_behind, run_shown, with_path, with_paths}
 use Rattle.processor.specs.Keeping.{events_in-append}
-use Rattle.processor.proofs.ShownAccesses.{shows_its_access}
-use Rattle.processor.proofs.AccessRuns.{accesses_from-step}
 
 -- the same paths are told where each bank shows the same
 pub with_paths-same : (events : List Stamped) (p q : ℕ → List Leaves)
@@ -55,66 +57,6 @@ events_in-with_paths (event ∷ events) paths =
     ∙ ap (λ l. l ++ events_in (with_paths events (left_paths bank paths)))
     (path_behind-no_event event.stamp bank (next_of bank paths))
     ∙ events_in-with_paths events (left_paths bank paths))
-
--- the oblivious bank that is accessed, as the event tells it and as the access tells it
-abbrev pub told_bank : Option Observed → Option ℕ
-told_bank None = None
-told_bank (Some event) = oblivious event
-
--- a bank where it is oblivious
-abbrev pub if_oblivious : ℕ → Option ℕ
-if_oblivious zero = None
-if_oblivious (suc zero) = None
-if_oblivious (suc (suc i)) = Some (suc (suc i))
-
--- the oblivious bank of an access
-abbrev pub made_bank : Option Access → Option ℕ
-made_bank None = None
-made_bank (Some access) = if_oblivious access.bank
-
--- the event of an outcome
-abbrev pub event_of_outcome : Outcome → Option Observed
-event_of_outcome (Goes event t) = event
-event_of_outcome (Stops t) = Some Halted
-event_of_outcome Faults = None
-
--- an event that shows an access tells its bank, where that is an oblivious one
-bank_shown : (event : Observed) (access : Access)
-    → ShowsAccess event access → oblivious event ≡ if_oblivious access.bank
-bank_shown (RamRead block words) access shows = sym (ap if_oblivious shows.0)
-bank_shown (RamWrite block words) access shows = sym (ap if_oblivious shows.0)
-bank_shown (EncRead block) access shows = sym (ap if_oblivious shows.0)
-bank_shown (EncWrite block) access shows = sym (ap if_oblivious shows.0)
-bank_shown (Oram bank) access shows = sym (ap if_oblivious shows.0 ∙ itself bank shows.1)
-  where
-    itself : (b : ℕ) → 2 ≤ b → if_oblivious b ≡ Some b
-    itself zero two = absurd (omega arith)
-    itself (suc zero) two = absurd (omega arith)
-    itself (suc (suc i)) two = refl
-bank_shown Halted access shows = absurd shows
-
-outcome_bank : (outcome : Outcome) (made : Option Access)
-    → ShowsItsAccess outcome made → told_bank (event_of_outcome outcome) ≡ made_bank made
-outcome_bank (Goes None t) made shows = sym (ap made_bank shows)
-outcome_bank (Goes (Some event) t) made shows =
-    bank_shown event shows.0 shows.2 ∙ sym (ap made_bank shows.1)
-outcome_bank (Stops t) made shows = sym (ap made_bank shows)
-outcome_bank Faults made shows = sym (ap made_bank shows)
-
--- the bank that a step tells is the one that it accesses
-pub step-bank : (o : Parts) (s : State) → told_bank (event_of_outcome (step o s)) ≡ made_bank (accessed o s)
-step-bank o s = outcome_bank (step o s) (accessed o s) (shows_its_access o s)
-
--- the blocks of a bank
-in_bank-this : (b : ℕ) (access : Access) (rest : List Access)
-    → b ≡ access.bank → in_bank b (access ∷ rest) ≡ access.block ∷ in_bank b rest
-in_bank-this b access rest is =
-    ap (λ same. cond same (access.block ∷ in_bank b rest) (in_bank b rest)) (eq-eqb b access.bank is)
-
-in_bank-other : (b : ℕ) (access : Access) (rest : List Access)
-    → b ≢ access.bank → in_bank b (access ∷ rest) ≡ in_bank b rest
-in_bank-other b access rest other =
-    ap (λ same. cond same (access.block ∷ in_bank b rest) (in_bank b rest)) (ne_eqb b access.bank other)
 
 module _ {B : Type 0} (shows : B → List ℕ → List Leaves) (comes : B → List ℕ → B → Type 0) where
   -- a bank that wasn't accessed shows what it showed

@@ -3,10 +3,10 @@ use Rattle.std.proofs.Common.{◌≡◌, ℕ, List, [], Option, None, refl, sym,
 use Rattle.lt_isa.specs.Object.{Parts}
 use Rattle.lt_isa.specs.Machine.{State}
 use Rattle.lt_isa.specs.Step.{Faults, step, step_start}
-use Rattle.processor.specs.declared.banks.Leaves.{Leaves}
+use Rattle.banks.specs.declared.bank.Leaves.{Leaves}
+use Rattle.banks.specs.Accesses.{Access, accessed}
+use Rattle.banks.specs.Banks.{no_leaves}
 use Rattle.processor.specs.declared.done.Untold.{Untold}
-use Rattle.processor.specs.Accesses.{Access, accessed}
-use Rattle.processor.specs.Banks.{no_leaves}
 use Rattle.processor.specs.Ends.{Broke}
 use Rattle.processor.specs.ObliviousBanks.{MayAccess}
 use Rattle.processor.specs.Stepping.{StepBroke, StepTold, accessed_of, leaves_of, outcome_of, told_of_step}

@@ -3,9 +3,9 @@ use Rattle.std.specs.Prelude.{◌≡◌, ℕ, ◌++◌}
 use Rattle.lt_isa.specs.Object.{Parts}
 use Rattle.lt_isa.specs.Machine.{State}
 use Rattle.lt_isa.specs.Trace.{trace_from, final_from}
+use Rattle.banks.specs.Accesses.{accesses_from}
 use Rattle.processor.specs.declared.ends.End.{End}
 use Rattle.processor.specs.Ends.{EndsAs}
-use Rattle.processor.specs.Accesses.{accesses_from}
 
 -- A run up to cycle n, and then one up to cycle m from the state that it left: what they show, one behind the other, is
 -- what one run up to cycle m shows, and so are the accesses that they make; the second ends as that one ends; and it

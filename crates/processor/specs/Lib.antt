@@ -1,8 +1,5 @@
-pub mod Banks
-pub mod Blocks
 pub mod EventLists
 pub mod ListWatching
-pub mod Accesses
 pub mod ObliviousBanks
 pub mod Watching
 pub mod PathsTold
@@ -16,5 +13,9 @@ pub mod Stepping
 pub mod Starting
 pub mod Flat
 pub mod Quick
+pub use Rattle.banks.specs.Banks
+pub use Rattle.banks.specs.Blocks
+pub use Rattle.banks.specs.Accesses
+pub use Rattle.banks.specs.ObliviousEvents
 pub use Rattle.gr_base.specs.Calls
 pub use Rattle.gr_base.specs.Counts

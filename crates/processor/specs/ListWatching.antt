@@ -3,7 +3,7 @@ use Rattle.std.specs.Prelude.{◌≡◌, ℕ, ◌+◌, Bool, ◌||◌, nat_lt, i
 use Rattle.gr_base.specs.Calls.{Calls, next_fails, after_call, one_more}
 use Rattle.lt_isa.specs.Machine.{Observed, RamRead, RamWrite, EncRead, EncWrite, Oram, Halted}
 use Rattle.lt_isa.specs.Trace.{Stamped, seen_at}
-use Rattle.processor.specs.declared.banks.Leaves.{Leaves}
+use Rattle.banks.specs.declared.bank.Leaves.{Leaves}
 use Rattle.processor.specs.declared.list_watch.ShownPaths.{ShownPaths}
 use Rattle.processor.specs.Watching.{WatcherTold, AnEvent, APath, events_in}
 

@@ -5,7 +5,7 @@ use Rattle.lt_isa.specs.declared.symbols.Symbol.{Symbol}
 use Rattle.lt_isa.specs.Object.{Parts, block_words, blocks_of, end_word}
 use Rattle.lt_isa.specs.Machine.{State, Unbound}
 use Rattle.lt_isa.specs.Shape.{IsBlock}
-use Rattle.processor.specs.Banks.{block_numbered}
+use Rattle.banks.specs.Banks.{block_numbered}
 
 -- The object that a machine runs, the state that it is in, its oblivious banks, and whether it may be run on. What the
 -- oblivious banks hold is also part of the state; the banks themselves say what paths they show.

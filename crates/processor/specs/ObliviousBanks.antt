@@ -1,8 +1,8 @@
 -- The oblivious banks of a machine, and what accesses make of them. (Path ORAM, CCS 2013: an access shows a path and
 -- leads to another state of the bank.)
 use Rattle.std.specs.Prelude.{◌≡◌, ◌≢◌, ◌≤◌, ℕ, zero, suc, List, [], ◌∷◌, ◌++◌, Option, Some, None, IsSome, slice_get}
-use Rattle.processor.specs.declared.banks.Leaves.{Leaves}
-use Rattle.processor.specs.Accesses.{Access, in_bank}
+use Rattle.banks.specs.declared.bank.Leaves.{Leaves}
+use Rattle.banks.specs.Accesses.{Access, in_bank}
 
 -- bank number b of a machine with these oblivious banks, where it is one: they are numbered from 2
 abbrev pub oram_of : {B : Type 0} → List B → ℕ → Option B

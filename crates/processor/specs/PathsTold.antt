@@ -1,9 +1,9 @@
 -- The paths that a run tells for one oblivious bank. (Path ORAM, CCS 2013: an access shows a path.)
 use Rattle.std.specs.Prelude.{◌≡◌, ℕ, ◌+◌, ◌==◌, if◌then◌else◌, Bool, false, List, [], ◌∷◌, map, Option, Some, None}
 use Rattle.lt_isa.specs.Trace.{Stamped}
-use Rattle.processor.specs.declared.banks.Leaves.{Leaves}
+use Rattle.banks.specs.declared.bank.Leaves.{Leaves}
+use Rattle.banks.specs.ObliviousEvents.{oblivious}
 use Rattle.processor.specs.declared.list_watch.ShownPaths.{ShownPaths}
-use Rattle.processor.specs.Watching.{oblivious}
 
 -- the paths of bank b among some paths, in their order
 abbrev pub paths_of : ℕ → List ShownPaths → List ShownPaths

@@ -7,8 +7,8 @@ use Rattle.lt_isa.specs.Machine.{Slot, State}
 use Rattle.lt_isa.specs.Shape.{IsShaped}
 use Rattle.lt_isa.specs.Step.{Goes, executed}
 use Rattle.lt_isa.specs.Trace.{trace_from, final_from}
+use Rattle.banks.specs.Accesses.{accesses_from}
 use Rattle.processor.specs.declared.quick.Point.{Point}
-use Rattle.processor.specs.Accesses.{accesses_from}
 use Rattle.processor.specs.Stores.{Pad}
 
 -- the state with these registers and slots over some banks, at a place and a cycle

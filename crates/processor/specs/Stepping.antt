@@ -7,13 +7,13 @@ use Rattle.lt_isa.specs.Machine.{Slot, Unbound, Bound, State, Observed, Halted, 
 use Rattle.lt_isa.specs.Shape.{IsShaped}
 use Rattle.lt_isa.specs.Step.{Outcome, Goes, Stops, Faults, executed, step, step_start}
 use Rattle.lt_isa.specs.Trace.{seen_at}
-use Rattle.processor.specs.declared.banks.Leaves.{Leaves}
+use Rattle.banks.specs.declared.bank.Leaves.{Leaves}
+use Rattle.banks.specs.Accesses.{Access, access_on, accessed, accessed_by}
+use Rattle.banks.specs.Banks.{no_leaves}
 use Rattle.processor.specs.declared.done.Untold.{Untold}
 use Rattle.processor.specs.declared.done.Untold.TheVariants as done
 use Rattle.processor.specs.declared.done.Went.{Went}
 use Rattle.processor.specs.declared.done.Went.TheVariants as went
-use Rattle.processor.specs.Accesses.{Access, access_on, accessed, accessed_by}
-use Rattle.processor.specs.Banks.{no_leaves}
 use Rattle.processor.specs.Ends.{Broke}
 use Rattle.processor.specs.Machines.{Running}
 use Rattle.processor.specs.ObliviousBanks.{MayAccess}

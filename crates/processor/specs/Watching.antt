@@ -1,13 +1,13 @@
 -- What a watcher of the memory bus is told: events, and behind each access to an oblivious bank its paths.
 -- (GhostRider, ASPLOS 2015: the events of an execution. Path ORAM, CCS 2013: the paths that its accesses show.)
-use Rattle.std.specs.Prelude.{ℕ, ◌+◌, ◌==◌, if◌then◌else◌, List, [], ◌∷◌, ◌++◌, Option, Some, None, drop, slice_index_or}
-use Rattle.lt_isa.specs.Machine.{Observed, RamRead, RamWrite, EncRead, EncWrite, Oram, Halted}
+use Rattle.std.specs.Prelude.{ℕ, ◌==◌, if◌then◌else◌, List, [], ◌∷◌, ◌++◌, Option, Some, None, drop, slice_index_or}
 use Rattle.lt_isa.specs.Object.{Parts}
 use Rattle.lt_isa.specs.Machine.{State}
 use Rattle.lt_isa.specs.Trace.{Stamped, trace_from}
-use Rattle.processor.specs.declared.banks.Leaves.{Leaves}
-use Rattle.processor.specs.Banks.{no_leaves}
-use Rattle.processor.specs.Accesses.{accesses_from}
+use Rattle.banks.specs.declared.bank.Leaves.{Leaves}
+use Rattle.banks.specs.Banks.{no_leaves}
+use Rattle.banks.specs.Accesses.{accesses_from}
+use Rattle.banks.specs.ObliviousEvents.{oblivious}
 use Rattle.processor.specs.ObliviousBanks.{paths_shown}
 
 -- what a watcher is told: an event, or the paths that an access to an oblivious bank showed
@@ -18,24 +18,6 @@ pub data WatcherTold : Type 0 where
 -- Whatever was told before is told now, followed by this. A watcher that tells lists hears so.
 abbrev pub TellsMore : {X : Type 0} → (List X → Type 0) → (List X → Type 0) → List X → Type 0
 TellsMore before now more = (told : List _) → before told → now (told ++ more)
-
--- the oblivious bank that an event is an access to
-abbrev pub oblivious : Observed → Option ℕ
-oblivious (RamRead block words) = None
-oblivious (RamWrite block words) = None
-oblivious (EncRead block) = None
-oblivious (EncWrite block) = None
-oblivious (Oram bank) = Some bank
-oblivious Halted = None
-
--- how many of some events are accesses to bank b, an oblivious one
-abbrev pub if_it_is : ℕ → Option ℕ → ℕ
-if_it_is b None = 0
-if_it_is b (Some bank) = if b == bank then 1 else 0
-
-abbrev pub accesses_shown : ℕ → List Stamped → ℕ
-accesses_shown b [] = 0
-accesses_shown b (event ∷ events) = if_it_is b (oblivious event.event) + accesses_shown b events
 
 -- the paths behind an access to an oblivious bank
 abbrev pub path_behind : ℕ → Option ℕ → Leaves → List WatcherTold

@@ -1,7 +1,7 @@
 ghost use Rattle.std.specs.Prelude.{◌≡◌};
 ghost use Rattle.processor.specs.Stepping.{went_of};
 
-use crate::banks::Leaves;
+use banks::Leaves;
 
 /// What an instruction left to be told.
 #[derive(Clone, Copy, Debug)]

@@ -15,9 +15,9 @@ ghost use Rattle.std.specs.Prelude.{
 };
 ghost use Rattle.lt_isa.specs.Object.{block_words, blocks_of, first_word, end_word};
 ghost use Rattle.lt_isa.specs.Start.{FitsObject, covers, start_word, start_bank};
-ghost use Rattle.processor.specs.Blocks.{in_blocks, words_of_blocks};
+ghost use Rattle.banks.specs.Blocks.{in_blocks, words_of_blocks};
 
-use crate::fronts::{fill_up, write_at};
+use banks::{fill_up, write_at};
 use gr_word::{Inputs, Memory};
 use lt_checker::Accepted;
 use lt_isa::{Object, Symbol};

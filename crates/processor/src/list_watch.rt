@@ -11,9 +11,9 @@ ghost use Rattle.processor.specs.ListWatching.{
 };
 ghost use Rattle.processor.specs.Watching.{AnEvent, APath};
 
-use crate::banks::Leaves;
 use crate::event_list::{EventList, push_within};
 use crate::watching::{Watch, WatchFailed};
+use banks::Leaves;
 use gr_base::{CallCounter, Memory};
 use lt_isa::Event;
 use std::alloc::Global;

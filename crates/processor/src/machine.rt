@@ -6,11 +6,10 @@ ghost use Rattle.lt_isa.specs.Outputs.{outputs, symbol_word, symbol_words};
 ghost use Rattle.processor.specs.Machines.{AreBanksOf, LiesIn, bank_numbered, fresh_state};
 ghost use Rattle.processor.specs.ObliviousBanks.{oram_of};
 
-use crate::banks::Bank;
 use crate::flat::{Flat, flat_code};
 use crate::memories::Banks;
-use crate::plain_bank::PlainBank;
 use crate::scratchpad::Scratchpad;
+use banks::{Bank, PlainBank};
 use gr_word::{Inputs, Memory};
 use lt_checker::Accepted;
 use lt_isa::symbol_places::first_word;

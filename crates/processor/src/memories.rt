@@ -1,10 +1,10 @@
 ghost use Rattle.std.specs.Prelude.{◌≡◌, ◌<◌, ◌∷◌, length, map, slice_set};
+ghost use Rattle.banks.specs.Banks.{AreLeaves, block_numbered};
 ghost use Rattle.processor.specs.ObliviousBanks.{Accessed};
 ghost use Rattle.lt_isa.specs.Machine.{word_in};
-ghost use Rattle.processor.specs.Banks.{AreLeaves, block_numbered};
 ghost use Rattle.processor.specs.Machines.{bank_numbered};
 
-use crate::banks::{Bank, Leaves};
+use banks::{Bank, Leaves};
 use std::marker::Model;
 
 /// The banks of a machine: plain memory, encrypted memory, and oblivious banks. Seen as a list of banks.

@@ -1,7 +1,7 @@
 ghost use Rattle.std.specs.Prelude.{◌≡◌, IsOk};
 
-use crate::banks::Leaves;
 use crate::watching::{Watch, WatchFailed};
+use banks::Leaves;
 use lt_isa::Event;
 
 /// A watcher that keeps nothing of what it is told, and never fails. It tells no events.

@@ -6,7 +6,7 @@ ghost use Rattle.lt_isa.specs.Ranges.{IsInRange};
 ghost use Rattle.lt_isa.specs.Shape.{IsShaped};
 ghost use Rattle.lt_isa.specs.Step.{step, step_start};
 ghost use Rattle.lt_isa.specs.Trace.{final_from, seen_at, trace_from};
-ghost use Rattle.processor.specs.Accesses.{accesses_from};
+ghost use Rattle.banks.specs.Accesses.{accesses_from};
 ghost use Rattle.processor.specs.Ends.{Broke, BrokeOff, EndsAs, is_spent};
 ghost use Rattle.processor.specs.ObliviousBanks.{ComeBy, ShowsOn};
 ghost use Rattle.processor.specs.Quick.{RunsAlike};
@@ -20,15 +20,16 @@ ghost use Rattle.processor.specs.Stepping.{
   outcome_of,
   told_of_step,
 };
-ghost use Rattle.processor.specs.Watching.{oblivious, run_shown, with_path};
+ghost use Rattle.banks.specs.ObliviousEvents.{oblivious};
+ghost use Rattle.processor.specs.Watching.{run_shown, with_path};
 
-use crate::banks::{Bank, Leaves};
 use crate::done::{Untold, Went};
 use crate::ends::End;
 use crate::machine::Machine;
 use crate::quick::{Point, run_quickly};
 use crate::scratchpad::Held;
 use crate::watching::{Watch, WatchFailed};
+use banks::{Bank, Leaves};
 use lt_isa::{BankKind, Event, bank_kind};
 
 impl<'a, B: Bank + Drop> Machine<'a, B> {

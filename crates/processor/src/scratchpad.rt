@@ -1,11 +1,11 @@
 ghost use Rattle.std.specs.Prelude.{◌≡◌, ◌<◌, IfOk, IfSome, length, map, replicate, slice_index_or, slice_set};
 ghost use Rattle.lt_isa.specs.Machine.{Bound, Unbound};
-ghost use Rattle.processor.specs.Banks.{AreLeaves, block_numbered};
+ghost use Rattle.banks.specs.Banks.{AreLeaves, block_numbered};
 ghost use Rattle.processor.specs.Machines.{bank_numbered};
 ghost use Rattle.processor.specs.ObliviousBanks.{Accessed};
 
-use crate::banks::{Bank, Leaves};
 use crate::memories::Banks;
+use banks::{Bank, Leaves};
 use gr_base::Memory;
 use std::alloc::Global;
 use std::marker::Model;

@@ -5,10 +5,9 @@ ghost use Rattle.lt_isa.specs.Object.{block_words};
 ghost use Rattle.lt_isa.specs.Start.{FitsObject, start_bank, start_state};
 ghost use Rattle.processor.specs.Starting.{starting_bank};
 
-use crate::banks::Bank;
 use crate::images::start_front;
 use crate::machine::{Machine, load};
-use crate::plain_bank::PlainBank;
+use banks::{Bank, PlainBank};
 use gr_word::{Inputs, Memory};
 use lt_checker::Accepted;
 use std::alloc::Global;

@@ -9,11 +9,11 @@ ghost use Rattle.lt_isa.specs.Step.{block_named, loaded, step_start, target_of, 
 ghost use Rattle.processor.specs.ObliviousBanks.{Accessed};
 ghost use Rattle.processor.specs.Stepping.{Executes, IsReady};
 
-use crate::banks::{Bank, Leaves};
 use crate::done::Untold;
 use crate::machine::Machine;
 use crate::quick::target;
 use crate::waits::{access_at, start_at};
+use banks::{Bank, Leaves};
 use gr_word::{Cmp, Op, apply, holds};
 use lt_isa::{Instr, latency};
 

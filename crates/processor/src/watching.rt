@@ -4,7 +4,7 @@ ghost use Rattle.lt_isa.specs.Events.{observed_of};
 ghost use Rattle.lt_isa.specs.Trace.{seen_at};
 ghost use Rattle.processor.specs.Watching.{AnEvent, APath, WatcherTold, events_in};
 
-use crate::banks::Leaves;
+use banks::Leaves;
 use lt_isa::Event;
 use thiserror::Error;
 

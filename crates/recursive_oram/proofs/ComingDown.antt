@@ -1,8 +1,8 @@
 -- An access comes down one tree.
 use Rattle.std.proofs.Common.{nat_abs, ◌≡◌, ℕ, suc, ◌^◌, ◌<◌, ℤ, pos, List, [], ◌∷◌, ◌++◌, length, get_or, set, refl, sym, ap, ◌∙◌, arith, length-set}
 use Rattle.rand_core.specs.Stream.{Stream, next_u64}
-use Rattle.processor.specs.declared.banks.Leaves.{Leaves}
-use Rattle.processor.specs.Banks.{listed_leaves, one_leaf}
+use Rattle.banks.specs.declared.bank.Leaves.{Leaves}
+use Rattle.banks.specs.Banks.{listed_leaves, one_leaf}
 use Rattle.path_oram.specs.Coming.{by-word}
 use Rattle.path_oram.specs.Moves.{MovesTo}
 use Rattle.path_oram.specs.Trees.{BlockTree, IsTree}

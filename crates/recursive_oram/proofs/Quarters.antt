@@ -1,8 +1,8 @@
 -- Four leaves a block.
 use Rattle.std.proofs.Common.{◌≡◌, ℕ, ◌+◌, ◌*◌, ◌-◌, ◌/◌, ◌<◌, ◌≤◌, ℤ, pos, List, [], ◌++◌, length, take, replicate, map, get_or, ap, ◌∙◌, arith}
 use Rattle.std.proofs.lemmas.List.{get_or_default, length-map, get_or-map, take_all}
-use Rattle.processor.specs.Blocks.{cut, filled_up, in_blocks}
-use Rattle.processor.proofs.Blocks.{block-cut, get_or-filled_up, length-block_of_words, length-cut, length-filled_up, word-cut}
+use Rattle.banks.specs.Blocks.{cut, filled_up, in_blocks}
+use Rattle.banks.proofs.Blocks.{block-cut, get_or-filled_up, length-block_of_words, length-cut, length-filled_up, word-cut}
 use Rattle.path_oram.specs.Trees.{BlockTree}
 use Rattle.path_oram.specs.Whole.{IsHeightFor}
 use Rattle.recursive_oram.specs.Levels.{block_above, word_above}

@@ -5,8 +5,8 @@ use Rattle.std.proofs.lemmas.Bool.Decides.{nat_tests}
 use Rattle.std.proofs.lemmas.List.{length-map}
 use Rattle.std.proofs.Math.Nat.{mul-le-mul_right, suc-mul}
 use Rattle.rand_core.specs.Stream.{Stream}
-use Rattle.processor.specs.declared.banks.Leaves.{Leaves}
-use Rattle.processor.specs.Banks.{listed_leaves}
+use Rattle.banks.specs.declared.bank.Leaves.{Leaves}
+use Rattle.banks.specs.Banks.{listed_leaves}
 use Rattle.path_oram.specs.Trees.{BlockTree}
 use Rattle.path_oram.specs.Words.{first_words, leaf_of, word_at, words_left}
 use Rattle.path_oram.specs.WordsRead.{read_word_number}

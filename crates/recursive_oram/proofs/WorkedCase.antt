@@ -1,6 +1,6 @@
 -- A worked case of the leaves that are shown: five blocks, so two levels, of three levels below the root and of one.
 use Rattle.std.proofs.Common.{◌≡◌, List, [], ◌∷◌, refl}
-use Rattle.processor.specs.Banks.{listed_leaves}
+use Rattle.banks.specs.Banks.{listed_leaves}
 use Rattle.recursive_oram.specs.RecLeaves.{Size, rec_leaves}
 
 abbrev two_levels : List Size

@@ -3,7 +3,7 @@
 use Rattle.std.specs.Prelude.{◌≡◌, ℕ, ◌+◌, ◌/◌, ◌<◌, ◌≤◌, ℤ, pos, List, [], ◌∷◌, length, slice_index}
 use Rattle.std.specs.List.{All}
 use Rattle.lt_isa.specs.Machine.{word_in}
-use Rattle.processor.specs.Banks.{block_numbered}
+use Rattle.banks.specs.Banks.{block_numbered}
 use Rattle.path_oram.specs.Trees.{BlockTree, IsTree}
 use Rattle.recursive_oram.specs.Levels.{block_above, word_above}
 

@@ -3,8 +3,8 @@
 -- of the word which the level's own accesses read, as in a tree of its own.
 -- (Stefanov et al., Path ORAM, CCS 2013, section 4.7; the order of the words is this project's profile.)
 use Rattle.std.specs.Prelude.{◌≡◌, ℕ, ◌+◌, ◌-◌, ◌*◌, ◌<◌, ◌≤◌, List, [], ◌∷◌, ◌++◌, length, map, slice_index, if◌then◌else◌, nat_lt}
-use Rattle.processor.specs.declared.banks.Leaves.{Leaves}
-use Rattle.processor.specs.Banks.{listed_leaves}
+use Rattle.banks.specs.declared.bank.Leaves.{Leaves}
+use Rattle.banks.specs.Banks.{listed_leaves}
 use Rattle.path_oram.specs.Trees.{BlockTree}
 use Rattle.path_oram.specs.Whole.{IsHeightFor}
 use Rattle.path_oram.specs.Words.{leaf_of}

@@ -1,11 +1,11 @@
 ghost use Rattle.std.specs.Prelude.{◌≡◌, ℕ, ◌<◌, ◌≤◌, [], ◌∷◌, ◌++◌, List, length};
-ghost use Rattle.processor.specs.Banks.{listed_leaves};
+ghost use Rattle.banks.specs.Banks.{listed_leaves};
 ghost use Rattle.path_oram.specs.Trees.{IsTree};
 ghost use Rattle.recursive_oram.specs.Descending.{IsDescent};
 ghost use Rattle.recursive_oram.specs.PositionMaps.{IsPositionMap};
 
+use banks::Leaves;
 use path_oram::{PathTree, low_bits};
-use processor::Leaves;
 use rand_core::Rng;
 
 /// How far an access has come, from the highest tree down: the leaf that its block of a tree had, the one that it gets,

@@ -1,7 +1,7 @@
 //! Recursive Path ORAM: the leaves of a tree's blocks are the words of a smaller tree, and so on, until so few are left
 //! that they are held plainly.
 //!
-//! [`RecursiveOram`] is a bank of the processor over any source of random words. An access leads through each of its
+//! [`RecursiveOram`] is a bank of memory over any source of random words. An access leads through each of its
 //! trees, from the smallest down to that of the blocks, and takes no memory. Which leaves it shows is a list that the
 //! words and the accessed blocks alone tell.
 #![tactic(auto)]

@@ -1,5 +1,5 @@
 ghost use Rattle.std.specs.Prelude.{◌≡◌, [], ◌+◌, ◌*◌, ◌<◌, ◌≤◌, ◌^◌, pos, IfOk, length, map};
-ghost use Rattle.processor.specs.Blocks.{filled_up};
+ghost use Rattle.banks.specs.Blocks.{filled_up};
 ghost use Rattle.rand_core.specs.Stream.{Stream};
 ghost use Rattle.path_oram.specs.Trees.{IsTree};
 ghost use Rattle.path_oram.specs.Words.{first_words, leaf_of, words_left};

@@ -2,8 +2,8 @@ ghost use Rattle.std.specs.Prelude.{◌≡◌, ℕ, ◌+◌, ◌*◌, ◌/◌, �
 ghost use Rattle.std.specs.List.{All};
 ghost use Rattle.lt_isa.specs.Limits.{most_blocks};
 ghost use Rattle.lt_isa.specs.Machine.{word_in};
-ghost use Rattle.processor.specs.Banks.{AreLeaves, block_numbered, listed_leaves};
-ghost use Rattle.processor.specs.Blocks.{in_blocks};
+ghost use Rattle.banks.specs.Banks.{AreLeaves, block_numbered, listed_leaves};
+ghost use Rattle.banks.specs.Blocks.{in_blocks};
 ghost use Rattle.path_oram.specs.Trees.{IsTree, BlockTree};
 ghost use Rattle.path_oram.specs.Words.{first_words, words_left};
 ghost use Rattle.recursive_oram.specs.Levels.{leaves_now, shown_ahead};
@@ -14,9 +14,9 @@ ghost use Rattle.recursive_oram.specs.Showing.{shown-each};
 
 use crate::leading::lead;
 use crate::making::trees_above;
+use banks::{Bank, Leaves, PlainBank};
 use gr_base::Memory;
 use path_oram::{PathTree, first_leaves, height_for};
-use processor::{Bank, Leaves, PlainBank};
 use rand_core::Rng;
 use std::alloc::Global;
 use std::marker::Model;

@@ -2,8 +2,9 @@ use Rattle.std.proofs.Common.{◌≡◌, [], ◌∷◌, ℕ, Option, Some, None,
 use Rattle.lt_isa.specs.Events.{observed_of}
 use Rattle.lt_isa.specs.Trace.{seen_at}
 use Rattle.gr_base.proofs.Counts.{rose_behind}
+use Rattle.banks.specs.ObliviousEvents.{oblivious}
 use Rattle.processor.specs.Ends.{Broke}
-use Rattle.processor.specs.Watching.{AnEvent, APath, oblivious, path_behind}
+use Rattle.processor.specs.Watching.{AnEvent, APath, path_behind}
 use Rattle.processor.proofs.Progress.{broke_first, broke_second}
 use Rattle.processor.proofs.running.tell_access.Goals as goal
 

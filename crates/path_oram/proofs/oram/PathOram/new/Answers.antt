@@ -1,7 +1,7 @@
 use Rattle.std.proofs.Common.{◌≡◌, ℕ, ◌+◌, ◌<◌, ◌/◌, List, length, map, All, ap, ◌∙◌, subst, arith}
 use Rattle.std.specs.Result.{IfOk}
-use Rattle.processor.specs.Banks.{one_leaf}
-use Rattle.processor.proofs.Blocks.{length-cut}
+use Rattle.banks.specs.Banks.{one_leaf}
+use Rattle.banks.proofs.Blocks.{length-cut}
 use Rattle.path_oram.specs.Orams.{paths_ahead}
 use Rattle.path_oram.specs.Places.{first_places}
 use Rattle.path_oram.specs.Whole.{IsHeightFor}

@@ -1,5 +1,5 @@
 use Rattle.std.proofs.Common.{◌≡◌, ap, get_or, ◌∙◌}
-use Rattle.processor.specs.Banks.{one_leaf}
+use Rattle.banks.specs.Banks.{one_leaf}
 use Rattle.rand_core.specs.Stream.{next_u64}
 use Rattle.path_oram.specs.Coming.{by-word, comes-one}
 use Rattle.path_oram.specs.Moves.{MovesBy}

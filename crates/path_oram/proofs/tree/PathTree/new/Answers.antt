@@ -1,5 +1,5 @@
 use Rattle.std.proofs.Common.{length, ap, ◌/◌, arith}
-use Rattle.processor.proofs.Blocks.{length-cut}
+use Rattle.banks.proofs.Blocks.{length-cut}
 use Rattle.path_oram.proofs.tree.PathTree.new.Goals as goal
 
 pub over-requires-clause-count : goal.over-requires-clause-count

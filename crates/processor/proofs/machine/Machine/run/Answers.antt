@@ -1,7 +1,7 @@
 use Rattle.std.proofs.Common.{refl, sym, ap, ◌∙◌, subst, arith}
 use Rattle.gr_base.proofs.Counts.{rose_behind}
+use Rattle.banks.specs.Accesses.{accesses_from}
 use Rattle.processor.specs.declared.ends.End.TheVariants.{Halted, Spent}
-use Rattle.processor.specs.Accesses.{accesses_from}
 use Rattle.processor.specs.Ends.{BrokeOff}
 use Rattle.processor.specs.ObliviousBanks.{ComeBy, ShowsOn}
 use Rattle.processor.proofs.QuickRuns.{progress_on}

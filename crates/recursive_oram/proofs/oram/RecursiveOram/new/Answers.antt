@@ -1,6 +1,6 @@
 use Rattle.std.proofs.Common.{◌≡◌, ℕ, ◌+◌, ◌*◌, ◌/◌, ◌<◌, List, length, map, All, ap, ◌∙◌, subst, arith}
 use Rattle.std.specs.Result.{IfOk}
-use Rattle.processor.proofs.Blocks.{length-cut}
+use Rattle.banks.proofs.Blocks.{length-cut}
 use Rattle.path_oram.specs.Words.{first_words}
 use Rattle.recursive_oram.specs.Levels.{shown_ahead}
 use Rattle.recursive_oram.specs.RecLeaves.{AreSizes, rec_leaves, size_of, words_made}

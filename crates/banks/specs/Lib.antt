@@ -1,0 +1,4 @@
+pub mod Banks
+pub mod Blocks
+pub mod Accesses
+pub mod ObliviousEvents

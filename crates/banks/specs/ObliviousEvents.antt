@@ -1,0 +1,23 @@
+-- Which events are accesses to oblivious banks, and how many of a trace are. (GhostRider, ASPLOS 2015: an access to an
+-- oblivious bank shows the bank alone.)
+use Rattle.std.specs.Prelude.{ℕ, ◌+◌, ◌==◌, if◌then◌else◌, List, [], ◌∷◌, Option, Some, None}
+use Rattle.lt_isa.specs.Machine.{Observed, RamRead, RamWrite, EncRead, EncWrite, Oram, Halted}
+use Rattle.lt_isa.specs.Trace.{Stamped}
+
+-- the oblivious bank that an event is an access to
+abbrev pub oblivious : Observed → Option ℕ
+oblivious (RamRead block words) = None
+oblivious (RamWrite block words) = None
+oblivious (EncRead block) = None
+oblivious (EncWrite block) = None
+oblivious (Oram bank) = Some bank
+oblivious Halted = None
+
+-- how many of some events are accesses to bank b, an oblivious one
+abbrev pub if_it_is : ℕ → Option ℕ → ℕ
+if_it_is b None = 0
+if_it_is b (Some bank) = if b == bank then 1 else 0
+
+abbrev pub accesses_shown : ℕ → List Stamped → ℕ
+accesses_shown b [] = 0
+accesses_shown b (event ∷ events) = if_it_is b (oblivious event.event) + accesses_shown b events

@@ -1,5 +1,0 @@
-use Rattle.processor.proofs.Blocks.{count_of}
-use Rattle.processor.proofs.plain_bank.PlainBankBank.blocks.Goals as goal
-
-pub returns : goal.returns
-returns c = count_of _ _ _ _ c.self.view_is
