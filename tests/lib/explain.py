@@ -228,7 +228,8 @@ def try_wrapper(folder):
             file.write(data)
     for title, line, status, text, words in SHELL:
         ran = subprocess.run(['bash', '-c', line], cwd=copy, stdin=subprocess.DEVNULL, stdout=subprocess.PIPE,
-                             stderr=subprocess.PIPE, timeout=SECONDS, env={**os.environ, 'TMPDIR': f'{copy}/tmp'})
+                             stderr=subprocess.PIPE, timeout=SECONDS,
+                             env={**os.environ, 'GHOSTRIDER_EXPLAIN': '', 'TMPDIR': f'{copy}/tmp'})
         holds = ran.returncode == status and ran.stdout == text
         holds = holds and (words in ran.stderr if words is not None else ran.stderr == b'')
         yield f'the wrapper: {title}', None if holds else f'{ran.returncode}, {ran.stdout!r}, {ran.stderr!r}'
