@@ -3,9 +3,8 @@ ghost use Rattle.rand_core.specs.Steps.{stream_of, steps_u64_low};
 
 use path_oram::{PathOram, rearrange};
 use processor::Bank;
-use rand_chacha::ChaCha20Rng;
 use rand_core::utils::NextWord;
-use rand_core::{Rng, SeedableRng, utils};
+use rand_core::{Rng, utils};
 use std::alloc::Global;
 use std::marker::Model;
 use std::test::Fail;
@@ -65,29 +64,17 @@ fn read<R: Rng + Drop>(bank: &mut PathOram<R>, at: u32) -> Result<(u32, i64), Fa
     Ok((leaves.at[0], block[0]))
 }
 
-/// Writes a word and zeros into a block.
-fn write<R: Rng + Drop>(bank: &mut PathOram<R>, at: u32, word: i64) -> Result<u32, Fail> {
-    if at >= bank.blocks() || bank.block_words() != 8 {
-        return Err(Fail::from("no such block"));
-    }
-    let leaves = bank.write(at, [word, 0, 0, 0, 0, 0, 0, 0].as_slice());
-    Ok(leaves.at[0])
-}
-
-/// The level of a block, 9 where it is in the stash.
-fn level<R: Rng + Drop>(bank: &PathOram<R>, at: u32) -> u32 {
-    if at >= bank.blocks() {
-        return 99;
-    }
-    bank.level(at).unwrap_or(9)
-}
-
 /// Whether a bucket holds a block.
 fn holds<R: Rng + Drop>(bank: &PathOram<R>, level: u32, index: u32, block: u32) -> bool {
     if level > bank.height() || level > 12 || index >= 1 << level {
         return false;
     }
-    (0..4).any(|place| bank.bucket(level, index, place) == Some(block))
+    for place in 0..4 {
+        if bank.bucket(level, index, place) == Some(block) {
+            return true;
+        }
+    }
+    false
 }
 
 /// What reading a block shows, and how three blocks stand then: their leaves, how many are in the stash, and each bucket
@@ -142,76 +129,22 @@ fn rearranged_words_show_the_same(rt: HostRuntime) -> Result<(), Fail> {
     Ok(())
 }
 
+/// How many blocks stay in the stash after an access, where all of so many have leaf 0.
+fn left_over(alloc: Global, count: usize) -> Result<u32, Fail> {
+    let mut bank = bank_of(alloc, Octal(0), count)?;
+    read(&mut bank, 0)?;
+    Ok(bank.stash_len())
+}
+
 #[test]
-fn one_block_has_a_tree_of_one_bucket(rt: HostRuntime) -> Result<(), Fail> {
-    let mut bank = bank_of(rt.alloc(), Octal(5), 1)?;
-    assert_eq!(rt; write(&mut bank, 0, -7)?, 0);
+fn one_path_holds_four_blocks_a_level(rt: HostRuntime) -> Result<(), Fail> {
     assert_eq!(rt;
-        (read(&mut bank, 0)?, bank.height(), level(&bank, 0)),
-        ((0, -7), 0, 0)
+        (left_over(rt.alloc(), 1)?, left_over(rt.alloc(), 16)?),
+        (0, 0)
     );
-    Ok(())
-}
-
-/// Writes each block's number into it.
-fn number<R: Rng + Drop>(bank: &mut PathOram<R>) -> Result<(), Fail> {
-    for at in 0..bank.blocks() {
-        write(bank, at, i64::from(at))?;
-    }
-    Ok(())
-}
-
-/// How many of the blocks hold their number.
-fn numbered<R: Rng + Drop>(bank: &mut PathOram<R>) -> Result<u32, Fail> {
-    let mut found = 0u32;
-    for at in 0..bank.blocks() {
-        if read(bank, at)?.1 == i64::from(at) {
-            found = found.saturating_add(1);
-        }
-    }
-    Ok(found)
-}
-
-#[test]
-fn nothing_is_lost_on_one_path(rt: HostRuntime) -> Result<(), Fail> {
-    let mut bank = bank_of(rt.alloc(), Octal(0), 64)?;
-    number(&mut bank)?;
-    assert_eq!(rt; bank.stash_len(), 36);
-    assert_eq!(rt; numbered(&mut bank)?, 64);
-    Ok(())
-}
-
-/// A source of words from a seed.
-pub(crate) fn seeded(byte: u8) -> ChaCha20Rng {
-    ChaCha20Rng::from_seed([byte; 32])
-}
-
-#[test]
-fn the_largest_bank_keeps_its_blocks(rt: HostRuntime) -> Result<(), Fail> {
-    let mut bank = bank_of(rt.alloc(), seeded(3), 4096)?;
-    number(&mut bank)?;
-    for i in 0..10_000u32 {
-        read(&mut bank, i % 4096)?;
-    }
-    assert_eq!(rt; numbered(&mut bank)?, 4096);
-    Ok(())
-}
-
-/// The leaves of 30 accesses to one block.
-fn leaves_of(alloc: Global, byte: u8) -> Result<Vec<u32>, Fail> {
-    let mut bank = bank_of(alloc, seeded(byte), 8)?;
-    let mut leaves = Vec::new(alloc);
-    for _ in 0..30 {
-        leaves.push(read(&mut bank, 5)?.0)?;
-    }
-    Ok(leaves)
-}
-
-#[test]
-fn other_words_show_other_leaves(rt: HostRuntime) -> Result<(), Fail> {
-    let first = leaves_of(rt.alloc(), 0)?;
-    let second = leaves_of(rt.alloc(), 1)?;
-    assert!(rt; first.iter().all(|leaf| *leaf < 8));
-    assert!(rt; first.as_slice() != second.as_slice());
+    assert_eq!(rt;
+        (left_over(rt.alloc(), 64)?, left_over(rt.alloc(), 4096)?),
+        (36, 4044)
+    );
     Ok(())
 }

@@ -2,116 +2,15 @@ ghost use Rattle.std.specs.Prelude.{◌≡◌, ◌<◌, ◌≤◌, ◌∷◌, []
 ghost use Rattle.bus_arbiter.specs.Shares.{share_of};
 
 use crate::fixtures::{accepted_of, inputs_of};
-use bus_arbiter::{Bus, BusError, BusWatch, Plan, Turn};
+use bus_arbiter::{Bus, BusWatch, Plan, Turn};
 use lt_checker::Accepted;
 use lt_isa::Event;
 use processor::{Machine, PlainBank, WatchFailed, load_start};
 use std::alloc::Global;
 use std::test::Fail;
 
-/// An object that halts at once, with this window, or without one where the text is empty. Its transfers would last so
-/// many cycles.
-fn idle(alloc: Global, window: &str, latency: u32) -> Result<Accepted, Fail> {
-    let profile = if window.is_empty() {
-        "1 3 1 70 2 3"
-    } else {
-        "2 3 1 70 2 3 "
-    };
-    let code = "\nhalt\n";
-    let text = format!(in alloc;
-        ".object {profile}{window}\n.bank 4 {latency}\n.bank 4 {latency}{code}"
-    )?;
-    accepted_of(alloc, text.as_str())
-}
-
-/// Why a plan refuses one of these objects: the core, a word for the cause, and its number.
-fn refusal(alloc: Global, cores: &[(&str, u32)]) -> Result<Option<(u8, &'static str, u32)>, Fail> {
-    let mut plan = Plan::new(alloc);
-    for (window, latency) in cores {
-        let core = plan.len();
-        if core >= 8 {
-            return Err(Fail::from("full"));
-        }
-        match plan.add(&idle(alloc, window, *latency)?) {
-            Ok(()) => {}
-            Err(BusError::NoWindow) => return Ok(Some((core, "no window", 0))),
-            Err(BusError::OtherPeriod(period)) => return Ok(Some((core, "period", period))),
-            Err(BusError::TooLong(end)) => return Ok(Some((core, "long", end))),
-            Err(BusError::Overlap(other)) => return Ok(Some((core, "overlap", u32::from(other)))),
-            Err(BusError::Memory) => return Err(Fail::from("no memory")),
-        }
-    }
-    Ok(None)
-}
-
-// Plans that are whole, each cause alone, and each before all those that come behind it.
-#[test]
-fn a_plan_refuses_the_first_cause(rt: HostRuntime) -> Result<(), Fail> {
-    let rows: [(&[(&str, u32)], Option<(u8, &str, u32)>); 19] = [
-        (&[("2000 0 1", 662), ("2000 662 663", 662)], None),
-        (&[("100 0 1", 10), ("100 90 91", 10)], None),
-        (
-            &[
-                ("80 70 71", 10),
-                ("80 0 1", 10),
-                ("80 10 11", 10),
-                ("80 20 21", 10),
-                ("80 30 31", 10),
-                ("80 40 41", 10),
-                ("80 50 51", 10),
-                ("80 60 61", 10),
-            ],
-            None,
-        ),
-        (&[("", 1)], Some((0, "no window", 0))),
-        (&[("", 2)], Some((0, "no window", 0))),
-        (&[("100 50 51", 10), ("", 1)], Some((1, "no window", 0))),
-        (&[("100 0 1", 10), ("", 1)], Some((1, "no window", 0))),
-        (&[("100 0 1", 10), ("", 10)], Some((1, "no window", 0))),
-        (
-            &[("100 0 1", 10), ("99 50 51", 10)],
-            Some((1, "period", 100)),
-        ),
-        (
-            &[("100 0 1", 10), ("99 90 91", 10)],
-            Some((1, "period", 100)),
-        ),
-        (
-            &[("100 0 1", 10), ("99 9 10", 10)],
-            Some((1, "period", 100)),
-        ),
-        (
-            &[("100 0 1", 10), ("101 0 101", 10)],
-            Some((1, "period", 100)),
-        ),
-        (&[("100 91 92", 10)], Some((0, "long", 101))),
-        (
-            &[("100 0 1", 10), ("100 10 92", 10)],
-            Some((1, "long", 101)),
-        ),
-        (&[("100 0 1", 10), ("100 9 92", 10)], Some((1, "long", 101))),
-        (
-            &[("2000 0 1", 662), ("2000 661 662", 662)],
-            Some((1, "overlap", 0)),
-        ),
-        (&[("100 0 1", 10), ("100 9 10", 1)], Some((1, "overlap", 0))),
-        (
-            &[("100 0 1", 10), ("100 20 21", 10), ("100 9 21", 10)],
-            Some((2, "overlap", 0)),
-        ),
-        (
-            &[("100 0 1", 10), ("100 20 21", 10), ("100 10 20", 2)],
-            Some((2, "overlap", 1)),
-        ),
-    ];
-    for (cores, cause) in rows {
-        assert_eq!(rt; refusal(rt.alloc(), cores)?, cause);
-    }
-    Ok(())
-}
-
-/// A watcher that keeps so many transfers, and fails at the next one: the core, the stamp, and the block that was read
-/// where it holds zeros.
+/// A watcher that keeps so many transfers, and fails at the next one: the core, the stamp, and the block of plain memory
+/// that was read.
 #[derive(Drop)]
 struct Marks {
     marks: Vec<(u8, u32, Option<u32>)>,
@@ -120,15 +19,10 @@ struct Marks {
     whole: bool,
 }
 
-/// The block of plain memory that was read, if it holds zeros alone.
-fn zeros_read(event: &Event) -> Option<u32> {
+/// The block of plain memory that was read.
+fn block_read(event: &Event) -> Option<u32> {
     match event {
-        Event::RamRead(block, words) => {
-            if words.iter().all(|word| *word == 0) {
-                return Some(*block);
-            }
-            None
-        }
+        Event::RamRead(block, _) => Some(*block),
         _ => None,
     }
 }
@@ -147,7 +41,7 @@ impl BusWatch for Marks {
     #[tactic(auto, using(gr_base::proofs::Counts::rose_by_one))]
     fn transfer(&mut self, core: u8, stamp: u32, event: &Event) -> Result<(), WatchFailed> {
         if self.marks.len() < self.room {
-            match self.marks.push((core, stamp, zeros_read(event))) {
+            match self.marks.push((core, stamp, block_read(event))) {
                 Ok(()) => return Ok(()),
                 Err(_) => {}
             }
@@ -235,18 +129,17 @@ fn reading(alloc: Global, window: &str) -> Result<Accepted, Fail> {
     )
 }
 
-/// Two cores on a bus: runs them for 5,000 cycles, or plays the turns, before a watcher with room for so many transfers.
-/// Answers what it was told, whether the bus is sound, and the halts.
-fn shared(
+/// Two cores on a bus, whose windows stand a thousand cycles apart: runs them for 5,000 cycles, or plays the turns,
+/// before a watcher with room for so many transfers. Answers what it was told, whether the bus is sound, and the halts.
+fn played(
     alloc: Global,
-    windows: [&str; 2],
     turns: &[Turn],
     room: usize,
 ) -> Result<(Vec<(u8, u32, Option<u32>)>, bool, [Option<u32>; 2]), Fail>
     requires { All (λ t. (t.core < 2) × (1 ≤ t.to)) turns.now }
 {
-    let one = reading(alloc, windows[0])?;
-    let other = reading(alloc, windows[1])?;
+    let one = reading(alloc, "2000 0 1")?;
+    let other = reading(alloc, "2000 1000 1001")?;
     let mut bus = bus_of(alloc, &one, &other)?;
     let mut watch = watcher_of(alloc, room);
     let done = if turns.is_empty() {
@@ -262,30 +155,6 @@ fn shared(
         return Err(Fail::from("words of no variable"));
     }
     Ok((watch.marks, bus.sound(), halts))
-}
-
-#[test]
-fn transfers_are_told_in_the_order_of_their_stamps(rt: HostRuntime) -> Result<(), Fail> {
-    for (window, stamp, halt) in [("2000 1000 1001", 1000, 1634), ("2000 662 663", 662, 1296)] {
-        let (marks, sound, halts) = shared(rt.alloc(), ["2000 0 1", window], [].as_slice(), 4)?;
-        assert_eq!(rt;
-            marks.as_slice(),
-            [(1, stamp, Some(0)), (0, 2000, Some(0))].as_slice()
-        );
-        assert_eq!(rt; (sound, halts), (true, [Some(2634), Some(halt)]));
-    }
-    Ok(())
-}
-
-/// The two objects that stand a thousand cycles apart, played by these turns.
-fn played(
-    alloc: Global,
-    turns: &[Turn],
-    room: usize,
-) -> Result<(Vec<(u8, u32, Option<u32>)>, bool, [Option<u32>; 2]), Fail>
-    requires { All (λ t. (t.core < 2) × (1 ≤ t.to)) turns.now }
-{
-    shared(alloc, ["2000 0 1", "2000 1000 1001"], turns, room)
 }
 
 #[test]

@@ -1,9 +1,7 @@
-//! Worked examples of the library crates, each a test: of what no clause says, and of each public call once where it
-//! succeeds. What crosses the whole program is in ghost_rows. Nothing stands on this crate.
+//! Worked examples of the library crates, each a test of what a library call alone shows. What the whole program shows
+//! by words, files, statuses and texts is a case of ghost_rows. Nothing stands on this crate.
 #![tactic(auto)]
 
-#[cfg(test)]
-mod assembly_rows;
 #[cfg(test)]
 mod bank_rows;
 #[cfg(test)]
@@ -11,31 +9,13 @@ mod bus_rows;
 #[cfg(test)]
 mod checker_rows;
 #[cfg(test)]
-mod cut_rows;
-#[cfg(test)]
-mod emitted_rows;
-#[cfg(test)]
 mod fixtures;
 #[cfg(test)]
-mod layout_rows;
-#[cfg(test)]
-mod least_note_rows;
-#[cfg(test)]
 mod machine_rows;
-#[cfg(test)]
-mod meaning_rows;
-#[cfg(test)]
-mod note_rows;
-#[cfg(test)]
-mod object_rows;
-#[cfg(test)]
-mod oram_rows;
 #[cfg(test)]
 mod outside_rows;
 #[cfg(test)]
 mod patterns_rows;
-#[cfg(test)]
-mod procedure_rows;
 #[cfg(test)]
 mod source_rows;
 #[cfg(test)]
@@ -43,8 +23,4 @@ mod trace_text_rows;
 #[cfg(test)]
 mod tree_rows;
 #[cfg(test)]
-mod typing_rows;
-#[cfg(test)]
 mod watch_rows;
-#[cfg(test)]
-mod word_rows;

@@ -6,7 +6,7 @@ use lt_isa::Note;
 use std::alloc::Global;
 use std::test::Fail;
 use symbolic_values::{Node, Values};
-use trace_patterns::{Known, Pattern, Reason, SymEvent};
+use trace_patterns::{Known, Pattern, SymEvent};
 
 #[test]
 fn equal_trees_have_one_number(rt: HostRuntime) -> Result<(), Fail> {
@@ -61,13 +61,6 @@ fn gaps_that_meet_are_one(rt: HostRuntime) -> Result<(), Fail> {
     assert!(rt; !arm.same(&read_between(alloc, 2, 2)?));
     assert!(rt; !arm.same(&Pattern::new(alloc)));
     Ok(())
-}
-
-#[test]
-fn reasons_have_their_numbers(rt: HostRuntime) {
-    assert_eq!(rt; Reason::SecretAddress.number(), 1);
-    assert_eq!(rt; Reason::UnequalArms.number(), 10);
-    assert_eq!(rt; Reason::SecretSymbolInRam.number(), 13);
 }
 
 #[test]

@@ -1,5 +1,5 @@
 use lt_isa::Event;
-use processor::{Bank, Leaves, ListWatch, NoWatch, PlainBank, Watch, WatchFailed, paths_told};
+use processor::{Leaves, ListWatch, NoWatch, PlainBank, Watch, WatchFailed, paths_told};
 use std::alloc::Global;
 use std::test::Fail;
 
@@ -13,18 +13,12 @@ fn told(alloc: Global) -> Result<ListWatch, Fail> {
 }
 
 #[test]
-fn what_is_told_is_kept(rt: HostRuntime) -> Result<(), Fail> {
-    let watch = told(rt.alloc())?;
+fn what_is_told_is_kept_and_a_call_fails_where_it_has_to(rt: HostRuntime) -> Result<(), Fail> {
+    let mut watch = told(rt.alloc())?;
     assert!(rt; watch.len() == 2 && watch.paths().len() == 1);
     assert_eq!(rt; watch.stamp(1), 634);
     assert_eq!(rt; watch.event(0), Event::RamRead(4, [-5, 6].as_slice()));
     assert_eq!(rt; watch.event(1), Event::Oram(2));
-    Ok(())
-}
-
-#[test]
-fn a_call_fails_where_it_has_to(rt: HostRuntime) -> Result<(), Fail> {
-    let mut watch = told(rt.alloc())?;
     assert_eq!(rt; watch.path(635, 2, &Leaves::none()), Err(WatchFailed));
     Ok(())
 }
@@ -43,21 +37,6 @@ fn nothing_fails_where_nobody_watches(rt: HostRuntime) {
     let mut none = NoWatch::new();
     assert_eq!(rt; none.seen(3, &Event::EncRead(1)), Ok(()));
     assert_eq!(rt; none.path(3, 2, &Leaves::none()), Ok(()));
-}
-
-#[test]
-fn blocks_are_written_and_read(rt: HostRuntime) -> Result<(), Fail> {
-    let alloc = rt.alloc();
-    let mut bank = PlainBank::new(vec![in alloc; 0; 16]?, 8);
-    assert_eq!(rt; bank.blocks(), 2);
-    assert_eq!(rt; bank.block_words(), 8);
-    let written = [1, 2, 3, 4, 5, 6, 7, -8];
-    bank.write(1, written.as_slice());
-    let mut block = [0; 8];
-    bank.read(1, block.as_mut_slice());
-    assert_eq!(rt; block, written);
-    assert_eq!(rt; (bank.word(1, 7), bank.word(0, 7)), (-8, 0));
-    Ok(())
 }
 
 #[test]
