@@ -44,6 +44,8 @@ def objects(tool):
     yield 'the check refuses the region for it (reason 11)', inferred(head + into), 'fault 7 refused 4 11'
     wrong = 'li r1 0\n' + note.replace('00000000', 'ffffffff') + 'ldb 0 D r1\nhalt\n'
     yield "doesn't look at the notes that an object has", inferred(start + wrong), 'inferred 0'
+    unit = start.replace('.object 1 3 1 70 2 3', '.object 2 3 1 70 2 3 1 0 1')
+    yield 'version 1 of the object file alone spells it', checked(unit + 'halt\n'), 'fault 12 assembly number 1'
     checked(start + 'halt\n')
     said = tool.call('bus', 'made.obj', 'none.json')
     yield 'A core is refused before its inputs are read', said, 'fault 13 bus window 0'
@@ -71,6 +73,8 @@ def sources(tool):
             ('are read from left to right', 'public int a[3]; a[0] = a + u;', 'shape 0'),
             ('In a file they are unexpected', 'public int __a;', 'unexpected 11'),
             ('they share its limit of operators', shared, f"deep {shared.rindex('+')}"),
+            ('names of procedures, then calls', 'proc f() { } proc f() { } h();', 'procs twice 1'),
+            ('is counted over the whole file', 'proc f() { } proc g() { f(); } f(); h();', 'procs unknown 2'),
             ('The brace of a procedure counts', proc + 32 * 'if (y > 0) { ', f'deep {len(proc) + 31 * 13 + 11}')):
         said = tool.compiled(text, '9', *(['--procs'] if 'proc ' in text or '__' in text else []))
         yield words, said, f'fault 8 source {line}'
@@ -90,6 +94,13 @@ def sources(tool):
 
 
 def calls(tool):
+    tool.compiled('public int x; x = 1;', '9', '--window', '2000:0:1')
+    tool.write('made.json', '{}')
+    said = tool.call('bus', 'made.obj', 'made.json', '--cycles', '9').split('\n')
+    yield 'its status is 10 where one of them is spent', said[-1], 'core 0 spent'
+    tool.call('dis', 'made.obj', 'made.asm')
+    with open('made.asm', encoding='utf-8') as file:
+        yield 'The object has the window in its profile', next(file), '.object 2 9 1 70 2 3 2000 0 1\n'
     tool.compiled('secret int s; secret int a[2048]; a[s] = 1;', '9')
     tool.write('made.json', '{}')
     lines = tool.call('trace', 'made.obj', 'made.json', '--paths').split('\n')
