@@ -14,6 +14,7 @@ use Rattle.flow_types.specs.Refusals.{ExplainsProgram}
 use Rattle.flow_types.specs.Walk.{nothing_known, names_gathered, IsRefusal, fault_of, walk_block, sizes_fault, found}
 use Rattle.src_tree.proofs.Chains.{or_assoc}
 use Rattle.src_tree.proofs.Faultless.{behind, fine}
+use Rattle.src_tree.proofs.FirstFaults.{cause}
 use Rattle.flow_types.proofs.Walked.{first_walked}
 use Rattle.flow_types.proofs.Capped.{typing_capped, height_capped, same_number}
 use Rattle.flow_types.proofs.KnownNames.{Says, gathers}
@@ -31,7 +32,7 @@ refused p e (Err g) s f = ap (λ a. option_or a (behind p)) s ∙ (let h : Err g
 pub declarations_refused : (p : Source) (e : TypeError) → IsRefusal e (names_gathered nothing_known 0 p.decls)
     → ExplainsProgram e p
 declarations_refused p error.Memory h = tt
-declarations_refused p e h = refused p e (names_gathered nothing_known 0 p.decls) (said p) h
+declarations_refused p e h = cause p e (refused p e (names_gathered nothing_known 0 p.decls) (said p) h)
 
 -- what the names of all declarations are
 pub record Named (p : Source) (known : Context) : Type 0 where
@@ -98,7 +99,7 @@ first_found {p} {known} {w} h =
 -- the first fault as a refusal
 pub explained : (p : Source) (e : TypeError) → first_fault p ≡ Some e → ExplainsProgram e p
 explained p error.Memory h = tt
-explained p e h = h
+explained p e h = cause p e h
 
 -- the weight of a program without a fault is exact
 pub weight_exact : (p : Source) (w : ℕ) → w ≡ shown_number (weight_of p) → first_fault p ≡ None → w ≡ weight_of p

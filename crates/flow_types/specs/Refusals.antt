@@ -1,11 +1,10 @@
 -- What each refusal of typing says of the program. (This project's profile.)
-use Rattle.std.specs.Prelude.{◌≡◌, Some}
 use Rattle.src_tree.specs.Trees.{Source}
 use Rattle.src_tree.specs.declared.faults.TypeError.{TypeError}
 use Rattle.src_tree.specs.declared.faults.TypeError.TheVariants as error
-use Rattle.src_tree.specs.FirstFault.{first_fault}
+use Rattle.src_tree.specs.Causes.{IsFirstFault}
 
 -- it is the program's first fault; want of memory says nothing
 abbrev pub ExplainsProgram : TypeError → Source → Type 0
 ExplainsProgram error.Memory p = Unit {0}
-ExplainsProgram e p = first_fault p ≡ Some e
+ExplainsProgram e p = IsFirstFault p e

@@ -27,6 +27,7 @@ use Rattle.src_tree.specs.FirstFault.{first_fault}
 use Rattle.src_tree.specs.declared.faults.TypeError.{TypeError}
 use Rattle.src_tree.specs.declared.faults.TypeError.TheVariants as program
 use Rattle.src_tree.proofs.Faultless.{faultless}
+use Rattle.src_tree.proofs.FirstFaults.{caused}
 use Rattle.flow_types.specs.Refusals.{ExplainsProgram}
 use Rattle.code_gen.specs.Compiles.{ExplainsRoom}
 use Rattle.code_gen.specs.declared.compiling.CompileError.{CompileError}
@@ -97,21 +98,21 @@ none-some found e none some = absurd (let f : ◌≡◌ {A = Option TypeError} N
 no-program_fault : (p : Source) (e : TypeError) (shown : SourceFault)
     → first_fault p ≡ None → ExplainsProgram e p → program_fault e ≡ Some shown → ⊥
 no-program_fault p (program.TwiceDeclared n) shown none explains is =
-    none-some (first_fault p) (program.TwiceDeclared n) none explains
+    none-some (first_fault p) (program.TwiceDeclared n) none (caused p (program.TwiceDeclared n) explains)
 no-program_fault p (program.Undeclared n) shown none explains is =
-    none-some (first_fault p) (program.Undeclared n) none explains
+    none-some (first_fault p) (program.Undeclared n) none (caused p (program.Undeclared n) explains)
 no-program_fault p (program.WrongShape n) shown none explains is =
-    none-some (first_fault p) (program.WrongShape n) none explains
+    none-some (first_fault p) (program.WrongShape n) none (caused p (program.WrongShape n) explains)
 no-program_fault p (program.FlowToPublic n) shown none explains is =
-    none-some (first_fault p) (program.FlowToPublic n) none explains
+    none-some (first_fault p) (program.FlowToPublic n) none (caused p (program.FlowToPublic n) explains)
 no-program_fault p (program.SecretIndexOfPublic n) shown none explains is =
-    none-some (first_fault p) (program.SecretIndexOfPublic n) none explains
+    none-some (first_fault p) (program.SecretIndexOfPublic n) none (caused p (program.SecretIndexOfPublic n) explains)
 no-program_fault p (program.SecretGuardOfLoop n) shown none explains is =
-    none-some (first_fault p) (program.SecretGuardOfLoop n) none explains
+    none-some (first_fault p) (program.SecretGuardOfLoop n) none (caused p (program.SecretGuardOfLoop n) explains)
 no-program_fault p (program.LoopInSecret n) shown none explains is =
-    none-some (first_fault p) (program.LoopInSecret n) none explains
+    none-some (first_fault p) (program.LoopInSecret n) none (caused p (program.LoopInSecret n) explains)
 no-program_fault p (program.Limit which n) shown none explains is =
-    none-some (first_fault p) (program.Limit which n) none explains
+    none-some (first_fault p) (program.Limit which n) none (caused p (program.Limit which n) explains)
 no-program_fault p program.Memory shown none explains is =
     absurd (let f : ◌≡◌ {A = Option SourceFault} None (Some shown) = is in cc)
 

@@ -7,7 +7,7 @@ pub mod DeclaredOnce
 pub mod Faultless
 pub mod FirstAmong
 mod FirstDeclaration
-mod FirstFaults
+pub mod FirstFaults
 pub mod Contexts
 pub mod NamesDiffer
 pub mod ProgramStatements
