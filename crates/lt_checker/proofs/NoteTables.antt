@@ -1,7 +1,8 @@
--- A table of notes is made from the last note to the first.
-use Rattle.std.proofs.Common.{◌≡◌, ℕ, ◌+◌, ◌<◌, ◌==◌, List, ◌∷◌, length, get_or, set, drop, Option, Some, None, sym, ap, ◌∙◌, subst, ⊎_elim, get_or-set_same, get_or-set_other}
-use Rattle.std.specs.Prelude.{slice_get}
+-- A table of notes is made from the last note to the first, and no note stands behind it.
+use Rattle.std.proofs.Common.{◌≡◌, ℕ, ◌+◌, ◌<◌, ◌≤◌, ◌==◌, List, [], ◌∷◌, length, get_or, set, drop, Option, Some, None, refl, sym, ap, ◌∙◌, subst, ⊎_elim, get_or-set_same, get_or-set_other, arith}
+use Rattle.std.specs.Prelude.{slice_get, All}
 use Rattle.std.proofs.lemmas.List.{drop_more}
+use Rattle.std.proofs.lemmas.List.Elements.{All-head, All-tail}
 use Rattle.std.proofs.lemmas.Bool.{cases_eq, eq-eqb, ne_eqb, cond-true, cond-false}
 use Rattle.std.proofs.lemmas.Option.{slice_get-get_or}
 use Rattle.lt_isa.specs.declared.symbols.Note.{Note}
@@ -43,3 +44,12 @@ entry_more notes i next after table d inside fits before p within =
     subst (λ (o : Option ℕ). IsEntry notes (drop i notes) p o) (sym entry)
     (entry_as notes (drop next notes) (drop i notes) p (get_or table p None) other (before p within)))
     (cases_eq p n.pc)
+
+-- where all notes stand before a place, none is found behind it
+pub none_behind : (notes : List Note) (count p : ℕ) → All (λ n. n.pc < count) notes → count ≤ p
+    → note_of_place notes p ≡ None
+none_behind [] count p before behind = refl
+none_behind (n ∷ notes) count p before behind =
+    let first : n.pc < count = All-head (λ (m : Note). m.pc < count) n notes before in
+    cond-false (n.pc == p) (Some n) (note_of_place notes p) (ne_eqb n.pc p (λ e. omega (arith, first, e)))
+    ∙ none_behind notes count p (All-tail (λ (m : Note). m.pc < count) n notes before) behind

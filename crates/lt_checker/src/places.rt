@@ -1,4 +1,4 @@
-ghost use Rattle.std.specs.Prelude.{◌≡◌, ◌<◌, length, Some, None, if◌then◌else◌, IfOk, IfSome, IfNone};
+ghost use Rattle.std.specs.Prelude.{◌≡◌, ◌<◌, length, All, Some, None, if◌then◌else◌, IfOk, IfSome, IfNone};
 ghost use Rattle.lt_isa.specs.Ranges.{IsOffset};
 ghost use Rattle.trace_patterns.specs.Known.{Known as Labels};
 ghost use Rattle.trace_patterns.specs.Rules as rule;
@@ -23,7 +23,7 @@ pub fn lowest_refusal(
     table: &[Option<u32>],
 ) -> Result<Option<Refusal>, Memory>
     requires table { IsTableOf object.now.notes table.now }
-    requires size { length table.now ≡ length object.now.code }
+    requires notes { All (λ n. n.pc < length table.now) object.now.notes }
     ensures none { IfOk result (λ found. IfNone found (NoneBelow object.now (length object.now.code))) }
     ensures lowest { IfOk result (λ found. IfSome found (λ r. IsFirstFound object.now r.pc r.reason)) }
 {
@@ -64,7 +64,7 @@ fn effect_from(
     known: &mut Known,
 ) -> Result<Effect, Memory>
     requires table { IsTableOf object.now.notes table.now }
-    requires size { length table.now ≡ length object.now.code }
+    requires notes { All (λ n. n.pc < length table.now) object.now.notes }
     requires inside { place < length object.now.code }
     ensures { IfOk result (λ e. made e known.new ≡ effect_from object.now place (arrived arrival known.old)) }
 {
@@ -85,7 +85,7 @@ fn enter(
     known: &mut Known,
 ) -> Entry
     requires table { IsTableOf object.now.notes table.now }
-    requires inside { place < length table.now }
+    requires notes { All (λ n. n.pc < length table.now) object.now.notes }
     ensures { (go : Labels → OneEffect)
         → on_entered result known.new go
         ≡ visited (arrived arrival known.old) (λ reached. on_entry (entered (claimed_at object.now place) reached) go) }
@@ -131,7 +131,7 @@ fn effect_at(
     known: &mut Known,
 ) -> Result<Effect, Memory>
     requires table { IsTableOf object.now.notes table.now }
-    requires size { length table.now ≡ length object.now.code }
+    requires notes { All (λ n. n.pc < length table.now) object.now.notes }
     requires inside { place < length object.now.code }
     ensures { IfOk result (λ e. made e known.new ≡ effect_at object.now place known.old) }
 {
@@ -147,7 +147,7 @@ fn effect_at(
 #[tactic(auto, unfolding(trace_patterns::specs::Rules::ruling_at))]
 fn rule_at(object: &Object, table: &[Option<u32>], place: usize, known: &mut Known) -> Ruling
     requires table { IsTableOf object.now.notes table.now }
-    requires size { length table.now ≡ length object.now.code }
+    requires notes { All (λ n. n.pc < length table.now) object.now.notes }
     requires inside { place < length object.now.code }
     ensures rule { ruled result known.new ≡ ruling_at object.now place known.old }
     ensures offset { OffsetFits (ruled result known.new) }

@@ -1,4 +1,4 @@
-ghost use Rattle.std.specs.Prelude.{◌≡◌, ◌<◌, ◌||◌, ◌&&◌, length, not, if◌then◌else◌};
+ghost use Rattle.std.specs.Prelude.{◌≡◌, ◌<◌, ◌||◌, ◌&&◌, length, All, not, if◌then◌else◌};
 ghost use Rattle.lt_isa.specs.Object.{is_ram};
 ghost use Rattle.lt_isa.specs.Ranges.{InstrFits};
 ghost use Rattle.trace_patterns.specs.Known.{is_secret, bank_known, set_secret, set_bank};
@@ -36,7 +36,7 @@ pub fn rule_of(
     instr: Instr,
 ) -> Ruling
     requires table { IsTableOf object.now.notes table.now }
-    requires size { length table.now ≡ length object.now.code }
+    requires notes { All (λ n. n.pc < length table.now) object.now.notes }
     requires inside { place < length object.now.code }
     requires operands { InstrFits (length object.now.banks) instr }
     requires banks { length object.now.banks < 255 }
@@ -166,7 +166,7 @@ fn jumped(
     falls: bool,
 ) -> Ruling
     requires table { IsTableOf object.now.notes table.now }
-    requires size { length table.now ≡ length object.now.code }
+    requires notes { All (λ n. n.pc < length table.now) object.now.notes }
     ensures { ruled result known.now
         ≡ jumped object.now target known.now (if falls then rule.Falls known.now else rule.Leaves) }
 {
@@ -188,7 +188,7 @@ fn jumped(
 #[tactic(auto, unfolding(trace_patterns::specs::Rules::claimed_at))]
 pub fn claimed_at(object: &Object, table: &[Option<u32>], place: usize) -> Option<Known>
     requires table { IsTableOf object.now.notes table.now }
-    requires inside { place < length table.now }
+    requires notes { All (λ n. n.pc < length table.now) object.now.notes }
     ensures { result ≡ claimed_at object.now place }
 {
     tables::claimed_at(object.notes(), table, place)

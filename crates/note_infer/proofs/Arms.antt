@@ -19,8 +19,9 @@ use Rattle.trace_patterns.specs.Carried.{only_goes_on}
 use Rattle.note_infer.specs.Steps.{LeadsTo}
 use Rattle.trace_patterns.specs.Carries.{without_notes, CarriesTo, Arrived, Along, Through, CarriesOver, ByBoth}
 use Rattle.note_infer.proofs.Lower.{below-own}
-use Rattle.trace_patterns.proofs.Carries.{instr-once}
+use Rattle.trace_patterns.proofs.Carries.{instr-once, offset_once}
 use Rattle.note_infer.proofs.ArmAgain.{shape-renoted, single-again, ends_ahead}
+use Rattle.note_infer.proofs.SameParts.{br_not_jmp, same_jump}
 
 -- what is walked is carried
 mutual
@@ -58,21 +59,12 @@ leads-plain a x y i at goes (step.Branched p q cmp ra rb offset at' to inside) =
 leads-plain a x y i at goes (step.Jumped p q offset at' to inside) =
     absurd (false≢true (ap only_goes_on (sym (instr-once a x i (Jmp offset) at at')) ∙ goes))
 
-br_offset : (c d : Cmp) (ra rb sa sb : ℕ) (x y : ℤ) → Br c ra rb x ≡ Br d sa sb y → x ≡ y
-br_offset c d ra rb sa sb x y e = cc
-
-jmp_offset : (x y : ℤ) → Jmp x ≡ Jmp y → x ≡ y
-jmp_offset x y e = cc
-
-br_not_jmp : {A : Type 0} (c : Cmp) (ra rb : ℕ) (x y : ℤ) → Br c ra rb x ≡ Jmp y → A
-br_not_jmp c ra rb x y e = absurd cc
-
 pub leads-branch : (a : Parts) (x y : ℕ) (cmp : Cmp) (ra rb : ℕ) (offset : ℤ)
     → slice_get a.code x ≡ Some (Br cmp ra rb offset) → LeadsTo a x y → (y ≡ x + 1) ⊎ (y ≡ target_of a x offset)
 leads-branch a x y cmp ra rb offset at (step.Onward p q j at' goes' to inside) = inl to
 leads-branch a x y cmp ra rb offset at (step.Past p q c sa sb f at' to inside) = inl to
 leads-branch a x y cmp ra rb offset at (step.Branched p q c sa sb f at' to inside) =
-    let same = br_offset c cmp sa sb ra rb f offset (instr-once a x _ _ at' at) in
+    let same = offset_once c cmp sa sb ra rb f offset (instr-once a x _ _ at' at) in
     inr (subst (λ (z : ℤ). y ≡ target_of a x z) same to)
 leads-branch a x y cmp ra rb offset at (step.Jumped p q f at' to inside) =
     br_not_jmp cmp ra rb offset f (instr-once a x _ _ at at')
@@ -86,7 +78,7 @@ leads-jump a x y offset at (step.Past p q c sa sb f at' to inside) = br_not_jmp 
 leads-jump a x y offset at (step.Branched p q c sa sb f at' to inside) =
     br_not_jmp c sa sb f offset (instr-once a x _ _ at' at)
 leads-jump a x y offset at (step.Jumped p q f at' to inside) =
-    let same = jmp_offset f offset (instr-once a x _ _ at' at) in
+    let same = same_jump f offset (instr-once a x _ _ at' at) in
     subst (λ (z : ℤ). y ≡ target_of a x z) same to
 
 single_goes : (a : Parts) (s : SymState) (i : Instr) (pattern : Shown TreeEvent) (t : SymState)

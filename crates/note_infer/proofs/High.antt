@@ -36,6 +36,7 @@ use Rattle.note_infer.proofs.CarriedLower.{way-any}
 use Rattle.note_infer.proofs.RuledLower.{IsPlainRuling, plain-ruled, ruling-some}
 use Rattle.note_infer.proofs.Ruled.{Jumped, jumped-is, br-ruled, jmp-ruled, OpensBy, opens-by, visited-full, comes-full}
 use Rattle.note_infer.proofs.Arms.{cross-carries}
+use Rattle.note_infer.proofs.SameParts.{known_once}
 
 -- what is known at a place that is visited
 known_from : Option Known → Arrival → Option Known
@@ -61,9 +62,6 @@ only_if_from : (x y : Option Known) (m k : Known) → x ≡ Some m → y ≡ Som
 unfolding only_if
 only_if_from x y m k e f = ap (λ (v : Option Known). only_if v y) e ∙ f
 
-known_is : (j k : Known) → ◌≡◌ {A = Option Known} (Some j) (Some k) → j ≡ k
-known_is j k e = cc
-
 pub in-code : (a : Parts) (p : ℕ) (i : Instr) → slice_get a.code p ≡ Some i → p < length a.code
 in-code a p i e =
     ⊎_elim (λ (lt : p < length a.code). lt)
@@ -79,7 +77,7 @@ state_visits a p k e = by (claimed_at a p) (reached_at a p) refl refl e
         → VisitedAt a p k
     by (Some c) r at here f = Noted p k (at ∙ f)
     by None (Here j) at here f =
-        Unnoted p k at (here-comes a p k (here ∙ ap Here (known_is j k f)))
+        Unnoted p k at (here-comes a p k (here ∙ ap Here (known_once j k f)))
     by None Unreached at here f = absurd (let g : ◌≡◌ {A = Option Known} None (Some k) = f in cc)
     by None (Inside join j) at here f = absurd (let g : ◌≡◌ {A = Option Known} None (Some k) = f in cc)
 

@@ -23,6 +23,7 @@ use Rattle.note_infer.specs.Noting.{IsTargetOf, ByJump, ByBranch}
 use Rattle.note_infer.specs.Kept.{TellsOrigins, IsApart, IsClear, IsWithout, ListsJoiners, ListsOthers}
 use Rattle.note_infer.proofs.Tight.{at-least-then}
 use Rattle.note_infer.proofs.Passing.{Leads, PassesOver, pass-over, way-branch, known-at_entry}
+use Rattle.note_infer.proofs.SameParts.{br_not_jmp, known_once, none_not}
 
 pub apart_by : (o : Parts) (origins crossed : List ℕ) (place join : ℕ) → TellsOrigins o origins
     → IsClear origins crossed place join → IsApart o crossed place join
@@ -30,15 +31,6 @@ apart_by o origins crossed place join tells clear = record {
   entered = λ p q lt le t. tells p q t place (clear.told q lt le);
   alone = clear.alone;
 }
-
-br_not_jmp : {A : Type 0} (c : Cmp) (ra rb : ℕ) (x y : ℤ) → Br c ra rb x ≡ Jmp y → A
-br_not_jmp c ra rb x y e = absurd cc
-
-some_known : (j k : Known) → ◌≡◌ {A = Option Known} (Some j) (Some k) → j ≡ k
-some_known j k e = cc
-
-none_known : {A : Type 0} (k : Known) → ◌≡◌ {A = Option Known} None (Some k) → A
-none_known k e = absurd cc
 
 -- a branch is crossed, with one more, where it was or is that one
 crossed_more : (crossed : List ℕ) (place r : ℕ) → (r ≡ place → ⊥)
@@ -164,10 +156,10 @@ module _ (o : Parts) (crossed : List ℕ) (place join : ℕ) (cmp : Cmp) (ra rb 
   inner_none : others place ≡ None → Inner o crossed others place join
   inner_none none = record {
     inner = λ x. None;
-    within = λ x k e. none_known k e;
-    full = λ x k e. none_known k e;
-    entries = λ q k next e way. none_known k (sym none ∙ e);
-    ways = λ x q k next e way. none_known k e;
+    within = λ x k e. none_not k e;
+    full = λ x k e. none_not k e;
+    entries = λ q k next e way. none_not k (sym none ∙ e);
+    ways = λ x q k next e way. none_not k e;
   }
 
   among : is_crossed (place ∷ crossed) place ≡ true
@@ -182,7 +174,7 @@ module _ (o : Parts) (crossed : List ℕ) (place join : ℕ) (cmp : Cmp) (ra rb 
     inner = m.inner;
     within = λ x j e. let h = m.passes.within x j e in (omega (arith, h.0), h.1);
     full = m.passes.full;
-    entries = λ q j next e way. enters q j next (some_known j k (sym e ∙ at))
+    entries = λ q j next e way. enters q j next (known_once j k (sym e ∙ at))
         (way-branch o crossed place j q next cmp ra rb offset branch free way);
     ways = λ x q j next e way. comes q next (m.passes.ways x q j next e way);
   }
@@ -346,7 +338,7 @@ module _ (o : Parts) (crossed : List ℕ) (states after : List (Option Known)) (
 
       by : (place < x) ⊎ (x ≤ place) → (x < join) ⊎ (join ≤ x)
           → ((place < x → x < join → ⊥)) × (at_places states x ≡ Some k)
-      by (inl lt) (inl le) = none_known k (sym (kept.inside x lt le) ∙ e)
+      by (inl lt) (inl le) = none_not k (sym (kept.inside x lt le) ∙ e)
       by (inl lt) (inr more) = out (λ (l : place < x) (m : x < join). absurd (omega (arith, m, more)))
       by (inr le) more = out (λ (l : place < x) (m : x < join). absurd (omega (arith, l, le)))
 

@@ -36,6 +36,7 @@ use Rattle.note_infer.proofs.Arms.{cross-carries, cross-stays}
 use Rattle.note_infer.proofs.High.{in-code, public-branch, plain-falls, jump-goes, KnownHigher}
 use Rattle.note_infer.proofs.Sources.{leads-renoted}
 use Rattle.note_infer.proofs.Standing.{joins_there, no_target, target-told, noted-states, higher, Outer, outer, ends, inner-unreached, FromBefore, from-before, Standing, Arriving, secret-crossed, crossed-secret, visited-stands, comes-arrives}
+use Rattle.note_infer.proofs.SameParts.{known_once}
 
 module _ (b : Parts) (notes : List Note) (accepts : Accepts (with_notes b notes)) (crossed : List ℕ) (states : States)
     (last : IsLast (without_notes b) crossed states) (same : OpensTheSame (with_notes b notes) crossed states)
@@ -101,10 +102,7 @@ module _ (b : Parts) (notes : List Note) (accepts : Accepts (with_notes b notes)
       let e : Option Known = Some t.known in
       jumped-fits b q k t.known next inside t.claimed
       (fits-then k s.known t.known (lower-fits k s.known s.lower)
-      (subst (FitsClaim s.known) (some_is h.known t.known (sym h.is ∙ t.at)) h.above))
-    where
-      some_is : (x y : Known) → ◌≡◌ {A = Option Known} (Some x) (Some y) → x ≡ y
-      some_is x y e = cc
+      (subst (FitsClaim s.known) (known_once h.known t.known (sym h.is ∙ t.at)) h.above))
 
   -- what is ruled of an instruction at a place that is visited
   plain_ruled : (p : ℕ) (k : Known) (i : Instr) → Stands p k → slice_get b.code p ≡ Some i → only_goes_on i ≡ true
@@ -520,14 +518,11 @@ module _ (b : Parts) (notes : List Note) (accepts : Accepts (with_notes b notes)
       crossed = crossed_at;
     }
       where
-        some_is : (x y : Known) → ◌≡◌ {A = Option Known} (Some x) (Some y) → x ≡ y
-        some_is x y e = cc
-
         fit : (p : ℕ) (k c : Known) → claimed_at b p ≡ Some c
             → Arriving b notes accepts crossed states last same some stand p k → FitsClaim k c
         fit p k c e h =
             let is = noted-states b notes accepts crossed states last same some stand p c e in
-            subst (FitsClaim k) (some_is h.known c (sym h.at ∙ is)) (lower-fits k h.known h.lower)
+            subst (FitsClaim k) (known_once h.known c (sym h.at ∙ is)) (lower-fits k h.known h.lower)
 
 -- steps lead to the same places whatever notes stand
 pub reachable_renoted : (o : Parts) (notes : List Note) (p : ℕ) → IsReachable o p → IsReachable (with_notes o notes) p

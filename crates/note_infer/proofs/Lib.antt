@@ -1,4 +1,5 @@
 -- The theorem (Keeps to LeastAccepted, but for UnderWay) and the search (UnderWay, HigherStates to Looking).
+pub mod SameParts
 pub mod Keeps
 pub mod Lower
 pub mod CarriedLower

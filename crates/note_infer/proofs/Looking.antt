@@ -24,6 +24,7 @@ use Rattle.note_infer.proofs.Lower.{lower-own, lower-fits, known-lower, entry-be
 use Rattle.note_infer.proofs.CarriedLower.{over-below}
 use Rattle.trace_patterns.proofs.Carries.{instr-once, offset_once, over-once}
 use Rattle.note_infer.proofs.Following.{brings-there, brings-keeps, brings-size, Follows, Nowhere, Further, looked}
+use Rattle.note_infer.proofs.SameParts.{same_jump}
 
 -- what stands at a place has its registers and slots, if anything does
 pub full_at : (states : List (Option Known)) (place : ℕ) → AllFull states → IfSome (get_or states place None) IsFull
@@ -123,9 +124,6 @@ module _ (o : Parts) (crossed : List ℕ) (place : ℕ) (k : Known) (before : Li
           absurd (let f = instr-once o place Halt (Jmp x) code c in cc)
       by q next (Crosses p' k' q' n' cmp ra rb x c among joins) =
           absurd (let f = instr-once o place Halt (Br cmp ra rb x) code c in cc)
-
-  same_jump : (x y : ℤ) → Jmp x ≡ Jmp y → x ≡ y
-  same_jump x y e = cc
 
   pub looks_jump : (offset : ℤ) (after : List (Option Known)) (rest : List ℕ) → slice_get o.code place ≡ Some
       (Jmp offset)

@@ -12,7 +12,7 @@ use Rattle.symbolic_values.specs.Trees.{Value, Reg}
 use Rattle.trace_patterns.specs.Known.{Known, is_secret, bank_known, set_secret, set_bank, FitsClaim}
 use Rattle.trace_patterns.specs.SymStates.{SymSlot, AnySlot, RamSlot, EramSlot, OramSlot, SymState, tree_held, slot_held, hold_tree, hold_slot, entry_slot, at_entry, known_after, slot_bank, common_tree, common_slot, common}
 use Rattle.trace_patterns.specs.Single.{applied_trees, block_held, word_held}
-use Rattle.trace_patterns.proofs.SymStateLaws.{IsSized, tree-at_entry, slot-at_entry, sized-at_entry, secret-after, bank-after, tree-common, slot-common, sized-common}
+use Rattle.trace_patterns.proofs.SymStateLaws.{IsSized, tree-at_entry, slot-at_entry, sized-at_entry, secret-after, bank-after, none_left, none_right, any_left, any_right, tree-common, slot-common, sized-common}
 use Rattle.trace_patterns.specs.Carried.{slot_shows, slot_is_ram, known_behind, slot_loaded, held_behind}
 use Rattle.note_infer.specs.Least.{IsFull}
 use Rattle.note_infer.proofs.Keeps.{Keeps, keeps-then, keeps-made, keeps-both, keeps-set}
@@ -161,27 +161,6 @@ loaded_kept o bank t u (inl e) = by (is_ram bank) (is_eram bank) refl refl
 or_true : (x : Bool) → (x || true) ≡ true
 or_true true = refl
 or_true false = refl
-
--- (These four stand in SymStateLaws too, but can't be named from here.)
-none_left : (t : Option Value) → common_tree None t ≡ None
-none_left None = refl
-none_left (Some t) = refl
-
-none_right : (t : Option Value) → common_tree t None ≡ None
-none_right None = refl
-none_right (Some t) = refl
-
-any_left : (k : SymSlot) → common_slot AnySlot k ≡ AnySlot
-any_left AnySlot = refl
-any_left (RamSlot block origin) = refl
-any_left (EramSlot block) = refl
-any_left (OramSlot bank) = refl
-
-any_right : (k : SymSlot) → common_slot k AnySlot ≡ AnySlot
-any_right AnySlot = refl
-any_right (RamSlot block origin) = refl
-any_right (EramSlot block) = refl
-any_right (OramSlot bank) = refl
 
 -- one instruction keeps it, in an arm and in public code
 pub held-below : (o : Parts) (low high : SymState) (i : Instr) → IsBelow low high

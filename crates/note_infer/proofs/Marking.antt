@@ -15,6 +15,7 @@ use Rattle.note_infer.specs.Ways.{is_crossed}
 use Rattle.note_infer.specs.Least.{States}
 use Rattle.note_infer.specs.LeastNotes.{IsTarget, OfJump, OfBranch}
 use Rattle.note_infer.specs.Noting.{IsTargetOf, ByJump, ByBranch, is_marked_at, Marks, MarksFrom, MarksBelow}
+use Rattle.note_infer.proofs.SameParts.{same_jump}
 
 -- one place
 pub marks_one : (marks : List Bool) (target : ℕ) → target < length marks → Marks target marks (set marks target true)
@@ -69,9 +70,6 @@ marks_halts o crossed place i marks code is = record {
   all = λ q h. halt_no_target o crossed place q i code is h;
   only = λ q e. inl e;
 }
-
-same_jump : (x y : ℤ) → Jmp x ≡ Jmp y → x ≡ y
-same_jump x y e = cc
 
 jump_target : (o : Parts) (crossed : List ℕ) (place q : ℕ) (offset : ℤ) → slice_get o.code place ≡ Some (Jmp offset)
     → IsTargetOf o crossed place q → (q ≡ target_of o place offset) × (q < length o.code)

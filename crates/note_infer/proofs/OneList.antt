@@ -18,6 +18,7 @@ use Rattle.note_infer.specs.Inferred.{claim_of, LeastNotesAreOne}
 use Rattle.note_infer.specs.Noting.{claims_at}
 use Rattle.note_infer.proofs.Once.{last-once}
 use Rattle.note_infer.proofs.Inferring.{same_stand, claims_are}
+use Rattle.note_infer.proofs.SameParts.{known_once, none_not}
 
 -- something is known at a target
 target_known : (o : Parts) (crossed : List ℕ) (states : States) (q : ℕ) → IsLeast o crossed states
@@ -75,25 +76,19 @@ off_head n notes q ne =
     ap (λ (b : Bool). option_map note_known (let r : Option Note = if b then Some n else note_of_place notes q in r))
     (ne_eqb n.pc q ne)
 
-some_not : {A : Type 0} (k : Known) → ◌≡◌ {A = Option Known} None (Some k) → A
-some_not k e = absurd cc
-
-known_once : (j k : Known) → ◌≡◌ {A = Option Known} (Some j) (Some k) → j ≡ k
-known_once j k e = cc
-
 -- one of two heads isn't lower than the other
 not_lower : (before others : List Note) (n m : Note) (xs ys : List Note) → Rises others (m ∷ ys)
     → ((q : ℕ) → claims_at (n ∷ xs) q ≡ claims_at (m ∷ ys) q) → n.pc < m.pc → ⊥
 not_lower before others n m xs ys rises same lt =
     let none = none_below (others ++ m ∷ []) ys n.pc rises.1 (omega (arith, behind_one others m, lt)) in
-    some_not (note_known n) (sym none ∙ sym (off_head m ys n.pc (λ e. omega (arith, e, lt))) ∙ sym (same n.pc)
+    none_not (note_known n) (sym none ∙ sym (off_head m ys n.pc (λ e. omega (arith, e, lt))) ∙ sym (same n.pc)
     ∙ at_head n xs)
 
 same_list : (before others xs ys : List Note) → Rises before xs → Rises others ys
     → ((q : ℕ) → claims_at xs q ≡ claims_at ys q) → map claim_of xs ≡ map claim_of ys
 same_list before others [] [] one two same = refl
-same_list before others [] (m ∷ ys) one two same = some_not (note_known m) (same m.pc ∙ at_head m ys)
-same_list before others (n ∷ xs) [] one two same = some_not (note_known n) (sym (same n.pc) ∙ at_head n xs)
+same_list before others [] (m ∷ ys) one two same = none_not (note_known m) (same m.pc ∙ at_head m ys)
+same_list before others (n ∷ xs) [] one two same = none_not (note_known n) (sym (same n.pc) ∙ at_head n xs)
 same_list before others (n ∷ xs) (m ∷ ys) one two same =
     let at : n.pc ≡ m.pc =
     ⊎_elim (λ (lt : n.pc < m.pc). absurd (not_lower before others n m xs ys two same lt))

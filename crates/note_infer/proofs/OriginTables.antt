@@ -12,10 +12,9 @@ use Rattle.trace_patterns.specs.Known.{Known}
 use Rattle.note_infer.specs.Ways.{is_crossed}
 use Rattle.note_infer.specs.Noting.{IsTargetOf, ByJump, ByBranch}
 use Rattle.note_infer.specs.Kept.{IsTold, TellsOrigins, OriginsBelow, TellsOne, IsClear, IsWithout, origin_at}
+use Rattle.note_infer.proofs.SameParts.{same_jump}
 
 -- the place that an instruction jumps or branches to, if it does
-pub same_jump : (x y : ℤ) → Jmp x ≡ Jmp y → x ≡ y
-same_jump x y e = cc
 
 told_lower : (p q : ℕ) (before after : List ℕ) → IsTold before p q → origin_at after q ≤ origin_at before q
     → IsTold after p q

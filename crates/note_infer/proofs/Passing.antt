@@ -27,6 +27,7 @@ use Rattle.note_infer.proofs.Lower.{IsLower, below-own, held-below, lower-own, l
 use Rattle.note_infer.proofs.Looking.{br_not, jmp_not}
 use Rattle.note_infer.proofs.Tight.{fits-then, at-least-then}
 use Rattle.note_infer.proofs.UnderWay.{at-set, off-set}
+use Rattle.note_infer.proofs.SameParts.{known_once, none_not, same_jump}
 
 -- one instruction: in an arm no more is known behind it than in public code
 known_tree : (s : SymState) (r : ℕ) (v : Option Value)
@@ -238,9 +239,6 @@ way-on o crossed p k q next i at goes (Jumps p' k' q' n' x c to inside is) =
 way-on o crossed p k q next i at goes (Crosses p' k' q' n' cmp ra rb x c among joins) =
     br_not cmp ra rb x i (instr-once o p i (Br cmp ra rb x) at c) goes
 
-same_jump : (x y : ℤ) → Jmp x ≡ Jmp y → x ≡ y
-same_jump x y e = cc
-
 way-jump : (o : Parts) (crossed : List ℕ) (p : ℕ) (k : Known) (q : ℕ) (next : Known) (offset : ℤ)
     → slice_get o.code p ≡ Some (Jmp offset) → PublicWay o crossed p k q next
     → (q ≡ target_of o p offset) × (next ≡ k)
@@ -330,12 +328,6 @@ abbrev or_else : Option Known → Option Known → Option Known
 or_else None other = other
 or_else (Some k) other = Some k
 
-some_once : (j k : Known) → ◌≡◌ {A = Option Known} (Some j) (Some k) → j ≡ k
-some_once j k e = cc
-
-none_some : {A : Type 0} (k : Known) → ◌≡◌ {A = Option Known} None (Some k) → A
-none_some k e = absurd cc
-
 module _ (one two : States) (p : ℕ) (k : Known)
     (one_apart : (x : ℕ) (j : Known) → one x ≡ Some j → x ≡ p → ⊥)
     (two_apart : (x : ℕ) (j : Known) → two x ≡ Some j → x ≡ p → ⊥)
@@ -365,7 +357,7 @@ module _ (one two : States) (p : ℕ) (k : Known)
   unfolding both
   both_cases x j e =
       ⊎_elim
-      (λ (at : x ≡ p). inl (at, some_once j k (sym e ∙ at-set (λ x. or_else (one x) (two x)) p k x at)))
+      (λ (at : x ≡ p). inl (at, known_once j k (sym e ∙ at-set (λ x. or_else (one x) (two x)) p k x at)))
       (λ (ne : x ≡ p → ⊥). inr (by (one x) refl (sym (off-set (λ x. or_else (one x) (two x)) p k x ne) ∙ e)))
       (cases_eq x p)
     where
@@ -574,9 +566,9 @@ passed_over o crossed depth end p offset s second join left right r one two = re
 
 passed_none : (o : Parts) (crossed : List ℕ) (low end : ℕ) (out : Known) → Passes o crossed low end (λ x. None) out
 passed_none o crossed low end out = record {
-  within = λ x k e. none_some k e;
-  full = λ x k e. none_some k e;
-  ways = λ x q k next e way. none_some k e;
+  within = λ x k e. none_not k e;
+  full = λ x k e. none_not k e;
+  ways = λ x q k next e way. none_not k e;
 }
 
 passed_at_end : (o : Parts) (crossed : List ℕ) (end p : ℕ) (s : SymState) → p ≡ end → IsSized s

@@ -1,5 +1,5 @@
 -- What is known under the least notes at a place that is visited is what the least states say.
-use Rattle.std.proofs.Common.{◌≡◌, ℕ, ◌+◌, ◌-◌, ◌<◌, ◌≤◌, Bool, true, false, ◌||◌, ℤ, List, length, slice_get, ◌⊎◌, inl, inr, Option, Some, None, refl, sym, ap, ◌∙◌, subst, arith}
+use Rattle.std.proofs.Common.{◌≡◌, ℕ, ◌+◌, ◌-◌, ◌<◌, ◌≤◌, Bool, true, false, ◌||◌, ℤ, List, length, slice_get, ◌⊎◌, inl, inr, Some, None, refl, sym, ap, ◌∙◌, subst, arith}
 use Rattle.std.proofs.lemmas.Bool.{cases_lt, false≢true}
 use Rattle.gr_word.specs.declared.operations.Cmp.{Cmp}
 use Rattle.lt_isa.specs.declared.symbols.Note.{Note}
@@ -27,12 +27,7 @@ use Rattle.note_infer.proofs.Ruled.{FallsBy, Plainly, PastBranch, falls-by, Open
 use Rattle.note_infer.proofs.Arms.{cross-carries}
 use Rattle.note_infer.proofs.High.{in-code, never-both, Region, region-of, public-branch, KnownHigher, least-higher}
 use Rattle.note_infer.proofs.Sources.{over-join, way-once}
-
-some_known : (j k : Known) → ◌≡◌ {A = Option Known} (Some j) (Some k) → j ≡ k
-some_known j k e = cc
-
-none_some : {A : Type 0} (k : Known) → ◌≡◌ {A = Option Known} None (Some k) → A
-none_some k e = absurd cc
+use Rattle.note_infer.proofs.SameParts.{known_once, none_not}
 
 -- b has the least notes, and is accepted with other notes
 module _ (b : Parts) (notes : List Note) (accepts : Accepts (with_notes b notes)) (crossed : List ℕ) (states : States)
@@ -59,7 +54,7 @@ module _ (b : Parts) (notes : List Note) (accepts : Accepts (with_notes b notes)
   pub noted-states : (q : ℕ) (c : Known) → claimed_at b q ≡ Some c → states q ≡ Some c
   noted-states q c e =
       let t = target-told q (stand.only q c e) in
-      t.at ∙ ap Some (some_known t.known c (sym t.claimed ∙ e))
+      t.at ∙ ap Some (known_once t.known c (sym t.claimed ∙ e))
 
   pub higher : (p : ℕ) (m : Known) → states p ≡ Some m
       → KnownHigher (with_notes b notes) accepts crossed states last same some p m
@@ -156,7 +151,7 @@ module _ (b : Parts) (notes : List Note) (accepts : Accepts (with_notes b notes)
     pub tight : claimed_at b p ≡ None → IsLower known k
 
   pub no_target : {A : Type 0} (x : ℕ) → claimed_at b x ≡ None → IsTarget (without_notes b) crossed states x → A
-  no_target x none t = let told = target-told x t in none_some told.known (sym none ∙ told.claimed)
+  no_target x none t = let told = target-told x t in none_not told.known (sym none ∙ told.claimed)
 
   arrives : (q x : ℕ) (k next : Known) → Standing q k → PublicWay (without_notes b) crossed q k x next → Arriving x next
   arrives q x k next s way =
@@ -199,7 +194,7 @@ module _ (b : Parts) (notes : List Note) (accepts : Accepts (with_notes b notes)
       -- what they bring is what this one brings
       brought : (j m : Known) → states q ≡ Some j → PublicWay (without_notes b) crossed q j x m → FitsClaim m next
       brought j m at other =
-          let e : j ≡ s.known = some_known j s.known (sym at ∙ s.at) in
+          let e : j ≡ s.known = known_once j s.known (sym at ∙ s.at) in
           let from : PublicWay (without_notes b) crossed q s.known x m =
           subst (λ (v : Known). PublicWay (without_notes b) crossed q v x m) e other in
           let up = way-higher (without_notes b) crossed q s.known x m k from s.higher in

@@ -82,8 +82,10 @@ impl RegionState {
     pub fn keep_common(&mut self, other: &RegionState)
         ensures { IsCommon self.old other.now self.new }
     {
+        // A copy that lies apart lets several registers be compared at once.
+        let theirs = other.registers;
         for register in 0..32usize {
-            self.registers[register] = self.registers[register].common(other.registers[register]);
+            self.registers[register] = self.registers[register].common(theirs[register]);
         }
         for slot in 0..8usize {
             keep_common_slot(&mut self.slots[slot], other.slots[slot]);
@@ -192,16 +194,14 @@ impl Slot {
     }
 }
 
-// What a register holds at the entry, where it is public.
+// What a register holds at the entry, where it is public. The number is read in any case: then no branch is needed.
 fn entry_number(table: &EntryTable, secret: bool, register: u8) -> Option<u32>
     requires entries { HasEntries table.now }
     requires register { register < 32 }
     ensures { IsEntryNumber (if secret then None else Some (Reg register)) table.now.values result }
 {
-    if secret {
-        return None;
-    }
-    Some(table.registers[register as usize])
+    let number = table.registers[register as usize];
+    if secret { None } else { Some(number) }
 }
 
 // What a slot is bound to at the entry, where its bank is known.

@@ -74,8 +74,10 @@ pub fn walk(
     Found::Reaches(place)
 }
 
-// Walks one instruction, and the region that it opens where it is a branch.
+// Walks one instruction, and the region that it opens where it is a branch. Each instruction of an arm passes here, so
+// it stands in the loop itself.
 #[cycle(walks)]
+#[inline(always)]
 fn next_place(
     alloc: Global,
     object: &Object,
@@ -160,6 +162,7 @@ fn go_on(way: &mut Way, crossed: Way, join: u32) -> Found
 
 /// Crosses the region of a branch at a place that leads on by an offset, where so many regions lie around it and its
 /// join may be at the end at most: both arms are walked from one state, the first arm first, and must show the same.
+// Each arm of a match returns, since a way is large, and each match that has it as its value would copy it once more.
 #[cycle(walks)]
 pub fn region_of(
     alloc: Global,
@@ -182,7 +185,7 @@ pub fn region_of(
     ensures { IsRegionWalk object.now depth end place offset values.old state.now result values.new }
 {
     match shape_at(object, depth, place, end, offset) {
-        RegionShape::BadShape { place, reason } => Region::Blocked { place, reason },
+        RegionShape::BadShape { place, reason } => return Region::Blocked { place, reason },
         RegionShape::Arms { second, join } => {
             let mut untaken = way_from(alloc, 1, state);
             match walk(
@@ -194,15 +197,15 @@ pub fn region_of(
                 place + 1,
                 second - 1,
             ) {
-                Found::Stops { place, reason } => Region::Blocked { place, reason },
-                Found::Memory => Region::Memory,
+                Found::Stops { place, reason } => return Region::Blocked { place, reason },
+                Found::Memory => return Region::Memory,
                 Found::Reaches(_) => {
                     let jump = u32::from(object.profile().taken);
                     let mut taken = way_from(alloc, jump, state);
                     match walk(alloc, object, values, &mut taken, depth + 1, second, join) {
-                        Found::Stops { place, reason } => Region::Blocked { place, reason },
-                        Found::Memory => Region::Memory,
-                        Found::Reaches(_) => compared(place, join, jump, untaken, &taken),
+                        Found::Stops { place, reason } => return Region::Blocked { place, reason },
+                        Found::Memory => return Region::Memory,
+                        Found::Reaches(_) => return compared(place, join, jump, untaken, &taken),
                     }
                 }
             }

@@ -22,13 +22,22 @@ pub(crate) struct NodeHasher {
 }
 
 impl CodeHash {
-    // The hash that has the keys of some code. Each instruction is read once, and a constant where there is one.
+    // The hash that has the keys of some code. Each instruction is read once: two heads at a time, and behind them what
+    // has no room there.
     pub(crate) fn of(code: &[Instr]) -> CodeHash {
         let mut digest = Digest::new();
-        for instruction in code {
-            digest.read(word_of(*instruction));
-            if let Instr::Li { value, .. } = *instruction {
-                digest.read(value.cast_unsigned());
+        for pair in code.chunks(2) {
+            match pair {
+                [first, second] => {
+                    digest.read(head_of(*first) | head_of(*second) << 32);
+                    digest.read_rest(*first);
+                    digest.read_rest(*second);
+                }
+                [last] => {
+                    digest.read(head_of(*last));
+                    digest.read_rest(*last);
+                }
+                _ => {}
             }
         }
         let (first_key, last_key) = digest.keys();
@@ -43,8 +52,8 @@ impl CodeHash {
     }
 }
 
-// The opcode and the operands of an instruction in one word, where a constant has no room.
-fn word_of(instruction: Instr) -> u64 {
+// The opcode and the operands of an instruction, without its offset and its constant: four bytes.
+fn head_of(instruction: Instr) -> u64 {
     match instruction {
         Instr::Nop => packed(Kind::Nop, 0, 0, 0),
         Instr::Halt => packed(Kind::Halt, 0, 0, 0),
@@ -55,24 +64,14 @@ fn word_of(instruction: Instr) -> u64 {
         Instr::Idb { rd, slot } => packed(Kind::Idb, rd, slot, 0),
         Instr::Ldw { rd, slot, off } => packed(Kind::Ldw, rd, slot, off),
         Instr::Stw { rs, slot, off } => packed(Kind::Stw, rs, slot, off),
-        Instr::Jmp { offset } => packed(Kind::Jmp, 0, 0, 0) | shifted(offset),
-        Instr::Br {
-            cmp,
-            ra,
-            rb,
-            offset,
-        } => packed(Kind::Br(cmp), ra, rb, 0) | shifted(offset),
+        Instr::Jmp { .. } => packed(Kind::Jmp, 0, 0, 0),
+        Instr::Br { cmp, ra, rb, .. } => packed(Kind::Br(cmp), ra, rb, 0),
     }
 }
 
 #[inline(always)]
 fn packed(kind: Kind, a: u8, b: u8, c: u8) -> u64 {
     u64::from(opcode_of(kind)) | u64::from(a) << 8 | u64::from(b) << 16 | u64::from(c) << 24
-}
-
-#[inline(always)]
-fn shifted(offset: i32) -> u64 {
-    u64::from(offset.cast_unsigned()) << 32
 }
 
 // SipHash-1-3 of words, with an answer of 128 bits and both keys 0. It reads a word in a third of the steps of the
@@ -99,6 +98,17 @@ impl Digest {
         self.v3 ^= word;
         self.round();
         self.v0 ^= word;
+    }
+
+    // An instruction's constant or offset, where it has one.
+    #[inline(always)]
+    fn read_rest(&mut self, instruction: Instr) {
+        match instruction {
+            Instr::Li { value, .. } => self.read(value.cast_unsigned()),
+            Instr::Jmp { offset } => self.read(u64::from(offset.cast_unsigned())),
+            Instr::Br { offset, .. } => self.read(u64::from(offset.cast_unsigned())),
+            _ => {}
+        }
     }
 
     fn round(&mut self) {

@@ -38,9 +38,9 @@ unfolding claimed_at
 claimed_at-inside o p join q none after before = ap (option_map note_known) (none_at o.notes p join q after before none)
 
 -- a claim speaks of 32 registers and 8 slots
-record IsClaim (claimed : Known) : Type 0 where
-  registers : length claimed.secret ≡ 32
-  slots : length claimed.banks ≡ 8
+pub record IsClaim (claimed : Known) : Type 0 where
+  pub registers : length claimed.secret ≡ 32
+  pub slots : length claimed.banks ≡ 8
 
 note_is_claim : (o : Option Note) (claimed : Known) → option_map note_known o ≡ Some claimed → IsClaim claimed
 note_is_claim None claimed e = absurd (let f : ◌≡◌ {A = Option Known} None (Some claimed) = e in cc)
@@ -71,7 +71,7 @@ bank_tested None (Some c) h = absurd (let f : ◌≡◌ {A = Option ℕ} None (S
 bank_tested (Some a) (Some c) h = let same : Some a ≡ Some c = h c refl in eq-eqb a c cc
 
 -- the test of what fits a claim holds exactly where it fits
-fits_claim : (k claimed : Known) → IsClaim claimed → fits k claimed ≡ true → FitsClaim k claimed
+pub fits_claim : (k claimed : Known) → IsClaim claimed → fits k claimed ≡ true → FitsClaim k claimed
 unfolding registers_fit slots_fit
 fits_claim k claimed size fit =
     let parts = and_parts (registers_fit 32 k claimed) (slots_fit 8 k claimed) fit in
@@ -91,7 +91,8 @@ fits_claim k claimed size fit =
           (cases_lt j 8);
     }
 
-claim_tested : (k claimed : Known) → FitsClaim k claimed → fits k claimed ≡ true
+-- and it is found where it fits
+pub claim_tested : (k claimed : Known) → FitsClaim k claimed → fits k claimed ≡ true
 unfolding registers_fit slots_fit
 claim_tested k claimed h =
     and_from (registers_fit 32 k claimed) (slots_fit 8 k claimed)

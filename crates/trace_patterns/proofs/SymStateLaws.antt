@@ -95,21 +95,22 @@ length-zipped f [] (y ∷ ys) e = absurd (omega arith)
 length-zipped f (x ∷ xs) [] e = absurd (omega arith)
 length-zipped f (x ∷ xs) (y ∷ ys) e = ap suc (length-zipped f xs ys (omega arith))
 
-none_left : (t : Option Value) → common_tree None t ≡ None
+-- nothing is known at a join of what one of the states doesn't know
+pub none_left : (t : Option Value) → common_tree None t ≡ None
 none_left None = refl
 none_left (Some t) = refl
 
-none_right : (t : Option Value) → common_tree t None ≡ None
+pub none_right : (t : Option Value) → common_tree t None ≡ None
 none_right None = refl
 none_right (Some t) = refl
 
-any_left : (k : SymSlot) → common_slot AnySlot k ≡ AnySlot
+pub any_left : (k : SymSlot) → common_slot AnySlot k ≡ AnySlot
 any_left AnySlot = refl
 any_left (RamSlot block origin) = refl
 any_left (EramSlot block) = refl
 any_left (OramSlot bank) = refl
 
-any_right : (k : SymSlot) → common_slot k AnySlot ≡ AnySlot
+pub any_right : (k : SymSlot) → common_slot k AnySlot ≡ AnySlot
 any_right AnySlot = refl
 any_right (RamSlot block origin) = refl
 any_right (EramSlot block) = refl

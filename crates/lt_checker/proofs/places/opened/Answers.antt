@@ -1,5 +1,5 @@
-use Rattle.std.proofs.Common.{◌≡◌, ◌-◌, ℤ, length, to_z, of_z, w32, subst, rules}
-use Rattle.std.proofs.lemmas.Int.{wraps}
+use Rattle.std.proofs.Common.{◌-◌, ℤ, length, subst}
+use Rattle.lt_isa.proofs.Offsets.{handed_on}
 use Rattle.lt_isa.specs.Ranges.{IsOffset}
 use Rattle.trace_patterns.specs.SymStates.{at_entry}
 use Rattle.trace_patterns.specs.Walk.{BlockedAt}
@@ -13,7 +13,7 @@ returns-in-Crosses c =
     let k = c.args.known.now in
     let offset = c.args.offset in
     let small : IsOffset offset = c.requires.offset in
-    let same : to_z w32 (of_z w32 offset) ≡ offset = search (rules, wraps) in
+    let same = handed_on offset small in
     let crossed = subst (λ (z : ℤ). IsCrossed o c.args.place z k c.in-Crosses.join c.in-Crosses.after) same
     c.in-Crosses.ensures in
     crossed-joins o c.args.place offset k c.in-Crosses.join c.in-Crosses.after crossed
@@ -24,7 +24,7 @@ returns-in-Blocked c =
     let k = c.args.known.now in
     let offset = c.args.offset in
     let small : IsOffset offset = c.requires.offset in
-    let same : to_z w32 (of_z w32 offset) ≡ offset = search (rules, wraps) in
+    let same = handed_on offset small in
     let blocked = subst (λ (z : ℤ). BlockedAt o 0 (length o.code - 1) c.args.place z
     (at_entry k) c.in-Blocked.place c.in-Blocked.reason) same c.in-Blocked.ensures in
     blocked-stuck o c.args.place offset k c.in-Blocked.place c.in-Blocked.reason blocked

@@ -1,4 +1,4 @@
-use Rattle.std.proofs.Common.{◌<◌, ◌-◌, [], get_or, arith}
+use Rattle.std.proofs.Common.{◌<◌, ◌-◌, [], get_or, vec_len, arith}
 use Rattle.std.proofs.lemmas.List.Elements.{All-get_or}
 use Rattle.lt_isa.specs.declared.symbols.Note.{Note}
 use Rattle.lt_checker.proofs.NoteTables.{entry_more}
@@ -10,10 +10,10 @@ loop-index-preserved c =
     let table = c.loop-index.table in
     let i = c.loop-index.index - 1 in
     let d : Note = record { pc = 0; secrets = 0; slots = [] } in
-    let inside : (get_or notes i d).pc < c.args.places = All-get_or (λ n. n.pc < c.args.places) notes i d
-    (omega arith) c.requires.inside in
+    let inside : (get_or notes i d).pc < vec_len table = All-get_or (λ n. n.pc < vec_len table) notes i d
+    (omega arith) c.loop-index.invariant.inside in
     record {
-      size = omega arith;
+      inside = c.loop-index.invariant.inside;
       entries = λ p h. entry_more notes i c.loop-index.index (omega arith) table.items d (omega arith)
           (omega (arith, table.ok.0)) (λ q l. c.loop-index.invariant.entries q (omega (arith, table.ok.0))) p
           (omega (arith, table.ok.0));

@@ -1,6 +1,6 @@
 -- A branch whose region isn't shaped doesn't join, and one whose region is shaped joins.
-use Rattle.std.proofs.Common.{ℕ, ℤ, rules, ◌≡◌, to_z, of_z, w32, subst}
-use Rattle.std.proofs.lemmas.Int.{wraps}
+use Rattle.std.proofs.Common.{ℕ, ℤ, subst}
+use Rattle.lt_isa.proofs.Offsets.{handed_on}
 use Rattle.lt_isa.specs.Ranges.{InstrFits, IsOffset}
 use Rattle.lt_isa.proofs.Steps.{instruction-fits}
 use Rattle.lt_isa.specs.declared.instructions.Instr.TheVariants.{Br}
@@ -20,7 +20,7 @@ returns-in-Unshaped c =
     instruction-fits o c.requires.range c.args.place
     (Br c.requires.candidate.stands.cmp b.ra b.rb b.offset) c.requires.candidate.stands.at in
     let small : IsOffset b.offset = fits.2 in
-    let same : to_z w32 (of_z w32 b.offset) ≡ b.offset = search (rules, wraps) in
+    let same = handed_on b.offset small in
     unshaped_stays o c.args.crossed.now.list c.args.states.now c.args.place c.args.known.now b c.requires.candidate.reached
     c.requires.candidate.stands
     (subst (λ (z : ℤ). (join : ℕ) (next : Known) → JoinsIn o c.args.place z c.args.known.now join next → ⊥) same
@@ -35,7 +35,7 @@ returns-in-Joins c =
     instruction-fits o c.requires.range c.args.place
     (Br h.stands.cmp b.ra b.rb b.offset) h.stands.at in
     let small : IsOffset b.offset = fits.2 in
-    let same : to_z w32 (of_z w32 b.offset) ≡ b.offset = search (rules, wraps) in
+    let same = handed_on b.offset small in
     carried_joins o c.args.crossed.now.list c.args.states.now c.args.place c.args.known.now b c.in-Joins.join c.in-Joins.known
     h.reached h.apart h.stands h.secret
     (subst (λ (z : ℤ). IsCarriedTo o c.args.place z c.args.known.now c.in-Joins.join c.in-Joins.known) same c.in-Joins.ensures)

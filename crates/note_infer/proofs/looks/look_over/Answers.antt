@@ -1,8 +1,7 @@
 -- What is carried over the region is brought to its join.
-use Rattle.std.proofs.Common.{ℕ, ℤ, rules, ◌≡◌, to_z, of_z, w32, subst}
-use Rattle.std.proofs.lemmas.Int.{wraps}
+use Rattle.std.proofs.Common.{ℕ, ℤ, ◌≡◌, subst}
 use Rattle.std.proofs.lemmas.Result.{on_ok_weaker}
-use Rattle.lt_isa.specs.Ranges.{IsOffset}
+use Rattle.lt_isa.proofs.Offsets.{handed_on}
 use Rattle.trace_patterns.specs.Known.{Known}
 use Rattle.trace_patterns.specs.Carries.{JoinsIn}
 use Rattle.region_walk.specs.Carrying.{IsCarriedTo}
@@ -10,10 +9,6 @@ use Rattle.note_infer.specs.Brings.{BringsInside}
 use Rattle.note_infer.proofs.Looking.{looks_over_at, looks_nowhere_at, full_joined}
 use Rattle.note_infer.proofs.looks.look_over.Goals as goal
 use Rattle.note_infer.proofs.looks.look_over.Goals.{In-Joins}
-
--- an offset as the code hands it on
-handed_on : (offset : ℤ) → IsOffset offset → to_z w32 (of_z w32 offset) ≡ offset
-handed_on offset small = search (rules, wraps)
 
 carried : (c : In-Joins) → IsCarriedTo c.args.object.now c.args.place c.args.offset c.args.known.now c.in-Joins.join
     c.in-Joins.next

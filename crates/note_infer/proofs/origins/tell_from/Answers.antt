@@ -1,6 +1,6 @@
 -- What one instruction tells.
-use Rattle.std.proofs.Common.{◌≡◌, ◌∙◌, ℕ, length, Some, to_z, of_z, w32, rules, ap, subst}
-use Rattle.std.proofs.lemmas.Int.{wraps}
+use Rattle.std.proofs.Common.{◌∙◌, ℕ, length, Some, ap, subst}
+use Rattle.lt_isa.proofs.Offsets.{handed_on}
 use Rattle.lt_isa.specs.Ranges.{InstrFits, IsOffset}
 use Rattle.lt_isa.specs.Step.{target_of}
 use Rattle.lt_isa.specs.declared.instructions.Instr.TheVariants.{Jmp, Br}
@@ -28,7 +28,7 @@ returns-in-Jumps c =
     let offset = c.in-Jumps.offset in
     let code = c.requires.code ∙ ap Some c.in-Jumps.ensures in
     let small : IsOffset offset = instruction-fits o c.requires.range c.args.place (Jmp offset) code in
-    let same : to_z w32 (of_z w32 offset) ≡ offset = search (rules, wraps) in
+    let same = handed_on offset small in
     let before = c.args.origins.now.items in
     let after = c.tell.new.origins.items in
     origins_told o c.args.place (target_of o c.args.place offset) before after c.requires.below
@@ -45,7 +45,7 @@ returns-in-Branches c =
     let fits : InstrFits (length o.banks) (Br is.0 is.1 is.2 offset) =
     instruction-fits o c.requires.range c.args.place (Br is.0 is.1 is.2 offset) code in
     let small : IsOffset offset = fits.2 in
-    let same : to_z w32 (of_z w32 offset) ≡ offset = search (rules, wraps) in
+    let same = handed_on offset small in
     let before = c.args.origins.now.items in
     let after = c.tell-in-Branches.new.origins.items in
     origins_told o c.args.place (target_of o c.args.place offset) before after c.requires.below

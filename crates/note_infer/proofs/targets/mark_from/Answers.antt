@@ -1,6 +1,6 @@
 -- The targets of a jump, and of a branch that isn't crossed.
-use Rattle.std.proofs.Common.{◌≡◌, ◌∙◌, ℕ, length, false, Some, to_z, of_z, w32, rules, sym, ap, subst}
-use Rattle.std.proofs.lemmas.Int.{wraps}
+use Rattle.std.proofs.Common.{◌≡◌, ◌∙◌, ℕ, length, false, Some, sym, ap, subst}
+use Rattle.lt_isa.proofs.Offsets.{handed_on}
 use Rattle.lt_isa.specs.Ranges.{InstrFits, IsOffset}
 use Rattle.lt_isa.specs.Step.{target_of}
 use Rattle.lt_isa.specs.declared.instructions.Instr.TheVariants.{Jmp, Br}
@@ -16,7 +16,7 @@ returns-in-Jumps c =
     let offset = c.in-Jumps.offset in
     let code = c.requires.code ∙ ap Some c.in-Jumps.ensures in
     let small : IsOffset offset = instruction-fits o c.requires.range c.args.place (Jmp offset) code in
-    let same : to_z w32 (of_z w32 offset) ≡ offset = search (rules, wraps) in
+    let same = handed_on offset small in
     marks_jumps o c.args.crossed.now.list c.args.place offset c.args.marks.now.items c.mark.new.marks.items
     c.requires.size code
     (subst (λ (q : ℕ). Marks q c.args.marks.now.items c.mark.new.marks.items)
@@ -31,7 +31,7 @@ returns-then-not-has c =
     let fits : InstrFits (length o.banks) (Br is.0 is.1 is.2 offset) =
     instruction-fits o c.requires.range c.args.place (Br is.0 is.1 is.2 offset) code in
     let small : IsOffset offset = fits.2 in
-    let same : to_z w32 (of_z w32 offset) ≡ offset = search (rules, wraps) in
+    let same = handed_on offset small in
     let apart : is_crossed c.args.crossed.now.list c.args.place ≡ false =
     sym c.has.ensures ∙ c.if-not-has.true in
     marks_branches o c.args.crossed.now.list c.args.place is.0 is.1 is.2 offset c.args.marks.now.items

@@ -1,6 +1,5 @@
-use Rattle.std.proofs.Common.{◌≡◌, ℕ, ◌+◌, ◌-◌, ◌∙◌, ℤ, to_z, of_z, w32, ap, subst, sym, arith, rules}
-use Rattle.std.proofs.lemmas.Int.{wraps}
-use Rattle.lt_isa.specs.Ranges.{IsOffset}
+use Rattle.std.proofs.Common.{◌≡◌, ℕ, ◌+◌, ◌-◌, ◌∙◌, ℤ, ap, subst, sym, arith}
+use Rattle.lt_isa.proofs.Offsets.{handed_on}
 use Rattle.trace_patterns.specs.Shape.{Arms, shape}
 use Rattle.trace_patterns.specs.SymStates.{SymState, common}
 use Rattle.trace_patterns.specs.Carries.{CarriesTo, CarriesOver}
@@ -14,10 +13,6 @@ use Rattle.region_walk.proofs.WalkSteps.{read-at}
 use Rattle.region_walk.proofs.CarriedOn.{leads-then, along-leads, branch-leads, second-unshaped, both-over, arm-carries, ready-more, ready-grown, alike-ready}
 use Rattle.region_walk.proofs.carries.+carries.Goals as goal
 use Rattle.region_walk.proofs.carries.+carries.Goals.{carry_over-In-Arms}
-
--- an offset as the code hands it on
-handed_on : (offset : ℤ) → IsOffset offset → to_z w32 (of_z w32 offset) ≡ offset
-handed_on offset small = search (rules, wraps)
 
 pub carry_to-loop-place-preserved : goal.carry_to-loop-place-preserved
 carry_to-loop-place-preserved t c =

@@ -1,5 +1,5 @@
-use Rattle.std.proofs.Common.{◌≡◌, ℕ, ℤ, to_z, of_z, w32, subst, rules}
-use Rattle.std.proofs.lemmas.Int.{wraps}
+use Rattle.std.proofs.Common.{ℕ, ℤ, subst}
+use Rattle.lt_isa.proofs.Offsets.{handed_on}
 use Rattle.lt_isa.specs.Ranges.{IsOffset}
 use Rattle.trace_patterns.specs.Carries.{JoinsIn}
 use Rattle.trace_patterns.specs.Known.{Known}
@@ -9,6 +9,6 @@ pub returns-in-Unshaped : goal.returns-in-Unshaped
 returns-in-Unshaped c =
     let offset = c.args.offset in
     let small : IsOffset offset = c.requires.offset in
-    let same : to_z w32 (of_z w32 offset) ≡ offset = search (rules, wraps) in
+    let same = handed_on offset small in
     subst (λ (z : ℤ). (join : ℕ) (next : Known)
     → JoinsIn c.args.object.now c.args.place z c.args.known.now join next → ⊥) same c.in-Unshaped.ensures.carried

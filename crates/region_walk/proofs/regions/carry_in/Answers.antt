@@ -1,5 +1,5 @@
-use Rattle.std.proofs.Common.{◌≡◌, ◌-◌, ℕ, ℤ, List, length, to_z, of_z, w32, sym, ap, subst, rules}
-use Rattle.std.proofs.lemmas.Int.{wraps}
+use Rattle.std.proofs.Common.{◌≡◌, ◌-◌, ℕ, ℤ, List, length, to_z, of_z, w32, sym, ap, subst}
+use Rattle.lt_isa.proofs.Offsets.{handed_on}
 use Rattle.lt_isa.specs.Ranges.{IsOffset}
 use Rattle.lt_isa.specs.declared.instructions.Instr.{Instr}
 use Rattle.trace_patterns.specs.Carries.{CarriesOver}
@@ -34,7 +34,7 @@ returns-in-Reaches c =
     let new = c.carry_over.new.values in
     let behind = c.carry_over.new.state in
     let small : IsOffset offset = c.requires.offset in
-    let same : to_z w32 (of_z w32 offset) ≡ offset = search (rules, wraps) in
+    let same = handed_on offset small in
     let last : length c.code.result.now - 1 ≡ length o.code - 1 = ap
     (λ (l : List Instr). length l - 1) c.code.ensures.value in
     let led = subst (λ (z : ℤ). LeadsOver o 0
@@ -56,7 +56,7 @@ returns-in-Unshaped c =
     let nodes = c.args.table.now.values in
     let s = c.at_entry-state.result in
     let small : IsOffset offset = c.requires.offset in
-    let same : to_z w32 (of_z w32 offset) ≡ offset = search (rules, wraps) in
+    let same = handed_on offset small in
     let last : length c.code.result.now - 1 ≡ length o.code - 1 = ap
     (λ (l : List Instr). length l - 1) c.code.ensures.value in
     record {

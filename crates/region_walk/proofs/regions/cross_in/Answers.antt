@@ -1,5 +1,5 @@
-use Rattle.std.proofs.Common.{◌≡◌, ◌-◌, ℕ, ℤ, List, length, to_z, of_z, w32, sym, ap, subst, rules}
-use Rattle.std.proofs.lemmas.Int.{wraps}
+use Rattle.std.proofs.Common.{◌≡◌, ◌-◌, ℕ, ℤ, List, length, sym, ap, subst}
+use Rattle.lt_isa.proofs.Offsets.{handed_on}
 use Rattle.lt_isa.specs.Ranges.{IsOffset}
 use Rattle.lt_isa.specs.declared.instructions.Instr.{Instr}
 use Rattle.region_walk.specs.Entries.{BeginsWithEntries}
@@ -24,7 +24,7 @@ returns-in-Crosses c =
     let nodes = c.args.table.now.values in
     let s = c.at_entry-state.result in
     let small : IsOffset offset = c.requires.offset in
-    let same : to_z w32 (of_z w32 offset) ≡ offset = search (rules, wraps) in
+    let same = handed_on offset small in
     let last : length c.code.result.now - 1 ≡ length o.code - 1 = ap
     (λ (l : List Instr). length l - 1) c.code.ensures.value in
     let crossed = subst (λ (z : ℤ). IsCrossedBy o 0
@@ -44,7 +44,7 @@ returns-in-Blocked c =
     let offset = c.args.offset in
     let nodes = c.args.table.now.values in
     let small : IsOffset offset = c.requires.offset in
-    let same : to_z w32 (of_z w32 offset) ≡ offset = search (rules, wraps) in
+    let same = handed_on offset small in
     let last : length c.code.result.now - 1 ≡ length o.code - 1 = ap
     (λ (l : List Instr). length l - 1) c.code.ensures.value in
     let s = sym_of nodes c.at_entry-state.result in

@@ -1,6 +1,7 @@
-use Rattle.std.proofs.Common.{◌≡◌, ◌∙◌, ℕ, false, length, ℤ, Some, to_z, of_z, w32, w64, refl, sym, ap, subst, arith, rules}
+use Rattle.std.proofs.Common.{◌≡◌, ◌∙◌, ℕ, false, length, ℤ, Some, to_z, of_z, w64, refl, sym, ap, subst, arith, rules}
 use Rattle.std.specs.Prelude.{IfOk}
 use Rattle.std.proofs.lemmas.Int.{wraps}
+use Rattle.lt_isa.proofs.Offsets.{handed_on}
 use Rattle.lt_isa.specs.declared.instructions.Instr.{Instr}
 use Rattle.lt_isa.specs.declared.instructions.Instr.TheVariants.{Nop, Li, Alu, Br}
 use Rattle.lt_isa.specs.Costs.{cost_of}
@@ -97,7 +98,7 @@ returns-in-Jmp c =
     let s = c.args.state.now in
     let offset = c.in-Jmp.offset in
     let fits : IsOffset offset = subst (InstrFits (length o.banks)) c.in-Jmp.is c.requires.operands in
-    let same : to_z w32 (of_z w32 offset) ≡ offset = search (rules, wraps) in
+    let same = handed_on offset fits in
     let reason : c.jump_refused.result ≡ jump_refused offset = c.jump_refused.ensures ∙ ap jump_refused same in
     ap (single o (sym_of old s)) c.in-Jmp.is ∙ jump-refuses o (sym_of old s) offset ∙ ap whole.Refuses (sym reason)
 
@@ -110,7 +111,7 @@ returns-in-Br c =
     let fits : InstrFits (length o.banks) (Br c.in-Br.cmp c.in-Br.ra c.in-Br.rb offset) = subst
     (InstrFits (length o.banks)) c.in-Br.is c.requires.operands in
     let small : IsOffset offset = fits.2 in
-    let same : to_z w32 (of_z w32 offset) ≡ offset = search (rules, wraps) in
+    let same = handed_on offset small in
     subst (λ (z : ℤ). IsBranch o old s c.args.instr z old s) (sym same) (record {
       branches = ap (single o (sym_of old s)) c.in-Br.is
           ∙ br-branches o (sym_of old s) c.in-Br.cmp c.in-Br.ra c.in-Br.rb offset;

@@ -1,6 +1,5 @@
-use Rattle.std.proofs.Common.{◌≡◌, ℕ, ◌≤◌, ◌+◌, ◌*◌, ◌-◌, ◌∙◌, ℤ, length, to_z, of_z, w32, refl, ap, subst, sym, arith, rules}
-use Rattle.std.proofs.lemmas.Int.{wraps}
-use Rattle.lt_isa.specs.Ranges.{IsOffset}
+use Rattle.std.proofs.Common.{◌≡◌, ℕ, ◌≤◌, ◌+◌, ◌*◌, ◌-◌, ◌∙◌, ℤ, length, refl, ap, subst, sym, arith}
+use Rattle.lt_isa.proofs.Offsets.{handed_on}
 use Rattle.lt_isa.specs.declared.profiles.Profile.{Profile}
 use Rattle.trace_patterns.specs.Patterns.{no_events, with_gap}
 use Rattle.trace_patterns.specs.Events.{over_trees}
@@ -62,10 +61,6 @@ beyond_region-go_on-requires t c =
     let size = c.requires.range.code_size.1 in
     let within = crossed.within in
     omega (arith, first, last, size, within, c.requires.inside, c.requires.order)
-
--- an offset as the code hands it on
-handed_on : (offset : ℤ) → IsOffset offset → to_z w32 (of_z w32 offset) ≡ offset
-handed_on offset small = search (rules, wraps)
 
 pub beyond_region-returns-in-Blocked : goal.beyond_region-returns-in-Blocked
 beyond_region-returns-in-Blocked t c =
