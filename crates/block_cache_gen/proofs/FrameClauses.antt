@@ -20,6 +20,7 @@ use Rattle.block_cache_gen.specs.Codes.{may_skip_loads, expr_code, guard_code, s
 use Rattle.block_cache_gen.specs.Conditions.{IsStatementFor}
 use Rattle.block_cache_gen.specs.Emitted.{Appended, notes_in, EmitsExpr, EmitsGuard, EmitsSet}
 use Rattle.block_cache_gen.specs.Homes.{Setting}
+use Rattle.block_cache_gen.specs.InstructionsOf.{instructions_of_set}
 use Rattle.block_cache_gen.specs.Notes.{all_marked, expr_notes, guard_notes, set_notes}
 use Rattle.block_cache_gen.specs.PublicCode.{IsPassedAsExpr, IsPassedAsTest, IsPassedAsSet}
 use Rattle.block_cache_gen.specs.PublicIndexes.{HasPublicIndexes, TestHasPublicIndexes, SetHasPublicIndexes}
@@ -138,6 +139,7 @@ pub record SetPromises (f : Setting) (mode : Mode) (t : Statement) (place : ℕ)
   pub passes : mode ≡ Public → IsPassedAsSet f place code notes
   pub walked : ¬ (mode ≡ Public) → IsWalkedAsSet f t code
   pub stores : stored_words code ≡ 1
+  pub instructions : ¬ (mode ≡ Public) → registers_aside code ≡ instructions_of_set f t
   pub twin : ¬ (mode ≡ Public) → HasTwin f mode t code
 
 set-stores : (f : Setting) (mode : Mode) (t : Statement) → IsAssignment t → stored_words (set_code f mode t) ≡ 1
@@ -156,6 +158,12 @@ set-passed f once code (SetElement x i e) is typed public low place o comes hold
     holds stands here carries
 set-passed f once code (Choice t a b) is typed public low place o comes holds homes stands here carries = absurd is
 set-passed f once code (Loop t a) is typed public low place o comes holds homes stands here carries = absurd is
+
+own-aside : (f : Setting) (mode : Mode) (t : Statement)
+    → ¬ (mode ≡ Public) → registers_aside (set_code f mode t) ≡ instructions_of_set f t
+own-aside f Public t secret = absurd (secret refl)
+own-aside f Real t secret = refl
+own-aside f Mirrored t secret = sym (set_code-aside f t)
 
 other-aside : (f : Setting) (mode : Mode) (t : Statement)
     → ¬ (mode ≡ Public)
@@ -195,6 +203,7 @@ frame-set_promises f s mode t a b is same assigns stands x =
           subst P (sym public_mode) (set-passed g is.typed.once stands.code t assigns typed public low place);
       walked = λ secret. set-walked g mode (secret_mode mode secret) t (inside secret) public low;
       stores = set-stores g mode t assigns;
+      instructions = own-aside g mode t;
       twin = λ secret. record {
         twin = set_code g (other_mode mode) t;
         same = other-aside g mode t secret;

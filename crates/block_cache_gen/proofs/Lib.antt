@@ -51,3 +51,4 @@ pub mod FrameIndexes
 pub mod FrameClauses
 pub mod SameOps
 pub mod PairCounts
+pub mod StoredWords

@@ -7,12 +7,12 @@ use Rattle.lt_isa.specs.declared.instructions.Instr.{Instr}
 use Rattle.lt_isa.specs.Object.{Parts}
 use Rattle.trace_patterns.specs.Shape.{most_regions}
 use Rattle.trace_patterns.specs.Walk.{CrossesTo}
-use Rattle.stretches.specs.Shows.{Show, pattern_of}
+use Rattle.stretches.specs.Shows.{Show, pattern_of, region_shows}
 use Rattle.stretches.specs.InArms.{StandsInArm}
 use Rattle.trace_patterns.specs.SymStates.{SymSlot, SymState, slot_held, common_slot, common}
 use Rattle.trace_patterns.proofs.SymStateLaws.{IsSized, slot-common, sized-common, own_slot}
 use Rattle.stretches.proofs.ArmCode.{Walked}
-use Rattle.stretches.proofs.ArmRegions.{first_arm, region_code, region_shows, region-crosses, walked-region}
+use Rattle.stretches.proofs.ArmRegions.{first_arm, region_code, region-crosses, walked-region}
 use Rattle.block_cache_gen.specs.Homes.{Setting}
 use Rattle.block_cache_gen.specs.Carries.{CarriesInArm}
 use Rattle.block_cache_gen.specs.PatternsOf.{Loads}
@@ -39,8 +39,9 @@ module _ (o : Parts) (f : Setting) (profile : o.profile ≡ f.profile) (depth : 
   some_taken : 1 ≤ o.profile.taken
   some_taken = subst (λ (taken : ℕ). 1 ≤ taken) (sym same_taken) some
 
-  joined_slots : (k : ℕ) → slot_held (common one.state other.state) k ≡ unwrap_or (loads k) (slot_held s k)
-  joined_slots k =
+  -- what the loads of both arms left stands in the slots there
+  pub joined-slots : (k : ℕ) → slot_held (common one.state other.state) k ≡ unwrap_or (loads k) (slot_held s k)
+  joined-slots k =
       common-held one.state other.state k (unwrap_or (loads k) (slot_held s k)) (one.slots k) (other.slots k)
 
   -- it is crossed
@@ -62,7 +63,7 @@ module _ (o : Parts) (f : Setting) (profile : o.profile ≡ f.profile) (depth : 
   joined-carries =
       let sized = sized-common one.state other.state (carries-sized f one.state one.carries)
       (carries-sized f other.state other.carries) in
-      carries-slots f one.state (common one.state other.state) one.carries (λ k. joined_slots k ∙ sym (one.slots k))
+      carries-slots f one.state (common one.state other.state) one.carries (λ k. joined-slots k ∙ sym (one.slots k))
       sized.registers sized.slots
 
   -- so it goes on there
@@ -76,5 +77,5 @@ module _ (o : Parts) (f : Setting) (profile : o.profile ≡ f.profile) (depth : 
         (walked-region o some_taken depth around s cmp ra rb first second shows one.state other.state one.walked
         other.walked);
     carries = joined-carries;
-    slots = joined_slots;
+    slots = joined-slots;
   }

@@ -23,3 +23,4 @@ pub mod SecretCode
 pub mod StoredWords
 pub mod Behind
 pub mod Twins
+pub mod InstructionsOf

@@ -1,5 +1,5 @@
 -- The instructions that store a word in a slot. (This project's own padding counts them.)
-use Rattle.std.specs.Prelude.{ℕ, Bool, true, false, List, count_by, map}
+use Rattle.std.specs.Prelude.{◌≡◌, ℕ, Bool, true, false, List, ◌∷◌, ◌++◌, count_by, map}
 use Rattle.lt_isa.specs.declared.instructions.Instr.{Instr}
 use Rattle.lt_isa.specs.declared.instructions.Instr.TheVariants.{Stw}
 
@@ -18,3 +18,15 @@ register_aside i = i
 
 abbrev pub registers_aside : List Instr → List Instr
 registers_aside code = map register_aside code
+
+-- two codes are the same but for the register of the last word that they store
+pub record DifferInLastStored (one other : List Instr) : Type 0 where
+  pub before : List Instr
+  pub after : List Instr
+  pub slot : ℕ
+  pub at : ℕ
+  pub stored : ℕ
+  pub instead : ℕ
+  pub first : one ≡ before ++ (Stw stored slot at ∷ after)
+  pub second : other ≡ before ++ (Stw instead slot at ∷ after)
+  pub last : stored_words after ≡ 0

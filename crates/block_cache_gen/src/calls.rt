@@ -11,12 +11,13 @@ ghost use Rattle.block_cache_gen.specs.Assignments.{IsAssignment, IsEffect, assi
 ghost use Rattle.block_cache_gen.specs.Behind.{CodeGrows, code_behind, notes_behind};
 ghost use Rattle.block_cache_gen.specs.Conditions.{IsStatementFor};
 ghost use Rattle.block_cache_gen.specs.Extends.{Extends};
+ghost use Rattle.block_cache_gen.specs.InstructionsOf.{instructions_of_set};
 ghost use Rattle.block_cache_gen.specs.PublicCode.{IsPassedAsExpr, IsPassedAsSet, IsPassedAsTest};
 ghost use Rattle.block_cache_gen.specs.PublicIndexes.{HasPublicIndexes, TestHasPublicIndexes};
 ghost use Rattle.block_cache_gen.specs.RunsOf.{Evaluates, EvaluatesTest, Performs};
 ghost use Rattle.block_cache_gen.specs.SecretCode.{IsWalkedAsExpr, IsWalkedAsSet, IsWalkedAsTest};
 ghost use Rattle.block_cache_gen.specs.Settings.{IsFrame, setting_of};
-ghost use Rattle.block_cache_gen.specs.StoredWords.{stored_words};
+ghost use Rattle.block_cache_gen.specs.StoredWords.{registers_aside, stored_words};
 ghost use Rattle.block_cache_gen.specs.TreeWords.{HasWords, SetHasWords, TestHasWords};
 ghost use Rattle.block_cache_gen.specs.Twins.{HasTwin};
 
@@ -94,7 +95,8 @@ pub fn emit_guard<'a>(
 }
 
 /// Makes the code of an assignment of a program, and appends it and its notes. In public code, and with its effect in
-/// secret code, it leaves the store of the assignment; without effect in secret code it leaves the store as it was.
+/// secret code, it leaves the store of the assignment; without effect in secret code it leaves the store as it was. The
+/// two codes of secret code differ in the register of the word that they store alone ([`twin_laws`](crate::twin_laws)).
 /// After want of memory what was there before is still at the front. The clause `words` serves the proofs of callers.
 #[tactic(auto, using(crate::proofs::AssignmentsMean::assignment_means))]
 pub fn emit_set<'a>(
@@ -118,6 +120,8 @@ pub fn emit_set<'a>(
     ensures walked { OnOk result (¬ (mode ≡ modes.Public)
         → IsWalkedAsSet (setting_of f.now) (statement_of s.now) (code_behind out.old out.new)) }
     ensures stores { OnOk result (stored_words (code_behind out.old out.new) ≡ 1) }
+    ensures instructions { OnOk result (¬ (mode ≡ modes.Public) → registers_aside (code_behind out.old out.new)
+        ≡ instructions_of_set (setting_of f.now) (statement_of s.now)) }
     ensures twin { OnOk result
         (¬ (mode ≡ modes.Public) → HasTwin (setting_of f.now) mode (statement_of s.now) (code_behind out.old out.new)) }
     ensures words { OnOk result (SetHasWords (statement_of s.now)) }

@@ -1,6 +1,7 @@
-ghost use Rattle.std.specs.Prelude.{◌≡◌};
+ghost use Rattle.std.specs.Prelude.{◌≡◌, List};
 ghost use Rattle.gr_word.specs.declared.variables.Label.TheVariants.{Secret};
 ghost use Rattle.lt_isa.specs.Object.{Parts};
+ghost use Rattle.lt_isa.specs.declared.instructions.Instr.{Instr};
 ghost use Rattle.src_tree.specs.Contexts.{context_of};
 ghost use Rattle.src_tree.specs.Trees.{Block, Statement, Tree, source_of};
 ghost use Rattle.src_tree.specs.Typing.{TypedStatement, TypedTree};
@@ -8,8 +9,10 @@ ghost use Rattle.bank_alloc.specs.Layout.{HasLayout};
 ghost use Rattle.block_cache_gen.specs.declared.frames.Frame.{Frame};
 ghost use Rattle.block_cache_gen.specs.Alike.{Alike, IsPairCount, Pair, pair_count};
 ghost use Rattle.block_cache_gen.specs.Homes.{HasHomes, Setting};
+ghost use Rattle.block_cache_gen.specs.InstructionsOf.{instructions_of_set};
 ghost use Rattle.block_cache_gen.specs.PatternsOf.{pattern_of_expr, pattern_of_set, slots_of_expr, slots_of_set};
 ghost use Rattle.block_cache_gen.specs.Settings.{IsFrame, setting_of};
+ghost use Rattle.block_cache_gen.specs.StoredWords.{DifferInLastStored, registers_aside, stored_words};
 
 /// Does nothing; its clause says of which objects the calls' clauses speak: each that has the profile and the layout of
 /// a frame has the homes of its variables.
@@ -37,4 +40,14 @@ pub fn pair_laws()
         → TypedStatement (context_of f.decls) Secret t
         → Pair f s t
         → (pattern_of_set f s ≡ pattern_of_set f t) × (slots_of_set f s ≡ slots_of_set f t) }
+{}
+
+/// Does nothing; its clause says what it means that two codes have the instructions of one assignment of secret code, as
+/// those of two calls have: they differ in the register of the last word that they store, and in nothing else.
+pub fn twin_laws()
+    ensures differ { (f : Setting) (s : Statement) (one other : List Instr)
+        → stored_words one ≡ 1
+        → registers_aside one ≡ instructions_of_set f s
+        → registers_aside other ≡ instructions_of_set f s
+        → DifferInLastStored one other }
 {}

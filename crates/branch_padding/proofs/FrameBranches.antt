@@ -202,7 +202,7 @@ choice-promises f is mode t a b branch place =
     record {
       runs = statement-makes g s mode label.Secret typed low;
       passes = λ same o comes holds homes stands here carries.
-          region-passes o g place guard code offset comes
+          region-passes o g a b place guard code offset comes
           (passed mode branch same o comes holds homes stands here carries);
       walked = λ secret.
           statement-walked g mode (secret_mode mode secret) is.profile.taken.0 s typed public low;
@@ -226,7 +226,7 @@ choice-promises f is mode t a b branch place =
     passed : (m : Mode) → IsBranchFor (source_of f.program.now) m (Choice t a b) → m ≡ Public
         → AtItsPlace (setting_of f) place (padded_code (setting_of f) m (Choice t a b))
         (notes_in m (guard_notes (setting_of f) 0 place t))
-        (λ o comes. PassedRegion o (setting_of f) place (guard_code (setting_of f) m 0 t)
+        (λ o comes. PassedRegion o (setting_of f) a b place (guard_code (setting_of f) m 0 t)
         (padded_code (setting_of f) m (Choice t a b)) (branch_offset (setting_of f) m a b) comes)
     passed Public at same = λ o comes holds homes stands here carries.
         choice-opens o (setting_of f) homes is.profile.taken.0 t a b (typed f is Public t a b at) at.secret

@@ -10,31 +10,30 @@ use Rattle.trace_patterns.specs.Shape.{most_regions}
 use Rattle.trace_patterns.specs.SymStates.{SymState, common}
 use Rattle.trace_patterns.specs.Walk.{CrossesTo}
 use Rattle.stretches.specs.InArms.{StandsInArm}
-use Rattle.stretches.specs.Shows.{pattern_of}
 use Rattle.stretches.proofs.ArmCode.{stands-first, stands-rest}
-use Rattle.stretches.proofs.ArmRegions.{region_shows}
 use Rattle.block_cache_gen.specs.declared.frames.Mode.{Mode}
 use Rattle.block_cache_gen.specs.declared.frames.Mode.TheVariants as modes
 use Rattle.block_cache_gen.specs.Alike.{pair_count}
 use Rattle.block_cache_gen.specs.Carries.{CarriesInArm}
 use Rattle.block_cache_gen.specs.Codes.{may_skip_loads, guard_code}
 use Rattle.block_cache_gen.specs.Homes.{Setting, HasHomes}
-use Rattle.block_cache_gen.specs.PatternsOf.{shows_of_test}
 use Rattle.block_cache_gen.specs.PublicIndexes.{StatementHasPublicIndexes}
 use Rattle.block_cache_gen.proofs.ArmExpressions.{guard-leaves}
-use Rattle.block_cache_gen.proofs.SecretRegions.{region-crossed}
+use Rattle.block_cache_gen.proofs.SecretRegions.{region-crossed, joined-slots}
 use Rattle.branch_padding.specs.Nesting.{nesting_of}
 use Rattle.branch_padding.specs.Padded.{arm_mode, untaken_arm, taken_arm, region_code, padded_code, padded_codes}
+use Rattle.branch_padding.specs.PatternsOfChoices.{shows_of_arms, slots_of_arms, pattern_of_region}
 use Rattle.branch_padding.specs.Regions.{NestsRegion}
 use Rattle.branch_padding.proofs.PublicRegions.{branch_offset}
-use Rattle.branch_padding.proofs.SecretStatements.{arms_shows, arms_loads, arms-go, each-goes}
+use Rattle.branch_padding.proofs.SecretStatements.{arms-go, each-goes}
 
 pub choice-nests : (o : Parts) (f : Setting) → HasHomes o f → 1 ≤ f.profile.taken → (mode : Mode)
     → may_skip_loads mode ≡ false → (t : Test) (a b : Block) → TypedStatement (context_of f.decls) Secret (Choice t a b)
     → StatementHasPublicIndexes f (Choice t a b) → LowStatement (Choice t a b) → (depth p : ℕ) (from : SymState)
     → StandsInArm o p (padded_code f mode (Choice t a b)) → CarriesInArm f from
     → depth + nesting_of (Choice t a b) ≤ most_regions
-    → NestsRegion o depth p from (guard_code f mode 0 t) (padded_code f mode (Choice t a b)) (branch_offset f mode a b)
+    → NestsRegion o f t a b depth p from (guard_code f mode 0 t) (padded_code f mode (Choice t a b))
+    (branch_offset f mode a b)
 choice-nests o f homes some mode secret t a b typed public low depth p from stands carries around =
     let guard = guard_code f mode 0 t in
     let untaken = untaken_arm (pair_count f a b) (padded_codes f (arm_mode mode) b) (padded_codes f modes.Mirrored a) in
@@ -49,15 +48,18 @@ choice-nests o f homes some mode secret t a b typed public low depth p from stan
     let two = arms.taken both.state both.carries in
     let mid = p + length guard in
     let same : mid + length region ≡ p + length (guard ++ region) = omega (arith, length-append guard region) in
-    let pattern = pattern_of (region_shows f.profile.taken (arms_shows f a b)) in
+    let shows = shows_of_arms f a b in
+    let loads = slots_of_arms f a b in
     record {
-      shown = pattern_of (shows_of_test f t);
       there = both.state;
       walks = both.walked.walks p (stands-first o p guard region stands);
-      pattern = pattern;
+      loaded = both.slots;
       state = common one.state two.state;
       crosses = subst (λ (q : ℕ).
-          CrossesTo o depth q mid (branch_offset f mode a b) both.state pattern q (common one.state two.state)) same
-          (region-crossed o f homes.profile depth both.state t.cmp 0 1 untaken other (arms_shows f a b)
-          (arms_loads f a b) some (omega arith) one two mid (stands-rest o p guard region stands));
+          CrossesTo o depth q mid (branch_offset f mode a b) both.state (pattern_of_region f a b) q
+          (common one.state two.state)) same
+          (region-crossed o f homes.profile depth both.state t.cmp 0 1 untaken other shows loads some (omega arith) one
+          two mid (stands-rest o p guard region stands));
+      slots = joined-slots o f homes.profile depth both.state t.cmp 0 1 untaken other shows loads some (omega arith) one
+          two;
     }

@@ -25,11 +25,9 @@ use Rattle.trace_patterns.specs.SymStates.{RamSlot, EramSlot, OramSlot, Entry, S
 use Rattle.trace_patterns.specs.Visits.{CrossesFrom}
 use Rattle.trace_patterns.proofs.SymStateLaws.{slot-at_entry, sized-at_entry, bank-after}
 use Rattle.trace_patterns.proofs.Walks.{crosses-wider}
-use Rattle.stretches.specs.Shows.{pattern_of}
 use Rattle.stretches.specs.InArms.{StandsInArm}
 use Rattle.stretches.specs.Passing.{HoldsAt, AsItComes, Passes, Done, Across}
 use Rattle.stretches.proofs.Standing.{standing-first, standing-rest, standing-head}
-use Rattle.stretches.proofs.ArmRegions.{region_shows}
 use Rattle.stretches.proofs.Passed.{passes-then, ruled-at, LieBetween, no_note-behind, notes-within}
 use Rattle.stretches.proofs.UnnotedPlaces.{quiet-unclaimed}
 use Rattle.block_cache_gen.specs.declared.frames.Mode.{Mode}
@@ -41,14 +39,15 @@ use Rattle.block_cache_gen.specs.Carries.{Carries, CarriesInArm}
 use Rattle.block_cache_gen.specs.PublicCode.{StandsNoted}
 use Rattle.block_cache_gen.specs.PublicIndexes.{StatementHasPublicIndexes}
 use Rattle.block_cache_gen.proofs.NotesOfCode.{expression-longer}
-use Rattle.block_cache_gen.proofs.SecretRegions.{region-crossed, joined-carries}
+use Rattle.block_cache_gen.proofs.SecretRegions.{region-crossed, joined-slots, joined-carries}
 use Rattle.block_cache_gen.proofs.PublicGuards.{guard-lie, guard-passes}
 use Rattle.branch_padding.specs.Nesting.{nesting_of}
 use Rattle.branch_padding.specs.Padded.{arm_mode, first_padded, second_padded, untaken_arm, taken_arm, region_code, padded_code, padded_codes}
+use Rattle.branch_padding.specs.PatternsOfChoices.{shows_of_arms, slots_of_arms, pattern_of_region}
 use Rattle.branch_padding.specs.Regions.{OpensRegion}
 use Rattle.branch_padding.specs.SecretChoices.{PassedCode, IsPassedAnywhere}
 use Rattle.block_cache_gen.specs.Alike.{pair_count}
-use Rattle.branch_padding.proofs.SecretStatements.{arms_shows, arms_loads, ArmsGo, arms-go, each-goes}
+use Rattle.branch_padding.proofs.SecretStatements.{ArmsGo, arms-go, each-goes}
 
 -- at the entry, and back in public code, a setting is carried
 entry-bank : (bank slot : ℕ) → slot_bank (entry_slot (Some bank) slot) ≡ Some bank
@@ -114,16 +113,16 @@ branch_offset f mode a b =
     + 2)
 
 -- Behind the guard, where no note stands, the region is opened, and the setting is carried at its join.
-pub record PassedRegion (o : Parts) (f : Setting) (p : ℕ) (guard code : List Instr) (offset : ℤ)
+pub record PassedRegion (o : Parts) (f : Setting) (a b : Block) (p : ℕ) (guard code : List Instr) (offset : ℤ)
     (comes : Known) : Type 0 where
-  pub region : OpensRegion o p guard code offset comes
+  pub region : OpensRegion o f a b p guard code offset comes
   pub unclaimed : claimed_at o (p + length guard) ≡ None
   pub carries : Carries f (known_after region.state)
 
 -- so the code is passed
-pub region-passes : (o : Parts) (f : Setting) (p : ℕ) (guard code : List Instr) (offset : ℤ) (comes : Known)
-    → PassedRegion o f p guard code offset comes → PassedCode o f p code comes
-region-passes o f p guard code offset comes passed =
+pub region-passes : (o : Parts) (f : Setting) (a b : Block) (p : ℕ) (guard code : List Instr) (offset : ℤ)
+    (comes : Known) → PassedRegion o f a b p guard code offset comes → PassedCode o f p code comes
+region-passes o f a b p guard code offset comes passed =
     let r = passed.region in
     let mid = p + length guard in
     let whole = p + length code in
@@ -131,8 +130,8 @@ region-passes o f p guard code offset comes passed =
     record {
       last = last;
       passes = passes-then o p comes mid r.known r.passes whole last
-          (Across mid r.known r.known offset r.pattern whole r.state whole last (AsItComes r.known passed.unclaimed)
-          r.opens r.crosses (Done whole last));
+          (Across mid r.known r.known offset (pattern_of_region f a b) whole r.state whole last
+          (AsItComes r.known passed.unclaimed) r.opens r.crosses (Done whole last));
       carries = passed.carries;
     }
 
@@ -173,7 +172,7 @@ module _ (o : Parts) (f : Setting) (homes : HasHomes o f) (some : 1 ≤ f.profil
   region-crosses : (p : ℕ) (comes holds : Known) → Passes o p comes (p + length guard) holds → Carries f holds
       → StandsInArm o (p + length guard) region → claimed_at o (p + length guard) ≡ None
       → (is_secret holds 0 || is_secret holds 1) ≡ true
-      → PassedRegion o f p guard (guard ++ region) offset comes
+      → PassedRegion o f a b p guard (guard ++ region) offset comes
   region-crosses p comes holds passes carries stands unclaimed held =
       let mid = p + length guard in
       let taken = f.profile.taken in
@@ -182,13 +181,13 @@ module _ (o : Parts) (f : Setting) (homes : HasHomes o f) (some : 1 ≤ f.profil
       let ahead = second_padded taken other in
       let rest = arm ++ (Jmp (pos (length ahead + 1)) ∷ ahead) in
       let s = at_entry holds in
-      let shows = arms_shows f a b in
-      let loads = arms_loads f a b in
+      let shows = shows_of_arms f a b in
+      let loads = slots_of_arms f a b in
       let one = arms.untaken s (carried-in f holds carries) in
       let two = arms.taken s (carried-in f holds carries) in
       let none : 0 < most_regions = omega arith in
       let state = common one.state two.state in
-      let pattern = pattern_of (region_shows taken shows) in
+      let pattern = pattern_of_region f a b in
       let crossed = region-crossed o f homes.profile 0 s t.cmp 0 1 untaken other shows loads some none one two mid
       stands in
       let inside : end ≤ length o.code - 1 = let behind = stands.behind in omega arith in
@@ -199,10 +198,10 @@ module _ (o : Parts) (f : Setting) (homes : HasHomes o f) (some : 1 ≤ f.profil
           passes = passes;
           opens = ruled-at o mid holds (Br t.cmp 0 1 offset) (standing-head (Br t.cmp 0 1 offset) rest stands.at)
               ∙ opens-region o mid holds t.cmp 0 1 offset held;
-          pattern = pattern;
           state = state;
           crosses = subst (λ (q : ℕ). CrossesFrom o mid offset holds pattern q state) same
               (crosses-wider o 0 end mid offset s pattern end state crossed (length o.code - 1) inside);
+          slots = joined-slots o f homes.profile 0 s t.cmp 0 1 untaken other shows loads some none one two;
         };
         unclaimed = unclaimed;
         carries = carried-out f state
@@ -213,7 +212,7 @@ module _ (o : Parts) (f : Setting) (homes : HasHomes o f) (some : 1 ≤ f.profil
   pub choice-opens : DeclaredOnce f.decls → (p : ℕ) (comes holds : Known)
       → StandsNoted o p (padded_code f modes.Public (Choice t a b)) (guard_notes f 0 p t) → HoldsAt o p comes holds
       → Carries f holds
-      → PassedRegion o f p guard (padded_code f modes.Public (Choice t a b)) offset comes
+      → PassedRegion o f a b p guard (padded_code f modes.Public (Choice t a b)) offset comes
   choice-opens once p comes holds stands here carries =
       let notes = guard_notes f 0 p t in
       let size : length (guard ++ region) ≡ length guard + length region = length-append guard region in
@@ -246,5 +245,5 @@ module _ (o : Parts) (f : Setting) (homes : HasHomes o f) (some : 1 ≤ f.profil
   pub choice-passes : DeclaredOnce f.decls
       → IsPassedAnywhere o f (padded_code f modes.Public (Choice t a b)) (λ p. guard_notes f 0 p t)
   choice-passes once p comes holds stands here carries =
-      region-passes o f p guard (padded_code f modes.Public (Choice t a b)) offset comes
+      region-passes o f a b p guard (padded_code f modes.Public (Choice t a b)) offset comes
       (choice-opens once p comes holds stands here carries)

@@ -9,8 +9,7 @@ use Rattle.src_tree.specs.Limits.{LowStatement, LowBlock}
 use Rattle.src_tree.specs.Trees.{Test, Statement, SetVariable, SetElement, Choice, Loop, Block, Nothing, Then}
 use Rattle.src_tree.specs.Typing.{TypedStatement, TypedBlock}
 use Rattle.trace_patterns.specs.Shape.{most_regions}
-use Rattle.stretches.specs.Shows.{Show}
-use Rattle.stretches.proofs.ArmRegions.{region_shows}
+use Rattle.stretches.specs.Shows.{Show, region_shows}
 use Rattle.block_cache_gen.specs.declared.frames.Mode.{Mode}
 use Rattle.block_cache_gen.specs.declared.frames.Mode.TheVariants as modes
 use Rattle.block_cache_gen.specs.Homes.{Setting, HasHomes}
@@ -25,7 +24,7 @@ use Rattle.block_cache_gen.proofs.ArmAssignments.{goes-none, goes-leaves, goes-t
 use Rattle.block_cache_gen.proofs.SecretRegions.{goes-region}
 use Rattle.branch_padding.specs.Nesting.{nesting_of, nesting_of_block}
 use Rattle.branch_padding.specs.Padded.{arm_mode, in_a_row, untaken_arm, taken_arm, region_code, padded_code, padded_codes}
-use Rattle.branch_padding.specs.PatternsOfChoices.{shown_in_a_row, loaded_in_a_row, both_rests, shows_of, shows_of_each, slots_of, slots_of_each}
+use Rattle.branch_padding.specs.PatternsOfChoices.{shown_in_a_row, loaded_in_a_row, shows_of, shows_of_each, shows_of_arms, slots_of, slots_of_each, slots_of_arms}
 use Rattle.branch_padding.proofs.SecretRows.{shown-rests, loaded-rests, GoesAnywhere, EachGoes, NoneGoes, OneGoes, row-goes, take-goes, drop-goes, three-go}
 
 -- the arms of a branch are secret code
@@ -33,14 +32,6 @@ pub arm-secret : (mode : Mode) → may_skip_loads (arm_mode mode) ≡ false
 arm-secret modes.Public = refl
 arm-secret modes.Real = refl
 arm-secret modes.Mirrored = refl
-
--- what both arms of a branch show, and what both leave in the slots
-abbrev pub arms_shows : Setting → Block → Block → List Show
-arms_shows f a b = shown_in_a_row (both_rests (pair_count f a b) (shows_of_each f a) (shows_of_each f b))
-
--- the loads of both arms
-abbrev pub arms_loads : Setting → Block → Block → Loads
-arms_loads f a b = loaded_in_a_row (both_rests (pair_count f a b) (slots_of_each f a) (slots_of_each f b))
 
 module _ (o : Parts) (f : Setting) (homes : HasHomes o f) where
   -- statements that pair show the same and leave the same
@@ -89,8 +80,8 @@ module _ (o : Parts) (f : Setting) (homes : HasHomes o f) where
     -- the arm that isn't taken shows what both arms show
     pub untaken-goes : (second first_mirrored : List (List Instr)) → TypedBlock (context_of f.decls) Secret a
         → TypedBlock (context_of f.decls) Secret b → PartGoes b second → PartGoes a first_mirrored
-        → GoesAnywhere o f depth (untaken_arm (pair_count f a b) second first_mirrored) (arms_shows f a b)
-        (arms_loads f a b)
+        → GoesAnywhere o f depth (untaken_arm (pair_count f a b) second first_mirrored) (shows_of_arms f a b)
+        (slots_of_arms f a b)
     untaken-goes second first_mirrored left right behind before =
         let k = pair_count f a b in
         let paired = (counts_pairs f a b).pairs in
@@ -99,17 +90,17 @@ module _ (o : Parts) (f : Setting) (homes : HasHomes o f) where
         let ls = slots_of_each f a in
         let ms = slots_of_each f b in
         let shows : shown_in_a_row (take k ys) ++ (shown_in_a_row (drop k xs) ++ shown_in_a_row (drop k ys))
-        ≡ arms_shows f a b =
+        ≡ shows_of_arms f a b =
         ap (λ (z : List (List Show)). shown_in_a_row z ++ (shown_in_a_row (drop k xs) ++ shown_in_a_row (drop k ys)))
         (sym (paired-shows k a b paired)) ∙ sym (shown-rests k xs ys) in
         let loads : then_loads (loaded_in_a_row (take k ms))
         (then_loads (loaded_in_a_row (drop k ls)) (loaded_in_a_row (drop k ms)))
-        ≡ arms_loads f a b =
+        ≡ slots_of_arms f a b =
         ap (λ (z : List Loads).
         then_loads (loaded_in_a_row z) (then_loads (loaded_in_a_row (drop k ls)) (loaded_in_a_row (drop k ms))))
         (sym (paired-slots k a b paired left right)) ∙ sym (loaded-rests k ls ms) in
         subst (λ (z : List Show).
-        GoesAnywhere o f depth (untaken_arm k second first_mirrored) z (arms_loads f a b)) shows
+        GoesAnywhere o f depth (untaken_arm k second first_mirrored) z (slots_of_arms f a b)) shows
         (subst (λ (z : Loads).
         GoesAnywhere o f depth (untaken_arm k second first_mirrored)
         (shown_in_a_row (take k ys) ++ (shown_in_a_row (drop k xs) ++ shown_in_a_row (drop k ys))) z) loads
@@ -123,15 +114,15 @@ module _ (o : Parts) (f : Setting) (homes : HasHomes o f) where
 
     -- and so does the one that is
     pub taken-goes : (first second_mirrored : List (List Instr)) → PartGoes a first → PartGoes b second_mirrored
-        → GoesAnywhere o f depth (taken_arm (pair_count f a b) first second_mirrored) (arms_shows f a b)
-        (arms_loads f a b)
+        → GoesAnywhere o f depth (taken_arm (pair_count f a b) first second_mirrored) (shows_of_arms f a b)
+        (slots_of_arms f a b)
     taken-goes first second_mirrored before behind =
         let k = pair_count f a b in
         let xs = shows_of_each f a in
         let ys = shows_of_each f b in
         let ls = slots_of_each f a in
         let ms = slots_of_each f b in
-        subst (λ (z : List Show). GoesAnywhere o f depth (taken_arm k first second_mirrored) z (arms_loads f a b))
+        subst (λ (z : List Show). GoesAnywhere o f depth (taken_arm k first second_mirrored) z (slots_of_arms f a b))
         (sym (shown-rests k xs ys))
         (subst (λ (z : Loads).
         GoesAnywhere o f depth (taken_arm k first second_mirrored)
@@ -154,9 +145,9 @@ module _ (o : Parts) (f : Setting) (homes : HasHomes o f) where
   -- both arms of a branch go
   pub record ArmsGo (mode : Mode) (depth : ℕ) (a b : Block) : Type 0 where
     pub untaken : GoesAnywhere o f (depth + 1) (untaken_arm (pair_count f a b) (padded_codes f (arm_mode mode) b)
-        (padded_codes f modes.Mirrored a)) (arms_shows f a b) (arms_loads f a b)
+        (padded_codes f modes.Mirrored a)) (shows_of_arms f a b) (slots_of_arms f a b)
     pub taken : GoesAnywhere o f (depth + 1) (taken_arm (pair_count f a b) (padded_codes f (arm_mode mode) a)
-        (padded_codes f modes.Mirrored b)) (arms_shows f a b) (arms_loads f a b)
+        (padded_codes f modes.Mirrored b)) (shows_of_arms f a b) (slots_of_arms f a b)
 
   pub arms-go : (mode : Mode) (depth : ℕ) (a b : Block) → TypedBlock (context_of f.decls) Secret a
       → TypedBlock (context_of f.decls) Secret b → PartGoesInArms (depth + 1) a → PartGoesInArms (depth + 1) b
@@ -185,8 +176,8 @@ module _ (o : Parts) (f : Setting) (homes : HasHomes o f) where
         let from = both.leaves.state in
         let untaken = untaken_arm k (padded_codes f (arm_mode mode) b) (padded_codes f modes.Mirrored a) in
         let other = taken_arm k (padded_codes f (arm_mode mode) a) (padded_codes f modes.Mirrored b) in
-        let shows = arms_shows f a b in
-        let loads = arms_loads f a b in
+        let shows = shows_of_arms f a b in
+        let loads = slots_of_arms f a b in
         let region = goes-region o f homes.profile depth from t.cmp 0 1 untaken other shows loads some around
         (arms.untaken from both.leaves.carries) (arms.taken from both.leaves.carries) in
         goes-then o f depth s (guard_code f mode 0 t) (shows_of_test f t) (slots_of_test f t) guard

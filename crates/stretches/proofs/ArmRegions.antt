@@ -14,7 +14,7 @@ use Rattle.trace_patterns.specs.Events.{TreeEvent}
 use Rattle.trace_patterns.specs.SymStates.{SymState, common}
 use Rattle.trace_patterns.specs.Single.{gap, single}
 use Rattle.trace_patterns.specs.Shape.{Arms, shape, most_regions, has_note_between}
-use Rattle.stretches.specs.Shows.{Show, Gap, pattern_of}
+use Rattle.stretches.specs.Shows.{Show, Gap, pattern_of, region_shows}
 use Rattle.stretches.specs.InArms.{StandsInArm}
 use Rattle.trace_patterns.specs.Walk.{WalksTo, AtEnd, Across, CrossesTo, BothArms, untaken_way, taken_way}
 use Rattle.trace_patterns.proofs.PatternLaws.{shown-same, no_events-joined, joined-no_events}
@@ -63,10 +63,6 @@ region_code taken cmp ra rb first second =
     Br cmp ra rb (pos (length (first_arm taken first) + 2))
     ∷ (first_arm taken first
     ++ (Jmp (pos (length (second_arm taken second) + 1)) ∷ second_arm taken second))
-
--- what it shows, where both arms show the same
-abbrev pub region_shows : ℕ → List Show → List Show
-region_shows taken shows = Gap taken ∷ (shows ++ Gap taken ∷ [])
 
 module _ (o : Parts) (some : 1 ≤ o.profile.taken) where
   -- the two ways

@@ -1,6 +1,6 @@
 -- Patterns told as what is shown one thing after another: cycles without an event, and events.
 -- (GhostRider, ASPLOS 2015: the trace patterns of the type system of L_T; gaps of cycles are this project's profile.)
-use Rattle.std.specs.Prelude.{ℕ, List, [], ◌∷◌}
+use Rattle.std.specs.Prelude.{ℕ, List, [], ◌∷◌, ◌++◌}
 use Rattle.trace_patterns.specs.Patterns.{Shown, no_events, joined}
 use Rattle.trace_patterns.specs.Events.{TreeEvent}
 use Rattle.trace_patterns.specs.Single.{gap, event}
@@ -17,3 +17,7 @@ pattern_of_one (Seen e) = event e
 abbrev pub pattern_of : List Show → Shown TreeEvent
 pattern_of [] = no_events
 pattern_of (x ∷ shows) = joined (pattern_of_one x) (pattern_of shows)
+
+-- a region of two arms that show the same: the cycles of its branch, what an arm shows, and the cycles of its jump
+abbrev pub region_shows : (taken : ℕ) → List Show → List Show
+region_shows taken shows = Gap taken ∷ (shows ++ Gap taken ∷ [])
