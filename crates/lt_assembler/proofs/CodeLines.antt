@@ -1,5 +1,5 @@
 -- Notes, labels and instructions: what is read is what the words spell, and in range.
-use Rattle.std.proofs.Common.{◌≡◌, ℕ, suc, ◌+◌, ◌-◌, ◌<◌, ◌≤◌, Bool, true, false, not, eqb, ltb, List, [], ◌∷◌, ◌++◌, length, map, Option, Some, None, refl, sym, ap, ◌∙◌, subst, arith, length-append}
+use Rattle.std.proofs.Common.{◌≡◌, ℕ, suc, ◌+◌, ◌-◌, ◌^◌, ◌<◌, ◌≤◌, Bool, true, false, not, eqb, ltb, List, [], ◌∷◌, ◌++◌, length, map, Option, Some, None, refl, sym, ap, ◌∙◌, subst, arith, length-append}
 use Rattle.std.specs.Prelude.{◌&&◌, ◌||◌, All, IsTrue, bytes_eq, nat_lt, is_none, codes, decimal, option_map, option_and_then}
 use Rattle.std.specs.Ordering.{nat_cmp}
 use Rattle.std.specs.Cmp.Lexicographic.{slice_cmp}
@@ -13,17 +13,18 @@ use Rattle.lt_isa.specs.declared.symbols.Note.{Note}
 use Rattle.lt_isa.specs.Ranges.{NoteFits, InstrFits, next_place, is_slot_claim}
 use Rattle.gr_base.proofs.EachAfter.{EachAfter-push}
 use Rattle.gr_base.proofs.AtLast.{at_last-push}
-use Rattle.lt_assembler.specs.declared.faults.Fault.TheVariants.{WrongForm, Number, RepeatedName, Limit}
+use Rattle.lt_assembler.specs.declared.faults.Fault.TheVariants.{WrongForm, RepeatedName, Limit}
 use Rattle.lt_assembler.specs.Words.{Word, claim_word, hex_word}
 use Rattle.lt_assembler.specs.Numbers.{number_within}
-use Rattle.lt_assembler.specs.Operands.{mask_of, claim_of, claims_of}
+use Rattle.lt_assembler.specs.Operands.{claim_of, claims_of}
 use Rattle.lt_assembler.specs.Drafts.{Draft, place_of, takes_code, is_noted}
 use Rattle.lt_assembler.specs.Reading.{note_read, note_line, label_line, uses_of, with_code, code_line}
 use Rattle.lt_assembler.specs.Instructions.{Coded}
 use Rattle.lt_assembler.specs.Items.{ALabel, ANote, AnInstruction, Label, Noted}
 use Rattle.lt_assembler.proofs.Added.{takes_code-stage}
 use Rattle.lt_assembler.proofs.Found.{read_if, number_from, by_answer}
-use Rattle.gr_base.proofs.Results.{IfRead, read_ok, read_err, read_then, read_named, some_is}
+use Rattle.lt_assembler.proofs.ReadsForm.{ReadsForm, form_ok, no_form, named_then, number_then, form_if, form_read}
+use Rattle.gr_base.proofs.Results.{IfRead, read_ok, read_then, some_is}
 use Rattle.lt_assembler.proofs.NamedWords.{same_word}
 use Rattle.lt_assembler.proofs.WordsRead.{mask_from}
 use Rattle.lt_assembler.proofs.InstructionsRead.{instruction_read_so}
@@ -99,20 +100,23 @@ claims_from banks (word ∷ words) some few claims e =
         (more_claims banks word words z cs (h z refl) (k cs refl))
 
 -- the words of a note
-abbrev IsNoteOf : List Word → Note → Type 0
+abbrev pub IsNoteOf : List Word → Note → Type 0
 IsNoteOf words n = codes ".note" ∷ words ≡ codes ".note" ∷ hex_word 8 n.secrets ∷ map claim_word n.slots
 
-note_fits : (banks place : ℕ) (before : List Note) (words : List Word)
+-- a note's line has a mask and eight words behind its first
+pub note_fits : (F : Type 0) (banks place : ℕ) (before : List Note) (words : List Word)
     → 2 ≤ banks → banks ≤ 10 → next_place before ≤ place → place ≤ 1048576
-    → IfRead (note_read banks place words) (λ n. NoteFits banks before n × (n.pc ≡ place) × IsNoteOf words n)
+    → ((mask : ℕ) → (claims : List Word) → mask < 2 ^ 32 → length claims ≡ 8 → words ≡ hex_word 8 mask ∷ claims → F)
+    → ReadsForm (note_read banks place words) F (λ n. NoteFits banks before n × (n.pc ≡ place) × IsNoteOf words n)
 unfolding note_read
-note_fits banks place before [] some most behind few = read_err _ _
-note_fits banks place before (mask ∷ claims) some most behind few =
-    read_if WrongForm (eqb (length claims) 8) _ _ (λ whole.
-    read_then _ _ _ _ (read_named (mask_of mask) WrongForm _ (mask_from mask)) (λ secrets hm.
-    read_then _ _ (AreClaims banks claims) _
-    (read_named (claims_of banks claims) Number _ (claims_from banks claims some most)) (λ slots hs.
-    read_ok _ _ (
+note_fits F banks place before [] some most behind few k = no_form _ _
+note_fits F banks place before (mask ∷ claims) some most behind few k =
+    form_if (eqb (length claims) 8) _ _ _ (λ whole.
+    named_then _ _ _ _ _ (mask_from mask) (λ secrets hm.
+    let has : F =
+    k secrets claims hm.0 (eqb-true _ _ whole) (ap (λ (w : Word). w ∷ claims) hm.1) in
+    number_then _ _ _ (AreClaims banks claims) _ has (claims_from banks claims some most) (λ slots hs.
+    form_ok _ _ _ has (
       record {
         pc = (behind, omega arith);
         secrets = hm.0;
@@ -141,8 +145,8 @@ note_line_fits n follows words d h =
     let q = and_parts _ _ p.1 in
     let behind : next_place d.notes ≤ length d.code = ltb-false _ _ (not-true _ q.0) in
     let stands = takes_code-stage d h.headed p.0 in
-    read_then _ _ _ _ (note_fits (length d.banks) (length d.code) d.notes words
-    (leb-true _ _ p.0) h.head.bank_count behind h.lines.code_count) (λ m found.
+    read_then _ _ _ _ (form_read _ _ _ (note_fits (Unit {0}) (length d.banks) (length d.code) d.notes words
+    (leb-true _ _ p.0) h.head.bank_count behind h.lines.code_count (λ mask claims small eight is. tt))) (λ m found.
     read_if Limit (ltb (length d.notes) 262144) _ _ (λ room.
     let few : length d.notes < 262144 = ltb-true _ _ room in
     read_ok _ _ (said n d _ (ANote m.secrets m.slots) h (Noted m.secrets m.slots) (sym found.2) stands tt
@@ -194,7 +198,8 @@ unfolding code_line
 code_line_fits n words d h =
     read_if WrongForm (takes_code d) _ _ (λ there.
     let stands = takes_code-stage d h.headed there in
-    read_then _ _ _ _ (instruction_read_so (length d.banks) (length d.code) words h.lines.code_count) (λ coded found.
+    read_then _ _ _ _
+    (form_read _ _ _ (instruction_read_so (length d.banks) (length d.code) words h.lines.code_count)) (λ coded found.
     read_if Limit (ltb (length d.code) 1048576) _ _ (λ room.
     let few : length d.code < 1048576 = ltb-true _ _ room in
     let size = length-append d.code (coded.instr ∷ []) in

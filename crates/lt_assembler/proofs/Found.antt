@@ -1,6 +1,6 @@
 -- What is known of a value that was read.
 use Rattle.std.proofs.Common.{◌≡◌, ℕ, suc, ◌<◌, ◌≤◌, Bool, true, false, cond, [], ◌∷◌, length, Option, Some, Result, refl, sym, ap, subst, ◌∙◌, arith}
-use Rattle.std.specs.Prelude.{◌&&◌, ok_or, option_map, ℤ, pos, ◌^◌, ◌-◌, decimal}
+use Rattle.std.specs.Prelude.{◌&&◌, option_map, ℤ, pos, ◌^◌, ◌-◌, decimal}
 use Rattle.std.specs.Fmt.{signed_decimal}
 use Rattle.std.specs.Str.Parse.{digits_value}
 use Rattle.std.proofs.lemmas.Bool.{and_parts, leb-true, eqb-true}
@@ -13,7 +13,7 @@ use Rattle.lt_assembler.specs.declared.faults.Fault.{Fault}
 use Rattle.lt_assembler.specs.Words.{Word, offset_word}
 use Rattle.lt_assembler.specs.Numbers.{is_number, is_within, number_within, negative, begins_with, but_first, constant_of, forward_of, backward_of}
 use Rattle.gr_base.proofs.Digits.{numeral_text}
-use Rattle.gr_base.proofs.Results.{IfRead, read_err, read_named, mapped}
+use Rattle.gr_base.proofs.Results.{IfRead, read_err, mapped}
 use Rattle.lt_assembler.specs.Faults.{unless_not}
 use Rattle.gr_base.specs.Results.{◌>>=◌}
 use Rattle.lt_assembler.proofs.Digits.{number_word}
@@ -44,11 +44,6 @@ number_from low high word n e =
     let p = and_parts _ _ found.0 in
     let q = and_parts _ _ p.1 in
     subst (IsNumber low high word) found.1 (leb-true _ _ q.0, leb-true _ _ q.1, sym (number_text word p.0))
-
--- the same where it is read
-pub number_read : (low high : ℕ) (word : Word) (fault : Fault)
-    → IfRead (ok_or (number_within low high word) fault) (IsNumber low high word)
-number_read low high word fault = read_named _ fault (IsNumber low high word) (number_from low high word)
 
 -- a word behind its first byte
 pub first_byte : (byte : ℕ) (word : Word) → 0 < byte → begins_with byte word ≡ true → word ≡ byte ∷ but_first word

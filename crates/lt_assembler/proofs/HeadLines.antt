@@ -19,7 +19,7 @@ use Rattle.lt_isa.specs.Windows.{HasUnitPeriod}
 use Rattle.lt_isa.proofs.Windows.{IsWindowed, windowed-fits}
 use Rattle.gr_base.proofs.EachAfter.{EachAfter-push}
 use Rattle.lt_assembler.specs.declared.faults.Fault.{Fault}
-use Rattle.lt_assembler.specs.declared.faults.Fault.TheVariants.{WrongForm, Number, RepeatedName, Limit}
+use Rattle.lt_assembler.specs.declared.faults.Fault.TheVariants.{WrongForm, RepeatedName, Limit}
 use Rattle.lt_assembler.specs.Words.{Word}
 use Rattle.lt_assembler.specs.Numbers.{number_within}
 use Rattle.lt_assembler.specs.Drafts.{Draft, Labels, Use, empty_draft, has_code, takes_bank, takes_symbol}
@@ -28,9 +28,10 @@ use Rattle.lt_assembler.specs.Canonical.{cycles_words, window_words, object_word
 use Rattle.lt_assembler.specs.Items.{Item, AnObject, ABank, ASymbol, WordsSpell, Object, Bank, Variable}
 use Rattle.lt_assembler.specs.Spelled.{Stands}
 use Rattle.lt_assembler.proofs.Added.{added, IsFresh, stage_in, IsHeaded, IsHeaded-added, is_none-stage, stage-is_none, takes_bank-stage, takes_symbol-stage}
-use Rattle.lt_assembler.proofs.Found.{read_if, number_read, number_from, IsNumber}
+use Rattle.lt_assembler.proofs.Found.{read_if, number_from, IsNumber}
+use Rattle.lt_assembler.proofs.ReadsForm.{ReadsForm, form_ok, no_form, form_then, number_then, number_if, form_weaker, form_read}
 use Rattle.lt_assembler.proofs.CanonicalWords.{open_words, windowed_words}
-use Rattle.gr_base.proofs.Results.{IfRead, read_ok, read_err, read_then, read_weaker, some_is}
+use Rattle.gr_base.proofs.Results.{IfRead, read_ok, read_then, some_is}
 use Rattle.lt_assembler.proofs.SymbolRanges.{IsMemory, blocks_in-some, symbol_lies, symbol_fits}
 
 -- a number that the code's places have
@@ -149,7 +150,7 @@ no_code d e =
 
 -- the first line
 
-abbrev IsProfile : List Word → Profile → Type 0
+abbrev pub IsProfile : List Word → Profile → Type 0
 IsProfile words p = ProfileFits p × (codes ".object" ∷ words ≡ object_words p)
 
 one : decimal 1 ≡ codes "1"
@@ -172,15 +173,16 @@ only version word known = by_number (number_within version version word) (number
 abbrev AreCycles : List Word → Profile → Type 0
 AreCycles words p = ProfileFits p × HasUnitPeriod p × (words ≡ cycles_words p)
 
-cycles_fit : (b c d e f : Word) → IfRead (cycles_read b c d e f) (AreCycles (b ∷ c ∷ d ∷ e ∷ f ∷ []))
+cycles_fit : (F : Type 0) (has : F) (b c d e f : Word)
+    → ReadsForm (cycles_read b c d e f) F (AreCycles (b ∷ c ∷ d ∷ e ∷ f ∷ []))
 unfolding cycles_read
-cycles_fit b c d e f =
-    read_then _ _ _ _ (number_read 3 9 b Number) (λ block_log hb.
-    read_then _ _ _ _ (number_read 1 127 c Number) (λ alu hc.
-    read_then _ _ _ _ (number_read 1 127 d Number) (λ mul hd.
-    read_then _ _ _ _ (number_read 1 127 e Number) (λ word he.
-    read_then _ _ _ _ (number_read 1 32 f Number) (λ taken hf.
-    read_ok _ _ (
+cycles_fit F has b c d e f =
+    number_then _ _ _ _ _ has (number_from 3 9 b) (λ block_log hb.
+    number_then _ _ _ _ _ has (number_from 1 127 c) (λ alu hc.
+    number_then _ _ _ _ _ has (number_from 1 127 d) (λ mul hd.
+    number_then _ _ _ _ _ has (number_from 1 127 e) (λ word he.
+    number_then _ _ _ _ _ has (number_from 1 32 f) (λ taken hf.
+    form_ok _ _ _ has (
       record {
         block_log = (hb.0, hb.1);
         alu = (hc.0, hc.1);
@@ -202,15 +204,16 @@ record IsWindowRead (words more : List Word) (p : Profile) : Type 0 where
   window : IsWindowed before p
   shown : more ≡ window_words p
 
-window_fits : (words : List Word) (cycles : Result Profile Fault) (a b c : Word) → IfRead cycles (AreCycles words)
-    → IfRead (window_read cycles a b c) (IsWindowRead words (a ∷ b ∷ c ∷ []))
+window_fits : (F : Type 0) (words : List Word) (cycles : Result Profile Fault) (a b c : Word)
+    → ReadsForm cycles F (AreCycles words)
+    → ReadsForm (window_read cycles a b c) F (IsWindowRead words (a ∷ b ∷ c ∷ []))
 unfolding window_read
-window_fits words cycles a b c h =
-    read_then _ _ _ _ h (λ before k.
-    read_then _ _ _ _ (number_read 2 1000000 a Number) (λ period ha.
-    read_then _ _ _ _ (number_read 0 (period - 1) b Number) (λ opens hb.
-    read_then _ _ _ _ (number_read (opens + 1) period c Number) (λ closes hc.
-    read_ok _ _ (record {
+window_fits F words cycles a b c h =
+    form_then _ _ _ _ _ h (λ before has k.
+    number_then _ _ _ _ _ has (number_from 2 1000000 a) (λ period ha.
+    number_then _ _ _ _ _ has (number_from 0 (period - 1) b) (λ opens hb.
+    number_then _ _ _ _ _ has (number_from (opens + 1) period c) (λ closes hc.
+    form_ok _ _ _ has (record {
       before = before;
       cycles = k;
       window = record {
@@ -240,16 +243,26 @@ windowed_is words more a p first h = (
       ∙ ap (λ ws. codes ".object" ∷ ws) (sym (windowed_words p h.window.period.0)),
 )
 
-profile_fits : (words : List Word) → IfRead (profile_read words) (IsProfile words)
+-- the object's line has six or nine words behind its first
+pub profile_fits : (F : Type 0) (words : List Word)
+    → ((a b c d e f : Word) → words ≡ a ∷ b ∷ c ∷ d ∷ e ∷ f ∷ [] → F)
+    → ((a b c d e f g h i : Word) → words ≡ a ∷ b ∷ c ∷ d ∷ e ∷ f ∷ g ∷ h ∷ i ∷ [] → F)
+    → ReadsForm (profile_read words) F (IsProfile words)
 unfolding profile_read
-profile_fits (a ∷ b ∷ c ∷ d ∷ e ∷ f ∷ []) =
-    read_if Number (is_version 1 a) _ _ (λ known.
-    read_weaker _ _ _ (cycles_fit b c d e f) (λ p h. open_is (b ∷ c ∷ d ∷ e ∷ f ∷ []) a p (only 1 a known) h))
-profile_fits (a ∷ b ∷ c ∷ d ∷ e ∷ f ∷ g ∷ h ∷ i ∷ []) =
-    read_if Number (is_version 2 a) _ _ (λ known.
-    read_weaker _ _ _ (window_fits (b ∷ c ∷ d ∷ e ∷ f ∷ []) _ g h i (cycles_fit b c d e f)) (λ p window.
+profile_fits F (a ∷ b ∷ c ∷ d ∷ e ∷ f ∷ []) six nine =
+    let has : F = six a b c d e f refl in
+    number_if (is_version 1 a) _ _ _ has (λ known.
+    form_weaker _ _ _ _ (cycles_fit F has b c d e f) (λ p h. open_is (b ∷ c ∷ d ∷ e ∷ f ∷ []) a p (only 1 a known) h))
+profile_fits F (a ∷ b ∷ c ∷ d ∷ e ∷ f ∷ g ∷ h ∷ i ∷ []) six nine =
+    let has : F = nine a b c d e f g h i refl in
+    number_if (is_version 2 a) _ _ _ has (λ known.
+    form_weaker _ _ _ _ (window_fits F (b ∷ c ∷ d ∷ e ∷ f ∷ []) _ g h i (cycles_fit F has b c d e f)) (λ p window.
     windowed_is (b ∷ c ∷ d ∷ e ∷ f ∷ []) (g ∷ h ∷ i ∷ []) a p (only 2 a known) window))
-profile_fits _ = read_err _ _
+profile_fits F _ six nine = no_form _ _
+
+profile_says : (words : List Word) → IfRead (profile_read words) (IsProfile words)
+profile_says words =
+    form_read _ _ _ (profile_fits (Unit {0}) words (λ a b c d e f is. tt) (λ a b c d e f g h i is. tt))
 
 -- what the object's line says
 pub object_fits : (n : ℕ) (words : List Word) (d : Draft) → DraftFits d
@@ -257,7 +270,7 @@ pub object_fits : (n : ℕ) (words : List Word) (d : Draft) → DraftFits d
 unfolding object_line
 object_fits n words d h =
     read_if WrongForm (is_none d.profile) _ _ (λ first.
-    read_then _ _ _ _ (profile_fits words) (λ p found.
+    read_then _ _ _ _ (profile_says words) (λ p found.
     let start = is_none-stage d first in
     let symbols : d.symbols ≡ [] = ap (λ (x : Draft). x.symbols) (h.headed (stage-is_none d start)) in
     read_ok _ _ (said n d _ (AnObject p) h (Object p) (sym found.1) start tt refl (record {
@@ -270,17 +283,23 @@ object_fits n words d h =
 
 -- banks
 
-abbrev IsBank : ℕ → List Word → BankSpec → Type 0
+abbrev pub IsBank : ℕ → List Word → BankSpec → Type 0
 IsBank index words b =
     Within 1 (most_blocks index) b.blocks × Within 1 1000000 b.latency × (codes ".bank" ∷ words ≡ words_for_bank b)
 
-bank_fits : (index : ℕ) (words : List Word) → IfRead (bank_read index words) (IsBank index words)
+-- a bank's line has two words behind its first
+pub bank_fits : (F : Type 0) (index : ℕ) (words : List Word) → ((a b : Word) → words ≡ a ∷ b ∷ [] → F)
+    → ReadsForm (bank_read index words) F (IsBank index words)
 unfolding bank_read
-bank_fits index (a ∷ b ∷ []) =
-    read_then _ _ _ _ (number_read 1 (most_blocks index) a Number) (λ blocks ha.
-    read_then _ _ _ _ (number_read 1 1000000 b Number)
-    (λ latency hb. read_ok _ _ ((ha.0, ha.1), (hb.0, hb.1), rw (ha.2, hb.2) refl)))
-bank_fits index _ = read_err _ _
+bank_fits F index (a ∷ b ∷ []) two =
+    let has : F = two a b refl in
+    number_then _ _ _ _ _ has (number_from 1 (most_blocks index) a) (λ blocks ha.
+    number_then _ _ _ _ _ has (number_from 1 1000000 b)
+    (λ latency hb. form_ok _ _ _ has ((ha.0, ha.1), (hb.0, hb.1), rw (ha.2, hb.2) refl)))
+bank_fits F index _ two = no_form _ _
+
+bank_says : (index : ℕ) (words : List Word) → IfRead (bank_read index words) (IsBank index words)
+bank_says index words = form_read _ _ _ (bank_fits (Unit {0}) index words (λ a b is. tt))
 
 -- what a bank's line says
 pub bank_line_fits : (n : ℕ) (words : List Word) (d : Draft) → DraftFits d
@@ -288,7 +307,7 @@ pub bank_line_fits : (n : ℕ) (words : List Word) (d : Draft) → DraftFits d
 unfolding bank_line
 bank_line_fits n words d h =
     read_if WrongForm (takes_bank d) _ _ (λ there.
-    read_then _ _ _ _ (bank_fits (length d.banks) words) (λ bank found.
+    read_then _ _ _ _ (bank_says (length d.banks) words) (λ bank found.
     read_if Limit (ltb (length d.banks) 10) _ _ (λ room.
     let p = and_parts _ _ there in
     let q = and_parts _ _ p.1 in
@@ -309,21 +328,27 @@ width_some : (o : Option Profile) → is_some o ≡ true → 1 ≤ width o
 width_some None e = absurd cc
 width_some (Some p) e = pow_pos p.block_log
 
+-- where a symbol may come, the memory is there
+pub memory_of : (d : Draft) → DraftFits d → takes_symbol d ≡ true → IsMemory (width d.profile) d.banks
+memory_of d h there =
+    let p = and_parts _ _ there in
+    record {
+      words = width_some d.profile p.0;
+      count = leb-true _ _ (and_parts _ _ p.1).0;
+      blocks = blocks_in-some d.banks h.head.banks;
+    }
+
 -- what a symbol's line says
 pub symbol_line_fits : (n : ℕ) (words : List Word) (d : Draft) → DraftFits d
     → IfRead (symbol_line words d) (Says n (codes ".symbol" ∷ words) d)
 unfolding symbol_line
 symbol_line_fits n words d h =
     read_if WrongForm (takes_symbol d) _ _ (λ there.
-    let p = and_parts _ _ there in
-    let q = and_parts _ _ p.1 in
-    let memory : IsMemory (width d.profile) d.banks = record {
-      words = width_some d.profile p.0;
-      count = leb-true _ _ q.0;
-      blocks = blocks_in-some d.banks h.head.banks;
-    } in
+    let memory = memory_of d h there in
     let stands = takes_symbol-stage d memory.count there in
-    read_then _ _ _ _ (symbol_lies (width d.profile) d.banks d.symbols memory words) (λ s lies.
+    read_then _ _ _ _
+    (form_read _ _ _ (symbol_lies (width d.profile) d.banks d.symbols memory (Unit {0}) words
+    (λ name label shape a b c d named is. tt))) (λ s lies.
     read_if RepeatedName (is_new d.symbols s.name) _ _ (λ new.
     read_if Limit (has_room d.symbols s) _ _ (λ room.
     let few : length d.symbols < 1024 = ltb-true _ _ (and_parts _ _ room).0 in

@@ -1,9 +1,9 @@
 -- A line whose words spell an item reads as that item, where the item fits what was read before.
-use Rattle.std.proofs.Common.{◌≡◌, ◌≢◌, ℕ, ◌+◌, ◌-◌, ◌*◌, ◌<◌, ◌≤◌, Bool, true, false, eqb, List, [], ◌∷◌, ◌++◌, length, map, get_or, Option, Some, None, Ok, refl, sym, ap, ◌∙◌, ⊎_elim, arith, length-append}
-use Rattle.std.specs.Prelude.{All, pos, codes, decimal, is_none}
+use Rattle.std.proofs.Common.{◌≡◌, ◌≢◌, ℕ, ◌+◌, ◌-◌, ◌*◌, ◌<◌, ◌≤◌, Bool, true, false, not, eqb, ltb, List, [], ◌∷◌, ◌++◌, length, map, get_or, Option, Some, None, Result, Ok, refl, sym, ap, ◌∙◌, ⊎_elim, arith, length-append}
+use Rattle.std.specs.Prelude.{◌&&◌, All, pos, codes, decimal, is_none}
 use Rattle.std.specs.Char.{is_ascii_digit}
 use Rattle.std.proofs.Math.Seq.{get_or-append_seam, take-append_seam}
-use Rattle.std.proofs.lemmas.Bool.{and_parts, le-leb, lt-ltb, le-ltb, eq-eqb, not-true}
+use Rattle.std.proofs.lemmas.Bool.{and_parts, and_from, le-leb, lt-ltb, le-ltb, eq-eqb, not-true}
 use Rattle.std.proofs.lemmas.Bool.Decides.{nat_tests}
 use Rattle.std.proofs.lemmas.List.{length-map}
 use Rattle.gr_word.specs.declared.operations.Op.TheVariants.{Add}
@@ -21,7 +21,7 @@ use Rattle.lt_isa.specs.declared.instructions.Instr.{Instr}
 use Rattle.lt_isa.specs.declared.instructions.Instr.TheVariants.{Nop, Alu, Jmp, Br}
 use Rattle.lt_isa.specs.Ranges.{ProfileFits, BankFits, SymbolFits, NoteFits, InstrFits, IsRegister, total_length, next_place}
 use Rattle.lt_isa.specs.Limits.{most_blocks}
-use Rattle.lt_isa.specs.SymbolPlaces.{last_bank, blocks_in, first_free_word, most_length}
+use Rattle.lt_isa.specs.SymbolPlaces.{LiesBehind, last_bank, blocks_in, first_free_word, most_length}
 use Rattle.lt_isa.proofs.OtherNames.{pass_others}
 use Rattle.lt_isa.proofs.SymbolPlaces.{most_blocks-le, fields_of_lies}
 use Rattle.lt_assembler.specs.Words.{Word, register_word, label_word, shape_word, claim_word, hex_word}
@@ -31,8 +31,12 @@ use Rattle.lt_assembler.specs.Numbers.{is_number, begins_with, number_within}
 use Rattle.lt_assembler.specs.Operands.{op_named, mnemonic_named, label_named, shape_named}
 use Rattle.lt_assembler.specs.Canonical.{profile_words, object_words, words_for_bank, words_for_symbol, instruction_words}
 use Rattle.lt_assembler.specs.Instructions.{aim_read, jmp_read, br_read, instruction_read, is_instruction}
-use Rattle.lt_assembler.specs.Drafts.{Draft, place_of, with_label, takes_bank, takes_symbol, takes_code}
-use Rattle.lt_assembler.specs.Reading.{cycles_read, window_read, profile_read, object_line, bank_read, bank_line, site_read, symbol_read, width, is_new, symbol_line, note_read, note_line, label_name, label_line, with_code, code_line, by_first_word}
+use Rattle.lt_assembler.specs.declared.faults.Fault.{Fault}
+use Rattle.lt_assembler.specs.declared.faults.Fault.TheVariants.{WrongForm, RepeatedName, Limit}
+use Rattle.lt_assembler.specs.Faults.{unless_not}
+use Rattle.gr_base.specs.Results.{◌>>=◌}
+use Rattle.lt_assembler.specs.Drafts.{Draft, place_of, takes_bank, takes_symbol, takes_code, is_noted}
+use Rattle.lt_assembler.specs.Reading.{cycles_read, window_read, profile_read, object_line, bank_read, bank_line, site_read, symbol_read, width, is_new, has_room, symbol_line, note_read, note_line, label_name, label_line, code_line, by_first_word}
 use Rattle.lt_assembler.specs.Items.{Target, ToPlace, ToLabel, SpellsTarget, InDigits, ByName, Item, Nothing, AnObject, ABank, ASymbol, ALabel, ANote, AnInstruction, WordsSpell, Empty, Object, Bank, Variable, Label as LabelWords, Noted, Instruction, Jump, Branch}
 use Rattle.lt_assembler.proofs.Added.{coded_in, added}
 use Rattle.lt_assembler.proofs.InstructionsRead.{aim_in}
@@ -83,49 +87,78 @@ profile_again p h =
     ∙ rw (two, cycles_again p h, window_again (opened p) p h longer) refl)
     (by_window p h)
 
-object_reads : (n : ℕ) (follows : Bool) (d : Draft) (p : Profile) → is_none d.profile ≡ true → ProfileFits p
-    → by_first_word n follows (object_words p) d ≡ Ok (record d { profile = Some p })
-unfolding by_first_word object_line
-object_reads n follows d p first h = rw (first, profile_again p h) refl
+-- what a draft asks of an item: that it may stand there, of its name, and of room for it
 
-bank_reads : (n : ℕ) (follows : Bool) (d : Draft) (b : BankSpec) → takes_bank d ≡ true → BankFits d.banks b
-    → length d.banks < 10
-    → by_first_word n follows (words_for_bank b) d ≡ Ok (record d { banks = d.banks ++ b ∷ [] })
+abbrev pub may_stand : Bool → Draft → Item → Bool
+may_stand follows d Nothing = true
+may_stand follows d (AnObject p) = is_none d.profile
+may_stand follows d (ABank b) = takes_bank d
+may_stand follows d (ASymbol s) = takes_symbol d
+may_stand follows d (ALabel name) = takes_code d && true
+may_stand follows d (ANote mask claims) = takes_code d && (not (is_noted d) && follows)
+may_stand follows d (AnInstruction i t) = takes_code d
+
+abbrev pub is_new_in : Draft → Item → Bool
+is_new_in d (ASymbol s) = is_new d.symbols s.name
+is_new_in d (ALabel name) = is_none (place_of d.labels name)
+is_new_in d item = true
+
+abbrev pub has_room_in : Draft → Item → Bool
+has_room_in d (ABank b) = ltb (length d.banks) 10
+has_room_in d (ASymbol s) = has_room d.symbols s
+has_room_in d (ANote mask claims) = ltb (length d.notes) 262144
+has_room_in d (AnInstruction i t) = ltb (length d.code) 1048576
+has_room_in d item = true
+
+-- three tests, and then the draft
+abbrev pub passing : Bool → Bool → Bool → Draft → Result Draft Fault
+passing there new room d =
+    unless_not WrongForm there
+    >>= (λ _. unless_not RepeatedName new >>= (λ _. unless_not Limit room >>= (λ _. Ok d)))
+
+abbrev pub judged : ℕ → Bool → Item → Draft → Result Draft Fault
+judged n follows item d = passing (may_stand follows d item) (is_new_in d item) (has_room_in d item) (added n item d)
+
+object_judged : (n : ℕ) (follows : Bool) (d : Draft) (p : Profile) → ProfileFits p
+    → by_first_word n follows (object_words p) d ≡ judged n follows (AnObject p) d
+unfolding by_first_word object_line
+object_judged n follows d p h = rw (profile_again p h) refl
+
+bank_judged : (n : ℕ) (follows : Bool) (d : Draft) (b : BankSpec) → BankFits d.banks b
+    → by_first_word n follows (words_for_bank b) d ≡ judged n follows (ABank b) d
 unfolding by_first_word bank_line bank_read
-bank_reads n follows d b there h few =
+bank_judged n follows d b h =
     let small = most_blocks-le (length d.banks) in
     rw (
-      there,
       number_again 1 (most_blocks (length d.banks)) b.blocks h.blocks.0 h.blocks.1 (omega (arith, h.blocks.1, small)),
       number_again 1 1000000 b.latency h.latency.0 h.latency.1 (omega (arith, h.latency.1)),
-      lt-ltb (length d.banks) 10 few,
     ) refl
 
 -- symbols
 
-label_reads : (l : Label) → label_named (label_word l) ≡ Some l
+pub label_reads : (l : Label) → label_named (label_word l) ≡ Some l
 unfolding label_named
 label_reads Public = refl
 label_reads Secret = refl
 
-shape_reads : (s : Shape) → shape_named (shape_word s) ≡ Some s
+pub shape_reads : (s : Shape) → shape_named (shape_word s) ≡ Some s
 unfolding shape_named
 shape_reads Scalar = refl
 shape_reads Array = refl
 
-new_reads : (before : List Symbol) (text : List ℕ) → All (λ s. s.name ≢ text) before → is_new before text ≡ true
+pub new_reads : (before : List Symbol) (text : List ℕ) → All (λ s. s.name ≢ text) before → is_new before text ≡ true
 unfolding is_new
 new_reads before text all = pass_others before text all
 
 symbol_of_words : (w : ℕ) (banks : List BankSpec) (before : List Symbol) (s : Symbol) → HasSmallNumbers s
-    → SymbolFits w banks before s → symbol_read w banks before (s.name ∷ label_word s.label ∷ shape_word s.shape
+    → LiesBehind w banks before s → symbol_read w banks before (s.name ∷ label_word s.label ∷ shape_word s.shape
     ∷ decimal s.bank ∷ decimal s.block ∷ decimal s.word ∷ decimal s.length ∷ []) ≡ Ok s
 unfolding symbol_read site_read
 symbol_of_words w banks before s small h =
-    let lies = fields_of_lies w banks before s h.lies in
+    let lies = fields_of_lies w banks before s h in
     let last : s.bank ≤ length banks - 1 = omega (arith, lies.bank) in
     rw (
-      h.name,
+      small.name,
       label_reads s.label,
       shape_reads s.shape,
       number_again (last_bank before) (length banks - 1) s.bank lies.order last (omega (arith, small.bank)),
@@ -137,18 +170,11 @@ symbol_of_words w banks before s small h =
           (omega (arith, small.length)),
     ) refl
 
-symbol_reads : (n : ℕ) (follows : Bool) (d : Draft) (s : Symbol) → takes_symbol d ≡ true → HasSmallNumbers s
-    → SymbolFits (width d.profile) d.banks d.symbols s → length d.symbols < 1024
-    → by_first_word n follows (words_for_symbol s) d ≡ Ok (record d { symbols = d.symbols ++ s ∷ [] })
+symbol_judged : (n : ℕ) (follows : Bool) (d : Draft) (s : Symbol) → HasSmallNumbers s
+    → LiesBehind (width d.profile) d.banks d.symbols s
+    → by_first_word n follows (words_for_symbol s) d ≡ judged n follows (ASymbol s) d
 unfolding by_first_word symbol_line
-symbol_reads n follows d s there small h few =
-    rw (
-      there,
-      symbol_of_words (width d.profile) d.banks d.symbols s small h,
-      new_reads d.symbols s.name h.new,
-      lt-ltb (length d.symbols) 1024 few,
-      le-leb (total_length d.symbols + s.length) 4194304 h.total,
-    ) refl
+symbol_judged n follows d s small h = rw (symbol_of_words (width d.profile) d.banks d.symbols s small h) refl
 
 -- notes
 
@@ -163,18 +189,14 @@ note_of_words banks before m few h =
       claims_again banks m.slots few h.slots,
     ) refl
 
-note_reads : (n : ℕ) (d : Draft) (mask : ℕ) (claims : List ℕ) → takes_code d ≡ true → length d.banks ≤ 10
+note_judged : (n : ℕ) (follows : Bool) (d : Draft) (mask : ℕ) (claims : List ℕ) → length d.banks ≤ 10
     → NoteFits (length d.banks) d.notes (record { pc = length d.code; secrets = mask; slots = claims })
-    → length d.notes < 262144 → by_first_word n true (codes ".note" ∷ hex_word 8 mask ∷ map claim_word claims) d
-    ≡ Ok (record d { notes = d.notes ++ record { pc = length d.code; secrets = mask; slots = claims } ∷ [] })
+    → by_first_word n follows (codes ".note" ∷ hex_word 8 mask ∷ map claim_word claims) d
+    ≡ judged n follows (ANote mask claims) d
 unfolding by_first_word note_line
-note_reads n d mask claims there most h room =
-    rw (
-      there,
-      le-ltb (length d.code) (next_place d.notes) h.pc.0,
-      note_of_words (length d.banks) d.notes (record { pc = length d.code; secrets = mask; slots = claims }) most h,
-      lt-ltb (length d.notes) 262144 room,
-    ) refl
+note_judged n follows d mask claims most h =
+    rw (note_of_words (length d.banks) d.notes (record { pc = length d.code; secrets = mask; slots = claims }) most h)
+    refl
 
 -- labels
 
@@ -203,13 +225,12 @@ label_name_again name =
     let size : length (name ++ codes ":") - 1 ≡ length name = omega (arith, length-append name (codes ":")) in
     rw (size, get_or-append_seam name 58 [] 0, take-append_seam name (codes ":")) refl
 
-label_reads_so : (n : ℕ) (d : Draft) (name : Word) → takes_code d ≡ true → is_name name ≡ true
-    → place_of d.labels name ≡ None
-    → label_line name [] d ≡ Ok (record d { labels = with_label name (length d.code) d.labels })
+label_line_judged : (n : ℕ) (follows : Bool) (d : Draft) (name : Word) → is_name name ≡ true
+    → label_line name [] d ≡ judged n follows (ALabel name) d
 unfolding label_line
-label_reads_so n d name there fits new = rw (there, fits, new) refl
+label_line_judged n follows d name fits = rw fits refl
 
-label_reads_by : (n : ℕ) (follows : Bool) (d : Draft) (word name : Word) (c : ℕ) (rest : Word) → word ≡ c ∷ rest
+pub label_reads_by : (n : ℕ) (follows : Bool) (d : Draft) (word name : Word) (c : ℕ) (rest : Word) → word ≡ c ∷ rest
     → is_name_byte c ≡ true → label_name word ≡ Some name
     → by_first_word n follows (word ∷ []) d ≡ label_line name [] d
 unfolding by_first_word
@@ -217,14 +238,13 @@ label_reads_by n follows d word name c rest is byte found =
     let label : label_name (c ∷ rest) ≡ Some name = ap label_name (sym is) ∙ found in
     rw (is, other_byte c 46 byte (omega arith), label) refl
 
-label_reads_again : (n : ℕ) (follows : Bool) (d : Draft) (name : Word) → takes_code d ≡ true → is_name name ≡ true
-    → place_of d.labels name ≡ None → by_first_word n follows ((name ++ codes ":") ∷ []) d
-    ≡ Ok (record d { labels = with_label name (length d.code) d.labels })
-label_reads_again n follows d name there fits new =
+label_judged : (n : ℕ) (follows : Bool) (d : Draft) (name : Word) → is_name name ≡ true
+    → by_first_word n follows ((name ++ codes ":") ∷ []) d ≡ judged n follows (ALabel name) d
+label_judged n follows d name fits =
     let h = named name fits in
     label_reads_by n follows d (name ++ codes ":") name h.first (h.rest ++ codes ":")
     (ap (λ (w : Word). w ++ codes ":") h.whole) h.byte (label_name_again name)
-    ∙ label_reads_so n d name there fits new
+    ∙ label_line_judged n follows d name fits
 
 -- targets
 
@@ -309,12 +329,41 @@ is_code_line n follows d _ _ _ (Instruction i) = is_plain_line n follows i d
 is_code_line n follows d _ _ _ (Jump word target s) = is_jump_line n follows word d
 is_code_line n follows d _ _ _ (Branch cmp ra rb word target s) = is_branch_line n follows cmp ra rb word d
 
-code_reads : (n : ℕ) (follows : Bool) (d : Draft) (words : List Word) (i : Instr) (t : Option Target)
-    → takes_code d ≡ true → length d.banks ≤ 10 → InstrFits (length d.banks) i → length d.code < 1048576
-    → WordsSpell words (AnInstruction i t) → code_line n words d ≡ Ok (with_code n (coded_in (length d.code) i t) d)
+code_judged : (n : ℕ) (follows : Bool) (d : Draft) (words : List Word) (i : Instr) (t : Option Target)
+    → length d.banks ≤ 10 → InstrFits (length d.banks) i → WordsSpell words (AnInstruction i t)
+    → code_line n words d ≡ judged n follows (AnInstruction i t) d
 unfolding code_line
-code_reads n follows d words i t there few h room s =
-    rw (there, coded_again (length d.banks) (length d.code) words i t few h s, lt-ltb (length d.code) 1048576 room) refl
+code_judged n follows d words i t few h s =
+    rw (coded_again (length d.banks) (length d.code) words i t few h s) refl
+
+-- an item's fields are in range, behind what a draft holds
+abbrev pub InRange : Draft → Item → Type 0
+InRange d Nothing = Unit {0}
+InRange d (AnObject p) = ProfileFits p
+InRange d (ABank b) = BankFits d.banks b
+InRange d (ASymbol s) = HasSmallNumbers s × LiesBehind (width d.profile) d.banks d.symbols s
+InRange d (ALabel name) = Unit {0}
+InRange d (ANote mask claims) =
+    (length d.banks ≤ 10)
+    × NoteFits (length d.banks) d.notes (record { pc = length d.code; secrets = mask; slots = claims })
+InRange d (AnInstruction i t) = (length d.banks ≤ 10) × InstrFits (length d.banks) i
+
+-- words that spell an item in range are judged by its place, its name and the room for it
+pub item_judged : (n : ℕ) (follows : Bool) (words : List Word) (item : Item) (d : Draft) → WordsSpell words item
+    → InRange d item → by_first_word n follows words d ≡ judged n follows item d
+item_judged n follows _ _ d Empty h = nothing_reads n follows d
+item_judged n follows _ _ d (Object p) h = object_judged n follows d p h
+item_judged n follows _ _ d (Bank b) h = bank_judged n follows d b h
+item_judged n follows _ _ d (Variable s) h = symbol_judged n follows d s h.0 h.1
+item_judged n follows _ _ d (LabelWords name fits) h = label_judged n follows d name fits
+item_judged n follows _ _ d (Noted mask claims) h = note_judged n follows d mask claims h.0 h.1
+item_judged n follows _ _ d (Instruction i) h =
+    is_code_line n follows d _ _ _ (Instruction i) ∙ code_judged n follows d _ _ _ h.0 h.1 (Instruction i)
+item_judged n follows _ _ d (Jump word target s) h =
+    is_code_line n follows d _ _ _ (Jump word target s) ∙ code_judged n follows d _ _ _ h.0 h.1 (Jump word target s)
+item_judged n follows _ _ d (Branch cmp ra rb word target s) h =
+    is_code_line n follows d _ _ _ (Branch cmp ra rb word target s)
+    ∙ code_judged n follows d _ _ _ h.0 h.1 (Branch cmp ra rb word target s)
 
 -- what a draft asks of an item that is read
 abbrev pub ItemFits : Bool → Draft → Item → Type 0
@@ -332,25 +381,53 @@ ItemFits follows d (ANote mask claims) =
 ItemFits follows d (AnInstruction i t) =
     (takes_code d ≡ true) × (length d.banks ≤ 10) × InstrFits (length d.banks) i × (length d.code < 1048576)
 
+-- what an item that fits passes
+record Passes (follows : Bool) (d : Draft) (item : Item) : Type 0 where
+  there : may_stand follows d item ≡ true
+  new : is_new_in d item ≡ true
+  room : has_room_in d item ≡ true
+
+fits_range : (follows : Bool) (d : Draft) (item : Item) → ItemFits follows d item → InRange d item
+fits_range follows d Nothing h = tt
+fits_range follows d (AnObject p) h = h.1
+fits_range follows d (ABank b) h = h.1
+fits_range follows d (ASymbol s) h = (h.1, h.2.lies)
+fits_range follows d (ALabel name) h = tt
+fits_range follows d (ANote mask claims) h = (h.1, h.2)
+fits_range follows d (AnInstruction i t) h = (h.1, h.2)
+
+fits_passes : (follows : Bool) (d : Draft) (item : Item) → ItemFits follows d item → Passes follows d item
+fits_passes follows d Nothing h = record { there = refl; new = refl; room = refl }
+fits_passes follows d (AnObject p) h = record { there = h.0; new = refl; room = refl }
+fits_passes follows d (ABank b) h = record { there = h.0; new = refl; room = lt-ltb (length d.banks) 10 h.2 }
+fits_passes follows d (ASymbol s) h = record {
+  there = h.0;
+  new = new_reads d.symbols s.name h.2.new;
+  room = and_from _ _ (lt-ltb (length d.symbols) 1024 h.3)
+      (le-leb (total_length d.symbols + s.length) 4194304 h.2.total);
+}
+fits_passes follows d (ALabel name) h = record { there = rw h.0 refl; new = ap is_none h.1; room = refl }
+fits_passes follows d (ANote mask claims) h = record {
+  there = rw (h.0, le-ltb (length d.code) (next_place d.notes) h.2.pc.0, h.4) refl;
+  new = refl;
+  room = lt-ltb (length d.notes) 262144 h.3;
+}
+fits_passes follows d (AnInstruction i t) h =
+    record { there = h.0; new = refl; room = lt-ltb (length d.code) 1048576 h.3 }
+
+pass : (a b c : Bool) (d : Draft) → a ≡ true → b ≡ true → c ≡ true → passing a b c d ≡ Ok d
+pass true true true d p q r = refl
+pass false b c d p q r = absurd cc
+pass true false c d p q r = absurd cc
+pass true true false d p q r = absurd cc
+
 -- words that spell an item are read as it
 pub item_reads : (n : ℕ) (follows : Bool) (words : List Word) (item : Item) (d : Draft) → WordsSpell words item
     → ItemFits follows d item → by_first_word n follows words d ≡ Ok (added n item d)
-item_reads n follows _ _ d Empty h = nothing_reads n follows d
-item_reads n follows _ _ d (Object p) h = object_reads n follows d p h.0 h.1
-item_reads n follows _ _ d (Bank b) h = bank_reads n follows d b h.0 h.1 h.2
-item_reads n follows _ _ d (Variable s) h = symbol_reads n follows d s h.0 h.1 h.2 h.3
-item_reads n follows _ _ d (LabelWords name fits) h = label_reads_again n follows d name h.0 fits h.1
-item_reads n follows _ _ d (Noted mask claims) h =
-    ap (λ f. by_first_word n f (codes ".note" ∷ hex_word 8 mask ∷ map claim_word claims) d) h.4
-    ∙ note_reads n d mask claims h.0 h.1 h.2 h.3
-item_reads n follows _ _ d (Instruction i) h =
-    is_code_line n follows d _ _ _ (Instruction i) ∙ code_reads n follows d _ i None h.0 h.1 h.2 h.3 (Instruction i)
-item_reads n follows _ _ d (Jump word target s) h =
-    is_code_line n follows d _ _ _ (Jump word target s)
-    ∙ code_reads n follows d _ _ _ h.0 h.1 h.2 h.3 (Jump word target s)
-item_reads n follows _ _ d (Branch cmp ra rb word target s) h =
-    is_code_line n follows d _ _ _ (Branch cmp ra rb word target s)
-    ∙ code_reads n follows d _ _ _ h.0 h.1 h.2 h.3 (Branch cmp ra rb word target s)
+item_reads n follows words item d s h =
+    let p = fits_passes follows d item h in
+    item_judged n follows words item d s (fits_range follows d item h)
+    ∙ pass (may_stand follows d item) (is_new_in d item) (has_room_in d item) (added n item d) p.there p.new p.room
 
 -- an instruction's line has an instruction's form
 pub instruction_form : (banks : ℕ) (words : List Word) (i : Instr) (t : Option Target) → banks ≤ 10

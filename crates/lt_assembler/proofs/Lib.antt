@@ -8,6 +8,7 @@ pub mod Claims
 pub mod LongLines
 pub mod LineByLine
 pub mod Found
+pub mod ReadsForm
 pub mod InstructionsRead
 pub mod SymbolRanges
 pub mod HeadLines
@@ -26,6 +27,10 @@ pub mod InstructionWords
 pub mod CanonicalWords
 pub mod ItemsRead
 pub mod Spelled
+pub mod Earlier
+pub mod FormsRead
+pub mod LineForms
+pub mod LineFaults
 pub mod SpelledRead
 pub mod CanonicalSpells
 pub mod CanonicalSizes

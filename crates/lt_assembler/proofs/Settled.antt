@@ -1,6 +1,6 @@
 -- The code with the targets of its labels: the instructions that the items give, or the first use of a label that has
 -- no place.
-use Rattle.std.proofs.Common.{◌≡◌, ℕ, ◌+◌, true, List, [], ◌∷◌, ◌++◌, length, map, get_or, Option, Some, None, Ok, Err, refl, sym, ap, ◌∙◌, append_assoc, arith, length-append}
+use Rattle.std.proofs.Common.{◌≡◌, ℕ, ◌+◌, List, [], ◌∷◌, ◌++◌, length, map, get_or, Option, Some, None, Ok, Err, refl, sym, ap, ◌∙◌, append_assoc, arith, length-append}
 use Rattle.std.specs.Prelude.{All, is_some, slice_set, option_map}
 use Rattle.std.proofs.lemmas.List.Elements.{All-nil, All-cons}
 use Rattle.std.proofs.Math.Seq.{set-append_seam, get_or-append_seam}
@@ -14,12 +14,8 @@ use Rattle.lt_assembler.specs.Assembled.{aimed, settled}
 use Rattle.lt_isa.specs.InstructionTable.{with_offset}
 use Rattle.lt_assembler.specs.Items.{ToPlace, ToLabel, Item, Nothing, AnObject, ABank, ASymbol, ALabel, ANote, AnInstruction}
 use Rattle.lt_assembler.specs.Spelled.{gathered, instruction_in}
+use Rattle.lt_assembler.specs.FirstFaults.{LeadsToKnown}
 use Rattle.lt_assembler.proofs.Gathered.{listed, raw_in, use_in, SameLabels}
-
--- the label that an item uses, where it uses one, has a place
-abbrev pub IsKnownItem : Labels → Item → Type 0
-IsKnownItem labels (AnInstruction i (Some (ToLabel name))) = is_some (place_of labels name) ≡ true
-IsKnownItem labels item = Unit {0}
 
 -- the item of this line is the first that uses a label without a place
 pub record IsUnknownUse (labels : Labels) (n : ℕ) (items : List Item) (line : ℕ) : Type 0 where
@@ -30,7 +26,7 @@ pub record IsUnknownUse (labels : Labels) (n : ℕ) (items : List Item) (line : 
   pub whole : items ≡ before ++ AnInstruction instr (Some (ToLabel name)) ∷ after
   pub number : line ≡ n + length before
   pub nowhere : place_of labels name ≡ None
-  pub known : All (IsKnownItem labels) before
+  pub known : All (LeadsToKnown labels) before
 
 -- items whose labels are known settle to their final code, or one use is unknown
 pub data Settles (labels sorted : Labels) (n place : ℕ) (items : List Item) (front code : List Instr)
@@ -42,7 +38,7 @@ pub data Settles (labels sorted : Labels) (n place : ℕ) (items : List Item) (f
       → Settles labels sorted n place items front code uses
 
 later_use : (labels : Labels) (n : ℕ) (item : Item) (items : List Item) (line : ℕ)
-    → IsKnownItem labels item → IsUnknownUse labels (n + 1) items line → IsUnknownUse labels n (item ∷ items) line
+    → LeadsToKnown labels item → IsUnknownUse labels (n + 1) items line → IsUnknownUse labels n (item ∷ items) line
 later_use labels n item items line known h = record {
   before = item ∷ h.before;
   after = h.after;
@@ -51,12 +47,12 @@ later_use labels n item items line known h = record {
   whole = ap (λ (xs : List Item). item ∷ xs) h.whole;
   number = omega (arith, h.number);
   nowhere = h.nowhere;
-  known = All-cons (IsKnownItem labels) item h.before known h.known;
+  known = All-cons (LeadsToKnown labels) item h.before known h.known;
 }
 
 module _ (labels sorted : Labels) (same : SameLabels sorted labels) where
   passed : (n place : ℕ) (item : Item) (items : List Item) (front code : List Instr) (uses : List Use)
-      → IsKnownItem labels item
+      → LeadsToKnown labels item
       → gathered (instruction_in labels) place (item ∷ items) ≡ gathered (instruction_in labels) place items
       → Settles labels sorted (n + 1) place items front code uses
       → Settles labels sorted n place (item ∷ items) front code uses
@@ -66,7 +62,7 @@ module _ (labels sorted : Labels) (same : SameLabels sorted labels) where
 
   -- an instruction, once its target is known
   moved : (n place : ℕ) (item : Item) (items : List Item) (front raw : List Instr) (x : Instr) (uses : List Use)
-      → IsKnownItem labels item → gathered (instruction_in labels) place (item ∷ items)
+      → LeadsToKnown labels item → gathered (instruction_in labels) place (item ∷ items)
       ≡ Some x ∷ gathered (instruction_in labels) (place + 1) items
       → Settles labels sorted (n + 1) (place + 1) items (front ++ x ∷ []) (front ++ x ∷ [] ++ raw) uses
       → Settles labels sorted n place (item ∷ items) front (front ++ x ∷ raw) uses
@@ -116,7 +112,7 @@ module _ (labels sorted : Labels) (same : SameLabels sorted labels) where
         whole = refl;
         number = omega arith;
         nowhere = none;
-        known = All-nil (IsKnownItem labels);
+        known = All-nil (LeadsToKnown labels);
       })
       (no_label n place name (front ++ i ∷ gathered raw_in (place + 1) items)
       (listed use_in (n + 1) (place + 1) items) none)

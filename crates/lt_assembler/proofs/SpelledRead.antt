@@ -419,7 +419,7 @@ code_settles labels sorted items d code (Unknown line h e) is =
     absurd (no_instruction labels 0 h.before h.after h.instr h.name code h.nowhere
     (ap (gathered (instruction_in labels) 0) (sym h.whole) ∙ is))
 
-some_code : (n : ℕ) → 1 ≤ n → not (eqb n 0) ≡ true
+pub some_code : (n : ℕ) → 1 ≤ n → not (eqb n 0) ≡ true
 some_code n h = grind (arith, nat_tests)
 
 parts_are : (o : Parts) (d : Draft)

@@ -16,14 +16,13 @@ use Rattle.lt_isa.proofs.OtherNames.{others}
 use Rattle.lt_isa.proofs.SymbolPlaces.{lies_by_fields}
 use Rattle.lt_isa.specs.SymbolPlaces.{LiesBehind, last_bank, blocks_in, first_free_word, most_length}
 use Rattle.gr_base.proofs.EachAfter.{EachBelow-from_after}
-use Rattle.lt_assembler.specs.declared.faults.Fault.TheVariants.{WrongForm, Number}
 use Rattle.lt_assembler.specs.declared.symbol_lines.Site.{Site}
 use Rattle.lt_assembler.specs.Words.{Word, label_word, shape_word}
 use Rattle.lt_assembler.specs.Canonical.{words_for_symbol}
 use Rattle.lt_assembler.specs.Operands.{label_named, shape_named}
 use Rattle.lt_assembler.specs.Reading.{site_read, symbol_read, four, is_new, has_room}
-use Rattle.lt_assembler.proofs.Found.{read_if, number_read}
-use Rattle.gr_base.proofs.Results.{IfRead, read_ok, read_err, read_then, read_named}
+use Rattle.lt_assembler.proofs.Found.{number_from}
+use Rattle.lt_assembler.proofs.ReadsForm.{ReadsForm, form_ok, no_form, form_then, named_then, number_then, form_if}
 use Rattle.lt_assembler.proofs.NamedWords.{named_is}
 
 -- the memory in which symbols lie: blocks of w words, and banks of some blocks
@@ -56,14 +55,17 @@ module _ (w : ℕ) (banks : List BankSpec) (before : List Symbol) (memory : IsMe
       SiteFits w banks before shape s
       × (words ≡ decimal s.bank ∷ decimal s.block ∷ decimal s.word ∷ decimal s.length ∷ [])
 
-  site_fits : (shape : Shape) (words : List Word) → IfRead (site_read w banks before shape words) (IsSite shape words)
+  site_fits : (F : Type 0) (shape : Shape) (words : List Word)
+      → ((a b c d : Word) → words ≡ a ∷ b ∷ c ∷ d ∷ [] → F)
+      → ReadsForm (site_read w banks before shape words) F (IsSite shape words)
   unfolding site_read
-  site_fits shape (a ∷ b ∷ c ∷ d ∷ []) =
-      read_then _ _ _ _ (number_read (last_bank before) (length banks - 1) a Number) (λ bank ha.
-      read_then _ _ _ _ (number_read 0 (blocks_in banks bank - 1) b Number) (λ block hb.
-      read_then _ _ _ _ (number_read (first_free_word w before bank block) (w - 1) c Number) (λ word hc.
-      read_then _ _ _ _ (number_read 1 (most_length w banks shape bank (block * w + word)) d Number) (λ size hd.
-      read_ok _ _ (
+  site_fits F shape (a ∷ b ∷ c ∷ d ∷ []) k =
+      let has : F = k a b c d refl in
+      number_then _ _ _ _ _ has (number_from (last_bank before) (length banks - 1) a) (λ bank ha.
+      number_then _ _ _ _ _ has (number_from 0 (blocks_in banks bank - 1) b) (λ block hb.
+      number_then _ _ _ _ _ has (number_from (first_free_word w before bank block) (w - 1) c) (λ word hc.
+      number_then _ _ _ _ _ has (number_from 1 (most_length w banks shape bank (block * w + word)) d) (λ size hd.
+      form_ok _ _ _ has (
         record {
           lies = λ name label. lies_by_fields w banks before _ (record {
             order = ha.0;
@@ -76,7 +78,7 @@ module _ (w : ℕ) (banks : List BankSpec) (before : List Symbol) (memory : IsMe
         },
         rw (ha.2, hb.2, hc.2, hd.2) refl,
       )))))
-  site_fits shape _ = read_err _ _
+  site_fits F shape _ k = no_form _ _
 
   pub record SymbolLies (s : Symbol) : Type 0 where
     pub name : IsTrue (is_name s.name)
@@ -100,18 +102,21 @@ module _ (w : ℕ) (banks : List BankSpec) (before : List Symbol) (memory : IsMe
   IsSymbol words s = SymbolLies s × (codes ".symbol" ∷ words ≡ words_for_symbol s)
 
   -- a symbol that is read lies behind those before it
-  pub symbol_lies : (words : List Word) → IfRead (symbol_read w banks before words) (IsSymbol words)
+  pub symbol_lies : (F : Type 0) (words : List Word)
+      → ((name : Word) → (label : Label) → (shape : Shape) → (a b c d : Word) → IsTrue (is_name name)
+      → words ≡ name ∷ label_word label ∷ shape_word shape ∷ a ∷ b ∷ c ∷ d ∷ [] → F)
+      → ReadsForm (symbol_read w banks before words) F (IsSymbol words)
   unfolding symbol_read
-  symbol_lies (a ∷ b ∷ c ∷ site) =
-      read_if WrongForm (four site && is_name a) _ _ (λ whole.
-      read_then _ _ _ _ (read_named (label_named b) WrongForm (λ label. label_word label ≡ b) (label_from b))
-      (λ label hl.
-      read_then _ _ _ _ (read_named (shape_named c) WrongForm (λ shape. shape_word shape ≡ c) (shape_from c))
-      (λ shape hs.
-      read_then _ _ _ _ (site_fits shape site) (λ s h.
-      read_ok _ _
-      (record { name = (and_parts _ _ whole).1; site = h.0 }, words_of_symbol a b c site _ label shape hl hs h.1)))))
-  symbol_lies _ = read_err _ _
+  symbol_lies F (a ∷ b ∷ c ∷ site) k =
+      form_if (four site && is_name a) _ _ _ (λ whole.
+      let named = (and_parts _ _ whole).1 in
+      named_then _ _ _ _ _ (label_from b) (λ label hl.
+      named_then _ _ _ _ _ (shape_from c) (λ shape hs.
+      form_then _ _ _ _ _
+      (site_fits F shape site (λ p q r s is. k a label shape p q r s named (rw (hl, hs, is) refl))) (λ s has h.
+      form_ok _ _ _ has
+      (record { name = named; site = h.0 }, words_of_symbol a b c site _ label shape hl hs h.1)))))
+  symbol_lies F _ k = no_form _ _
 
   new_name : (text : List ℕ) → is_new before text ≡ true → All (λ s. s.name ≢ text) before
   unfolding is_new

@@ -112,7 +112,8 @@ both : {n : ℕ} {follows : Bool} {words : List Word} {d : Draft} (r : Result Dr
     → IfRead r (Says n words d) → IfRead r (Waits follows) → IfRead r (GoesBy n follows words d)
 both r h k = record { then = λ e read. record { says = h.then e read; waits = k.then e read } }
 
-ends_in : (word name : Word) → label_name word ≡ Some name → word ≡ name ++ codes ":"
+-- a word with a name before its ':'
+pub ends_in : (word name : Word) → label_name word ≡ Some name → word ≡ name ++ codes ":"
 unfolding label_name
 ends_in [] name e = absurd cc
 ends_in (b ∷ word) name e =
@@ -180,7 +181,8 @@ pub record LineGoes (n : ℕ) (follows : Bool) (line : List ℕ) (d e : Draft) :
   pub ascii : is_ascii_line line ≡ true
   pub by : GoesBy n follows (words line) d e
 
-line_goes : (n : ℕ) (follows : Bool) (line : List ℕ) (d : Draft)
+-- a line that is read
+pub line_goes : (n : ℕ) (follows : Bool) (line : List ℕ) (d : Draft)
     → Goes (is_instruction_line line || follows) d → IfRead (line_read n follows line d) (LineGoes n follows line d)
 unfolding line_read is_instruction_line
 line_goes n follows line d h = by_bytes (is_ascii_line line) refl h where

@@ -48,18 +48,24 @@ late b h = (grind (arith, nat_tests), grind (arith, nat_tests))
 late_word : (b : ℕ) → 2 ≤ b → bank_word b ≡ 79 ∷ decimal b
 late_word b h = let l = late b h in rw (l.0, l.1) refl
 
+-- a word writes a bank
+abbrev pub IsBankWord : Word → ℕ → Type 0
+IsBankWord word b = (b < 10) × (word ≡ bank_word b)
+
 -- the bank that a word writes
-pub bank_from : (word : Word) (b : ℕ) → bank_named word ≡ Some b → word ≡ bank_word b
+pub bank_from : (word : Word) (b : ℕ) → bank_named word ≡ Some b → IsBankWord word b
 unfolding bank_named
 bank_from word b e =
-    by_answer (bytes_eq word (codes "D")) _ _ (λ z. word ≡ bank_word z)
-    (λ same z h. same_word _ _ same ∙ ap bank_word (some_is 0 z h))
-    (λ _. by_answer (bytes_eq word (codes "E")) _ _ (λ z. word ≡ bank_word z)
-    (λ same z h. same_word _ _ same ∙ ap bank_word (some_is 1 z h))
-    (λ _. by_answer (begins_with 79 word) _ _ (λ z. word ≡ bank_word z)
+    by_answer (bytes_eq word (codes "D")) _ _ (IsBankWord word)
+    (λ same z h. subst (IsBankWord word) (some_is 0 z h) (omega arith, same_word _ _ same))
+    (λ _. by_answer (bytes_eq word (codes "E")) _ _ (IsBankWord word)
+    (λ same z h. subst (IsBankWord word) (some_is 1 z h) (omega arith, same_word _ _ same))
+    (λ _. by_answer (begins_with 79 word) _ _ (IsBankWord word)
     (λ first z h.
-    let w = number_from 2 9 (but_first word) z h in
-    first_byte 79 word (omega arith) first ∙ ap (λ (t : Word). 79 ∷ t) w.2 ∙ sym (late_word z w.0))
+    let w = number_from 2 9 (but_first word) z h in (
+      omega (arith, w.1),
+      first_byte 79 word (omega arith) first ∙ ap (λ (t : Word). 79 ∷ t) w.2 ∙ sym (late_word z w.0),
+    ))
     (λ _ z h. absurd cc))) b e
 
 -- masks

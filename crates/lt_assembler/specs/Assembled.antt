@@ -1,4 +1,5 @@
--- The object that a text spells, or the text's first fault (this project's profile).
+-- The object that is read of a text, or the text's first fault. Only proofs need it: it is the computing form of
+-- `SpellsInText` and `IsFirstTextFault`. (This project's profile.)
 use Rattle.std.specs.Prelude.{ℕ, ◌+◌, nat_le, ◌==◌, Bool, not, ◌&&◌, if◌then◌else◌, List, [], ◌∷◌, length, Option, Some, None, Result, Ok, Err, slice_index_or, slice_set}
 use Rattle.lt_isa.specs.declared.profiles.Profile.{Profile}
 use Rattle.lt_isa.specs.declared.instructions.Instr.{Instr}

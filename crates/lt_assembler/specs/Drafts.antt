@@ -1,4 +1,4 @@
--- What is read of a text so far. (This project's profile.)
+-- What is read of a text so far, for the computing form. Only proofs need it. (This project's profile.)
 use Rattle.std.specs.Prelude.{ℕ, ◌==◌, nat_le, nat_lt, Bool, not, ◌&&◌, ◌||◌, List, [], length, Option, None, is_some, bytes_eq}
 use Rattle.std.specs.Ordering.{nat_cmp}
 use Rattle.std.specs.Cmp.Lexicographic.{slice_cmp}

@@ -1,5 +1,6 @@
--- Instructions as words (this project's profile). An instruction whose target is a label has the offset 0 until the
--- whole text is read.
+-- Reading instructions by their words. Only proofs need it, but for `offset_to`: it is the computing form of
+-- `HasInstructionForm` and `WordsSpell`. An instruction whose target is a label has the offset 0 until the whole text is
+-- read. (This project's profile.)
 use Rattle.std.specs.Prelude.{ℕ, nat_lt, Bool, false, true, if◌then◌else◌, ℤ, pos, ◌-ℤ◌, List, [], ◌∷◌, codes, Option, Some, None, option_map, Result, Ok, Err, bytes_eq, slice_index}
 use Rattle.std.specs.Char.{is_ascii_digit}
 use Rattle.gr_word.specs.declared.operations.Op.{Op}

@@ -12,5 +12,8 @@ pub mod Reading
 pub mod Assembled
 pub mod Items
 pub mod Spelled
+pub mod Earlier
+pub mod Forms
+pub mod LineRules
 pub mod FirstFaults
 pub mod Seen

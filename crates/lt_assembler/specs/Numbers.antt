@@ -1,4 +1,4 @@
--- Number words (this project's profile).
+-- Number words, for the computing form. Only proofs need them, but for `begins_with`. (This project's profile.)
 use Rattle.std.specs.Prelude.{ℕ, ◌-◌, ◌^◌, nat_le, Bool, ◌&&◌, ◌==◌, if◌then◌else◌, ℤ, pos, negsuc, length, drop, Option, Some, None, option_map, slice_index}
 use Rattle.std.specs.Str.Parse.{digits_value}
 use Rattle.gr_base.specs.Numerals.{is_canonical_numeral}

@@ -1,4 +1,4 @@
--- What the words of a line name (this project's profile).
+-- What the words of a line name, for the computing form. Only proofs need it. (This project's profile.)
 use Rattle.std.specs.Prelude.{ℕ, ◌-◌, nat_le, Bool, ◌&&◌, ◌||◌, ◌==◌, if◌then◌else◌, List, [], ◌∷◌, length, codes, find, Option, Some, None, option_map, option_and_then, bytes_eq}
 use Rattle.std.specs.List.{list_all}
 use Rattle.std.specs.Option.{option_or}

@@ -1,5 +1,6 @@
--- What each line does to what was read before (this project's profile). Within a line come its form, then its numbers,
--- then names that stand twice, then limits.
+-- Reading a text line by line, with the first fault that is met: what each line does to what was read before. Only
+-- proofs need it: it is the computing form of `LineRules` and `FirstFaults`, to which the law `first_fault` ties it.
+-- (This project's profile.)
 use Rattle.std.specs.Prelude.{ℕ, ◌+◌, ◌-◌, ◌*◌, ◌^◌, nat_le, nat_lt, ◌==◌, Bool, not, ◌&&◌, if◌then◌else◌, List, [], ◌∷◌, ◌++◌, length, take, codes, Option, Some, None, is_none, is_some, Result, Ok, Err, bytes_eq, slice_index}
 use Rattle.std.specs.List.{list_all, list_any}
 use Rattle.gr_word.specs.declared.variables.Shape.{Shape}

@@ -22,9 +22,8 @@ pub fn text_laws()
     // The canonical text of an object spells it.
     ensures read_again { (o : Parts) → IsInRange o → SpellsInText (canonical o) o }
 
-    // Each text that spells no object has exactly one first fault.
-    ensures has_fault { (text : List ℕ) (e : AsmError) → assembled text ≡ Err e → IsFirstTextFault text e }
-    ensures one_fault { (text : List ℕ) (e : AsmError) → IsFirstTextFault text e → assembled text ≡ Err e }
+    // A fault is answered exactly where it is the text's first: so a text that spells no object has exactly one.
+    ensures first_fault { (text : List ℕ) (e : AsmError) → (assembled text ≡ Err e) ↔ IsFirstTextFault text e }
 {}
 
 /// Writes an object as text and reads the text: the object is the same, and only want of memory keeps it from being

@@ -2,7 +2,9 @@
 //!
 //! [`assemble`] reads the object that a text spells, or names the text's first fault, and [`disassemble`] writes an
 //! object's canonical text, which reads as the same object ([`written_again`]). What a text spells is a relation: each
-//! line's words spell an item, and the items the object. [`text_laws`] names the laws of the format.
+//! line's words spell an item, and the items the object. So is its first fault: `specs/Forms.antt` says which forms a
+//! line may have, `specs/LineRules.antt` what its fault is, and `specs/FirstFaults.antt` which fault comes first.
+//! [`text_laws`] names the laws of the format.
 #![tactic(auto)]
 
 mod assembly;

@@ -14,8 +14,5 @@ returns-clause-one_object c = one_object
 pub returns-clause-read_again : goal.returns-clause-read_again
 returns-clause-read_again c = canonical-spells
 
-pub returns-clause-has_fault : goal.returns-clause-has_fault
-returns-clause-has_fault c = first_fault
-
-pub returns-clause-one_fault : goal.returns-clause-one_fault
-returns-clause-one_fault c = one_fault
+pub returns-clause-first_fault : goal.returns-clause-first_fault
+returns-clause-first_fault c = λ text e. (first_fault text e, one_fault text e)
