@@ -72,8 +72,8 @@ impl Accepted {
 
 /// Checks an object: it is accepted exactly where no rule refuses it, unless memory runs out, and else the first
 /// refusal is told: the lowest place of public code that is refused, or the place of the region there that blocks it.
-/// The object is handed on as it was. Room is taken for one number a place of code with notes, and for the values of one
-/// region at a time, and each place is looked at once.
+/// The object is handed on as it was. Room is taken for one number a place of code with notes, and for the values of
+/// one region at a time, and each place is looked at once.
 #[tactic(auto, using(crate::proofs::Soundness::accepted_is_oblivious, crate::proofs::AcceptanceLaws::refused_is_not_accepted))]
 pub fn check(alloc: Global, object: Object) -> Result<Accepted, CheckError>
     ensures object { IfOk result (λ accepted. accepted ≡ object) }
