@@ -77,7 +77,8 @@ pub record IsArrayPlace (label : Label) (size words : ℕ) (before : List Place)
   pub all_words : q.length ≡ words
   pub array : is_array q ≡ true
 
-array_block : (block : ℕ) → nat_le 1 (1 + block) ≡ true
+-- an array of a bank with scalars lies behind their block
+pub array_block : (block : ℕ) → nat_le 1 (1 + block) ≡ true
 array_block block = le-leb 1 (1 + block) (omega arith)
 
 oblivious_array : (turn : ℕ) (b : Bool) → (nat_le 2 (2 + turn) || b) ≡ true

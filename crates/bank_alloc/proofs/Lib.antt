@@ -2,6 +2,7 @@ pub mod KnownNames
 pub mod PlacedBehind
 pub mod Refusals
 pub mod EachPlace
+pub mod Placed
 pub mod Apart
 pub mod BankSizes
 pub mod SymbolOrder

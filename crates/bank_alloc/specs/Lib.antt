@@ -1,6 +1,7 @@
 pub mod Indexes
 pub mod Classes
 pub mod Places
+pub mod PlaceRules
 pub mod Fits
 pub mod Layout
 pub mod Apart

@@ -1,6 +1,6 @@
 -- Where the variables of a program lie (this project's profile). Scalars share the first block of plain memory, bank 0,
 -- or of encrypted memory, bank 1; arrays have whole blocks, in order of declaration; the oblivious ones go to banks 2
--- to 9 in turn.
+-- to 9 in turn. Here they are worked out one behind the other; `PlaceRules` says the same of each by itself.
 use Rattle.std.specs.Prelude.{◌≡◌, ℕ, ◌+◌, ◌-◌, ◌/◌, ◌%◌, ◌^◌, min, nat_le, Bool, ◌==◌, ◌&&◌, ◌||◌, not, if◌then◌else◌, List, [], ◌∷◌, ◌++◌, map, sum_by, count_by}
 use Rattle.std.specs.List.{range_with_len}
 use Rattle.src_tree.specs.declared.trees.Decl.{Decl}

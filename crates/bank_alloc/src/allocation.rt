@@ -5,6 +5,7 @@ ghost use Rattle.src_tree.specs.Trees.{source_of};
 ghost use Rattle.src_tree.specs.Typing.{IsTyped};
 ghost use Rattle.bank_alloc.specs.Fits.{Fits, Refuses};
 ghost use Rattle.bank_alloc.specs.Lacks.{AreFew, first_full, first_lack};
+ghost use Rattle.bank_alloc.specs.PlaceRules.{ArePlaced};
 ghost use Rattle.bank_alloc.specs.Places.{IsPlacesOf};
 
 use crate::indexes::indexed_in;
@@ -81,6 +82,7 @@ pub fn banks(alloc: Global, p: &Program, w: u8) -> Result<Places, PlaceError>
     requires within { IsWithinLimits (source_of p.now) }
     requires block_log { Within 3 9 w }
     ensures places { IfOk result (λ places. IsPlacesOf (source_of p.now) w places) }
+    ensures placed { IfOk result (λ places. ArePlaced (source_of p.now) w places.of_var.items) }
     ensures fits { OnOk result (Fits (source_of p.now) w) }
     ensures refused { IfErr result (λ e. Refuses (source_of p.now) w e) }
 {

@@ -1,4 +1,4 @@
-ghost use Rattle.std.specs.Prelude.{◌≡◌, ℕ, ◌^◌, ◌<◌, ◌≤◌, length, slice_index_or};
+ghost use Rattle.std.specs.Prelude.{◌≡◌, ℕ, ◌^◌, ◌<◌, ◌≤◌, ◌↔◌, List, length, slice_index_or};
 ghost use Rattle.src_tree.specs.declared.trees.Decl.{Decl};
 ghost use Rattle.src_tree.specs.Limits.{IsWithinLimits};
 ghost use Rattle.src_tree.specs.Trees.{Source};
@@ -6,11 +6,12 @@ ghost use Rattle.src_tree.specs.Typing.{IsTyped};
 ghost use Rattle.bank_alloc.specs.declared.places.Place.{Place};
 ghost use Rattle.bank_alloc.specs.Apart.{AreApart, IsBankOf, LiesWithin};
 ghost use Rattle.bank_alloc.specs.Fits.{Fits};
+ghost use Rattle.bank_alloc.specs.PlaceRules.{ArePlaced, BanksNeed};
 ghost use Rattle.bank_alloc.specs.Places.{bank_count, blocks_needed, blocks_of_banks, places_of};
 ghost use Rattle.bank_alloc.specs.Samples.{sample, sample_blocks, sample_places};
 
 /// Does nothing; its clauses are the laws of places. Each variable lies in a bank of its label and within it, no two
-/// share a word, and every bank has a block.
+/// share a word, and every bank has a block. The places are exactly those by the variables that are declared before.
 #[tactic(auto, using(crate::proofs::EachPlace::bank_of_label, crate::proofs::BankSizes::bank_some))]
 pub fn place_laws()
     ensures labels { (p : Source) (w k : ℕ) (d : Decl) (q : Place)
@@ -30,6 +31,8 @@ pub fn place_laws()
         → IsWithinLimits p
         → bank < bank_count (places_of p w)
         → 1 ≤ blocks_needed p w bank }
+    ensures placed { (p : Source) (w : ℕ) (places : List Place) → (places ≡ places_of p w) ↔ ArePlaced p w places }
+    ensures needed { (p : Source) (w : ℕ) → BanksNeed p w }
 {}
 
 /// Does nothing; its clauses say that a program with a variable of each class meets what is asked of programs, and

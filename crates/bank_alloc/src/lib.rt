@@ -3,8 +3,8 @@
 //! [`banks`] gives each variable of a well-typed program its place, exactly by `specs/Places`, or answers what lacks
 //! room first, by `specs/Fits`. Scalars share the first block of plain or encrypted memory, arrays have whole blocks,
 //! and the secret arrays with a secret index (`specs/Indexes`) go to oblivious banks in turn. [`symbols`] gives the
-//! symbols of an object with these places, in order (`specs/Layout`), and they are in range. [`place_laws`]: no two
-//! variables share a word (`specs/Apart`).
+//! symbols of an object with these places, in order (`specs/Layout`), and they are in range. [`place_laws`]: the places
+//! are exactly those of `specs/PlaceRules`, and no two variables share a word (`specs/Apart`).
 #![tactic(auto)]
 
 pub mod allocation;
