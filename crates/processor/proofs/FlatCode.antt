@@ -2,23 +2,26 @@
 use Rattle.std.proofs.Common.{◌≡◌, ℕ, ◌-◌, ◌<◌, ℤ, List, [], ◌∷◌, ◌++◌, length, get_or, None, Some, refl, sym, ap, ◌∙◌, subst, ⊎_elim, arith}
 use Rattle.std.proofs.lemmas.List.{get_or_append_left, get_or-append_right, length-append}
 use Rattle.std.proofs.lemmas.Bool.{cases_lt}
+use Rattle.std.proofs.lemmas.Option.{slice_get-get_or}
+use Rattle.std.specs.Prelude.{IfSome}
 use Rattle.lt_isa.specs.declared.instructions.Instr.{Instr}
-use Rattle.lt_isa.specs.declared.instructions.Instr.TheVariants.{Nop, Halt}
+use Rattle.lt_isa.specs.declared.instructions.Instr.TheVariants.{Nop, Halt, Ldb, Stb}
+use Rattle.lt_isa.specs.Machine.{State}
 use Rattle.lt_isa.specs.Object.{Parts}
 use Rattle.lt_isa.specs.Ranges.{InstrFits}
 use Rattle.lt_isa.specs.Step.{Goes, executed}
 use Rattle.processor.specs.declared.flat.Flat.{Flat}
 use Rattle.processor.specs.declared.flat.Flat.TheVariants.{Access}
 use Rattle.processor.specs.declared.quick.Point.{Point}
-use Rattle.processor.specs.Flat.{IsFlatOf, IsFlatForm, instr_of}
-use Rattle.processor.specs.Quick.{PassesQuickly, state_at}
+use Rattle.processor.specs.Flat.{AreFlatForms, IsFlatForm, IsForStep, instr_of}
+use Rattle.processor.specs.Quick.{IsLeft, PassesQuickly, StandsForStep, state_at}
 use Rattle.processor.specs.Stores.{Pad}
 
 -- flat code has an entry for each instruction
 pub flat-fits : (banks : ℕ) (f : Flat) (i : Instr) → IsFlatForm f i → InstrFits banks i → InstrFits banks (instr_of f)
 flat-fits banks f i stands fits =
     ⊎_elim
-    (λ access. subst (λ g. InstrFits banks (instr_of g)) (sym access) tt)
+    (λ access. subst (λ g. InstrFits banks (instr_of g)) (sym access.0) tt)
     (λ is. subst (InstrFits banks) (sym is) fits)
     stands
 
@@ -33,29 +36,45 @@ flat-passes o f i registers pad at next after left stands passes =
     let halts : executed o (state_at registers pad.slots [] at) Halt ≡ Goes None (state_at after left.slots [] next) =
     subst
     (λ g. executed o (state_at registers pad.slots [] at) (instr_of g) ≡ Goes None (state_at after left.slots [] next))
-    access (passes.3 []) in
+    access.0 (passes.3 []) in
     absurd cc)
     (λ is. subst (λ j. PassesQuickly o j registers pad at (Some next) after left) is passes)
     stands
 
-pub flat-none : (code : List Instr) → IsFlatOf [] code
-flat-none code = record { within = omega arith; each = λ p exists. absurd (omega arith) }
+-- what a halt, a load or a store stands for is left for a step
+is_left : (o : Parts) (s : State) (i : Instr) → IsForStep i → IsLeft o s i
+is_left o s Halt kind = tt
+is_left o s (Ldb k b r) kind = tt
+is_left o s (Stb k) kind = tt
+is_left o s _ kind = absurd kind
+
+-- what wasn't passed at its flat form is left
+pub flat-left : (o : Parts) (s : State) (f : Flat) (i : Instr)
+    → IsFlatForm f i → IsLeft o s (instr_of f) → IsLeft o s i
+flat-left o s f i stands left =
+    ⊎_elim
+    (λ access. is_left o s i access.1)
+    (λ is. subst (λ j. IsLeft o s j) is left)
+    stands
+
+-- where it is the next instruction
+pub left-here : (o : Parts) (s : State) (d : Instr)
+    → s.place < length o.code → IsLeft o s (get_or o.code s.place d) → StandsForStep o s
+left-here o s d there left =
+    subst (λ found. IfSome found (IsLeft o s)) (sym (slice_get-get_or o.code s.place d there)) left
 
 -- one instruction more
-pub flat-more : (flats : List Flat) (code : List Instr) (f : Flat) → IsFlatOf flats code → length flats < length code
-    → IsFlatForm f (get_or code (length flats) Nop) → IsFlatOf (flats ++ f ∷ []) code
-flat-more flats code f so_far room stands = record {
-  within = omega (arith, length-append flats (f ∷ []));
-  each = λ p exists.
-      ⊎_elim
-      (λ before. subst (λ g. IsFlatForm g (get_or code p Nop)) (sym (get_or_append_left flats (f ∷ []) Access p before))
-      (so_far.each p before))
-      (λ rest.
-      let first : length flats - length flats ≡ 0 = omega arith in
-      let here : p ≡ length flats = omega (arith, exists, rest, length-append flats (f ∷ [])) in
-      subst (λ k. IsFlatForm (get_or (flats ++ f ∷ []) k Access) (get_or code k Nop)) (sym here)
-      (subst (λ g. IsFlatForm g (get_or code (length flats) Nop))
-      (sym (get_or-append_right flats (f ∷ []) (length flats) (length flats) Access refl (omega arith)
-      ∙ ap (λ k. get_or (f ∷ []) k Access) first)) stands))
-      (cases_lt p (length flats));
-}
+pub flats-more : (flats : List Flat) (code : List Instr) (f : Flat) → AreFlatForms flats code
+    → IsFlatForm f (get_or code (length flats) Nop) → AreFlatForms (flats ++ f ∷ []) code
+flats-more flats code f so_far stands = λ p exists.
+    ⊎_elim
+    (λ before. subst (λ g. IsFlatForm g (get_or code p Nop)) (sym (get_or_append_left flats (f ∷ []) Access p before))
+    (so_far p before))
+    (λ rest.
+    let first : length flats - length flats ≡ 0 = omega arith in
+    let here : p ≡ length flats = omega (arith, exists, rest, length-append flats (f ∷ [])) in
+    subst (λ k. IsFlatForm (get_or (flats ++ f ∷ []) k Access) (get_or code k Nop)) (sym here)
+    (subst (λ g. IsFlatForm g (get_or code (length flats) Nop))
+    (sym (get_or-append_right flats (f ∷ []) (length flats) (length flats) Access refl (omega arith)
+    ∙ ap (λ k. get_or (f ∷ []) k Access) first)) stands))
+    (cases_lt p (length flats))

@@ -87,7 +87,6 @@ starts shows comes hears each none o s orams n watch nothing = record {
 -- how a step went, by what it left to be told
 pub came_to : (left : Untold) (outcome : Outcome) (t : State)
     → outcome ≡ outcome_of left t → CameTo (went_of left) outcome t
-came_to done.Silent outcome t is = (None, is)
 came_to (done.Read k leaves) outcome t is = (on_slot (slot t k) read_event, is)
 came_to (done.Wrote k leaves) outcome t is = (on_slot (slot t k) write_event, is)
 came_to done.Stopped outcome t is = is
@@ -96,7 +95,6 @@ came_to done.Fault outcome t is = is
 -- what stays at a fault
 pub stays_if_faulted : {B : Type 0} (left : Untold) (before now : Running B)
     → StaysOnFault left before now → StaysIfFaulted (went_of left) before.state now.state
-stays_if_faulted done.Silent before now stays = tt
 stays_if_faulted (done.Read k leaves) before now stays = tt
 stays_if_faulted (done.Wrote k leaves) before now stays = tt
 stays_if_faulted done.Stopped before now stays = tt

@@ -1,5 +1,5 @@
 -- How a machine starts, and where an object's symbols lie.
-use Rattle.std.proofs.Common.{◌≡◌, ℕ, suc, ◌<◌, true, ℤ, pos, List, [], ◌∷◌, length, map, replicate, get_or, set, All, Some, refl, sym, ap, ◌∙◌, subst, ⊎_elim, arith}
+use Rattle.std.proofs.Common.{◌≡◌, ℕ, suc, ◌<◌, true, ℤ, pos, List, [], ◌∷◌, length, map, replicate, get_or, All, Some, refl, sym, ap, ◌∙◌, subst, ⊎_elim, arith}
 use Rattle.std.specs.Prelude.{IfSome, IsSomeAnd, slice_get}
 use Rattle.std.proofs.lemmas.Bool.{cases_lt}
 use Rattle.std.proofs.lemmas.List.{length-replicate, length-map, get_or-map}
@@ -10,10 +10,7 @@ use Rattle.gr_word.specs.Words.{IsWord}
 use Rattle.lt_isa.specs.declared.symbols.Symbol.{Symbol}
 use Rattle.lt_isa.specs.Object.{Parts, block_words}
 use Rattle.lt_isa.specs.Ranges.{IsInRange, SymbolFits}
-use Rattle.lt_isa.specs.Machine.{Slot, State, Bound, Unbound}
-use Rattle.lt_isa.proofs.Shapes.{IsBlock-set, IsShaped-set_slot}
-use Rattle.lt_isa.proofs.Steps.{slot-fits}
-use Rattle.processor.specs.Scratchpads.{slot_with_word}
+use Rattle.lt_isa.specs.Machine.{Slot, Unbound}
 use Rattle.lt_isa.specs.Shape.{IsShaped, SlotFits}
 use Rattle.lt_isa.specs.Start.{start_banks, start_state}
 use Rattle.gr_base.proofs.EachAfter.{EachAfter-at}
@@ -106,32 +103,3 @@ fresh-view {B} o p banks orams pad n same new =
       live = true;
     } in
     ap (λ q. seen q pad.slots) same ∙ ap (λ (l : Pad). seen p l.slots) new
-
--- it stays so where a word of a slot is replaced
-with_word-fits : (o : Parts) (i : ℕ) (word : ℤ)
-    → IsWord word → (found : Slot) → SlotFits o found → SlotFits o (slot_with_word i word found)
-with_word-fits o i word is Unbound fits = tt
-with_word-fits o i word is (Bound b a words) fits = record {
-  bank_exists = fits.bank_exists;
-  block_exists = fits.block_exists;
-  holds_block = IsBlock-set o words i word fits.holds_block is;
-}
-
--- a word that is written into a slot
-pub sound-set_word : (o : Parts) (registers : List ℤ) (banks : List (List (List ℤ))) (place cycle n : ℕ) (pad new : Pad)
-    (k i : ℕ) (word : ℤ) → IsWord word
-    → new ≡ record pad { slots = set pad.slots k (slot_with_word i word (get_or pad.slots k Unbound)) } → IsSound o
-    (record { registers = registers; slots = pad.slots; banks = banks; place = place; cycle = cycle }) pad.words n
-    → IsSound o
-    (record { registers = registers; slots = new.slots; banks = banks; place = place; cycle = cycle }) new.words n
-sound-set_word o registers banks place cycle n pad new k i word fits is sound =
-    let s : State = record { registers = registers; slots = pad.slots; banks = banks; place = place; cycle = cycle } in
-    subst (λ (p : Pad). IsSound o
-    (record { registers = registers; slots = p.slots; banks = banks; place = place; cycle = cycle }) p.words n) (sym is)
-    (record {
-      shaped = IsShaped-set_slot o s k (slot_with_word i word (get_or pad.slots k Unbound)) sound.shaped
-          (with_word-fits o i word fits (get_or pad.slots k Unbound) (slot-fits o s sound.shaped k));
-      pad_words = sound.pad_words;
-      bank_words = sound.bank_words;
-      far = sound.far;
-    })

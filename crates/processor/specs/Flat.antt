@@ -1,10 +1,10 @@
 -- Instructions in their flat form, and the code that they stand for. For proofs and for the contracts of private
 -- functions alone.
-use Rattle.std.specs.Prelude.{◌≡◌, ℕ, ◌<◌, ◌≤◌, ◌⊎◌, List, length, slice_index_or}
+use Rattle.std.specs.Prelude.{◌≡◌, ℕ, ◌<◌, ◌⊎◌, List, length, slice_index_or}
 use Rattle.gr_word.specs.declared.operations.Op.TheVariants as op
 use Rattle.gr_word.specs.declared.operations.Cmp.TheVariants as cmp
 use Rattle.lt_isa.specs.declared.instructions.Instr.{Instr}
-use Rattle.lt_isa.specs.declared.instructions.Instr.TheVariants.{Nop, Halt, Li, Alu, Idb, Ldw, Stw, Jmp, Br}
+use Rattle.lt_isa.specs.declared.instructions.Instr.TheVariants.{Nop, Halt, Li, Alu, Ldb, Stb, Idb, Ldw, Stw, Jmp, Br}
 use Rattle.processor.specs.declared.flat.Flat.{Flat}
 use Rattle.processor.specs.declared.flat.Flat.TheVariants as flat
 
@@ -35,11 +35,30 @@ instr_of (flat.Le ra rb offset) = Br cmp.Le ra rb offset
 instr_of (flat.Gt ra rb offset) = Br cmp.Gt ra rb offset
 instr_of (flat.Ge ra rb offset) = Br cmp.Ge ra rb offset
 
--- a flat form says nothing of an instruction, or is made of it
-abbrev pub IsFlatForm : Flat → Instr → Type 0
-IsFlatForm f i = (f ≡ flat.Access) ⊎ (instr_of f ≡ i)
+-- a halt, or a load or a store of a block
+abbrev pub IsForStep : Instr → Type 0
+IsForStep Nop = ⊥
+IsForStep Halt = Unit {0}
+IsForStep (Li rd value) = ⊥
+IsForStep (Alu op rd ra rb) = ⊥
+IsForStep (Ldb k b r) = Unit {0}
+IsForStep (Stb k) = Unit {0}
+IsForStep (Idb rd k) = ⊥
+IsForStep (Ldw rd k ro) = ⊥
+IsForStep (Stw rs k ro) = ⊥
+IsForStep (Jmp offset) = ⊥
+IsForStep (Br cmp ra rb offset) = ⊥
 
--- some flat forms stand for the first instructions of some code
+-- a flat form is made of an instruction; one of them is that of every halt, load and store of a block
+abbrev pub IsFlatForm : Flat → Instr → Type 0
+IsFlatForm f i = ((f ≡ flat.Access) × IsForStep i) ⊎ (instr_of f ≡ i)
+
+-- each of some flat forms is made of the instruction at its place
+abbrev pub AreFlatForms : List Flat → List Instr → Type 0
+AreFlatForms flats code =
+    (p : ℕ) → p < length flats → IsFlatForm (slice_index_or flats p flat.Access) (slice_index_or code p Nop)
+
+-- some flat forms stand for some code
 pub record IsFlatOf (flats : List Flat) (code : List Instr) : Type 0 where
-  pub within : length flats ≤ length code
-  pub each : (p : ℕ) → p < length flats → IsFlatForm (slice_index_or flats p flat.Access) (slice_index_or code p Nop)
+  pub count : length flats ≡ length code
+  pub each : AreFlatForms flats code

@@ -1,11 +1,12 @@
 -- How a machine goes on between its accesses, over its registers and slots alone. For proofs and for the contracts of
 -- private functions alone.
-use Rattle.std.specs.Prelude.{◌≡◌, ℕ, ◌<◌, ◌^◌, ℤ, List, Option, Some, None}
+use Rattle.std.specs.Prelude.{◌≡◌, ℕ, ◌<◌, ◌^◌, ℤ, List, Option, Some, None, IfSome, slice_get}
 use Rattle.lt_isa.specs.declared.instructions.Instr.{Instr}
+use Rattle.lt_isa.specs.declared.instructions.Instr.TheVariants.{Nop, Halt, Li, Alu, Ldb, Stb, Idb, Ldw, Stw, Jmp, Br}
 use Rattle.lt_isa.specs.Object.{Parts}
 use Rattle.lt_isa.specs.Machine.{Slot, State}
 use Rattle.lt_isa.specs.Shape.{IsShaped}
-use Rattle.lt_isa.specs.Step.{Goes, executed}
+use Rattle.lt_isa.specs.Step.{Goes, Faults, executed}
 use Rattle.lt_isa.specs.Trace.{trace_from, final_from}
 use Rattle.banks.specs.Accesses.{accesses_from}
 use Rattle.processor.specs.declared.quick.Point.{Point}
@@ -16,9 +17,29 @@ abbrev pub state_at : List ℤ → List Slot → List (List (List ℤ)) → Poin
 state_at registers slots banks at =
     record { registers = registers; slots = slots; banks = banks; place = at.place; cycle = at.cycle }
 
--- an instruction went on to another point without an access, over whatever banks; or nothing was changed
+-- An instruction is left for a step: a halt, or a load or a store of a block. Any other is a fault.
+abbrev pub IsLeft : Parts → State → Instr → Type 0
+IsLeft o s Nop = executed o s Nop ≡ Faults
+IsLeft o s Halt = Unit {0}
+IsLeft o s (Li rd value) = executed o s (Li rd value) ≡ Faults
+IsLeft o s (Alu op rd ra rb) = executed o s (Alu op rd ra rb) ≡ Faults
+IsLeft o s (Ldb k b r) = Unit {0}
+IsLeft o s (Stb k) = Unit {0}
+IsLeft o s (Idb rd k) = executed o s (Idb rd k) ≡ Faults
+IsLeft o s (Ldw rd k ro) = executed o s (Ldw rd k ro) ≡ Faults
+IsLeft o s (Stw rs k ro) = executed o s (Stw rs k ro) ≡ Faults
+IsLeft o s (Jmp offset) = executed o s (Jmp offset) ≡ Faults
+IsLeft o s (Br cmp ra rb offset) = executed o s (Br cmp ra rb offset) ≡ Faults
+
+-- the next instruction is left for a step, or there is none
+abbrev pub StandsForStep : Parts → State → Type 0
+StandsForStep o s = IfSome (slice_get o.code s.place) (IsLeft o s)
+
+-- an instruction went on to another point without an access, over whatever banks; or it is left, and nothing changed
 abbrev pub PassesQuickly : Parts → Instr → List ℤ → Pad → Point → Option Point → List ℤ → Pad → Type 0
-PassesQuickly o i registers pad at None registers' pad' = (registers' ≡ registers) × (pad' ≡ pad)
+PassesQuickly o i registers pad at None registers' pad' =
+    (registers' ≡ registers) × (pad' ≡ pad)
+    × ((banks : List (List (List ℤ))) → IsLeft o (state_at registers pad.slots banks at) i)
 PassesQuickly o i registers pad at (Some next) registers' pad' =
     (pad'.words ≡ pad.words) × (at.cycle < next.cycle) × (next.cycle < 2 ^ 34)
     × ((banks : List (List (List ℤ)))

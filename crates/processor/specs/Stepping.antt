@@ -42,7 +42,6 @@ on_slot (Bound b a words) event = Some (event b a words)
 
 -- what an instruction came to that left this to be told and led to this state
 abbrev pub outcome_of : Untold → State → Outcome
-outcome_of done.Silent t = Goes None t
 outcome_of (done.Read k leaves) t = Goes (on_slot (slot t k) read_event) t
 outcome_of (done.Wrote k leaves) t = Goes (on_slot (slot t k) write_event) t
 outcome_of done.Stopped t = Stops t
@@ -50,7 +49,6 @@ outcome_of done.Fault t = Faults
 
 -- how a step went that left this
 abbrev pub went_of : Untold → Went
-went_of done.Silent = went.On
 went_of (done.Read k leaves) = went.On
 went_of (done.Wrote k leaves) = went.On
 went_of done.Stopped = went.Halted
@@ -69,7 +67,6 @@ StaysIfFaulted went.Faulted before now = now ≡ before
 
 -- only a fault changes nothing at all
 abbrev pub StaysOnFault : {B : Type 0} → Untold → Running B → Running B → Type 0
-StaysOnFault done.Silent before now = Unit {0}
 StaysOnFault (done.Read k leaves) before now = Unit {0}
 StaysOnFault (done.Wrote k leaves) before now = Unit {0}
 StaysOnFault done.Stopped before now = Unit {0}
@@ -77,7 +74,6 @@ StaysOnFault done.Fault before now = now ≡ before
 
 -- the slot whose access is to be told is a slot, and bound
 abbrev pub NamesSlot : Untold → State → Type 0
-NamesSlot done.Silent t = Unit {0}
 NamesSlot (done.Read k leaves) t = k < 8
 NamesSlot (done.Wrote k leaves) t = k < 8
 NamesSlot done.Stopped t = Unit {0}
@@ -85,14 +81,12 @@ NamesSlot done.Fault t = Unit {0}
 
 -- the access that was made, and the paths that it showed
 abbrev pub accessed_of : Untold → State → Option Access
-accessed_of done.Silent t = None
 accessed_of (done.Read k leaves) t = access_on (slot t k)
 accessed_of (done.Wrote k leaves) t = access_on (slot t k)
 accessed_of done.Stopped t = None
 accessed_of done.Fault t = None
 
 abbrev pub leaves_of : Untold → Leaves
-leaves_of done.Silent = no_leaves
 leaves_of (done.Read k leaves) = leaves
 leaves_of (done.Wrote k leaves) = leaves
 leaves_of done.Stopped = no_leaves

@@ -6,8 +6,6 @@ use banks::Leaves;
 /// What an instruction left to be told.
 #[derive(Clone, Copy, Debug)]
 pub(crate) enum Untold {
-    /// Nothing: no access was made.
-    Silent,
     /// The block that this slot is bound to was read into it, which showed these paths.
     Read { slot: u8, leaves: Leaves },
     /// The block that this slot is bound to was written, which showed these paths.
@@ -35,7 +33,7 @@ impl Untold {
         ensures { result ≡ went_of self.now }
     {
         match self {
-            Untold::Silent | Untold::Read { .. } | Untold::Wrote { .. } => Went::On,
+            Untold::Read { .. } | Untold::Wrote { .. } => Went::On,
             Untold::Stopped => Went::Halted,
             Untold::Fault => Went::Faulted,
         }

@@ -37,34 +37,16 @@ pub(crate) enum Flat {
     Ge { ra: u8, rb: u8, offset: i32 },
 }
 
-/// The code of an object in its flat form, where it has a jump or a branch back; else none of it, since it runs once.
+/// The code of an object in its flat form.
 pub(crate) fn flat_code(alloc: Global, object: &Object) -> Result<Vec<Flat>, Memory>
     ensures { IfOk result (λ flats. IsFlatOf flats.items object.now.code) }
 {
     let code = object.code();
-    if !goes_back(code) {
-        return Ok(Vec::new(alloc));
-    }
     let mut flats = Vec::with_capacity(alloc, code.len())?;
     for instruction in code {
         flats.push(flat_of(*instruction))?;
     }
     Ok(flats)
-}
-
-// Whether some jump or branch leads back.
-fn goes_back(code: &[Instr]) -> bool {
-    for instruction in code {
-        match instruction {
-            Instr::Jmp { offset } | Instr::Br { offset, .. } => {
-                if *offset <= 0 {
-                    return true;
-                }
-            }
-            _ => {}
-        }
-    }
-    false
 }
 
 // The flat form of an instruction.

@@ -6,7 +6,7 @@ ghost use Rattle.lt_isa.specs.Object.{Parts, block_words};
 ghost use Rattle.lt_isa.specs.Ranges.{IsInRange, InstrFits};
 ghost use Rattle.lt_isa.specs.Step.{target_of, word_named};
 ghost use Rattle.processor.specs.Flat.{IsFlatOf, instr_of};
-ghost use Rattle.processor.specs.Quick.{CameAlike, PassesQuickly};
+ghost use Rattle.processor.specs.Quick.{CameAlike, PassesQuickly, StandsForStep, state_at};
 ghost use Rattle.processor.specs.Stores.{Pad};
 
 use crate::flat::Flat;
@@ -35,6 +35,9 @@ pub(crate) fn run_quickly(
     requires words { pad.old.words ≡ block_words object.now }
     requires far { from.cycle < 2 ^ 34 }
     ensures alike { CameAlike object.now cycles registers.old pad.old.slots from registers.new pad.new.slots result }
+    ensures left { result.cycle < cycles
+        → (banks : List (List (List ℤ)))
+        → StandsForStep object.now (state_at registers.new pad.new.slots banks result) }
     ensures words { pad.new.words ≡ pad.old.words }
     ensures later { from.cycle ≤ result.cycle }
     ensures far { result.cycle < 2 ^ 34 }

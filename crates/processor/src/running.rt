@@ -9,7 +9,7 @@ ghost use Rattle.lt_isa.specs.Trace.{final_from, seen_at, trace_from};
 ghost use Rattle.banks.specs.Accesses.{accesses_from};
 ghost use Rattle.processor.specs.Ends.{Broke, BrokeOff, EndsAs, is_spent};
 ghost use Rattle.processor.specs.ObliviousBanks.{ComeBy, ShowsOn};
-ghost use Rattle.processor.specs.Quick.{RunsAlike};
+ghost use Rattle.processor.specs.Quick.{RunsAlike, StandsForStep};
 ghost use Rattle.processor.specs.Stepping.{
   CameTo,
   NamesSlot,
@@ -88,7 +88,7 @@ impl<'a, B: Bank + Drop> Machine<'a, B> {
     {
         'running: while self.next_access(cycles) < u64::from(cycles) {
             let start = self.start() as u32;
-            match self.step(watch) {
+            match self.step(start, watch) {
                 Ok(Went::On) => {}
                 Ok(Went::Halted) => {
                     self.die();
@@ -112,6 +112,7 @@ impl<'a, B: Bank + Drop> Machine<'a, B> {
         ensures orams { self.new.orams ≡ self.old.orams }
         ensures alike { RunsAlike self.old.object self.old.state self.new.state cycles }
         ensures later { self.old.state.cycle ≤ self.new.state.cycle }
+        ensures left { self.new.state.cycle < cycles → StandsForStep self.new.object self.new.state }
         ensures start { result ≡ step_start self.new.object self.new.state }
         ensures in_range { IsInRange self.new.object }
         ensures shaped { IsShaped self.new.object self.new.state }
@@ -127,6 +128,7 @@ impl<'a, B: Bank + Drop> Machine<'a, B> {
         ensures orams { self.new.orams ≡ self.old.orams }
         ensures alike { RunsAlike self.old.object self.old.state self.new.state cycles }
         ensures later { self.old.state.cycle ≤ self.new.state.cycle }
+        ensures left { self.new.state.cycle < cycles → StandsForStep self.new.object self.new.state }
     {
         let from = Point {
             place: self.place,
@@ -144,10 +146,12 @@ impl<'a, B: Bank + Drop> Machine<'a, B> {
         self.cycle = to.cycle;
     }
 
-    // One step, of which the watcher is told.
+    // One step that the loop between accesses leaves. The watcher is told of it, with its start for a stamp.
     #[inline(always)]
-    fn step<W: Watch>(&mut self, watch: &mut W) -> Result<Went, WatchFailed>
+    fn step<W: Watch>(&mut self, stamp: u32, watch: &mut W) -> Result<Went, WatchFailed>
         requires early { step_start self.old.object self.old.state < 2 ^ 32 }
+        requires start { stamp ≡ step_start self.old.object self.old.state }
+        requires left { StandsForStep self.old.object self.old.state }
         requires whole { IsTrue (W.whole watch.old) }
         ensures object { self.new.object ≡ self.old.object }
         ensures live { self.new.live ≡ self.old.live }
@@ -183,7 +187,6 @@ impl<'a, B: Bank + Drop> Machine<'a, B> {
         ensures count_stays { W.faults watch.old ≡ 2 ^ 64 - 1 → W.faults watch.new ≡ 2 ^ 64 - 1 }
         ensures same { W.same watch.old watch.new }
     {
-        let stamp = self.start() as u32;
         let Some(instruction) = self.fetch() else {
             return Ok(Went::Faulted);
         };
@@ -218,7 +221,7 @@ impl<'a, B: Bank + Drop> Machine<'a, B> {
         ensures same { W.same watch.old watch.new }
     {
         match done {
-            Untold::Silent | Untold::Fault => Ok(()),
+            Untold::Fault => Ok(()),
             Untold::Stopped => tell_access(stamp, &Event::Halt, &Leaves::none(), watch),
             Untold::Read { slot, leaves } => match self.pad.held(*slot) {
                 Some(held) => tell_access(stamp, &read_of(&held), leaves, watch),

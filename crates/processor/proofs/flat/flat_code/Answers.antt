@@ -1,15 +1,13 @@
-use Rattle.std.proofs.Common.{◌<◌, [], ◌∷◌, length, get_or, ap, subst, sym, arith, length-append}
+use Rattle.std.proofs.Common.{[], ◌∷◌, length, get_or, ap, subst, sym, arith, length-append}
 use Rattle.lt_isa.specs.declared.instructions.Instr.TheVariants.{Nop}
-use Rattle.processor.specs.Flat.{IsFlatOf, IsFlatForm}
-use Rattle.processor.proofs.FlatCode.{flat-more}
+use Rattle.processor.specs.Flat.{AreFlatForms, IsFlatForm}
+use Rattle.processor.proofs.FlatCode.{flats-more}
 use Rattle.processor.proofs.flat.flat_code.Goals as goal
 
 pub loop-instruction-preserved : goal.loop-instruction-preserved
 loop-instruction-preserved c =
     let code = c.args.object.now.code in
     let before = c.loop-instruction.flats.items in
-    let there : c.loop-instruction.instruction-index < length code =
-    omega (arith, c.loop-instruction-test.true, ap length c.code-code.ensures.value) in
     let stands : IsFlatForm c.flat_of.result (get_or code (length before) Nop) =
     subst (λ k. IsFlatForm c.flat_of.result (get_or code k Nop)) (sym c.loop-instruction.invariant.count)
     (subst (λ list. IsFlatForm c.flat_of.result (get_or list c.loop-instruction.instruction-index Nop))
@@ -21,6 +19,6 @@ loop-instruction-preserved c =
         length-append before (c.flat_of.result ∷ []),
         c.loop-instruction.invariant.count,
       );
-      flat = subst (λ list. IsFlatOf list code) (sym c.in_ok-push.ensures.items) (flat-more before code c.flat_of.result
-          c.loop-instruction.invariant.flat (omega (arith, there, c.loop-instruction.invariant.count)) stands);
+      each = subst (λ list. AreFlatForms list code) (sym c.in_ok-push.ensures.items)
+          (flats-more before code c.flat_of.result c.loop-instruction.invariant.each stands);
     }

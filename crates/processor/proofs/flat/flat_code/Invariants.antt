@@ -1,9 +1,9 @@
 use Rattle.std.proofs.Common.{◌≡◌, length}
-use Rattle.processor.specs.Flat.{IsFlatOf}
+use Rattle.processor.specs.Flat.{AreFlatForms}
 use Rattle.processor.proofs.flat.flat_code.Given as goal
 
 abbrev pub invariant-loop-instruction : goal.invariant-loop-instruction
 invariant-loop-instruction l = record {
   count : length l.flats.items ≡ l.instruction-index;
-  flat : IsFlatOf l.flats.items l.object.code;
+  each : AreFlatForms l.flats.items l.object.code;
 }

@@ -1,11 +1,13 @@
-use Rattle.std.proofs.Common.{◌<◌, Some, get_or, length, refl, ◌∙◌, subst, arith}
+use Rattle.std.proofs.Common.{◌<◌, None, Some, get_or, length, refl, sym, ◌∙◌, subst, arith}
 use Rattle.std.proofs.lemmas.Option.{slice_get-get_or}
 use Rattle.lt_isa.specs.declared.instructions.Instr.TheVariants.{Nop}
+use Rattle.lt_isa.specs.Machine.{State}
 use Rattle.lt_isa.proofs.Steps.{instruction-fits}
 use Rattle.processor.specs.declared.flat.Flat.TheVariants.{Access}
 use Rattle.processor.specs.Flat.{IsFlatForm, instr_of}
-use Rattle.processor.specs.Quick.{PassesQuickly}
-use Rattle.processor.proofs.FlatCode.{flat-fits, flat-passes}
+use Rattle.processor.specs.Quick.{PassesQuickly, StandsForStep, state_at}
+use Rattle.processor.specs.Stores.{Pad}
+use Rattle.processor.proofs.FlatCode.{flat-fits, flat-left, flat-passes, left-here}
 use Rattle.processor.proofs.QuickRuns.{came-none, came-on}
 use Rattle.processor.proofs.quick.run_quickly.Goals as goal
 
@@ -20,7 +22,7 @@ quick-init c = record {
 pub pass_quickly-requires-clause-fits : goal.pass_quickly-requires-clause-fits
 pass_quickly-requires-clause-fits c =
     let o = c.args.object.now in
-    let there : c.quick.now.place < length o.code = omega (arith, c.if-now-flats.false, c.requires.flat.within) in
+    let there : c.quick.now.place < length o.code = omega (arith, c.if-now-flats.false, c.requires.flat.count) in
     flat-fits (length o.banks) (get_or c.args.flats.now c.quick.now.place Access) (get_or o.code c.quick.now.place Nop)
     (c.requires.flat.each c.quick.now.place c.if-now-flats.false)
     (instruction-fits o c.code.ensures.in_range c.quick.now.place (get_or o.code c.quick.now.place Nop)
@@ -30,7 +32,7 @@ pub quick-preserved : goal.quick-preserved
 quick-preserved c =
     let o = c.args.object.now in
     let f = get_or c.args.flats.now c.quick.now.place Access in
-    let there : c.quick.now.place < length o.code = omega (arith, c.if-now-flats.false, c.requires.flat.within) in
+    let there : c.quick.now.place < length o.code = omega (arith, c.if-now-flats.false, c.requires.flat.count) in
     let stands : IsFlatForm f (get_or o.code c.quick.now.place Nop) =
     c.requires.flat.each c.quick.now.place c.if-now-flats.false in
     let flat_passes : PassesQuickly o (instr_of f) c.quick.registers c.quick.pad c.quick.now
@@ -52,3 +54,22 @@ quick-preserved c =
       later = omega arith;
       far = passes.2;
     }
+
+pub returns-in-None-clause-left : goal.returns-in-None-clause-left
+returns-in-None-clause-left c = λ early banks.
+    let o = c.args.object.now in
+    let f = get_or c.args.flats.now c.quick.now.place Access in
+    let there : c.quick.now.place < length o.code = omega (arith, c.if-now-flats.false, c.requires.flat.count) in
+    let stands : IsFlatForm f (get_or o.code c.quick.now.place Nop) =
+    c.requires.flat.each c.quick.now.place c.if-now-flats.false in
+    let kept : PassesQuickly o (instr_of f) c.quick.registers c.quick.pad c.quick.now None
+    c.pass_quickly.new.registers c.pass_quickly.new.pad =
+    subst (λ next. PassesQuickly o (instr_of f) c.quick.registers c.quick.pad c.quick.now next
+    c.pass_quickly.new.registers
+    c.pass_quickly.new.pad) c.in-None.is c.pass_quickly.ensures in
+    let s : State = state_at c.quick.registers c.quick.pad.slots banks c.quick.now in
+    let left : StandsForStep o s =
+    left-here o s Nop there (flat-left o s f (get_or o.code c.quick.now.place Nop) stands (kept.2 banks)) in
+    subst (λ registers. StandsForStep o (state_at registers c.pass_quickly.new.pad.slots banks c.quick.now))
+    (sym kept.0)
+    (subst (λ (pad : Pad). StandsForStep o (state_at c.quick.registers pad.slots banks c.quick.now)) (sym kept.1) left)

@@ -1,5 +1,6 @@
 use Rattle.std.proofs.Common.{refl, sym, ap, ◌∙◌, subst, arith}
 use Rattle.gr_base.proofs.Counts.{rose_behind}
+use Rattle.lt_isa.proofs.Steps.{step_start-least}
 use Rattle.banks.specs.Accesses.{accesses_from}
 use Rattle.processor.specs.declared.ends.End.TheVariants.{Halted, Spent}
 use Rattle.processor.specs.Ends.{BrokeOff}
@@ -23,6 +24,15 @@ running-init g c = record {
   count_stays = λ full. full;
   same = g.met.W.Watch.same_itself c.args.watch.now;
 }
+
+pub step-requires-clause-left : goal.step-requires-clause-left
+step-requires-clause-left g c =
+    c.next_access.ensures.left (omega (
+      arith,
+      step_start-least c.next_access.new.self.object c.next_access.new.self.state,
+      c.next_access.ensures.start,
+      c.from.ensures,
+    ))
 
 pub running-smaller : goal.running-smaller
 running-smaller g c =
