@@ -11,7 +11,7 @@ use Rattle.trace_patterns.specs.Known.{Known, is_secret, bank_known, set_secret,
 use Rattle.trace_patterns.specs.Rules.{Falls, shows_block, claimed_at}
 use Rattle.stretches.proofs.Passed.{GoesOn, NoMore, One, goes-then, rules-li, rules-alu, rules-idb, rules-ldb, branch-falls, secret-same, secret-other}
 use Rattle.block_cache_gen.specs.Homes.{Home}
-use Rattle.block_cache_gen.specs.Codes.{is_masked, reduced_code, block_code, fixed_code, load_code}
+use Rattle.block_cache_gen.specs.Codes.{is_masked, reduced_code, shift_code, fixed_code, load_code}
 use Rattle.block_cache_gen.proofs.KeptRegisters.{SameBelow, same-itself, same-set, same-then, or_false}
 
 -- Behind straight code a register and the next have a label, and what stands below is as before.
@@ -109,7 +109,7 @@ module _ (o : Parts) (to : ℕ) (low : to + 2 < 32) where
         ∙ ap (λ (b : Bool). is_secret k to || b) (secret-same k (to + 1) false (omega arith))
         ∙ or_false (is_secret k to)
 
-    block_by : (block_log : ℕ) (h : Home) (p : ℕ) → GoesOn o p (block_code block_log h to) k block_known
+    block_by : (block_log : ℕ) (h : Home) (p : ℕ) → GoesOn o p (shift_code block_log h to) k block_known
     unfolding block_known
     block_by block_log h p =
         let one = set_secret k (to + 1) false in
@@ -123,7 +123,7 @@ module _ (o : Parts) (to : ℕ) (low : to + 2 < 32) where
 
   -- both
   pub numbered : (block_log : ℕ) (h : Home) (p : ℕ) (k : Known) → length k.secret ≡ 32
-      → Labelled o p (reduced_code h to ++ block_code block_log h to) to k (is_secret k to) (is_secret k to)
+      → Labelled o p (reduced_code h to ++ shift_code block_log h to) to k (is_secret k to) (is_secret k to)
   numbered block_log h p k sized =
       let mid = reduced_known k sized in
       let first = reduced_same k sized in
@@ -131,7 +131,7 @@ module _ (o : Parts) (to : ℕ) (low : to + 2 < 32) where
       record {
         after = block_known mid size;
         goes
-            = goes-then o p (reduced_code h to) (block_code block_log h to) k mid (block_known mid size)
+            = goes-then o p (reduced_code h to) (shift_code block_log h to) k mid (block_known mid size)
             (reduced_by k sized h p (is_masked h)) (block_by mid size block_log h (p + length (reduced_code h to)));
         same = same-then to k mid (block_known mid size) first (block_same mid size);
         word_is = block_word mid size ∙ reduced_word k sized;

@@ -24,10 +24,10 @@ use Rattle.src_tree.specs.Trees.{Tree, Number, Variable, Element, Operation}
 use Rattle.block_cache_gen.specs.declared.frames.Mode.{Mode}
 use Rattle.block_cache_gen.specs.declared.frames.Mode.TheVariants.{Public, Real, Mirrored}
 use Rattle.block_cache_gen.specs.Homes.{Home, Setting, HasHomes, home_of, words_a_block}
-use Rattle.block_cache_gen.specs.Codes.{skips, is_cached, fixed_index, fixed_word, located_code, fixed_code, reduced_code, block_code, load_code, access_code, expr_code}
+use Rattle.block_cache_gen.specs.Codes.{skips, is_cached, fixed_index, fixed_word, located_code, fixed_code, reduced_code, shift_code, load_code, access_code, expr_code}
 use Rattle.block_cache_gen.specs.StandsFor.{StandsFor, FitsHomes, IsBlockOf}
 use Rattle.block_cache_gen.specs.Accesses.{ArrayAccess, access_of, accesses, word_number, block_in, slots_after, may_skip, is_held, seen_of, seen_of_all}
-use Rattle.block_cache_gen.specs.Leaves.{Leaves}
+use Rattle.block_cache_gen.specs.LeavesWord.{LeavesWord}
 use Rattle.block_cache_gen.proofs.AccessLaws.{slots_after-append, seen_of_all-append, may_skip-is, seen_of-unskipped}
 use Rattle.block_cache_gen.proofs.HomeFacts.{serves-within, serves-cached, block-of, block-exists, block-small, profile-fits}
 use Rattle.block_cache_gen.proofs.Stands.{stands-like, stands-loaded}
@@ -61,7 +61,7 @@ pub record Finds (f : Setting) (store : Store) (before : List ArrayAccess) (to n
 -- the block of the last of some accesses is in its slot, and the number of the word in register `to`
 pub record Accesses (f : Setting) (store : Store) (before : List ArrayAccess) (a : ArrayAccess) (to n : ℕ)
     (s t : State) : Type 0 where
-  pub leaves : Leaves f store (before ++ a ∷ []) to (pos n) s t
+  pub leaves : LeavesWord f store (before ++ a ∷ []) to (pos n) s t
   pub held : slot t a.home.slot ≡ Bound a.home.bank a.block (block_in s.banks a.home.bank a.block)
 
 -- an index that is taken as a number is one
@@ -208,7 +208,7 @@ module _ (o : Parts) (fits : IsInRange o) (f : Setting) (homes : HasHomes o f) (
   RunsIndex mode to i s =
       StandsAt o s.place (expr_code f mode to i)
       → RunsThrough o s (expr_code f mode to i) (seen_of_all mode s.banks s.slots (accesses f store i))
-      (Leaves f store (accesses f store i) to (evaluated f.decls store i) s)
+      (LeavesWord f store (accesses f store i) to (evaluated f.decls store i) s)
 
   -- the word and the block are found
   runs-located : (mode : Mode) (to : ℕ) (i : Tree) (s : State) → IsShaped o s → StandsFor f s store → to + 2 < 32
@@ -255,16 +255,16 @@ module _ (o : Parts) (fits : IsInRange o) (f : Setting) (homes : HasHomes o f) (
       let log_small : log < 64 = omega (arith, (profile-fits fits homes).block_log) in
       let block_small : h.block + n / w < 2 ^ 63 =
       omega (arith, block-small o fits f homes label h home n (word-within index)) in
-      runs-weaker s (expr_code f mode to i ++ (reduced_code h to ++ block_code log h to)) (seen ++ []) seen Found Found
-      (runs-append s (expr_code f mode to i) (reduced_code h to ++ block_code log h to) seen []
-      (Leaves f store before to index s) Found at run
+      runs-weaker s (expr_code f mode to i ++ (reduced_code h to ++ shift_code log h to)) (seen ++ []) seen Found Found
+      (runs-append s (expr_code f mode to i) (reduced_code h to ++ shift_code log h to) seen []
+      (LeavesWord f store before to index s) Found at run
       (λ t shape leaves at'.
-      runs-append t (reduced_code h to) (block_code log h to) [] []
+      runs-append t (reduced_code h to) (shift_code log h to) [] []
       (Reduces to (unsigned_of index % h.length) t) Found at'
       (runs-reduced o fits h to t index shape leaves.value small home.length.0 home.length.1)
       (λ u shape' reduces at''.
       let word : register u to ≡ pos n = reduces.word ∙ ap pos (word_number-is index) in
-      runs-weaker u (block_code log h to) [] [] (Locates to n (h.block + n / w) u) Found
+      runs-weaker u (shift_code log h to) [] [] (Locates to n (h.block + n / w) u) Found
       (runs-block o fits log h to u n shape' word small log_small block_small at'')
       refl
       (λ v shape'' locates.

@@ -26,7 +26,7 @@ use Rattle.block_cache_gen.specs.PublicIndexes.{SetHasPublicIndexes}
 use Rattle.block_cache_gen.specs.PatternsOf.{word_gap, block_tree, number_tree, store_shows, Loads, no_loads, then_loads, element_slot, access_shows, access_loads, tree_of_expr, shows_of_expr, slots_of_expr, shows_of_set, slots_of_set}
 use Rattle.lt_checker.proofs.Singles.{IsKnown, IsHidden}
 use Rattle.block_cache_gen.proofs.ArmInstructions.{loaded-bank, sets-ldw, walked-stw, walked-stb}
-use Rattle.block_cache_gen.proofs.ArmStates.{Leaves, then_loads-held, carries-same}
+use Rattle.block_cache_gen.proofs.ArmStates.{LeavesTree, then_loads-held, carries-same}
 use Rattle.block_cache_gen.proofs.PublicTrees.{block-seen, public-tree}
 use Rattle.block_cache_gen.proofs.ArmExpressions.{access-leaves, number-leaves, expr-leaves}
 
@@ -61,7 +61,7 @@ flows-secret Secret h = refl
 module _ (o : Parts) (f : Setting) (depth : ℕ) where
   -- what leaves a value goes on
   abbrev pub goes-leaves : (s : SymState) (code : List Instr) (shows : List Show) (to : ℕ) (tree : Option Value)
-      (loads : Loads) → Leaves o f depth s code shows to tree loads → Goes o f depth s code shows loads
+      (loads : Loads) → LeavesTree o f depth s code shows to tree loads → Goes o f depth s code shows loads
   goes-leaves s code shows to tree loads leaves =
       record { state = leaves.state; walked = leaves.walked; carries = leaves.carries; slots = leaves.slots }
 

@@ -20,12 +20,12 @@ use Rattle.trace_patterns.specs.Single.{applied_trees}
 use Rattle.stretches.proofs.ArmCode.{Walked, walked-then}
 use Rattle.block_cache_gen.specs.declared.frames.Mode.{Mode}
 use Rattle.block_cache_gen.specs.Homes.{Home, Setting, home_of, words_a_block, blocks_set, HasHomes}
-use Rattle.block_cache_gen.specs.Codes.{may_skip_loads, is_cached, is_masked, fixed_index, fixed_word, scalar_code, reduced_code, block_code, fixed_code, located_code, load_code, skips, access_code, expr_code, guard_code}
+use Rattle.block_cache_gen.specs.Codes.{may_skip_loads, is_cached, is_masked, fixed_index, fixed_word, scalar_code, reduced_code, shift_code, fixed_code, located_code, load_code, skips, access_code, expr_code, guard_code}
 use Rattle.block_cache_gen.specs.Carries.{CarriesInArm}
 use Rattle.block_cache_gen.specs.PublicIndexes.{HasPublicIndexes, TestHasPublicIndexes}
 use Rattle.block_cache_gen.specs.PatternsOf.{operation_gap, word_gap, word_read, scalar_tree, reduced_tree, number_tree, shifted_tree, block_tree, reducing, found_shows, load_shows, Loads, no_loads, then_loads, one_load, index_loads, element_slot, access_shows, access_loads, tree_of_expr, shows_of_expr, slots_of_expr, shows_of_test, slots_of_test}
 use Rattle.block_cache_gen.proofs.ArmInstructions.{IsSeen, Sets, loaded-bank, sets-li, sets-alu, sets-ldw, walked-ldb}
-use Rattle.block_cache_gen.proofs.ArmStates.{Leaves, bound-of_bank, then_loads-held, one_load-held, serves-within, carries-same, carries-load, scalar-read}
+use Rattle.block_cache_gen.proofs.ArmStates.{LeavesTree, bound-of_bank, then_loads-held, one_load-held, serves-within, carries-same, carries-load, scalar-read}
 use Rattle.block_cache_gen.proofs.PublicTrees.{IsKnown, block-seen, public-tree}
 
 -- a load holds in its own slot
@@ -36,13 +36,13 @@ loaded_here slot bound other =
 -- the same with a second tree in the next register
 pub record LeavesTwo (o : Parts) (f : Setting) (depth : ℕ) (s : SymState) (code : List Instr) (shows : List Show)
     (to : ℕ) (tree second : Option Value) (loads : Loads) : Type 0 where
-  pub leaves : Leaves o f depth s code shows to tree loads
+  pub leaves : LeavesTree o f depth s code shows to tree loads
   pub next : tree_held leaves.state (to + 1) ≡ second
 
 module _ (o : Parts) (f : Setting) (homes : HasHomes o f) (depth : ℕ) where
   -- code that sets a register, alone and behind other code
   pub leaves-sets : (s : SymState) (code : List Instr) (shows : List Show) (to : ℕ) (tree : Option Value)
-      → CarriesInArm f s → Sets o depth s code shows to tree → Leaves o f depth s code shows to tree no_loads
+      → CarriesInArm f s → Sets o depth s code shows to tree → LeavesTree o f depth s code shows to tree no_loads
   leaves-sets s code shows to tree carries sets = record {
     state = sets.state;
     walked = sets.walked;
@@ -53,10 +53,10 @@ module _ (o : Parts) (f : Setting) (homes : HasHomes o f) (depth : ℕ) where
   }
 
   pub leaves-then_sets : (s : SymState) (code : List Instr) (shows : List Show) (from : ℕ) (old : Option Value)
-      (loads : Loads) (first : Leaves o f depth s code shows from old loads) (rest : List Instr) (more : List Show)
+      (loads : Loads) (first : LeavesTree o f depth s code shows from old loads) (rest : List Instr) (more : List Show)
       (to : ℕ) (tree : Option Value)
       → to ≤ from → Sets o depth first.state rest more to tree
-      → Leaves o f depth s (code ++ rest) (shows ++ more) to tree loads
+      → LeavesTree o f depth s (code ++ rest) (shows ++ more) to tree loads
   leaves-then_sets s code shows from old loads first rest more to tree le sets = record {
     state = sets.state;
     walked = walked-then o depth s code shows first.state rest more sets.state first.walked sets.walked;
@@ -68,14 +68,14 @@ module _ (o : Parts) (f : Setting) (homes : HasHomes o f) (depth : ℕ) where
 
   -- a number, and a scalar
   pub number-leaves : (s : SymState) (to : ℕ) (z : ℤ) → CarriesInArm f s → to < 32
-      → Leaves o f depth s (Li to z ∷ []) (Gap 1 ∷ []) to (Some (Const z)) no_loads
+      → LeavesTree o f depth s (Li to z ∷ []) (Gap 1 ∷ []) to (Some (Const z)) no_loads
   number-leaves s to z carries inside =
       leaves-sets s (Li to z ∷ []) (Gap 1 ∷ []) to (Some (Const z)) carries
       (sets-li o depth s to z carries.registers inside)
 
   scalar-leaves : (s : SymState) (to : ℕ) (x : List ℕ) → CarriesInArm f s → to < 32
       → UsedAs (context_of f.decls) x Scalar
-      → Leaves o f depth s (scalar_code (home_of f x) to) (Gap 1 ∷ word_gap f ∷ []) to (scalar_tree f (home_of f x))
+      → LeavesTree o f depth s (scalar_code (home_of f x) to) (Gap 1 ∷ word_gap f ∷ []) to (scalar_tree f (home_of f x))
       no_loads
   scalar-leaves s to x carries inside used =
       let h = home_of f x in
@@ -86,15 +86,15 @@ module _ (o : Parts) (f : Setting) (homes : HasHomes o f) (depth : ℕ) where
       one.carries.registers inside refl read.bound one.held in
       let whole = leaves-then_sets s (Li to (pos h.word) ∷ []) (Gap 1 ∷ []) to place no_loads one
       (Ldw to h.slot to ∷ []) (word_gap f ∷ []) to (word_read f (slot_held one.state h.slot) place) (omega arith) two in
-      subst (λ (v : Option Value). Leaves o f depth s (scalar_code h to) (Gap 1 ∷ word_gap f ∷ []) to v no_loads)
+      subst (λ (v : Option Value). LeavesTree o f depth s (scalar_code h to) (Gap 1 ∷ word_gap f ∷ []) to v no_loads)
       read.word whole
 
   -- code behind other code, to a register that isn't above the first's
   abbrev pub leaves-then : (s : SymState) (code : List Instr) (shows : List Show) (from : ℕ) (old : Option Value)
-      (loads : Loads) (first : Leaves o f depth s code shows from old loads) (rest : List Instr) (more : List Show)
+      (loads : Loads) (first : LeavesTree o f depth s code shows from old loads) (rest : List Instr) (more : List Show)
       (to : ℕ) (tree : Option Value) (later : Loads)
-      → to ≤ from → Leaves o f depth first.state rest more to tree later
-      → Leaves o f depth s (code ++ rest) (shows ++ more) to tree (then_loads loads later)
+      → to ≤ from → LeavesTree o f depth first.state rest more to tree later
+      → LeavesTree o f depth s (code ++ rest) (shows ++ more) to tree (then_loads loads later)
   leaves-then s code shows from old loads first rest more to tree later le second = record {
     state = second.state;
     walked = walked-then o depth s code shows first.state rest more second.state first.walked second.walked;
@@ -107,8 +107,8 @@ module _ (o : Parts) (f : Setting) (homes : HasHomes o f) (depth : ℕ) where
 
   -- and one register higher: both trees are left
   two-leave : (s : SymState) (to : ℕ) (left right : Option Value) (code rest : List Instr) (shows more : List Show)
-      (loads later : Loads) (first : Leaves o f depth s code shows to left loads)
-      → Leaves o f depth first.state rest more (to + 1) right later
+      (loads later : Loads) (first : LeavesTree o f depth s code shows to left loads)
+      → LeavesTree o f depth first.state rest more (to + 1) right later
       → LeavesTwo o f depth s (code ++ rest) (shows ++ more) to left right (then_loads loads later)
   two-leave s to left right code rest shows more loads later first second = record {
     leaves = record {
@@ -138,7 +138,7 @@ module _ (o : Parts) (f : Setting) (homes : HasHomes o f) (depth : ℕ) where
   -- an operation on a register below and a number, in the number's register or below
   number-applied : (s : SymState) (op : Op) (to ra rb : ℕ) (z : ℤ) (left : Option Value) → CarriesInArm f s → rb < 32
       → to ≤ rb → ra < rb → tree_held s ra ≡ left
-      → Leaves o f depth s (Li rb z ∷ Alu op to ra rb ∷ []) (Gap 1 ∷ operation_gap f op ∷ []) to
+      → LeavesTree o f depth s (Li rb z ∷ Alu op to ra rb ∷ []) (Gap 1 ∷ operation_gap f op ∷ []) to
       (applied_trees op left (Some (Const z))) no_loads
   number-applied s op to ra rb z left carries inside le lt held =
       let right : Option Value = Some (Const z) in
@@ -151,7 +151,7 @@ module _ (o : Parts) (f : Setting) (homes : HasHomes o f) (depth : ℕ) where
   -- the number of a block, by a shift and a sum
   block-leaves : (s : SymState) (to : ℕ) (h : Home) (number : Option Value) → CarriesInArm f s → to + 2 < 32
       → tree_held s to ≡ number
-      → Leaves o f depth s (block_code f.profile.block_log h to)
+      → LeavesTree o f depth s (shift_code f.profile.block_log h to)
       (Gap 1 ∷ operation_gap f Shr ∷ Gap 1 ∷ operation_gap f Add ∷ []) (to + 1) (shifted_tree f h number) no_loads
   block-leaves s to h number carries inside held =
       let next = to + 1 in
@@ -172,21 +172,21 @@ module _ (o : Parts) (f : Setting) (homes : HasHomes o f) (depth : ℕ) where
 
   finding-located : (s : SymState) (to : ℕ) (h : Home) (index : Option Value) (op : Op) (z : ℤ) → CarriesInArm f s
       → to + 2 < 32 → tree_held s to ≡ index
-      → LeavesTwo o f depth s ((Li (to + 1) z ∷ Alu op to to (to + 1) ∷ []) ++ block_code f.profile.block_log h to)
+      → LeavesTwo o f depth s ((Li (to + 1) z ∷ Alu op to to (to + 1) ∷ []) ++ shift_code f.profile.block_log h to)
       (finding_shows op) to (applied_trees op index (Some (Const z)))
       (shifted_tree f h (applied_trees op index (Some (Const z)))) no_loads
   finding-located s to h index op z carries inside held =
       let number = applied_trees op index (Some (Const z)) in
       let one = number-applied s op to to (to + 1) z index carries (omega arith) (omega arith) (omega arith) held in
       two-leave s to number (shifted_tree f h number) (Li (to + 1) z ∷ Alu op to to (to + 1) ∷ [])
-      (block_code f.profile.block_log h to) (Gap 1 ∷ operation_gap f op ∷ [])
+      (shift_code f.profile.block_log h to) (Gap 1 ∷ operation_gap f op ∷ [])
       (Gap 1 ∷ operation_gap f Shr ∷ Gap 1 ∷ operation_gap f Add ∷ []) no_loads no_loads one
       (block-leaves one.state to h number one.carries inside one.held)
 
   -- by a mask or a remainder, behind the code of the index
   reduced-located : (s : SymState) (to : ℕ) (h : Home) (index : Option Value) → CarriesInArm f s → to + 2 < 32
       → tree_held s to ≡ index
-      → LeavesTwo o f depth s (reduced_code h to ++ block_code f.profile.block_log h to) (finding_shows (reducing h)) to
+      → LeavesTwo o f depth s (reduced_code h to ++ shift_code f.profile.block_log h to) (finding_shows (reducing h)) to
       (reduced_tree h index) (shifted_tree f h (reduced_tree h index)) no_loads
   reduced-located s to h index carries inside held = by (is_masked h)
     where
@@ -201,26 +201,26 @@ module _ (o : Parts) (f : Setting) (homes : HasHomes o f) (depth : ℕ) where
           else applied_trees Remu index (Some (Const (pos h.length)))
 
       by : (masked : Bool)
-          → LeavesTwo o f depth s (code masked ++ block_code f.profile.block_log h to)
+          → LeavesTwo o f depth s (code masked ++ shift_code f.profile.block_log h to)
           (finding_shows (if masked then And else Remu)) to (tree masked) (shifted_tree f h (tree masked)) no_loads
       by true = finding-located s to h index And (pos (h.length - 1)) carries inside held
       by false = finding-located s to h index Remu (pos h.length) carries inside held
 
   index-located : (s : SymState) (to : ℕ) (h : Home) (index : Option Value) (code : List Instr) (shows : List Show)
-      (loads : Loads) → Leaves o f depth s code shows to index loads → to + 2 < 32
-      → LeavesTwo o f depth s (code ++ (reduced_code h to ++ block_code f.profile.block_log h to))
+      (loads : Loads) → LeavesTree o f depth s code shows to index loads → to + 2 < 32
+      → LeavesTwo o f depth s (code ++ (reduced_code h to ++ shift_code f.profile.block_log h to))
       (shows ++ finding_shows (reducing h)) to (reduced_tree h index) (shifted_tree f h (reduced_tree h index)) loads
   index-located s to h index code shows loads first inside =
       let found = reduced-located first.state to h index first.carries inside first.held in
       record {
         leaves = leaves-then s code shows to index loads first
-            (reduced_code h to ++ block_code f.profile.block_log h to) (finding_shows (reducing h)) to
+            (reduced_code h to ++ shift_code f.profile.block_log h to) (finding_shows (reducing h)) to
             (reduced_tree h index) no_loads (omega arith) found.leaves;
         next = found.next;
       }
 
   located : (s : SymState) (to : ℕ) (h : Home) (fixed : Option ℤ) (index : Option Value) (code : List Instr)
-      (shows : List Show) (loads : Loads) → CarriesInArm f s → Leaves o f depth s code shows to index loads
+      (shows : List Show) (loads : Loads) → CarriesInArm f s → LeavesTree o f depth s code shows to index loads
       → to + 2 < 32
       → LeavesTwo o f depth s (located_code f.profile.block_log h to fixed code) (found_shows f h fixed shows) to
       (number_tree h fixed index) (block_tree f h fixed index) (index_loads fixed loads)
@@ -232,13 +232,13 @@ module _ (o : Parts) (f : Setting) (homes : HasHomes o f) (depth : ℕ) where
     -- an access: its block is in the slot of its array
     pub record Accessed (s : SymState) (code : List Instr) (shows : List Show) (to : ℕ) (number : Option Value)
         (loads : Loads) (slot : ℕ) (bound : SymSlot) : Type 0 where
-      pub leaves : Leaves o f depth s code shows to number loads
+      pub leaves : LeavesTree o f depth s code shows to number loads
       pub holds : slot_held leaves.state slot ≡ bound
 
     -- an access leaves the number of the word, and its block in the array's slot
     pub access-leaves : (s : SymState) (to : ℕ) (x : List ℕ) (fixed : Option ℤ) (index : Option Value)
         (code : List Instr) (shows : List Show) (loads : Loads) → CarriesInArm f s
-        → Leaves o f depth s code shows to index loads → to + 2 < 32 → UsedAs (context_of f.decls) x Array
+        → LeavesTree o f depth s code shows to index loads → to + 2 < 32 → UsedAs (context_of f.decls) x Array
         → IsSeen (home_of f x).bank (block_tree f (home_of f x) fixed index)
         → Accessed s (access_code f.profile.block_log mode (home_of f x) to fixed code)
         (access_shows f (home_of f x) fixed index shows) to (number_tree (home_of f x) fixed index)
@@ -282,10 +282,10 @@ module _ (o : Parts) (f : Setting) (homes : HasHomes o f) (depth : ℕ) where
 
     -- the word of an element
     element-leaves : (s : SymState) (to : ℕ) (x : List ℕ) (i : Tree) → CarriesInArm f s
-        → Leaves o f depth s (expr_code f mode to i) (shows_of_expr f i) to (tree_of_expr f i) (slots_of_expr f i)
+        → LeavesTree o f depth s (expr_code f mode to i) (shows_of_expr f i) to (tree_of_expr f i) (slots_of_expr f i)
         → to + 2 < 32 → UsedAs (context_of f.decls) x Array
         → ((home_of f x).bank < 2 → IsKnown (tree_of_expr f i))
-        → Leaves o f depth s (expr_code f mode to (Element x i)) (shows_of_expr f (Element x i)) to
+        → LeavesTree o f depth s (expr_code f mode to (Element x i)) (shows_of_expr f (Element x i)) to
         (tree_of_expr f (Element x i)) (slots_of_expr f (Element x i))
     element-leaves s to x i carries first inside used known =
         let h = home_of f x in
@@ -308,7 +308,7 @@ module _ (o : Parts) (f : Setting) (homes : HasHomes o f) (depth : ℕ) where
     operation-leaves : (s : SymState) (to : ℕ) (op : Op) (left right : Option Value) (code rest : List Instr)
         (shows more : List Show) (loads : Loads)
         → LeavesTwo o f depth s (code ++ rest) (shows ++ more) to left right loads → to + 2 < 32
-        → Leaves o f depth s (code ++ (rest ++ Alu op to to (to + 1) ∷ []))
+        → LeavesTree o f depth s (code ++ (rest ++ Alu op to to (to + 1) ∷ []))
         (shows ++ (more ++ operation_gap f op ∷ [])) to (applied_trees op left right) loads
     operation-leaves s to op left right code rest shows more loads both inside =
         let last = Alu op to to (to + 1) ∷ [] in
@@ -319,16 +319,16 @@ module _ (o : Parts) (f : Setting) (homes : HasHomes o f) (depth : ℕ) where
         let whole = leaves-then_sets s (code ++ rest) (shows ++ more) to left loads there last gaps to
         (applied_trees op left right) (omega arith) sets in
         subst (λ (c : List Instr).
-        Leaves o f depth s c (shows ++ (more ++ gaps)) to (applied_trees op left right) loads)
+        LeavesTree o f depth s c (shows ++ (more ++ gaps)) to (applied_trees op left right) loads)
         (append_assoc code rest last)
         (subst (λ (xs : List Show).
-        Leaves o f depth s ((code ++ rest) ++ last) xs to (applied_trees op left right) loads)
+        LeavesTree o f depth s ((code ++ rest) ++ last) xs to (applied_trees op left right) loads)
         (append_assoc shows more gaps) whole)
 
     -- the code of an expression
     pub expr-leaves : (e : Tree) (s : SymState) (to : ℕ) → TypedTree (context_of f.decls) e → HasPublicIndexes f e
         → to + height_of e ≤ 26 → CarriesInArm f s
-        → Leaves o f depth s (expr_code f mode to e) (shows_of_expr f e) to (tree_of_expr f e) (slots_of_expr f e)
+        → LeavesTree o f depth s (expr_code f mode to e) (shows_of_expr f e) to (tree_of_expr f e) (slots_of_expr f e)
     expr-leaves (Number z) s to typed public low carries = number-leaves s to z carries (omega arith)
     expr-leaves (Variable x) s to typed public low carries = scalar-leaves s to x carries (omega arith) typed
     expr-leaves (Element x i) s to typed public low carries =

@@ -21,7 +21,7 @@ use Rattle.lt_checker.proofs.Singles.{IsKnown}
 
 -- A stretch of secret code is walked from s: it shows this, keeps what the setting relies on and the registers below
 -- one, and leaves a tree in that register and this in the slots.
-pub record Leaves (o : Parts) (f : Setting) (depth : ℕ) (s : SymState) (code : List Instr) (shows : List Show)
+pub record LeavesTree (o : Parts) (f : Setting) (depth : ℕ) (s : SymState) (code : List Instr) (shows : List Show)
     (to : ℕ) (tree : Option Value) (loads : Loads) : Type 0 where
   pub state : SymState
   pub walked : Walked o depth s code shows state

@@ -28,7 +28,7 @@ use Rattle.block_cache_gen.specs.Codes.{fixed_index, access_code, expr_code, sto
 use Rattle.block_cache_gen.specs.StandsFor.{StandsFor, FitsHomes}
 use Rattle.block_cache_gen.specs.Accesses.{access_of, accesses, word_number, block_in, slots_after, seen_of_all}
 use Rattle.block_cache_gen.specs.Assignments.{Assigns, assigned, by_mode, words_written, seen_of_write, seen_of_set}
-use Rattle.block_cache_gen.specs.Leaves.{Leaves}
+use Rattle.block_cache_gen.specs.LeavesWord.{LeavesWord}
 use Rattle.block_cache_gen.proofs.AccessLaws.{seen_of_all-append}
 use Rattle.block_cache_gen.proofs.HomeFacts.{block_words-is, serves-within}
 use Rattle.block_cache_gen.proofs.Stands.{stands-like, scalar-held}
@@ -120,7 +120,7 @@ module _ (o : Parts) (fits : IsInRange o) (f : Setting) (homes : HasHomes o f) (
       let after = by_mode mode (with_word store k 0 value) store in
       let Done : State → Type 0 = Assigns f after in
       runs-append s (expr_code f mode 0 e) (base ∷ store_code mode h.slot) seen []
-      (Leaves f store before 0 value s) Done at
+      (LeavesWord f store before 0 value s) Done at
       (runs-expression o fits f homes store store_fits mode e typed 0 (omega arith) s shaped stands)
       (λ t shape leaves at'.
       let held = scalar-held leaves.stands label h.slot (home.slot ∙ home.bank) in
@@ -195,7 +195,7 @@ module _ (o : Parts) (fits : IsInRange o) (f : Setting) (homes : HasHomes o f) (
       runs-weaker s (first ++ (access ++ (store_word ++ store_block ∷ []))) (seen_first ++ (seen_then ++ write))
       (seen_of_set f mode s.banks s.slots store (SetElement x i e)) Done Done
       (runs-append s first (access ++ (store_word ++ store_block ∷ [])) seen_first (seen_then ++ write)
-      (Leaves f store before 0 value s) Done at
+      (LeavesWord f store before 0 value s) Done at
       (runs-expression o fits f homes store store_fits mode e typed 0 (omega arith) s shaped stands)
       (λ t shape leaves at'.
       let is : IsWord value = subst IsWord leaves.value (IsWord-register o t shape 0) in

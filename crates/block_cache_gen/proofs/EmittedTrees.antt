@@ -14,7 +14,7 @@ use Rattle.block_cache_gen.specs.declared.frames.CodeBuf.{CodeBuf}
 use Rattle.block_cache_gen.specs.declared.frames.Mode.{Mode}
 use Rattle.block_cache_gen.specs.declared.frames.Mode.TheVariants.{Public}
 use Rattle.block_cache_gen.specs.Homes.{Home, Setting, home_of}
-use Rattle.block_cache_gen.specs.Codes.{reduced_code, block_code, fixed_code, load_code, skips, access_code, fixed_index, expr_code}
+use Rattle.block_cache_gen.specs.Codes.{reduced_code, shift_code, fixed_code, load_code, skips, access_code, fixed_index, expr_code}
 use Rattle.block_cache_gen.specs.Notes.{expr_notes, index_notes, load_notes, marked_by}
 use Rattle.block_cache_gen.specs.Emitted.{Appended, no_notes, notes_in, access_notes, EmitsExpr, EmitsAccess}
 use Rattle.block_cache_gen.proofs.Emitting.{appended_then, appended_as, appended_length, silent_behind, silent_before, notes_both, notes_by}
@@ -61,11 +61,11 @@ access_fixed f mode h mask to i z a b c is x y =
 -- the pieces of an access by any other index are its code
 pub access_worked : (f : Setting) (mode : Mode) (h : Home) (mask to : ℕ) (i : Tree) (a b c d : CodeBuf)
     → fixed_index h i ≡ None → EmitsExpr f mode mask to i a b
-    → Appended b c (reduced_code h to ++ block_code f.profile.block_log h to) no_notes
+    → Appended b c (reduced_code h to ++ shift_code f.profile.block_log h to) no_notes
     → EmitsLoad f mode h mask to c d → EmitsAccess f mode h mask to i a d
 access_worked f mode h mask to i a b c d is x y z =
     let log = f.profile.block_log in
-    let located : List Instr = reduced_code h to ++ block_code log h to in
+    let located : List Instr = reduced_code h to ++ shift_code log h to in
     let skipped : List Instr = load_code (skips Public h) h to in
     let loaded : ℕ → List Note = λ n. load_notes f h mask to n in
     let P : Option ℤ → Type 0 = λ fixed. AccessBy f mode h mask to i fixed a d in
@@ -135,11 +135,11 @@ operation_emitted f mode mask to op l r other a b c d is x y z =
 -- room for the load behind an index, and for the right part of an operation
 pub room_for_load : (f : Setting) (mode : Mode) (h : Home) (mask to : ℕ) (i : Tree) (a b c : CodeBuf)
     → length a.code.items + 120 * (1 + tree_weight i) ≤ most_instructions
-    → EmitsExpr f mode mask to i a b → Appended b c (reduced_code h to ++ block_code f.profile.block_log h to) no_notes
+    → EmitsExpr f mode mask to i a b → Appended b c (reduced_code h to ++ shift_code f.profile.block_log h to) no_notes
     → length c.code.items + 3 < 2 ^ 32
 room_for_load f mode h mask to i a b c room x y =
     let one = appended_length a b (expr_code f mode to i) _ x in
-    let two = appended_length b c (reduced_code h to ++ block_code f.profile.block_log h to) no_notes y in
+    let two = appended_length b c (reduced_code h to ++ shift_code f.profile.block_log h to) no_notes y in
     let six = located_length f.profile.block_log h to in
     let short = expr_code_short f mode to i in
     omega arith

@@ -23,7 +23,7 @@ use Rattle.block_cache_gen.specs.Homes.{Setting, HasHomes, home_of, words_a_bloc
 use Rattle.block_cache_gen.specs.Codes.{fixed_index, scalar_code, access_code, expr_code}
 use Rattle.block_cache_gen.specs.StandsFor.{StandsFor, FitsHomes}
 use Rattle.block_cache_gen.specs.Accesses.{access_of, accesses, word_number, block_in, slots_after, seen_of_all}
-use Rattle.block_cache_gen.specs.Leaves.{Leaves}
+use Rattle.block_cache_gen.specs.LeavesWord.{LeavesWord}
 use Rattle.block_cache_gen.proofs.AccessLaws.{slots_after-append, seen_of_all-append}
 use Rattle.block_cache_gen.proofs.HomeFacts.{block_words-is, word-block, word-place}
 use Rattle.block_cache_gen.proofs.Stands.{stands-like, scalar-held}
@@ -31,7 +31,7 @@ use Rattle.block_cache_gen.proofs.AccessRuns.{Accesses, runs-access, word-within
 
 -- where one register was set, a word is left and nothing was accessed
 leaves-set : {f : Setting} {store : Store} {to : ℕ} {word : ℤ} {s t : State} → StandsFor f s store → Sets s to word t
-    → Leaves f store [] to word s t
+    → LeavesWord f store [] to word s t
 leaves-set {f = f} {store = store} {to = to} {s = s} {t = t} stands sets = record {
   value = sets.value;
   below = λ r under. sets.others r (λ same. absurd (omega arith));
@@ -46,14 +46,14 @@ module _ (o : Parts) (fits : IsInRange o) (f : Setting) (homes : HasHomes o f) (
   runs-scalar : (x : List ℕ) (label : Label) → context_of f.decls x ≡ Some (label, Scalar) → (to : ℕ) → to < 32
       → (s : State) → IsShaped o s → StandsFor f s store → StandsAt o s.place (scalar_code (home_of f x) to)
       → RunsThrough o s (scalar_code (home_of f x) to) []
-      (Leaves f store [] to (scalar store (variable_number f.decls x)) s)
+      (LeavesWord f store [] to (scalar store (variable_number f.decls x)) s)
   runs-scalar x label known to small s shaped stands at =
       let h = home_of f x in
       let home = homes.scalars x label known in
       let value = scalar store (variable_number f.decls x) in
       let held = scalar-held stands label h.slot (home.slot ∙ home.bank) in
       let load = Ldw to h.slot to in
-      runs-cons s (Li to (pos h.word)) (load ∷ []) [] [] (Sets s to (pos h.word)) (Leaves f store [] to value s) at
+      runs-cons s (Li to (pos h.word)) (load ∷ []) [] [] (Sets s to (pos h.word)) (LeavesWord f store [] to value s) at
       (sets-li o fits s shaped to (pos h.word) small)
       (λ t shape sets at'.
       let holds : slot t h.slot ≡ Bound h.slot 0 held.words =
@@ -64,7 +64,7 @@ module _ (o : Parts) (fits : IsInRange o) (f : Setting) (homes : HasHomes o f) (
       ap (λ k. word_in held.words k) named
       ∙ ap (λ b. word_in (slot_words b) h.word) (sym held.holds)
       ∙ stands.scalars x label known in
-      runs-weaker t (load ∷ []) [] [] (Sets t to value) (Leaves f store [] to value s)
+      runs-weaker t (load ∷ []) [] [] (Sets t to value) (LeavesWord f store [] to value s)
       (runs-one t load [] (Sets t to value) at'
       (sets-ldw o fits t shape to h.slot to h.slot 0 held.words value small holds reads))
       refl
@@ -98,9 +98,9 @@ module _ (o : Parts) (fits : IsInRange o) (f : Setting) (homes : HasHomes o f) (
   pub runs-expression : (mode : Mode) (e : Tree) → TypedTree (context_of f.decls) e → (to : ℕ) → to + height_of e ≤ 26
       → (s : State) → IsShaped o s → StandsFor f s store → StandsAt o s.place (expr_code f mode to e)
       → RunsThrough o s (expr_code f mode to e) (seen_of_all mode s.banks s.slots (accesses f store e))
-      (Leaves f store (accesses f store e) to (evaluated f.decls store e) s)
+      (LeavesWord f store (accesses f store e) to (evaluated f.decls store e) s)
   runs-expression mode (Number z) typed to room s shaped stands at =
-      runs-weaker s (Li to z ∷ []) [] [] (Sets s to z) (Leaves f store [] to z s)
+      runs-weaker s (Li to z ∷ []) [] [] (Sets s to z) (LeavesWord f store [] to z s)
       (runs-one s (Li to z) [] (Sets s to z) at (sets-li o fits s shaped to z (omega arith)))
       refl
       (λ t shape sets. leaves-set stands sets)
@@ -118,7 +118,7 @@ module _ (o : Parts) (fits : IsInRange o) (f : Setting) (homes : HasHomes o f) (
       let code = access_code f.profile.block_log mode h to (fixed_index h i) (expr_code f mode to i) in
       let load = Ldw to h.slot to in
       let seen = seen_of_all mode s.banks s.slots (before ++ a ∷ []) in
-      let Done : State → Type 0 = Leaves f store (before ++ a ∷ []) to value s in
+      let Done : State → Type 0 = LeavesWord f store (before ++ a ∷ []) to value s in
       runs-weaker s (code ++ load ∷ []) (seen ++ []) seen Done Done
       (runs-append s code (load ∷ []) seen [] (Accesses f store before a to n s) Done at
       (runs-access o fits f homes store store_fits x label known mode to i s shaped stands
@@ -153,16 +153,16 @@ module _ (o : Parts) (fits : IsInRange o) (f : Setting) (homes : HasHomes o f) (
       let then = accesses f store right in
       let seen_first = seen_of_all mode s.banks s.slots before in
       let seen_then = seen_of_all mode s.banks (slots_after s.banks s.slots before) then in
-      let Done : State → Type 0 = Leaves f store (before ++ then) to (applied op a b) s in
+      let Done : State → Type 0 = LeavesWord f store (before ++ then) to (applied op a b) s in
       runs-weaker s (first ++ (second ++ join ∷ [])) (seen_first ++ (seen_then ++ []))
       (seen_of_all mode s.banks s.slots (before ++ then)) Done Done
-      (runs-append s first (second ++ join ∷ []) seen_first (seen_then ++ []) (Leaves f store before to a s) Done at
+      (runs-append s first (second ++ join ∷ []) seen_first (seen_then ++ []) (LeavesWord f store before to a s) Done at
       (runs-expression mode left typed.0 to (omega arith) s shaped stands)
       (λ t shape leaves at'.
-      runs-append t second (join ∷ []) seen_then [] (Leaves f store then (to + 1) b t) Done at'
+      runs-append t second (join ∷ []) seen_then [] (LeavesWord f store then (to + 1) b t) Done at'
       (λ at''.
-      runs-weaker t second (seen_of_all mode t.banks t.slots then) seen_then (Leaves f store then (to + 1) b t)
-      (Leaves f store then (to + 1) b t)
+      runs-weaker t second (seen_of_all mode t.banks t.slots then) seen_then (LeavesWord f store then (to + 1) b t)
+      (LeavesWord f store then (to + 1) b t)
       (runs-expression mode right typed.1 (to + 1) (omega arith) t shape leaves.stands at'')
       (ap (λ l. seen_of_all mode l t.slots then) leaves.banks ∙ ap (λ l. seen_of_all mode s.banks l then) leaves.slots)
       (λ u shape' h. h))

@@ -24,7 +24,7 @@ use Rattle.block_cache_gen.specs.Homes.{Setting, HasHomes}
 use Rattle.block_cache_gen.specs.Codes.{expr_code, guard_code}
 use Rattle.block_cache_gen.specs.StandsFor.{StandsFor, FitsHomes}
 use Rattle.block_cache_gen.specs.Accesses.{accesses, test_accesses, slots_after, seen_of_all}
-use Rattle.block_cache_gen.specs.Leaves.{Leaves, LeavesBoth}
+use Rattle.block_cache_gen.specs.LeavesWord.{LeavesWord, LeavesBoth}
 use Rattle.block_cache_gen.proofs.AccessLaws.{slots_after-append, seen_of_all-append}
 use Rattle.block_cache_gen.proofs.Stands.{stands-like}
 use Rattle.block_cache_gen.proofs.ExpressionRuns.{runs-expression}
@@ -50,10 +50,10 @@ module _ (o : Parts) (fits : IsInRange o) (f : Setting) (homes : HasHomes o f) (
       let Done : State → Type 0 = LeavesBoth f store (before ++ then) to a b s in
       runs-weaker s (first ++ second) (seen_first ++ seen_then)
       (seen_of_all mode s.banks s.slots (before ++ then)) Done Done
-      (runs-append s first second seen_first seen_then (Leaves f store before to a s) Done at
+      (runs-append s first second seen_first seen_then (LeavesWord f store before to a s) Done at
       (runs-expression o fits f homes store store_fits mode t.left typed.0 to room s shaped stands)
       (λ u shape leaves at'.
-      runs-weaker u second (seen_of_all mode u.banks u.slots then) seen_then (Leaves f store then (to + 1) b u) Done
+      runs-weaker u second (seen_of_all mode u.banks u.slots then) seen_then (LeavesWord f store then (to + 1) b u) Done
       (runs-expression o fits f homes store store_fits mode t.right typed.1 (to + 1) room' u shape leaves.stands at')
       (ap (λ l. seen_of_all mode l u.slots then) leaves.banks ∙ ap (λ l. seen_of_all mode s.banks l then) leaves.slots)
       (λ v shape' leaves'. record {

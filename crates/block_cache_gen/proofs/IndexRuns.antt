@@ -15,7 +15,7 @@ use Rattle.stretches.specs.Standing.{StandsAt}
 use Rattle.stretches.specs.Coming.{RunsThrough, Sets, Keeps}
 use Rattle.stretches.proofs.RunningThrough.{runs-cons, runs-one, runs-weaker, sets-li, sets-alu, keeps-set, keeps-on}
 use Rattle.block_cache_gen.specs.Homes.{Home}
-use Rattle.block_cache_gen.specs.Codes.{is_power, is_masked, is_cached, reduced_code, block_code, fixed_code, fixed_word}
+use Rattle.block_cache_gen.specs.Codes.{is_power, is_masked, is_cached, reduced_code, shift_code, fixed_code, fixed_word}
 
 -- The number of a word is in register `to`, and that of its block in the next one; the registers below, the slots and
 -- the banks are as before.
@@ -91,8 +91,8 @@ module _ (o : Parts) (fits : IsInRange o) where
   -- the block, from the word
   pub runs-block : (block_log : ℕ) (h : Home) (to : ℕ) (s : State) (word : ℕ)
       → IsShaped o s → register s to ≡ pos word → to + 2 < 32
-      → block_log < 64 → h.block + word / 2 ^ block_log < 2 ^ 63 → StandsAt o s.place (block_code block_log h to)
-      → RunsThrough o s (block_code block_log h to) [] (Locates to word (h.block + word / 2 ^ block_log) s)
+      → block_log < 64 → h.block + word / 2 ^ block_log < 2 ^ 63 → StandsAt o s.place (shift_code block_log h to)
+      → RunsThrough o s (shift_code block_log h to) [] (Locates to word (h.block + word / 2 ^ block_log) s)
   runs-block block_log h to s word shaped has below log small at =
       let shift = Alu Shr (to + 1) to (to + 1) in
       let base = Li (to + 2) (pos h.block) in

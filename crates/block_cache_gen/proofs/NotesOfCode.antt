@@ -10,7 +10,7 @@ use Rattle.src_tree.specs.Trees.{Tree, Number, Variable, Element, Operation}
 use Rattle.stretches.proofs.Passed.{LieBetween, lie_wider, lie_both}
 use Rattle.block_cache_gen.specs.declared.frames.Mode.TheVariants.{Public}
 use Rattle.block_cache_gen.specs.Homes.{Home, Setting, home_of}
-use Rattle.block_cache_gen.specs.Codes.{is_cached, fixed_index, reduced_code, block_code, located_code, load_code, skips, access_code, expr_code}
+use Rattle.block_cache_gen.specs.Codes.{is_cached, fixed_index, reduced_code, shift_code, located_code, load_code, skips, access_code, expr_code}
 use Rattle.block_cache_gen.specs.Notes.{marked_by, access_mask, note_of, load_notes, index_notes, expr_notes}
 
 -- a located word takes two instructions at least, and more than its index
@@ -25,8 +25,8 @@ located-longer block_log h to (Some z) index = omega arith
 located-longer block_log h to None index =
     omega (
       arith,
-      length-append index (reduced_code h to ++ block_code block_log h to),
-      length-append (reduced_code h to) (block_code block_log h to),
+      length-append index (reduced_code h to ++ shift_code block_log h to),
+      length-append (reduced_code h to) (shift_code block_log h to),
     )
 
 load_longer : (skip : Bool) (h : Home) (to : ℕ) → 1 ≤ length (load_code skip h to)

@@ -22,7 +22,7 @@ use Rattle.stretches.proofs.Standing.{standing-first, standing-rest}
 use Rattle.stretches.proofs.Passed.{passes-then, passes-to, passes-goes, passes-noted, no_note-before, no_note-behind, notes-before, notes-behind, no_note-there, notes-within, noted, bank-same, LieBetween, lie_wider}
 use Rattle.block_cache_gen.specs.declared.frames.Mode.TheVariants.{Public}
 use Rattle.block_cache_gen.specs.Homes.{Home, Setting, HasHomes, Serves, home_of}
-use Rattle.block_cache_gen.specs.Codes.{is_cached, fixed_index, reduced_code, block_code, located_code, load_code, access_code, expr_code}
+use Rattle.block_cache_gen.specs.Codes.{is_cached, fixed_index, reduced_code, shift_code, located_code, load_code, access_code, expr_code}
 use Rattle.block_cache_gen.specs.Notes.{unmarked, access_mask, note_of, load_notes, index_notes, expr_notes}
 use Rattle.block_cache_gen.specs.Carries.{Carries}
 use Rattle.block_cache_gen.specs.PublicCode.{StandsNoted}
@@ -97,7 +97,7 @@ module _ (o : Parts) (f : Setting) (homes : HasHomes o f) (once : DeclaredOnce f
         }
     located_by None stands between inside high index public =
         let code = expr_code f Public to i in
-        let rest = reduced_code h to ++ block_code f.profile.block_log h to in
+        let rest = reduced_code h to ++ shift_code f.profile.block_log h to in
         let mid = p + length code in
         let size : length (code ++ rest) ≡ length code + length rest = length-append code rest in
         let lie = expression-lies f i mask to p in

@@ -24,7 +24,7 @@ use Rattle.block_cache_gen.specs.declared.frames.Mode.{Mode}
 use Rattle.block_cache_gen.specs.declared.frames.Mode.TheVariants.{Public, Real, Mirrored}
 use Rattle.block_cache_gen.specs.Homes.{Home, Setting, home_of}
 use Rattle.block_cache_gen.specs.TreeWords.{HasWords}
-use Rattle.block_cache_gen.specs.Codes.{is_masked, fixed_index, fixed_word, reduced_code, block_code, fixed_code, located_code, load_code, skips, access_code, expr_code, guard_code, store_code, set_code}
+use Rattle.block_cache_gen.specs.Codes.{is_masked, fixed_index, fixed_word, reduced_code, shift_code, fixed_code, located_code, load_code, skips, access_code, expr_code, guard_code, store_code, set_code}
 
 -- a home in its ranges, where there are so many banks
 pub record HomeFits (banks : ℕ) (h : Home) : Type 0 where
@@ -110,7 +110,7 @@ module _ (banks : ℕ) where
         li (to + 1) (pos h.length) _ (omega arith) (small-word h.length (omega arith))
         (alu Remu to to (to + 1) [] (omega arith) (omega arith) (omega arith) none)
 
-    block_by : (block_log : ℕ) → block_log ≤ 9 → CodeFits banks (block_code block_log h to)
+    block_by : (block_log : ℕ) → block_log ≤ 9 → CodeFits banks (shift_code block_log h to)
     block_by block_log few =
         let block = home.block in
         li (to + 1) (pos block_log) _ (omega arith) (small-word block_log (omega arith))
@@ -141,8 +141,8 @@ module _ (banks : ℕ) where
         → CodeFits banks (located_code block_log h to fixed index)
     located_by block_log (Some z) index few fit = fixed_by block_log z
     located_by block_log None index few fit =
-        both index (reduced_code h to ++ block_code block_log h to) fit
-        (both (reduced_code h to) (block_code block_log h to) (reduced_by (is_masked h)) (block_by block_log few))
+        both index (reduced_code h to ++ shift_code block_log h to) fit
+        (both (reduced_code h to) (shift_code block_log h to) (reduced_by (is_masked h)) (block_by block_log few))
 
     pub access-fits : (block_log : ℕ) (mode : Mode) (fixed : Option ℤ) (index : List Instr) → block_log ≤ 9
         → CodeFits banks index → CodeFits banks (access_code block_log mode h to fixed index)

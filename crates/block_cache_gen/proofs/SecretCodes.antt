@@ -11,7 +11,7 @@ use Rattle.src_tree.specs.Trees.{Tree, Number, Variable, Element, Operation, Tes
 use Rattle.block_cache_gen.specs.declared.frames.Mode.{Mode}
 use Rattle.block_cache_gen.specs.declared.frames.Mode.TheVariants.{Public, Real, Mirrored}
 use Rattle.block_cache_gen.specs.Homes.{Home, Setting, home_of}
-use Rattle.block_cache_gen.specs.Codes.{may_skip_loads, is_cached, is_masked, fixed_index, reduced_code, block_code, located_code, load_code, skips, access_code, expr_code, guard_code, store_code, set_code}
+use Rattle.block_cache_gen.specs.Codes.{may_skip_loads, is_cached, is_masked, fixed_index, reduced_code, shift_code, located_code, load_code, skips, access_code, expr_code, guard_code, store_code, set_code}
 use Rattle.block_cache_gen.specs.StoredWords.{is_stw, stored_words, register_aside, registers_aside}
 
 -- an expression's code tells public code from secret code alone
@@ -90,10 +90,10 @@ located-stores : (log : ℕ) (h : Home) (to : ℕ) (fixed : Option ℤ) (index :
     → stored_words (located_code log h to fixed index) ≡ 0
 located-stores log h to (Some z) index none = refl
 located-stores log h to None index none =
-    stored-append index (reduced_code h to ++ block_code log h to)
-    ∙ omega (arith, none, stored-append (reduced_code h to) (block_code log h to), reduced-stores h to, blocks)
+    stored-append index (reduced_code h to ++ shift_code log h to)
+    ∙ omega (arith, none, stored-append (reduced_code h to) (shift_code log h to), reduced-stores h to, blocks)
   where
-    blocks : stored_words (block_code log h to) ≡ 0
+    blocks : stored_words (shift_code log h to) ≡ 0
     blocks = refl
 
 load-stores : (skips_load : Bool) (h : Home) (to : ℕ) → stored_words (load_code skips_load h to) ≡ 0

@@ -11,16 +11,16 @@ use Rattle.block_cache_gen.specs.declared.frames.Mode.{Mode}
 use Rattle.block_cache_gen.specs.declared.frames.Mode.TheVariants.{Public, Real, Mirrored}
 use Rattle.block_cache_gen.specs.Assignments.{IsAssignment}
 use Rattle.block_cache_gen.specs.Homes.{Home, Setting, home_of}
-use Rattle.block_cache_gen.specs.Codes.{is_masked, reduced_code, block_code, located_code, load_code, skips, access_code, fixed_index, expr_code, guard_code, store_code, set_code}
+use Rattle.block_cache_gen.specs.Codes.{is_masked, reduced_code, shift_code, located_code, load_code, skips, access_code, fixed_index, expr_code, guard_code, store_code, set_code}
 
 two_of : (b : Bool) (p q r s : Instr) → length (if b then p ∷ q ∷ [] else r ∷ s ∷ []) ≡ 2
 two_of true p q r s = refl
 two_of false p q r s = refl
 
 -- six instructions make of an index the numbers of a word and a block
-pub located_length : (block_log : ℕ) (h : Home) (to : ℕ) → length (reduced_code h to ++ block_code block_log h to) ≡ 6
+pub located_length : (block_log : ℕ) (h : Home) (to : ℕ) → length (reduced_code h to ++ shift_code block_log h to) ≡ 6
 located_length block_log h to =
-    length-append (reduced_code h to) (block_code block_log h to) ∙ ap (λ n. n + 4) (two_of (is_masked h) _ _ _ _)
+    length-append (reduced_code h to) (shift_code block_log h to) ∙ ap (λ n. n + 4) (two_of (is_masked h) _ _ _ _)
 
 pub load_short : (skipped : Bool) (h : Home) (to : ℕ) → length (load_code skipped h to) ≤ 3
 load_short true h to = omega arith
@@ -30,7 +30,7 @@ pub located_short : (block_log : ℕ) (h : Home) (to : ℕ) (fixed : Option ℤ)
     → length (located_code block_log h to fixed index) ≤ length index + 6
 located_short block_log h to (Some z) index = omega arith
 located_short block_log h to None index =
-    let e = length-append index (reduced_code h to ++ block_code block_log h to) in
+    let e = length-append index (reduced_code h to ++ shift_code block_log h to) in
     let l = located_length block_log h to in
     omega arith
 

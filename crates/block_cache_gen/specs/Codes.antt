@@ -48,8 +48,8 @@ reduced_code h to =
     else Li (to + 1) (pos h.length) ∷ Alu Remu to to (to + 1) ∷ []
 
 -- the number of its block in register to + 1, by a shift
-abbrev pub block_code : ℕ → Home → ℕ → List Instr
-block_code block_log h to =
+abbrev pub shift_code : ℕ → Home → ℕ → List Instr
+shift_code block_log h to =
     Li (to + 1) (pos block_log)
     ∷ Alu Shr (to + 1) to (to + 1)
     ∷ Li (to + 2) (pos h.block)
@@ -67,7 +67,7 @@ fixed_code block_log h to z =
 -- both, by the code of the index
 abbrev pub located_code : ℕ → Home → ℕ → Option ℤ → List Instr → List Instr
 located_code block_log h to (Some z) index = fixed_code block_log h to z
-located_code block_log h to None index = index ++ (reduced_code h to ++ block_code block_log h to)
+located_code block_log h to None index = index ++ (reduced_code h to ++ shift_code block_log h to)
 
 -- the block that register to + 1 names is in the home's slot; where loads are skipped, it is loaded only where it isn't
 abbrev pub load_code : Bool → Home → ℕ → List Instr

@@ -12,7 +12,7 @@ pub mod Variables
 pub mod Emitted
 pub mod Extends
 pub mod Accesses
-pub mod Leaves
+pub mod LeavesWord
 pub mod Assignments
 pub mod RunsOf
 pub mod PublicIndexes

@@ -15,7 +15,7 @@ use Rattle.block_cache_gen.specs.declared.frames.Mode.{Mode}
 use Rattle.block_cache_gen.specs.Homes.{Setting, HasHomes}
 use Rattle.block_cache_gen.specs.StandsFor.{StandsFor, FitsHomes}
 use Rattle.block_cache_gen.specs.Accesses.{accesses, test_accesses, seen_of_all}
-use Rattle.block_cache_gen.specs.Leaves.{Leaves, LeavesBoth}
+use Rattle.block_cache_gen.specs.LeavesWord.{LeavesWord, LeavesBoth}
 use Rattle.block_cache_gen.specs.Assignments.{Assigns, assigned, by_mode, seen_of_set}
 
 -- a state at the first instruction of code, of an object that has the homes, stands for a store
@@ -31,7 +31,7 @@ pub record BeginsCode (o : Parts) (f : Setting) (store : Store) (s : State) (cod
 pub record Evaluates (f : Setting) (mode : Mode) (to : ℕ) (e : Tree) (code : List Instr) : Type 0 where
   pub runs : (o : Parts) (store : Store) (s : State) → BeginsCode o f store s code
       → RunsThrough o s code (seen_of_all mode s.banks s.slots (accesses f store e))
-      (Leaves f store (accesses f store e) to (evaluated f.decls store e) s)
+      (LeavesWord f store (accesses f store e) to (evaluated f.decls store e) s)
 
 -- the code of a guard: its sides come to be in register `to` and the next one
 pub record EvaluatesTest (f : Setting) (mode : Mode) (to : ℕ) (t : Test) (code : List Instr) : Type 0 where

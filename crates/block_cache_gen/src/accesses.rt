@@ -2,7 +2,7 @@ ghost use Rattle.std.specs.Prelude.{◌≡◌, ℕ, ◌+◌, ◌*◌, ◌/◌, �
 ghost use Rattle.std.specs.List.{list_any, range_with_len};
 ghost use Rattle.gr_word.specs.Words.{unsigned_of};
 ghost use Rattle.src_tree.specs.Trees.{expr_tree};
-ghost use Rattle.block_cache_gen.specs.Codes.{block_code, fixed_code, fixed_index, fixed_word, is_cached, is_masked, is_power, may_skip_loads, literal, load_code, reduced_code, scalar_code, skips};
+ghost use Rattle.block_cache_gen.specs.Codes.{shift_code, fixed_code, fixed_index, fixed_word, is_cached, is_masked, is_power, may_skip_loads, literal, load_code, reduced_code, scalar_code, skips};
 ghost use Rattle.block_cache_gen.specs.Notes.{access_mask, load_notes, marked_by, note_of, unmarked};
 ghost use Rattle.block_cache_gen.specs.Emitted.{Appended, CodeGrows, no_notes, notes_in};
 ghost use Rattle.block_cache_gen.specs.TreeWords.{HasWords};
@@ -210,7 +210,7 @@ fn put_block(
 ) -> Result<(), Memory>
     requires registers { to + 2 < 32 }
     ensures appended { OnOk result
-        (Appended out.old out.new (block_code emitter.now.profile.block_log (home_in array) to) no_notes) }
+        (Appended out.old out.new (shift_code emitter.now.profile.block_log (home_in array) to) no_notes) }
     ensures grows { CodeGrows out.old out.new }
 {
     out.put(&[
@@ -247,7 +247,7 @@ pub(crate) fn put_located(
 ) -> Result<(), Memory>
     requires registers { to + 2 < 32 }
     ensures appended { OnOk result (Appended out.old out.new
-        (reduced_code (home_in array) to ++ block_code emitter.now.profile.block_log (home_in array) to) no_notes) }
+        (reduced_code (home_in array) to ++ shift_code emitter.now.profile.block_log (home_in array) to) no_notes) }
     ensures grows { CodeGrows out.old out.new }
 {
     put_reduced(out, array, to)?;

@@ -33,7 +33,7 @@ use Rattle.block_cache_gen.specs.Alike.{pair_count}
 use Rattle.block_cache_gen.specs.StandsFor.{StandsFor, FitsHomes}
 use Rattle.block_cache_gen.specs.Accesses.{test_accesses, seen_of_all}
 use Rattle.block_cache_gen.specs.Assignments.{Assigns, assigned, by_mode, seen_of_set}
-use Rattle.block_cache_gen.specs.Leaves.{LeavesBoth}
+use Rattle.block_cache_gen.specs.LeavesWord.{LeavesBoth}
 use Rattle.block_cache_gen.specs.RunsOf.{BeginsCode, Performs}
 use Rattle.block_cache_gen.proofs.Stands.{stands-like}
 use Rattle.block_cache_gen.proofs.RunsOf.{guard-evaluates, assignment-performs}

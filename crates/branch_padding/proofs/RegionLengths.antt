@@ -23,8 +23,8 @@ module _ (f : Setting) (few : f.profile.taken ≤ 32) (mode : Mode) (t : Test) (
   room = 120 * both_weights f first second
 
   -- so much may still follow what there is now, where the branch began behind some code
-  abbrev Leaves : CodeBuf → CodeBuf → ℕ → Type 0
-  Leaves out now rest =
+  abbrev LeavesRoom : CodeBuf → CodeBuf → ℕ → Type 0
+  LeavesRoom out now rest =
       length now.code.items + rest
       ≤ length out.code.items + 120 * statement_weight (context_of f.decls) label.Secret (Choice t first second)
 
@@ -37,14 +37,14 @@ module _ (f : Setting) (few : f.profile.taken ≤ 32) (mode : Mode) (t : Test) (
 
   -- the guard and its branch
   pub behind-branch : {out guarded branched : CodeBuf} → EmitsGuard f mode 0 t out guarded
-      → Appended guarded branched (Nop ∷ []) no_notes → Leaves out branched (100 + (room + room))
+      → Appended guarded branched (Nop ∷ []) no_notes → LeavesRoom out branched (100 + (room + room))
   behind-branch {out = out} {guarded = guarded} {branched = branched} emitted branch =
       omega (arith, guard-behind f mode t out guarded emitted, one-behind guarded branched Nop branch)
 
   -- the arm that isn't taken, and the jump behind it
   pub behind-untaken : {out guarded branched : CodeBuf} (arm : Mode) (untaken : CodeBuf)
       → EmitsGuard f mode 0 t out guarded → Appended guarded branched (Nop ∷ []) no_notes
-      → PutsUntaken arm branched untaken → Leaves out untaken (68 + room)
+      → PutsUntaken arm branched untaken → LeavesRoom out untaken (68 + room)
   behind-untaken {branched = branched} arm untaken emitted branch put =
       omega (
         arith,

@@ -1,49 +1,63 @@
--- An object whose code is passed from its start up to its last place, at which it is left, is accepted.
-use Rattle.std.proofs.Common.{◌≡◌, ℕ, ◌+◌, ◌-◌, ◌<◌, ◌≤◌, Bool, false, ℤ, length, Option, Some, None, Result, Ok, Err, refl, sym, ap, ◌∙◌, subst, ⊎_elim, arith}
-use Rattle.std.specs.Prelude.{if◌then◌else◌}
+-- What the check has come to is carried over a stretch that is passed. An object whose code is checked so from its start
+-- up to its last place, at which it is left, is accepted.
+use Rattle.std.proofs.Common.{◌≡◌, ℕ, zero, suc, ◌+◌, ◌-◌, ◌<◌, ◌≤◌, true, false, ℤ, length, Option, Some, None, refl, sym, ap, ◌∙◌, subst, ⊎_elim, arith}
 use Rattle.std.proofs.lemmas.Bool.{cases_lt}
 use Rattle.lt_isa.specs.Object.{Parts}
 use Rattle.trace_patterns.specs.declared.reasons.Reason.{Reason}
-use Rattle.trace_patterns.specs.declared.reasons.Reason.TheVariants.{NoteTooLow}
 use Rattle.trace_patterns.specs.Patterns.{Shown}
 use Rattle.trace_patterns.specs.Events.{TreeEvent}
-use Rattle.trace_patterns.specs.Known.{Known, start_known}
+use Rattle.trace_patterns.specs.Known.{Known, start_known, fits}
 use Rattle.trace_patterns.specs.SymStates.{SymState, at_entry, known_after}
 use Rattle.trace_patterns.specs.Rules as rule
 use Rattle.trace_patterns.specs.Rules.{claimed_at, ruling_at}
-use Rattle.trace_patterns.specs.Visits.{CrossesFrom}
-use Rattle.trace_patterns.specs.Accepts.{Accepts, has_secret_in_ram}
+use Rattle.trace_patterns.specs.Visits.{VisitedAt, Noted, Unnoted, Starts, FallsTo, JoinsAt, FitsNote, CrossesFrom}
+use Rattle.trace_patterns.specs.Accepts.{Accepts, RefusedAt, has_secret_in_ram}
 use Rattle.stretches.specs.Passing.{HoldsAt, AsItComes, AsClaimed, Passes, Done, Onward, Away, Across}
+use Rattle.stretches.specs.Checked.{StartsFrom, ByComing, ByNote, CheckedUpTo}
 use Rattle.trace_patterns.proofs.Notes.{fits-claim}
 use Rattle.trace_patterns.proofs.Walks.{crosses-region}
 use Rattle.region_walk.proofs.WalkRelations.{crosses-crossing}
-use Rattle.lt_checker.specs.ByPlace.{Effect, Falls, Leaves, Joins, joined_at, effect_at, entered, on_entry, Arrival, Unreached, Here, effect_from, arrival_at, reached_at, refusal_in, refusal_at, NoneBelow}
-use Rattle.lt_checker.proofs.Reached.{reached_at-zero, reached_at-next, effect_from-inside, reached-inside, reached-join}
-use Rattle.lt_checker.proofs.PlaceRelations.{effect-ruled, falls_on}
-use Rattle.lt_checker.proofs.Refusals.{none_is_accepted}
-
--- what the check makes of a place is what it makes of it where this holds, by what comes to it
-abbrev Enters : Parts → ℕ → Known → Type 0
-Enters o p k = (holds : Known) → HoldsAt o p k holds → effect_from o p (reached_at o p) ≡ effect_at o p holds
+use Rattle.lt_checker.specs.ByPlace.{Effect, Falls, Leaves, Joins, joined_at, effect_at, Arrival, Unreached, Here, effect_from, arrival_at, reached_at, refusal_in, refusal_at, NoneBelow}
+use Rattle.lt_checker.proofs.Reached.{reached_at-next, effect_from-inside, reached-inside}
+use Rattle.lt_checker.proofs.PlaceRelations.{FitsHere, here-comes, comes-here, visited-known, no_refusal, effect-ruled, falls_on}
+use Rattle.lt_checker.proofs.Refusals.{refused-found, found-refused, none_is_accepted}
 
 module _ (o : Parts) where
-  -- where it is reached
-  reached_enters : (p : ℕ) (k : Known) → reached_at o p ≡ Here k → Enters o p k
-  unfolding effect_from
-  reached_enters p k here holds (AsItComes k' none) =
-      ap (effect_from o p) here ∙ ap (λ (c : Option Known). on_entry (entered c (Some k)) (effect_at o p)) none
-  reached_enters p k here holds (AsClaimed k' claimed noted fit) =
-      ap (effect_from o p) here ∙ ap (λ (c : Option Known). on_entry (entered c (Some k)) (effect_at o p)) noted
-      ∙ ap (λ (b : Bool). let r : Result Known Reason = if b then Ok claimed else Err NoteTooLow in on_entry r
-      (effect_at o p)) ((fits-claim o p k claimed noted).1 fit)
+  unclaimed : {A : Type 0} (p : ℕ) (k : Known) → claimed_at o p ≡ None → claimed_at o p ≡ Some k → A
+  unclaimed p k none noted = absurd (let e : ◌≡◌ {A = Option Known} None (Some k) = sym none ∙ noted in cc)
 
-  -- where it isn't, and a note stands there
-  noted_enters : (p : ℕ) (k : Known) → reached_at o p ≡ Unreached → claimed_at o p ≡ Some k → Enters o p k
-  unfolding effect_from
-  noted_enters p k here noted holds (AsItComes k' none) =
-      absurd (let e : ◌≡◌ {A = Option Known} None (Some k) = sym none ∙ noted in cc)
-  noted_enters p k here noted holds (AsClaimed k' claimed at fit) =
-      ap (effect_from o p) here ∙ ap (λ (c : Option Known). on_entry (entered c None) (effect_at o p)) at
+  -- what holds where the check has come to is known there
+  starts-visited : (p : ℕ) (k holds : Known) → StartsFrom o p k → HoldsAt o p k holds → VisitedAt o p holds
+  starts-visited p k holds (ByComing k' comes) (AsItComes j none) = Unnoted p k none comes
+  starts-visited p k holds (ByComing k' comes) (AsClaimed j claimed noted fit) = Noted p claimed noted
+  starts-visited p k holds (ByNote k' at fitting) (AsItComes j none) = unclaimed p k none at
+  starts-visited p k holds (ByNote k' at fitting) (AsClaimed j claimed noted fit) = Noted p claimed noted
+
+  -- what reaches it fits its note
+  fits_reached : (p : ℕ) → FitsNote o p → FitsHere o p
+  fits_reached p fitting k claimed here at =
+      (fits-claim o p k claimed at).1 (fitting k claimed (here-comes o p k here) at)
+
+  starts-fits : (p : ℕ) (k holds : Known) → StartsFrom o p k → HoldsAt o p k holds → NoneBelow o p → p < length o.code
+      → FitsHere o p
+  starts-fits p k holds (ByNote k' noted fitting) there none inside other claim here at =
+      fits_reached p fitting other claim here at
+  starts-fits p k holds (ByComing k' comes) (AsItComes j unnoted) none inside other claim here at =
+      unclaimed p claim unnoted at
+  starts-fits p k holds (ByComing k' comes) (AsClaimed j claimed noted fit) none inside other claim here at =
+      let reached : ◌≡◌ {A = Arrival} (Here k) (Here other) = sym (comes-here o p k comes none inside) ∙ here in
+      let claims : ◌≡◌ {A = Option Known} (Some claimed) (Some claim) = sym noted ∙ at in
+      let known : k ≡ other = cc in
+      let same : claimed ≡ claim = cc in
+      subst (λ (x : Known). fits x claim ≡ true) known
+      (subst (λ (x : Known). fits k x ≡ true) same ((fits-claim o p k claimed noted).1 fit))
+
+  -- so the check makes of it what it makes of a place where this holds
+  starts-effect : (p : ℕ) (k holds : Known) → StartsFrom o p k → HoldsAt o p k holds → NoneBelow o p
+      → p < length o.code → effect_from o p (reached_at o p) ≡ effect_at o p holds
+  starts-effect p k holds starts here none inside =
+      visited-known o p holds (starts-visited p k holds starts here) none
+      (starts-fits p k holds starts here none inside) inside
 
   -- one place more isn't refused
   none_more : (p : ℕ) (e : Effect) → effect_from o p (reached_at o p) ≡ e → refusal_in p e ≡ None → NoneBelow o p
@@ -67,45 +81,114 @@ module _ (o : Parts) where
       ∙ ap (refusal_in q) (effect_from-inside o q join k))
       (cases_lt q (p + 1))
 
-  crossed_effect : (p : ℕ) (k holds : Known) (offset : ℤ) (pattern : Shown TreeEvent) (join : ℕ) (state : SymState)
-      → Enters o p k → HoldsAt o p k holds → ruling_at o p holds ≡ rule.Opens offset
-      → CrossesFrom o p offset holds pattern join state
-      → effect_from o p (reached_at o p) ≡ Joins join (known_after state)
-  crossed_effect p k holds offset pattern join state enters here opens crosses =
-      enters holds here ∙ effect-ruled o p holds (rule.Opens offset) opens
-      ∙ ap joined_at (crosses-crossing o 0 (length o.code - 1) p offset (at_entry holds) pattern join state crosses)
+  -- nothing comes to a place behind one that leads elsewhere alone
+  fits_left : (p : ℕ) → effect_from o p (reached_at o p) ≡ Leaves → NoneBelow o (p + 1) → p + 1 < length o.code
+      → FitsNote o (p + 1)
+  fits_left p is none inside k claimed comes at =
+      let e : ◌≡◌ {A = Arrival} Unreached (Here k) = sym (reached_at-next o p ∙ ap (arrival_at (p + 1)) is)
+      ∙ comes-here o (p + 1) k comes none inside in
+      absurd cc
 
-  -- no place of a stretch that is passed is refused
-  passes-none : (p : ℕ) (k : Known) (q : ℕ) (l : Known) → Passes o p k q l → Enters o p k → NoneBelow o p
-      → Enters o q l × NoneBelow o q
-  passes-none p k q l (Done p' k') enters none = (enters, none)
-  passes-none p k q l (Onward p' k' holds next q' l' here rules inside rest) enters none =
-      let is : effect_from o p (reached_at o p) ≡ Falls next = enters holds here
-      ∙ effect-ruled o p holds (rule.Falls next) rules ∙ falls_on o p next inside in
-      passes-none (p + 1) next q l rest
-      (reached_enters (p + 1) next (reached_at-next o p ∙ ap (arrival_at (p + 1)) is))
-      (none_more p (Falls next) is refl none)
-  passes-none p k q l (Away p' k' holds claimed q' l' here rules noted rest) enters none =
-      let is : effect_from o p (reached_at o p) ≡ Leaves = enters holds here
-      ∙ effect-ruled o p holds rule.Leaves rules in
-      passes-none (p + 1) claimed q l rest
-      (noted_enters (p + 1) claimed (reached_at-next o p ∙ ap (arrival_at (p + 1)) is) noted)
-      (none_more p Leaves is refl none)
-  passes-none p k q l (Across p' k' holds offset pattern join state q' l' here rules crosses rest) enters none =
+  joins_behind : (p : ℕ) (holds : Known) (offset : ℤ) (pattern : Shown TreeEvent) (join : ℕ) (state : SymState)
+      → CrossesFrom o p offset holds pattern join state → p < join
+  joins_behind p holds offset pattern join state crosses =
       let region = crosses-region o 0 (length o.code - 1) p offset (at_entry holds) pattern join state crosses in
-      let behind : p < join = omega (arith, region.1.first, region.1.second) in
-      let is = crossed_effect p k holds offset pattern join state enters here rules crosses in
-      passes-none join (known_after state) q l rest
-      (reached_enters join (known_after state) (reached-join o p join (known_after state) is behind))
+      omega (arith, region.1.first, region.1.second)
+
+  -- a stretch leads on
+  passes-on : (p : ℕ) (k : Known) (q : ℕ) (l : Known) → Passes o p k q l → p ≤ q
+  passes-on p k q l (Done p' k') = omega arith
+  passes-on p k q l (Onward p' k' holds next q' l' here rules inside rest) =
+      omega (arith, passes-on (p + 1) next q l rest)
+  passes-on p k q l (Away p' k' holds claimed q' l' here rules noted rest) =
+      omega (arith, passes-on (p + 1) claimed q l rest)
+  passes-on p k q l (Across p' k' holds offset pattern join state q' l' here rules crosses rest) =
+      omega (arith, joins_behind p holds offset pattern join state crosses, passes-on join (known_after state) q l rest)
+
+  -- no place of a stretch that is passed is refused, and what it says comes to the place behind it
+  passes-none : (p : ℕ) (k : Known) (q : ℕ) (l : Known) → Passes o p k q l → q < length o.code → StartsFrom o p k
+      → NoneBelow o p → StartsFrom o q l × NoneBelow o q
+  passes-none p k q l (Done p' k') last starts none = (starts, none)
+  passes-none p k q l (Onward p' k' holds next q' l' here rules inside rest) last starts none =
+      let is : effect_from o p (reached_at o p) ≡ Falls next =
+      starts-effect p k holds starts here none (omega arith)
+      ∙ effect-ruled o p holds (rule.Falls next) rules ∙ falls_on o p next inside in
+      passes-none (p + 1) next q l rest last
+      (ByComing next (FallsTo p holds next (starts-visited p k holds starts here) rules))
+      (none_more p (Falls next) is refl none)
+  passes-none p k q l (Away p' k' holds claimed q' l' here rules noted rest) last starts none =
+      let on = passes-on (p + 1) claimed q l rest in
+      let is : effect_from o p (reached_at o p) ≡ Leaves =
+      starts-effect p k holds starts here none (omega (arith, on)) ∙ effect-ruled o p holds rule.Leaves rules in
+      let more = none_more p Leaves is refl none in
+      passes-none (p + 1) claimed q l rest last (ByNote claimed noted (fits_left p is more (omega (arith, on)))) more
+  passes-none p k q l (Across p' k' holds offset pattern join state q' l' here rules crosses rest) last starts none =
+      let behind = joins_behind p holds offset pattern join state crosses in
+      let on = passes-on join (known_after state) q l rest in
+      let is : effect_from o p (reached_at o p) ≡ Joins join (known_after state) =
+      starts-effect p k holds starts here none (omega (arith, behind, on))
+      ∙ effect-ruled o p holds (rule.Opens offset) rules
+      ∙ ap joined_at
+      (crosses-crossing o 0 (length o.code - 1) p offset (at_entry holds) pattern join state crosses) in
+      passes-none join (known_after state) q l rest last
+      (ByComing (known_after state)
+      (JoinsAt p holds offset pattern join state (starts-visited p k holds starts here) rules crosses))
       (none_inside p join (known_after state) is none)
 
-  -- an object that is passed up to its last place, which is left, is accepted where no secret lies in plain memory
+  -- the refusals that the check finds are those of the relations
+  none_if : (p : ℕ) (r : Option (ℕ × Reason)) → refusal_at o p ≡ r → NoneBelow o p → p < length o.code
+      → ((place : ℕ) (reason : Reason) → ¬ RefusedAt o p place reason) → refusal_at o p ≡ None
+  none_if p None is none inside apart = is
+  none_if p (Some r) is none inside apart = absurd (apart r.0 r.1 (found-refused o p none inside r.0 r.1 is))
+
+  none_found : (n : ℕ) → n ≤ length o.code
+      → ((q place : ℕ) (reason : Reason) → q < n → ¬ RefusedAt o q place reason) → NoneBelow o n
+  none_found zero le apart = λ q lt. absurd (omega arith)
+  none_found (suc n) le apart =
+      let before = none_found n (omega arith) (λ q place reason lt. apart q place reason (omega arith)) in
+      λ q lt.
+      ⊎_elim
+      (λ (low : q < n). before q low)
+      (λ (high : n ≤ q).
+      let same : n ≡ q = omega arith in
+      subst (λ (r : ℕ). refusal_at o r ≡ None) same
+      (none_if n (refusal_at o n) refl before (omega arith) (λ place reason. apart n place reason (omega arith))))
+      (cases_lt q n)
+
+  none-refused : (p : ℕ) → p ≤ length o.code → NoneBelow o p → (q place : ℕ) (reason : Reason) → q < p
+      → ¬ RefusedAt o q place reason
+  none-refused p le none q place reason lt refused =
+      no_refusal o q (place, reason)
+      (sym (refused-found o q (λ r less. none r (omega arith)) (omega arith) place reason refused) ∙ none q lt)
+
+  -- the check begins at the first place
+  pub checked-start : CheckedUpTo o 0 start_known
+  checked-start = record {
+    none_refused = λ q place reason lt. absurd (omega arith);
+    starts = ByComing start_known Starts;
+  }
+
+  -- and comes so far behind a stretch that is passed
+  pub checked-on : (p q : ℕ) (comes last : Known) → CheckedUpTo o p comes → Passes o p comes q last
+      → q < length o.code → CheckedUpTo o q last
+  checked-on p q comes last checked passes inside =
+      let on = passes-on p comes q last passes in
+      let passed = passes-none p comes q last passes inside checked.starts
+      (none_found p (omega (arith, on)) checked.none_refused) in
+      record { none_refused = none-refused q (omega arith) passed.1; starts = passed.0 }
+
+  -- an object that is checked up to its last place, which is left, is accepted where no secret lies in plain memory
+  pub checked-accepted : (q : ℕ) (k holds : Known) → CheckedUpTo o q k → HoldsAt o q k holds
+      → ruling_at o q holds ≡ rule.Leaves → q + 1 ≡ length o.code → has_secret_in_ram o ≡ false → Accepts o
+  checked-accepted q k holds checked here leaves last symbols =
+      let none = none_found q (omega arith) checked.none_refused in
+      let is : effect_from o q (reached_at o q) ≡ Leaves =
+      starts-effect q k holds checked.starts here none (omega arith) ∙ effect-ruled o q holds rule.Leaves leaves in
+      none_is_accepted o (subst (NoneBelow o) last (none_more q Leaves is refl none)) symbols
+
+  -- so is one that is passed up to there
   pub passes-accepted : (q : ℕ) (k holds : Known) → Passes o 0 start_known q k → HoldsAt o q k holds
       → ruling_at o q holds ≡ rule.Leaves → q + 1 ≡ length o.code → has_secret_in_ram o ≡ false → Accepts o
   passes-accepted q k holds passes here leaves last symbols =
-      let passed = passes-none 0 start_known q k passes
-      (reached_enters 0 start_known (reached_at-zero o)) (λ r lt. absurd (omega arith)) in
-      let is : effect_from o q (reached_at o q) ≡ Leaves = passed.0 holds here
-      ∙ effect-ruled o q holds rule.Leaves leaves in
-      none_is_accepted o
-      (subst (NoneBelow o) last (none_more q Leaves is refl passed.1)) symbols
+      checked-accepted q k holds (checked-on 0 q start_known k checked-start passes (omega arith)) here leaves last
+      symbols

@@ -9,7 +9,7 @@ use Rattle.block_cache_gen.specs.Accesses.{ArrayAccess, slots_after}
 
 -- From state s to t: a word is in register `to`, the registers below it and the banks are as before, the accesses have
 -- left their blocks in the slots, and the state still stands for the store.
-pub record Leaves (f : Setting) (store : Store) (accesses : List ArrayAccess) (to : ℕ) (word : ℤ)
+pub record LeavesWord (f : Setting) (store : Store) (accesses : List ArrayAccess) (to : ℕ) (word : ℤ)
     (s t : State) : Type 0 where
   pub value : register t to ≡ word
   pub below : (r : ℕ) → r < to → register t r ≡ register s r

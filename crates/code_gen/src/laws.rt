@@ -1,0 +1,24 @@
+ghost use Rattle.std.specs.Prelude.{◌≡◌, ◌+◌, ◌<◌, ℕ, false, length};
+ghost use Rattle.lt_isa.specs.Object.{Parts};
+ghost use Rattle.trace_patterns.specs.Accepts.{Accepts, has_secret_in_ram};
+ghost use Rattle.trace_patterns.specs.Known.{Known, start_known};
+ghost use Rattle.trace_patterns.specs.Rules.{Leaves, ruling_at};
+ghost use Rattle.stretches.specs.Checked.{CheckedUpTo};
+ghost use Rattle.stretches.specs.Passing.{HoldsAt, Passes};
+
+/// Does nothing; its clauses say what it means that a stretch of public code is passed, as the calls that make code say
+/// of theirs. What the check has come to at its first place is carried to the place behind it, and no place between is
+/// refused. The check begins at the first place of the code; an object whose code is passed so up to its last place,
+/// which is left, is accepted where no secret variable lies in plain memory.
+pub fn passing_laws()
+    ensures starts { (o : Parts) → CheckedUpTo o 0 start_known }
+    ensures carried { (o : Parts) (p q : ℕ) (comes last : Known)
+        → CheckedUpTo o p comes → Passes o p comes q last → q < length o.code → CheckedUpTo o q last }
+    ensures accepted { (o : Parts) (q : ℕ) (comes holds : Known)
+        → CheckedUpTo o q comes
+        → HoldsAt o q comes holds
+        → ruling_at o q holds ≡ Leaves
+        → q + 1 ≡ length o.code
+        → has_secret_in_ram o ≡ false
+        → Accepts o }
+{}
