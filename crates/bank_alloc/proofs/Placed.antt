@@ -1,6 +1,6 @@
 -- The places that are worked out one behind the other are those by the variables that are declared before.
 use Rattle.std.proofs.Common.{◌≡◌, ℕ, zero, suc, ◌+◌, ◌%◌, ◌^◌, ◌<◌, ◌≤◌, Bool, true, false, cond, eqb, List, [], ◌∷◌, ◌++◌, length, take, get_or, refl, sym, ap, subst, ◌∙◌, arith}
-use Rattle.std.specs.Prelude.{nat_le, ◌&&◌, ◌||◌, not, min, sum_by, count_by}
+use Rattle.std.specs.Prelude.{nat_le, ◌&&◌, min, sum_by, count_by}
 use Rattle.std.proofs.lemmas.Bool.{le-leb}
 use Rattle.std.proofs.lemmas.Bool.Decides.{nat_tests}
 use Rattle.std.proofs.lemmas.List.{ext_get_or, take_all, take_more}
@@ -12,7 +12,7 @@ use Rattle.bank_alloc.specs.declared.classes.Class.{Class}
 use Rattle.bank_alloc.specs.declared.classes.Class.TheVariants.{PublicScalar, SecretScalar, PublicArray, EncryptedArray, ObliviousArray}
 use Rattle.bank_alloc.specs.declared.places.Place.{Place}
 use Rattle.bank_alloc.specs.Classes.{class_of}
-use Rattle.bank_alloc.specs.Places.{blocks_for, is_oblivious, is_array, is_scalar_in, is_array_in, scalars_in, oblivious_arrays, first_block, blocks_taken, first_free_block, place_behind, places_of}
+use Rattle.bank_alloc.specs.Places.{blocks_for, is_oblivious, is_scalar_in, is_array_in, scalars_in, oblivious_arrays, blocks_taken, first_free_block, place_behind, places_of}
 use Rattle.bank_alloc.specs.PlaceRules.{is_same, count_of, blocks_of_class, blocks_in_turn, place_by, ArePlaced, BanksNeed}
 use Rattle.bank_alloc.proofs.EachPlace.{any_decl, any_place, length-places, get_or-places, array_block}
 

@@ -162,7 +162,8 @@ note_line_fits n follows words d h =
 alone : (name : Word) (words : List Word) → eqb (length words) 0 ≡ true → words ≡ []
 alone name words e = nil_from_length words (eqb-true _ _ e)
 
-none_is : (o : Option ℕ) → is_none o ≡ true → o ≡ None
+-- what is none by a test
+pub none_is : (o : Option ℕ) → is_none o ≡ true → o ≡ None
 none_is None e = refl
 none_is (Some n) e = absurd cc
 

@@ -24,6 +24,7 @@ use Rattle.lt_assembler.proofs.Gathered.{SameLabels, option_list}
 use Rattle.lt_assembler.proofs.InRange.{nothing_goes}
 use Rattle.lt_assembler.proofs.LineByLine.{read_one, read_fault, read_none}
 use Rattle.lt_assembler.proofs.LineFaults.{line_is_judged, said_is_read, fault_is_read, spelled_stands, said_fresh}
+use Rattle.lt_assembler.proofs.ReadsForm.{false_by}
 use Rattle.lt_assembler.proofs.Settled.{Settles, Known, Unknown, IsUnknownUse}
 use Rattle.lt_assembler.proofs.Spelled.{is_gathered, settling}
 use Rattle.lt_assembler.proofs.SpelledRead.{no_instruction, some_code}
@@ -339,17 +340,13 @@ unfolding assembled
 end_fault text items e k h =
     let fine : read_lines 1 (lines text) empty_draft ≡ Ok k.draft = k.read ∙ read_none _ k.draft in rw fine h
 
-lacking : (b : Bool) → (b ≡ true → ⊥) → b ≡ false
-lacking true never = absurd (never refl)
-lacking false never = refl
-
 -- a text has no other fault
 pub one_fault : (text : List ℕ) (e : AsmError) → IsFirstTextFault text e → assembled text ≡ Err e
 one_fault text _ (InLine n fault h) = in_line_fault text n fault h
 one_fault text _ (TooShort items said lacks) =
     let k = reach_from_start text items [] said in
     end_fault text items _ k
-    (too_short (end_line text) k.draft (lacking _ (λ e. lacks (complete text k.draft items said k.at e))))
+    (too_short (end_line text) k.draft (false_by _ (λ e. lacks (complete text k.draft items said k.at e))))
 one_fault text _ (UnknownLabel items n said whole u) =
     let k = reach_from_start text items [] said in
     let parts =

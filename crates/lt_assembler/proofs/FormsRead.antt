@@ -37,7 +37,7 @@ use Rattle.lt_assembler.proofs.InstructionWords.{op_again, cmp_again}
 use Rattle.lt_assembler.proofs.InstructionsRead.{instruction_read_so}
 use Rattle.lt_assembler.proofs.ItemsRead.{label_reads, shape_reads, label_name_again, label_reads_by, named}
 use Rattle.lt_assembler.proofs.NumberWords.{register_again, bank_again, mask_again}
-use Rattle.lt_assembler.proofs.ReadsForm.{ReadsForm, Formed, formed_ok, formed_then, formed_number, number_formed, named_formed, if_formed, test_formed, name_formed, limit_formed}
+use Rattle.lt_assembler.proofs.ReadsForm.{or_left, or_right, ReadsForm, Formed, formed_ok, formed_then, formed_number, number_formed, named_formed, if_formed, test_formed, name_formed, limit_formed}
 use Rattle.lt_assembler.proofs.Earlier.{earlier_of}
 
 -- targets
@@ -200,18 +200,10 @@ follows_by_test [] e = absurd cc
 follows_by_test (line ∷ ls) e =
     by_either (is_instruction_line line) (instruction_follows ls) _ _ (form_line line) (follows_by_test ls) e
 
-at_first : (a b : Bool) → a ≡ true → (a || b) ≡ true
-at_first true b e = refl
-at_first false b e = absurd cc
-
-at_rest : (a b : Bool) → b ≡ true → (a || b) ≡ true
-at_rest true b e = refl
-at_rest false b e = e
-
 pub test_by_follows : (ls : List (List ℕ)) → InstructionFollows ls → instruction_follows ls ≡ true
 test_by_follows [] h = absurd h
-test_by_follows (line ∷ ls) (inl h) = at_first _ _ (line_form line h.0 h.1)
-test_by_follows (line ∷ ls) (inr h) = at_rest _ _ (test_by_follows ls h)
+test_by_follows (line ∷ ls) (inl h) = or_left _ _ (line_form line h.0 h.1)
+test_by_follows (line ∷ ls) (inr h) = or_right _ _ (test_by_follows ls h)
 
 -- lines
 

@@ -22,13 +22,14 @@ use Rattle.lt_assembler.specs.LineRules.{IsOfForm, FitsRanges, HasNewName, HasRo
 use Rattle.lt_assembler.specs.Spelled.{Stands}
 use Rattle.lt_assembler.proofs.Added.{added, IsFresh, stage_in, is_none-stage, takes_bank-stage, takes_symbol-stage, takes_code-stage}
 use Rattle.lt_assembler.proofs.CanonicalWords.{HasSmallNumbers}
+use Rattle.lt_assembler.proofs.CodeLines.{none_is}
 use Rattle.lt_assembler.proofs.Earlier.{earlier_of, width_is}
 use Rattle.lt_assembler.proofs.FormsRead.{line_formed}
 use Rattle.lt_assembler.proofs.Gathered.{SameLabels}
 use Rattle.lt_assembler.proofs.HeadLines.{DraftFits, memory_of}
 use Rattle.lt_assembler.proofs.ItemsRead.{may_stand, is_new_in, has_room_in, passing, judged, InRange, item_judged, new_reads}
 use Rattle.lt_assembler.proofs.LineForms.{SpellIn, words_read}
-use Rattle.lt_assembler.proofs.ReadsForm.{LineReads, Formed}
+use Rattle.lt_assembler.proofs.ReadsForm.{false_by, LineReads, Formed}
 use Rattle.lt_assembler.proofs.Splitting.{on_test}
 
 -- sizes
@@ -104,10 +105,6 @@ only_number (Err Number) F S h formed never = refl
 only_number (Err RepeatedName) F S h formed never = absurd (never h.known.1)
 only_number (Err Limit) F S h formed never = absurd (never h.known.1)
 only_number (Err Memory) F S h formed never = absurd h.known
-
-none_is : (o : Option ℕ) → is_none o ≡ true → o ≡ None
-none_is None e = refl
-none_is (Some n) e = absurd cc
 
 module _ (d : Draft) (labels : Labels) (after : List (List ℕ)) (h : DraftFits d)
     (same : SameLabels d.labels labels) where
@@ -277,10 +274,6 @@ module _ (d : Draft) (labels : Labels) (after : List (List ℕ)) (h : DraftFits 
       line_judged n line item s.in_range
       ∙ ap (λ b. passing true b (has_room_in d item) (added n item d)) new
       ∙ ap (λ b. passing true true b (added n item d)) room
-
-  false_by : (b : Bool) → (b ≡ true → ⊥) → b ≡ false
-  false_by true never = absurd (never refl)
-  false_by false never = refl
 
   -- and so is its fault
   pub fault_is_read : (n : ℕ) (line : List ℕ) (fault : Fault) → HasFault (earlier_of d labels) line after fault

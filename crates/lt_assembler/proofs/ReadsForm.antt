@@ -8,6 +8,7 @@ use Rattle.lt_assembler.specs.declared.faults.Fault.TheVariants.{WrongForm, Numb
 use Rattle.lt_assembler.specs.Faults.{form, number_or, unless_not}
 use Rattle.lt_assembler.specs.Drafts.{Draft}
 
+-- tests of which one holds, and a test that doesn't
 pub or_left : (a b : Bool) → a ≡ true → (a || b) ≡ true
 or_left true b e = refl
 or_left false b e = absurd cc
@@ -15,6 +16,10 @@ or_left false b e = absurd cc
 pub or_right : (a b : Bool) → b ≡ true → (a || b) ≡ true
 or_right true b e = refl
 or_right false b e = e
+
+pub false_by : (b : Bool) → (b ≡ true → ⊥) → b ≡ false
+false_by true never = absurd (never refl)
+false_by false never = refl
 
 -- Words with a value, or with a faulty number, have the form F, and a value has the property P.
 abbrev pub Known : {X : Type 0} → Result X Fault → Type 0 → (X → Type 0) → Type 0

@@ -1,6 +1,6 @@
 -- What a text spells is assembled from it.
-use Rattle.std.proofs.Common.{◌≡◌, ℕ, suc, ◌+◌, ◌^◌, ◌<◌, ◌≤◌, Bool, true, false, not, eqb, List, [], ◌∷◌, ◌++◌, length, map, take, Option, Some, None, Ok, refl, sym, ap, subst, ◌∙◌, append_assoc, arith, length-append}
-use Rattle.std.specs.Prelude.{All, pos, option_map, is_none, ◌||◌}
+use Rattle.std.proofs.Common.{◌≡◌, ℕ, suc, ◌+◌, ◌^◌, ◌<◌, ◌≤◌, Bool, true, not, eqb, List, [], ◌∷◌, ◌++◌, length, map, take, Option, Some, None, Ok, refl, sym, ap, subst, ◌∙◌, append_assoc, arith, length-append}
+use Rattle.std.specs.Prelude.{All, pos, option_map, is_none}
 use Rattle.std.proofs.Math.Seq.{get_or-append_seam, take-append_seam}
 use Rattle.std.proofs.lemmas.Bool.{le-leb, and_from}
 use Rattle.std.proofs.lemmas.Bool.Decides.{nat_tests}
@@ -37,6 +37,7 @@ use Rattle.lt_assembler.proofs.InstructionsRead.{none_offset}
 use Rattle.lt_assembler.proofs.ItemsRead.{ItemFits, item_reads, instruction_form}
 use Rattle.lt_isa.proofs.SymbolPlaces.{most_words-le, most_blocks-le}
 use Rattle.lt_assembler.proofs.LineByLine.{read_one, read_none}
+use Rattle.lt_assembler.proofs.ReadsForm.{or_left, or_right}
 use Rattle.lt_assembler.proofs.Settled.{Settles, Known, Unknown}
 use Rattle.lt_assembler.proofs.Spelled.{stage_start, headed_start, is_gathered, settling}
 
@@ -116,14 +117,6 @@ abbrev pub AreInRange : ℕ → List Item → Type 0
 AreInRange banks [] = Unit {0}
 AreInRange banks (item ∷ items) = InstrInRange banks item × AreInRange banks items
 
-either : (a b : Bool) → (a ≡ true) → (a || b) ≡ true
-either true b e = refl
-either false b e = absurd cc
-
-later : (a b : Bool) → (b ≡ true) → (a || b) ≡ true
-later true b e = refl
-later false b e = e
-
 instruction_line : (line : List ℕ)
     → is_ascii_line line ≡ true → is_instruction (words line) ≡ true → is_instruction_line line ≡ true
 unfolding is_instruction_line
@@ -136,9 +129,9 @@ form_follows banks place [] [] few said fits some = absurd (omega (arith, some))
 form_follows banks place [] (item ∷ items) few said fits some = absurd said
 form_follows banks place (line ∷ ls) [] few said fits some = absurd said
 form_follows banks place (line ∷ ls) (AnInstruction i t ∷ items) few said fits some =
-    either _ _ (instruction_line line said.0 (instruction_form banks (words line) i t few fits.0 said.1))
+    or_left _ _ (instruction_line line said.0 (instruction_form banks (words line) i t few fits.0 said.1))
 form_follows banks place (line ∷ ls) (_ ∷ items) few said fits some =
-    later _ _ (form_follows banks place ls items few said.2 fits.1 some)
+    or_right _ _ (form_follows banks place ls items few said.2 fits.1 some)
 
 line_of : (n : ℕ) (follows : Bool) (line : List ℕ) (d e : Draft)
     → is_ascii_line line ≡ true → by_first_word n follows (words line) d ≡ Ok e → line_read n follows line d ≡ Ok e
