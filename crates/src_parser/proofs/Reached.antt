@@ -115,16 +115,28 @@ having_reaches {most} {base} {start} {stack} {depth} {level} {tokens}
     closing_reaches used k (weight stack + operators tree) (tokens ++ us) (tree_joined 0 stack tree depth) is fits
     (takes h 0 6 us tree s low (omega arith)) y e
 
+-- a token behind a name: a bracket, or one behind the operand that the name is
+naming_by : {most : Limits} {base start : ℕ} (tokens : List TokenKind) (stack : List Waiting) (depth used : ℕ)
+    (name : List ℕ) (k : TokenKind) (y : Reading)
+    → (where_room (nat_lt depth most.brackets) (At (Index depth name ∷ stack) (depth + 1) used Wanted) ≡ Moves y
+    → Reached most base start y (tokens ++ kind.LBracket ∷ []))
+    → (having most stack depth used (Variable name) k (operator_of k) ≡ Moves y
+    → Reached most base start y (tokens ++ k ∷ []))
+    → naming most stack depth used name k ≡ Moves y → Reached most base start y (tokens ++ k ∷ [])
+naming_by tokens stack depth used name kind.LBracket y index other e = index e
+naming_by tokens stack depth used name _ y index other e = other e
+
 naming_reaches : {most : Limits} {base start : ℕ} {stack : List Waiting} {depth level : ℕ} {tokens : List TokenKind}
     (used : ℕ)
     (name : List ℕ) → Held most.brackets base stack depth level tokens → used ≡ start + weight stack
     → used ≤ most.operators → (k : TokenKind) → (y : Reading) → naming most stack depth used name k ≡ Moves y
     → Reached most base start y ((tokens ++ kind.Word name ∷ []) ++ k ∷ [])
-naming_reaches {most} {base} {start} {stack} {depth} {level} {tokens} used name h is fits kind.LBracket y e =
-    with_room (nat_lt depth most.brackets) _ y e (λ t. reached_at (tokens ++ kind.Word name ∷ kind.LBracket ∷ []) _
-    (simp append_assoc refl) (Wants (Chosen name (ltb-true depth most.brackets t) h) is fits))
-naming_reaches used name h is fits _ y e =
-    having_reaches used (Variable name) h (Named name) (held_level h) (omega arith) fits _ _ refl y e
+naming_reaches {most} {base} {start} {stack} {depth} {level} {tokens} used name h is fits k y e =
+    naming_by (tokens ++ kind.Word name ∷ []) stack depth used name k y
+    (λ f. with_room (nat_lt depth most.brackets) _ y f
+    (λ t. reached_at (tokens ++ kind.Word name ∷ kind.LBracket ∷ []) _
+    (simp append_assoc refl) (Wants (Chosen name (ltb-true depth most.brackets t) h) is fits)))
+    (having_reaches used (Variable name) h (Named name) (held_level h) (omega arith) fits k (operator_of k) refl y) e
 
 -- a token that is read leads on
 pub reaches : {most : Limits} {base start : ℕ} {x : Reading} {tokens : List TokenKind}

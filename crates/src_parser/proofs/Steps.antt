@@ -11,7 +11,7 @@ use Rattle.src_parser.specs.Grammar.{Limits, Compares, Writes, Ends, Sets, Puts,
 use Rattle.src_parser.specs.Headings.{HeadingState, Begun, Declared, heading_turned}
 use Rattle.src_parser.specs.Parts.{Form, ForChoice, ForLoop, PartState, Still, Done, part_turned}
 use Rattle.src_parser.specs.Tokenwise.{Goes, with_braces}
-use Rattle.src_parser.specs.Turns.{Outer, Phase, ParserState, Between, Doing, leaving, between_statements, chosen, elsing, with_part, entering, otherwise, does, between, with_heading, turned, program_of}
+use Rattle.src_parser.specs.Turns.{Outer, Phase, Otherwise, ParserState, Between, Doing, leaving, between_statements, chosen, elsing, with_part, entering, otherwise, does, between, with_heading, turned, program_of}
 use Rattle.src_parser.proofs.Braces.{mapped_goes}
 use Rattle.src_parser.proofs.HeadingTokens.{declares_both, IsLabelled, HeadingStands, heading_steps}
 use Rattle.src_parser.proofs.PartTokens.{word_of, IsTarget, IsGuarding, MakesVariable, MakesElement, MakesGuard, StateStands, part_steps}
@@ -50,15 +50,24 @@ beginning_stands o kind.While next e = went _ next e (InBlock o (IsPart (IsGuard
 beginning_stands o kind.RBrace next e = leaving_stands o next e
 beginning_stands o _ next e = absurd (cc)
 
+-- a token behind the first block of a choice, once that stands as a statement
+elsing_begins : {most : Limits} {decls : List Decl} {outer : List Outer} {depth : ℕ} {here : List Statement}
+    {ts : List TokenKind} {test : Test} (first : List Statement)
+    → Enclosed most decls outer depth (chosen here test first) ts
+    → Standing most (Doing decls outer here (Otherwise test first)) (ts ++ kind.Else ∷ [])
+    → (k : TokenKind) (next : ParserState) → elsing decls outer here test first k ≡ Goes next
+    → Standing most next (ts ++ k ∷ [])
+elsing_begins first o s kind.Else next e = went _ next e s
+elsing_begins first o s k next e = beginning_stands o k next e
+
 elsing_stands : {most : Limits} {decls : List Decl} {outer : List Outer} {depth : ℕ} {here : List Statement}
     {ts guard inner : List TokenKind} {test : Test} (first : List Statement) → Enclosed most decls outer depth here ts
     → Compares most guard test → depth < most.braces → Writes most (depth + 1) inner (block_of first)
     → (k : TokenKind) (next : ParserState) → elsing decls outer here test first k ≡ Goes next → Standing most next
     ((ts ++ (kind.If ∷ kind.LParen ∷ (guard ++ kind.RParen ∷ kind.LBrace ∷ (inner ++ kind.RBrace ∷ [])))) ++ k ∷ [])
-elsing_stands {ts = ts} {guard = guard} {inner = inner} first o g room w kind.Else next e =
-    went _ next e (standing_at _ _ (simp append_assoc refl) (InBlock o (IsOtherwise g room w)))
-elsing_stands {test = test} first o g room w k next e =
-    beginning_stands (one_statement (Choice test (block_of first) Nothing) o (Chooses g room w Ends)) k next e
+elsing_stands {ts = ts} {guard = guard} {inner = inner} {test = test} first o g room w k next e =
+    elsing_begins first (one_statement (Choice test (block_of first) Nothing) o (Chooses g room w Ends))
+    (standing_at _ _ (simp append_assoc refl) (InBlock o (IsOtherwise g room w))) k next e
 
 with_room : {most : Limits} {ts : List TokenKind} (b : Bool) (x y : ParserState)
     → with_braces b x ≡ Goes y → (b ≡ true → Standing most x ts) → Standing most y ts
@@ -128,12 +137,17 @@ does_stands {most} {decls} {outer} {here = here} o (IsPart {part = part} p) k ne
 does_stands o (IsGuarded form g) k next e = entering_stands form o g k next e
 does_stands o (IsOtherwise {first = first} g room w) k next e = otherwise_stands first o g room w k next e
 
+between_begins : {most : Limits} {decls : List Decl} {front : List TokenKind} → Declares front decls
+    → Enclosed most decls [] 0 [] front
+    → (k : TokenKind) (next : ParserState) → between decls k ≡ Goes next → Standing most next (front ++ k ∷ [])
+between_begins d o kind.Public next e = went _ next e (InHeading d (IsLabelled Public))
+between_begins d o kind.Secret next e = went _ next e (InHeading d (IsLabelled Secret))
+between_begins d o k next e = beginning_stands o k next e
+
 between_stands : {most : Limits} {decls : List Decl} {front : List TokenKind} → Declares front decls
     → (k : TokenKind) (next : ParserState) → between decls k ≡ Goes next → Standing most next (front ++ k ∷ [])
-between_stands d kind.Public next e = went _ next e (InHeading d (IsLabelled Public))
-between_stands d kind.Secret next e = went _ next e (InHeading d (IsLabelled Secret))
-between_stands {front = front} d k next e =
-    standing_at ((front ++ []) ++ k ∷ []) _ (rw append-nil refl) (beginning_stands {here = []} (Top d Ends) k next e)
+between_stands {most} {decls} {front} d k next e =
+    between_begins d (subst (λ z. Enclosed most decls [] 0 [] z) (append-nil front) (Top {here = []} d Ends)) k next e
 
 -- a declaration that is begun, or one more
 declaration_stands : {most : Limits} {decls : List Decl} {front : List TokenKind} (us : List TokenKind)

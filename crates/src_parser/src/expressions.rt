@@ -63,6 +63,14 @@ fn negated(alloc: Global, tree: Expr) -> Result<Expr, Memory>
     operation(alloc, Op::Sub, Expr::Num(0), tree)
 }
 
+// What waits last stays.
+fn put_back(mut stack: Vec<Waiting>, last: Waiting, tree: Expr, depth: u32) -> Result<Joint, Memory>
+    ensures { IfOk result (λ j. joint_of j ≡ Joins (frame_of last ∷ stack_of stack.items) (expr_tree tree) depth) }
+{
+    stack.push(last)?;
+    Ok(Joint { stack, tree, depth })
+}
+
 // Ends all operations and signs that wait for an operand and bind at this level or tighter: each takes what stands
 // behind it, from the last on.
 fn join(
@@ -82,18 +90,15 @@ fn join(
             }
             Waiting::Pending(left, op) => {
                 if least > level(op) {
-                    stack.push(Waiting::Pending(left, op))?;
-                    return Ok(Joint { stack, tree, depth });
+                    return put_back(stack, Waiting::Pending(left, op), tree, depth);
                 }
                 tree = operation(alloc, op, left, tree)?;
             }
             Waiting::Open(before) => {
-                stack.push(Waiting::Open(before))?;
-                return Ok(Joint { stack, tree, depth });
+                return put_back(stack, Waiting::Open(before), tree, depth);
             }
             Waiting::Index(before, name) => {
-                stack.push(Waiting::Index(before, name))?;
-                return Ok(Joint { stack, tree, depth });
+                return put_back(stack, Waiting::Index(before, name), tree, depth);
             }
         }
     }

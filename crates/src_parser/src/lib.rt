@@ -17,6 +17,7 @@ pub mod laws;
 pub mod lone_expressions;
 pub mod parsing;
 pub mod parts;
+pub mod putting;
 pub mod readings;
 mod statements;
 mod states;

@@ -14,14 +14,21 @@ use src_tree::Expr;
 use std::alloc::Global;
 
 // The expression that was read, where it ends here.
+fn last(alloc: Global, reading: &mut Reading) -> Result<Option<Expr>, Memory>
+    ensures { IfOk result (λ e. option_map expr_tree e ≡ ended limits (reading_of reading.old)) }
+{
+    match read(alloc, reading, &TokenKind::Semi)? {
+        TokenStep::Moves => Ok(None),
+        TokenStep::Stops => Ok(finish(reading)),
+        TokenStep::Deep => Ok(None),
+    }
+}
+
+// The reading is dropped here alone.
 fn end(alloc: Global, mut reading: Reading) -> Result<Option<Expr>, Memory>
     ensures { IfOk result (λ e. option_map expr_tree e ≡ ended limits (reading_of reading)) }
 {
-    match read(alloc, &mut reading, &TokenKind::Semi)? {
-        TokenStep::Moves => Ok(None),
-        TokenStep::Stops => Ok(finish(&mut reading)),
-        TokenStep::Deep => Ok(None),
-    }
+    last(alloc, &mut reading)
 }
 
 // The expression that the first tokens are, and their number.

@@ -3,11 +3,12 @@ ghost use Rattle.src_tree.specs.Trees.{source_of};
 ghost use Rattle.src_parser.specs.Explained.{ExplainsTokens};
 ghost use Rattle.src_parser.specs.Grammar.{limits, Sentence};
 ghost use Rattle.src_parser.specs.Refusals.{token_kinds};
-ghost use Rattle.src_parser.specs.Seen.{turn_of, state_of, doing, heading_of, mode_of};
+ghost use Rattle.src_parser.specs.Seen.{turn_of, state_of, doing, heading_of, pause_of, mode_of};
 ghost use Rattle.src_parser.specs.Turns.{between, between_statements, turned, program_of, Declaring, Ready};
 
 use crate::errors::ParseError;
 use crate::headings::{Heading, HeadingTurn, read_heading};
+use crate::putting::put;
 use crate::statements::{begin, choose, perform};
 use crate::states::{Blocks, ParserState, Pause, Phase, Turn};
 use gr_base::Memory;
@@ -32,9 +33,9 @@ fn start(
         here: Vec::new(alloc),
     };
     let mut mode = Phase::Between(Pause::Ready);
-    let turn = begin(alloc, &mut blocks, &mut mode, kind)?;
-    *state = ParserState::Doing(blocks, mode);
-    Ok(turn)
+    let turn = begin(alloc, &mut blocks, &mut mode, kind);
+    put(state, ParserState::Doing(blocks, mode));
+    turn
 }
 
 // A token between declarations, or the first of the statements.
@@ -48,11 +49,17 @@ fn begin_declaration(
 {
     match kind {
         TokenKind::Public => {
-            *state = ParserState::Declaring(decls, Heading::Labelled(Label::Public));
+            put(
+                state,
+                ParserState::Declaring(decls, Heading::Labelled(Label::Public)),
+            );
             Ok(Turn::Goes)
         }
         TokenKind::Secret => {
-            *state = ParserState::Declaring(decls, Heading::Labelled(Label::Secret));
+            put(
+                state,
+                ParserState::Declaring(decls, Heading::Labelled(Label::Secret)),
+            );
             Ok(Turn::Goes)
         }
         _ => start(alloc, state, decls, kind),
@@ -72,12 +79,12 @@ fn declare(
 {
     match read_heading(alloc, heading, kind)? {
         HeadingTurn::Goes(next) => {
-            *state = ParserState::Declaring(decls, next);
+            put(state, ParserState::Declaring(decls, next));
             Ok(Turn::Goes)
         }
         HeadingTurn::Ends(decl) => {
             decls.push(decl)?;
-            *state = ParserState::Between(decls);
+            put(state, ParserState::Between(decls));
             Ok(Turn::Goes)
         }
         HeadingTurn::Wrong => Ok(Turn::Wrong),
@@ -112,18 +119,27 @@ fn whole(blocks: Blocks) -> Option<Program>
     Some(Program { decls, body: here })
 }
 
-// The program, where its statements are whole.
-fn settle(alloc: Global, mut blocks: Blocks, mode: Phase) -> Result<Option<Program>, Memory>
-    ensures { IfOk result (λ p. option_map source_of p ≡ program_of (doing blocks (mode_of mode))) }
+// The program, where its statements stand between two parts and are whole.
+fn paused(alloc: Global, mut blocks: Blocks, pause: Pause) -> Result<Option<Program>, Memory>
+    ensures { IfOk result (λ p. option_map source_of p ≡ program_of (doing blocks (pause_of pause))) }
 {
-    match mode {
-        Phase::Between(Pause::Ready) => Ok(whole(blocks)),
-        Phase::Between(Pause::MayElse(guard, first)) => {
+    match pause {
+        Pause::Ready => Ok(whole(blocks)),
+        Pause::MayElse(guard, first) => {
             choose(alloc, &mut blocks, guard, first)?;
             Ok(whole(blocks))
         }
-        Phase::Between(Pause::Guarded(_form, _guard)) => Ok(None),
-        Phase::Between(Pause::Otherwise(_guard, _first)) => Ok(None),
+        Pause::Guarded(_form, _guard) => Ok(None),
+        Pause::Otherwise(_guard, _first) => Ok(None),
+    }
+}
+
+// The program, where its statements are whole.
+fn settle(alloc: Global, blocks: Blocks, mode: Phase) -> Result<Option<Program>, Memory>
+    ensures { IfOk result (λ p. option_map source_of p ≡ program_of (doing blocks (mode_of mode))) }
+{
+    match mode {
+        Phase::Between(pause) => paused(alloc, blocks, pause),
         Phase::InPart(_part) => Ok(None),
     }
 }
@@ -156,8 +172,14 @@ pub fn parse(alloc: Global, tokens: &[Token]) -> Result<Program, ParseError>
     for token in tokens {
         match take(alloc, &mut state, &token.kind)? {
             Turn::Goes => {}
-            Turn::Wrong => return Err(ParseError::Unexpected(token.start)),
-            Turn::TooMuch => return Err(ParseError::TooDeep(token.start)),
+            Turn::Wrong => {
+                drop(state);
+                return Err(ParseError::Unexpected(token.start));
+            }
+            Turn::TooMuch => {
+                drop(state);
+                return Err(ParseError::TooDeep(token.start));
+            }
         }
     }
     match conclude(alloc, state)? {

@@ -5,6 +5,7 @@ ghost use Rattle.src_parser.specs.Parts.{behind_expression, comparing, part_turn
 ghost use Rattle.src_parser.specs.Seen.{asked_seen, form_of, lead_of, part_of, part_turn_of};
 
 use crate::expressions::{finish, fresh, read};
+use crate::putting::put;
 use crate::readings::{Reading, TokenStep};
 use gr_base::Memory;
 use gr_word::{Cmp, Name};
@@ -85,25 +86,28 @@ fn lead_on(alloc: Global, part: &mut Part, lead: Lead, kind: &TokenKind) -> Part
     match lead {
         Lead::Target(name) => match kind {
             TokenKind::Assign => {
-                *part = Part::Inside(Asked::Value(name), fresh(alloc, 0, 0));
+                put(part, Part::Inside(Asked::Value(name), fresh(alloc, 0, 0)));
                 PartTurn::Moves
             }
             TokenKind::LBracket => {
-                *part = Part::Inside(Asked::Place(name), fresh(alloc, 1, 0));
+                put(part, Part::Inside(Asked::Place(name), fresh(alloc, 1, 0)));
                 PartTurn::Moves
             }
             _ => PartTurn::Wrong,
         },
         Lead::Placed(name, index, used) => match kind {
             TokenKind::Assign => {
-                *part = Part::Inside(Asked::Stored(name, index), fresh(alloc, 0, used));
+                put(
+                    part,
+                    Part::Inside(Asked::Stored(name, index), fresh(alloc, 0, used)),
+                );
                 PartTurn::Moves
             }
             _ => PartTurn::Wrong,
         },
         Lead::Guarding(form) => match kind {
             TokenKind::LParen => {
-                *part = Part::Inside(Asked::Left(form), fresh(alloc, 0, 0));
+                put(part, Part::Inside(Asked::Left(form), fresh(alloc, 0, 0)));
                 PartTurn::Moves
             }
             _ => PartTurn::Wrong,
@@ -125,7 +129,10 @@ fn compare(
 {
     match comparison(kind) {
         Some(cmp) => {
-            *part = Part::Inside(Asked::Right(form, cmp, left), fresh(alloc, 0, used));
+            put(
+                part,
+                Part::Inside(Asked::Right(form, cmp, left), fresh(alloc, 0, used)),
+            );
             PartTurn::Moves
         }
         None => PartTurn::Wrong,
@@ -151,7 +158,7 @@ fn end(
         },
         Asked::Place(name) => match kind {
             TokenKind::RBracket => {
-                *part = Part::Before(Lead::Placed(name, tree, used));
+                put(part, Part::Before(Lead::Placed(name, tree, used)));
                 PartTurn::Moves
             }
             _ => PartTurn::Wrong,

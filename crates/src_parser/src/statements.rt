@@ -7,6 +7,7 @@ ghost use Rattle.src_parser.specs.Tokenwise.{Goes, with_braces};
 ghost use Rattle.src_parser.specs.Turns.{leaving, between_statements, chosen, elsing, entering, otherwise, does, with_part, Doing, Ready};
 
 use crate::parts::{Form, Lead, Made, Part, PartTurn, read_part};
+use crate::putting::put;
 use crate::states::{Blocks, MAX_BRACES, Outer, Pause, Phase, Turn};
 use gr_base::Memory;
 use src_lexer::TokenKind;
@@ -21,7 +22,7 @@ fn add(blocks: &mut Blocks, mode: &mut Phase, statement: Stmt) -> Result<Turn, M
         (statements_seen blocks.old.here.items ++ statement_of statement ∷ []) Ready)) }
 {
     blocks.here.push(statement)?;
-    *mode = Phase::Between(Pause::Ready);
+    put(mode, Phase::Between(Pause::Ready));
     Ok(Turn::Goes)
 }
 
@@ -34,7 +35,7 @@ fn leave(blocks: &mut Blocks, mode: &mut Phase) -> Result<Turn, Memory>
         None => Ok(Turn::Wrong),
         Some(Outer::InFirst(guard, before)) => {
             let first = mem::replace(&mut blocks.here, before);
-            *mode = Phase::Between(Pause::MayElse(guard, first));
+            put(mode, Phase::Between(Pause::MayElse(guard, first)));
             Ok(Turn::Goes)
         }
         Some(Outer::InSecond(guard, first, before)) => {
@@ -61,15 +62,24 @@ pub(crate) fn begin(
 {
     match kind {
         TokenKind::Word(name) => {
-            *mode = Phase::InPart(Part::Before(Lead::Target(name.copy(alloc)?)));
+            put(
+                mode,
+                Phase::InPart(Part::Before(Lead::Target(name.copy(alloc)?))),
+            );
             Ok(Turn::Goes)
         }
         TokenKind::If => {
-            *mode = Phase::InPart(Part::Before(Lead::Guarding(Form::Choice)));
+            put(
+                mode,
+                Phase::InPart(Part::Before(Lead::Guarding(Form::Choice))),
+            );
             Ok(Turn::Goes)
         }
         TokenKind::While => {
-            *mode = Phase::InPart(Part::Before(Lead::Guarding(Form::Loop)));
+            put(
+                mode,
+                Phase::InPart(Part::Before(Lead::Guarding(Form::Loop))),
+            );
             Ok(Turn::Goes)
         }
         TokenKind::RBrace => leave(blocks, mode),
@@ -108,7 +118,7 @@ fn may_else(
 {
     match kind {
         TokenKind::Else => {
-            *mode = Phase::Between(Pause::Otherwise(guard, first));
+            put(mode, Phase::Between(Pause::Otherwise(guard, first)));
             Ok(Turn::Goes)
         }
         _ => {
@@ -128,7 +138,7 @@ fn settle(blocks: &mut Blocks, mode: &mut Phase, made: Made) -> Result<Turn, Mem
         Made::Variable(name, value) => add(blocks, mode, Stmt::Set(name, value)),
         Made::Element(name, index, value) => add(blocks, mode, Stmt::Put(name, index, value)),
         Made::Guard(form, guard) => {
-            *mode = Phase::Between(Pause::Guarded(form, guard));
+            put(mode, Phase::Between(Pause::Guarded(form, guard)));
             Ok(Turn::Goes)
         }
     }
@@ -145,7 +155,7 @@ fn nest(alloc: Global, blocks: &mut Blocks, mode: &mut Phase, next: Outer) -> Re
     }
     blocks.outer.push(next)?;
     blocks.here = Vec::new(alloc);
-    *mode = Phase::Between(Pause::Ready);
+    put(mode, Phase::Between(Pause::Ready));
     Ok(Turn::Goes)
 }
 
