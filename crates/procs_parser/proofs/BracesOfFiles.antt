@@ -11,7 +11,7 @@ use Rattle.src_parser.specs.Grammar.{Limits}
 use Rattle.src_parser.specs.Headings.{HeadingState, Begun, Declared, heading_turned}
 use Rattle.src_parser.specs.Operands.{Reading, At, Wanted, TokenStep, Moves, Stops, Deep, reads, whole, used_of}
 use Rattle.src_parser.specs.Parts.{Form, VariableSet, ElementSet, GuardRead, PartState, Still, Done, targeting, part_turned}
-use Rattle.src_parser.specs.Tokenwise.{Turn, Goes, Wrong}
+use Rattle.src_parser.specs.Tokenwise.{Turn, Goes, Wrong, mapped}
 use Rattle.src_parser.proofs.Tokenwise.{Counted}
 use Rattle.src_parser.proofs.Braces.{same_state, mapped_goes, braces_counted, moves_counted, targeting_counted, part_counted, heading_counted}
 use Rattle.procs_parser.specs.FileTurns.{Outer, InFirst, InSecond, InLoop, Phase, Ready, MayElse, Named, Calling, Argument, Called, InPart, Guarded, Otherwise, ParserState, Between, Declaring, Doing, Naming, Front, Outside, Within, HeadPhase, Opening, NoneYet, OneMore, ScalarLabelled, ScalarTyped, ArrayTyped, ArrayTitled, ArrayClosing, Behind, AllRead, LocalFresh, LocalLabelled, LocalTyped, LocalTitled, depth_of, head_depth, opening, parameter_begins, names_next, is_hidden_token, taken, leaving, between_statements, chosen, elsing, with_part, behind_name, behind_argument, argument_ends, in_argument, calling, calling_ends, entering, otherwise, does, between, with_heading, turned, count_of}
@@ -55,16 +55,21 @@ part_count front outer here (Done (VariableSet name value)) = refl
 part_count front outer here (Done (ElementSet name index value)) = refl
 part_count front outer here (Done (GuardRead form test)) = refl
 
+assigned_counted : (most : ℕ) (front : Front) (outer : List Outer) (here : List Statement) (name : List ℕ)
+    (k : TokenKind) (next : ParserState) → mapped (with_part front outer here) (targeting name k) ≡ Goes next
+    → Counted k most (depth_of front outer) (count_of next)
+assigned_counted most front outer here name k next e =
+    mapped_goes (with_part front outer here) (targeting name k) next e
+    (λ s is at. targeting_counted most name k s (depth_of front outer) (count_of next) is
+    (ap count_of (sym at) ∙ part_count front outer here s))
+
 behind_name_counted : (most : ℕ) (front : Front) (outer : List Outer) (here : List Statement) (name : List ℕ)
     (k : TokenKind) (next : ParserState)
     → behind_name front outer here name k ≡ Goes next → Counted k most (depth_of front outer) (count_of next)
 behind_name_counted most front outer here name kind.LParen next e = same_count _ next e
 behind_name_counted most front outer here name (kind.Word other) next e =
     sym (opening_counted front outer here (bytes_eq name proc_word) other next e)
-behind_name_counted most front outer here name k next e =
-    mapped_goes (with_part front outer here) (targeting name k) next e
-    (λ s is at. targeting_counted most name k s (depth_of front outer) (count_of next) is
-    (ap count_of (sym at) ∙ part_count front outer here s))
+behind_name_counted most front outer here name k next e = assigned_counted most front outer here name k next e
 
 calling_ends_counted : (most : ℕ) (front : Front) (outer : List Outer) (here : List Statement) (name : List ℕ)
     (es : List Tree) (k : TokenKind) (next : ParserState)

@@ -10,7 +10,7 @@ use Rattle.procs_parser.specs.FileGrammar.{proc_word}
 use Rattle.src_parser.specs.Headings.{heading_turned}
 use Rattle.src_parser.specs.Operands.{Reading, At, Wanted, whole, used_of}
 use Rattle.src_parser.specs.Parts.{Form, targeting}
-use Rattle.src_parser.specs.Tokenwise.{Goes, Wrong, TooMuch}
+use Rattle.src_parser.specs.Tokenwise.{Goes, Wrong, TooMuch, mapped}
 use Rattle.src_parser.proofs.Tokenwise.{Shape}
 use Rattle.src_parser.proofs.Rooms.{constant, wrong_not_much, brace_room, mapped_not, mapped_shape, step_shape, targeting_not, part_shape, heading_not, reads_shape}
 use Rattle.procs_parser.specs.FileTurns.{Outer, InFirst, Phase, Ready, MayElse, Named, Calling, Argument, Called, InPart, Guarded, Otherwise, ParserState, Between, Declaring, Doing, Naming, Front, Outside, Within, HeadPhase, Opening, NoneYet, OneMore, ScalarLabelled, ScalarTyped, ArrayTyped, ArrayTitled, ArrayClosing, Behind, AllRead, LocalFresh, LocalLabelled, LocalTyped, LocalTitled, depth_of, opening, parameter_begins, names_next, is_hidden_token, taken, head_depth, leaving, between_statements, chosen, elsing, with_part, behind_name, behind_argument, argument_ends, calling, calling_ends, entering, otherwise, does, between, with_heading, turned, count_of}
@@ -36,13 +36,17 @@ opening_not : (front : Front) (outer : List Outer) (here : List Statement) (b : 
 opening_not (Outside decls procedures) [] [] true name e = absurd (cc)
 opening_not _ _ _ _ name e = absurd (cc)
 
+assigned_not : (front : Front) (outer : List Outer) (here : List Statement) (name : List ℕ) (k : TokenKind)
+    → mapped (with_part front outer here) (targeting name k) ≢ TooMuch
+assigned_not front outer here name k e =
+    mapped_not (with_part front outer here) (targeting name k) (targeting_not name k) e
+
 behind_name_not : (front : Front) (outer : List Outer) (here : List Statement) (name : List ℕ) (k : TokenKind)
     → behind_name front outer here name k ≢ TooMuch
 behind_name_not front outer here name kind.LParen e = absurd (cc)
 behind_name_not front outer here name (kind.Word other) e =
     opening_not front outer here (bytes_eq name proc_word) other e
-behind_name_not front outer here name k e =
-    mapped_not (with_part front outer here) (targeting name k) (targeting_not name k) e
+behind_name_not front outer here name k e = assigned_not front outer here name k e
 
 calling_ends_not : (front : Front) (outer : List Outer) (here : List Statement) (name : List ℕ) (es : List Tree)
     (k : TokenKind) → calling_ends front outer here name es k ≢ TooMuch

@@ -11,18 +11,18 @@ use Rattle.src_tree.specs.declared.trees.Decl.{Decl}
 use Rattle.src_tree.specs.Trees.{Tree, Test}
 use Rattle.src_procs.specs.Trees.{Statement, SetVariable, SetElement, Choice, Loop, Call, Nothing, Parameter, Procedure}
 use Rattle.src_procs.specs.Seen.{block_of}
-use Rattle.procs_parser.specs.FileGrammar.{AScalar, AnArray, NoParameter, SomeParameters, NoLocal, NoProcedure, proc_word, Last, Arguments, NoArgument, Given, SpellsBlock, Ends, Sets, Puts, Calls, Chooses, ChoosesElse, Repeats}
+use Rattle.procs_parser.specs.FileGrammar.{AScalar, AnArray, Parameters, NoParameter, SomeParameters, Locals, NoLocal, NoProcedure, proc_word, Last, Arguments, NoArgument, Given, SpellsBlock, Ends, Sets, Puts, Calls, Chooses, ChoosesElse, Repeats}
 use Rattle.src_parser.specs.Grammar.{Limits, Compares, Declares, NoMore}
 use Rattle.src_parser.specs.Headings.{HeadingState, Begun, Declared, heading_turned}
 use Rattle.src_parser.specs.Operands.{Reading, At, Wanted, TokenStep, Moves, Stops, Deep, reads, whole, used_of}
 use Rattle.src_parser.specs.Parts.{Form, ForChoice, ForLoop, PartState, Still, Done, targeting, part_turned}
-use Rattle.src_parser.specs.Tokenwise.{Goes, with_braces}
+use Rattle.src_parser.specs.Tokenwise.{Goes, mapped, with_braces}
 use Rattle.src_parser.proofs.Braces.{mapped_goes}
 use Rattle.src_parser.proofs.Held.{Start}
 use Rattle.src_parser.proofs.HeadingTokens.{declares_both, IsLabelled, HeadingStands, heading_steps}
 use Rattle.src_parser.proofs.PartTokens.{word_of, IsTarget, IsGuarding, MakesVariable, MakesElement, MakesGuard, StateStands, part_steps}
 use Rattle.src_parser.proofs.Reached.{Reached, Wants, reaches, Ended, ends}
-use Rattle.procs_parser.specs.FileTurns.{Outer, Phase, ParserState, Between, HeadPhase, NoneYet, LocalFresh, Front, Outside, Within, depth_of, opening, parameter_begins, names_next, leaving, between_statements, elsing, with_part, behind_name, behind_argument, argument_ends, in_argument, calling, calling_ends, entering, otherwise, does, between, with_heading, turned}
+use Rattle.procs_parser.specs.FileTurns.{Outer, Phase, Otherwise, Called, Doing, ParserState, Between, HeadPhase, NoneYet, LocalFresh, Front, Outside, Within, depth_of, opening, parameter_begins, names_next, leaving, between_statements, chosen, elsing, with_part, behind_name, behind_argument, argument_ends, in_argument, calling, calling_ends, entering, otherwise, does, between, with_heading, turned}
 use Rattle.procs_parser.proofs.StandingFiles as files
 use Rattle.procs_parser.proofs.StandingFiles.{AtTop, InBody, ParametersBefore, NoneBefore, SomeBefore, head_of, Names, IsOpening, IsNoneYet, IsOneMore, IsScalarLabelled, IsScalarTyped, IsArrayTyped, IsArrayTitled, IsArrayClosing, IsBehind, IsAllRead, IsLocalFresh, IsLocalLabelled, IsLocalTyped, IsLocalTitled, one_parameter, one_local, procedure_ends, Enclosed, Top, First, Second, Looped, Argues, IsFirst, IsNext, trees_more, operators_more, Stands, IsReady, IsMayElse, IsNamed, IsCalling, IsArgument, IsCalled, IsPart, IsGuarded, IsOtherwise, Standing, InBetween, InHeading, InHead, InBlock, enclosed_depth, one_statement}
 
@@ -62,15 +62,24 @@ beginning_stands o kind.While next e = went _ next e (InBlock o (IsPart (IsGuard
 beginning_stands o kind.RBrace next e = leaving_stands o next e
 beginning_stands o _ next e = absurd (cc)
 
+-- a token behind the first block of a choice, once that stands as a statement
+elsing_begins : {most : Limits} {front : Front} {outer : List Outer} {depth : ℕ} {here : List Statement}
+    {ts : List TokenKind} {test : Test} (first : List Statement)
+    → Enclosed most front outer depth (chosen here test first) ts
+    → Standing most (Doing front outer here (Otherwise test first)) (ts ++ kind.Else ∷ [])
+    → (k : TokenKind) (next : ParserState) → elsing front outer here test first k ≡ Goes next
+    → Standing most next (ts ++ k ∷ [])
+elsing_begins first o s kind.Else next e = went _ next e s
+elsing_begins first o s k next e = beginning_stands o k next e
+
 elsing_stands : {most : Limits} {front : Front} {outer : List Outer} {depth : ℕ} {here : List Statement}
     {ts guard inner : List TokenKind} {test : Test} (first : List Statement) → Enclosed most front outer depth here ts
     → Compares most guard test → depth < most.braces → SpellsBlock most (depth + 1) inner (block_of first)
     → (k : TokenKind) (next : ParserState) → elsing front outer here test first k ≡ Goes next → Standing most next
     ((ts ++ (kind.If ∷ kind.LParen ∷ (guard ++ kind.RParen ∷ kind.LBrace ∷ (inner ++ kind.RBrace ∷ [])))) ++ k ∷ [])
-elsing_stands {ts = ts} {guard = guard} {inner = inner} first o g room w kind.Else next e =
-    went _ next e (standing_at _ _ (simp append_assoc refl) (InBlock o (IsOtherwise g room w)))
-elsing_stands {test = test} first o g room w k next e =
-    beginning_stands (one_statement (Choice test (block_of first) Nothing) o (Chooses g room w Ends)) k next e
+elsing_stands {ts = ts} {guard = guard} {inner = inner} {test = test} first o g room w k next e =
+    elsing_begins first (one_statement (Choice test (block_of first) Nothing) o (Chooses g room w Ends))
+    (standing_at _ _ (simp append_assoc refl) (InBlock o (IsOtherwise g room w))) k next e
 
 same_word : (name : List ℕ) → bytes_eq name proc_word ≡ true → name ≡ proc_word
 same_word name e = (bytes_eq-Decides name proc_word).0 e
@@ -132,6 +141,14 @@ part_stands {most} {ts = ts} us o k s p next e =
     subst (λ z. Standing most z ((ts ++ us) ++ k ∷ [])) e
     (standing_at _ _ (sym (append_assoc ts us (k ∷ []))) (state_stands (us ++ k ∷ []) o s p))
 
+assigned_stands : {most : Limits} {front : Front} {outer : List Outer} {depth : ℕ} {here : List Statement}
+    {ts : List TokenKind} (name : List ℕ) → Enclosed most front outer depth here ts
+    → (k : TokenKind) (next : ParserState) → mapped (with_part front outer here) (targeting name k) ≡ Goes next
+    → Standing most next ((ts ++ kind.Word name ∷ []) ++ k ∷ [])
+assigned_stands {most} {front} {outer} {here = here} name o k next e =
+    mapped_goes (with_part front outer here) (targeting name k) next e
+    (λ s is at. part_stands _ o k s (part_steps (IsTarget name) k s is) next at)
+
 named_stands : {most : Limits} {front : Front} {outer : List Outer} {depth : ℕ} {here : List Statement}
     {ts : List TokenKind} (name : List ℕ) → Enclosed most front outer depth here ts
     → (k : TokenKind) (next : ParserState)
@@ -140,9 +157,7 @@ named_stands {ts = ts} name o kind.LParen next e =
     went _ next e (standing_at _ _ (simp append_assoc refl) (InBlock o (IsCalling name)))
 named_stands name o (kind.Word other) next e =
     opening_stands name other o (bytes_eq name proc_word) refl next e
-named_stands {most} {front} {outer} {here = here} name o k next e =
-    mapped_goes (with_part front outer here) (targeting name k) next e
-    (λ s is at. part_stands _ o k s (part_steps (IsTarget name) k s is) next at)
+named_stands name o k next e = assigned_stands name o k next e
 
 called_stands : {most : Limits} {front : Front} {outer : List Outer} {depth : ℕ} {here : List Statement}
     {ts tokens : List TokenKind} {es : List Tree} (name : List ℕ) → Enclosed most front outer depth here ts
@@ -234,16 +249,25 @@ argument_stands {ts = ts} {before = before} {us = us} name x o a r k (Moves y) i
 argument_stands name x o a r k (Stops y) is next e = argument_ends_stands x y o a r k is (whole y) refl next e
 argument_stands name x o a r k Deep is next e = absurd (cc)
 
+-- the first token of a call's arguments: their end, or a token of the first
+calling_by : {most : Limits} {front : Front} {outer : List Outer} {here : List Statement} (ts : List TokenKind)
+    (name : List ℕ) → Standing most (Doing front outer here (Called name [])) (ts ++ kind.RParen ∷ [])
+    → (k : TokenKind) (next : ParserState)
+    → (in_argument front outer here name [] k (reads most (At [] 0 0 Wanted) k) ≡ Goes next
+    → Standing most next (ts ++ k ∷ []))
+    → calling most front outer here name k ≡ Goes next → Standing most next (ts ++ k ∷ [])
+calling_by ts name s kind.RParen next other e = went _ next e s
+calling_by ts name s _ next other e = other e
+
 calling_stands : {most : Limits} {front : Front} {outer : List Outer} {depth : ℕ} {here : List Statement}
     {ts : List TokenKind} (name : List ℕ) → Enclosed most front outer depth here ts
     → (k : TokenKind) (next : ParserState) → calling most front outer here name k ≡ Goes next
     → Standing most next ((ts ++ (kind.Word name ∷ kind.LParen ∷ [])) ++ k ∷ [])
-calling_stands {ts = ts} name o kind.RParen next e =
-    went _ next e (standing_at _ _ (simp append_assoc refl) (InBlock o (IsCalled name NoArgument)))
 calling_stands {most} {ts = ts} name o k next e =
-    standing_at _ _ (simp (append_assoc, append-nil) refl)
+    calling_by _ name (standing_at _ _ (simp append_assoc refl) (InBlock o (IsCalled name NoArgument))) k next
+    (λ f. standing_at _ _ (simp (append_assoc, append-nil) refl)
     (argument_stands name (At [] 0 0 Wanted) o IsFirst (Wants Start (omega arith) (omega arith)) k
-    (reads most (At [] 0 0 Wanted) k) refl next e)
+    (reads most (At [] 0 0 Wanted) k) refl next f)) e
 
 does_stands : {most : Limits} {front : Front} {outer : List Outer} {depth : ℕ} {here : List Statement}
     {mode : Phase}
@@ -264,13 +288,19 @@ does_stands {most} {front} {outer} {here = here} o (IsPart {part = part} p) k ne
 does_stands o (IsGuarded form g) k next e = entering_stands form o g k next e
 does_stands o (IsOtherwise {first = first} g room w) k next e = otherwise_stands first o g room w k next e
 
+between_begins : {most : Limits} {decls : List Decl} {first : List TokenKind} → Declares first decls
+    → Enclosed most (Outside decls []) [] 0 [] first
+    → (k : TokenKind) (next : ParserState) → between decls k ≡ Goes next → Standing most next (first ++ k ∷ [])
+between_begins d o kind.Public next e = went _ next e (InHeading d (IsLabelled Public))
+between_begins d o kind.Secret next e = went _ next e (InHeading d (IsLabelled Secret))
+between_begins d o k next e = beginning_stands o k next e
+
 between_stands : {most : Limits} {decls : List Decl} {first : List TokenKind} → Declares first decls
     → (k : TokenKind) (next : ParserState) → between decls k ≡ Goes next → Standing most next (first ++ k ∷ [])
-between_stands d kind.Public next e = went _ next e (InHeading d (IsLabelled Public))
-between_stands d kind.Secret next e = went _ next e (InHeading d (IsLabelled Secret))
-between_stands {first = first} d k next e =
-    standing_at (((first ++ []) ++ []) ++ k ∷ []) _ (rw (append-nil, append-nil) refl)
-    (beginning_stands {here = []} (Top (AtTop d NoProcedure) Ends) k next e)
+between_stands {most} {decls} {first} d k next e =
+    let is : (first ++ []) ++ [] ≡ first = simp append-nil refl in
+    between_begins d (subst (λ z. Enclosed most (Outside decls []) [] 0 [] z) is
+    (Top {here = []} (AtTop d NoProcedure) Ends)) k next e
 
 -- a declaration that is begun, or one more
 declaration_stands : {most : Limits} {decls : List Decl} {first : List TokenKind} (us : List TokenKind)
@@ -308,18 +338,29 @@ first_stands name {before = before} b kind.RParen next e =
     went _ next e (standing_at _ _ (simp append_assoc refl) (InHead b (IsAllRead NoParameter)))
 first_stands name b k next e = parameter_stands name b NoneBefore k next e
 
+local_begins : {most : Limits} {decls : List Decl} {procedures : List Procedure} {name : List ℕ}
+    {before ts us : List TokenKind} {ps : List Parameter} {ls : List Decl}
+    → files.Begun most (Outside decls procedures) 0 before → Parameters ts ps → 0 < most.braces → Locals us ls
+    → Enclosed most (Within decls procedures name ps ls) [] 1 []
+    (before ++ head_of name (ts ++ kind.RParen ∷ kind.LBrace ∷ us))
+    → (k : TokenKind) (next : ParserState) → names_next most decls procedures name (LocalFresh ps ls) k ≡ Goes next
+    → Standing most next ((before ++ head_of name (ts ++ kind.RParen ∷ kind.LBrace ∷ us)) ++ k ∷ [])
+local_begins {before = before} {ts = ts} {us = us} b p room l o kind.Public next e =
+    went _ next e (standing_at _ _ (simp append_assoc refl) (InHead b (IsLocalLabelled Public p room l)))
+local_begins {before = before} {ts = ts} {us = us} b p room l o kind.Secret next e =
+    went _ next e (standing_at _ _ (simp append_assoc refl) (InHead b (IsLocalLabelled Secret p room l)))
+local_begins b p room l o k next e = beginning_stands o k next e
+
 local_stands : {most : Limits} {decls : List Decl} {procedures : List Procedure} {name : List ℕ}
     {before us : List TokenKind} {ps : List Parameter} {ls : List Decl}
     → files.Begun most (Outside decls procedures) 0 before → Names most name (LocalFresh ps ls) us
     → (k : TokenKind) (next : ParserState) → names_next most decls procedures name (LocalFresh ps ls) k ≡ Goes next
     → Standing most next ((before ++ us) ++ k ∷ [])
-local_stands {before = before} b (IsLocalFresh {ts = ts} {us = us} p room l) kind.Public next e =
-    went _ next e (standing_at _ _ (simp append_assoc refl) (InHead b (IsLocalLabelled Public p room l)))
-local_stands {before = before} b (IsLocalFresh {ts = ts} {us = us} p room l) kind.Secret next e =
-    went _ next e (standing_at _ _ (simp append_assoc refl) (InHead b (IsLocalLabelled Secret p room l)))
-local_stands {name = name} {before = before} b (IsLocalFresh {ts = ts} {us = us} p room l) k next e =
-    standing_at _ _ (simp append-nil refl)
-    (beginning_stands {here = []} (Top (InBody name b p room l) Ends) k next e)
+local_stands {most} {decls} {procedures} {name} {before} {ps = ps} {ls = ls}
+    b (IsLocalFresh {ts = ts} {us = us} p room l) k next e =
+    local_begins b p room l
+    (subst (λ z. Enclosed most (Within decls procedures name ps ls) [] 1 [] z) (append-nil _)
+    (Top {here = []} (InBody name b p room l) Ends)) k next e
 
 names_stand : {most : Limits} {decls : List Decl} {procedures : List Procedure} {name : List ℕ} {phase : HeadPhase}
     {before us : List TokenKind} → files.Begun most (Outside decls procedures) 0 before → Names most name phase us

@@ -10,6 +10,7 @@ use gr_base::Memory;
 use gr_word::Label;
 use src_lexer::TokenKind;
 use src_parser::headings::{Heading, HeadingTurn, read_heading};
+use src_parser::putting::put;
 use src_tree::Decl;
 use std::alloc::Global;
 
@@ -28,9 +29,9 @@ pub(crate) fn start_statements(
         here: Vec::new(alloc),
     };
     let mut mode = Phase::Between(Pause::Ready);
-    let turn = begin(alloc, &mut blocks, &mut mode, kind)?;
-    *state = ParserState::Doing(blocks, mode);
-    Ok(turn)
+    let turn = begin(alloc, &mut blocks, &mut mode, kind);
+    put(state, ParserState::Doing(blocks, mode));
+    turn
 }
 
 // A token between declarations, or the first of the statements.
@@ -44,11 +45,17 @@ pub(crate) fn begin_declaration(
 {
     match kind {
         TokenKind::Public => {
-            *state = ParserState::Before(Start::Declaring(decls, Heading::Labelled(Label::Public)));
+            put(
+                state,
+                ParserState::Before(Start::Declaring(decls, Heading::Labelled(Label::Public))),
+            );
             Ok(Turn::Goes)
         }
         TokenKind::Secret => {
-            *state = ParserState::Before(Start::Declaring(decls, Heading::Labelled(Label::Secret)));
+            put(
+                state,
+                ParserState::Before(Start::Declaring(decls, Heading::Labelled(Label::Secret))),
+            );
             Ok(Turn::Goes)
         }
         _ => start_statements(alloc, state, Front::Outside(decls, Vec::new(alloc)), kind),
@@ -68,12 +75,12 @@ pub(crate) fn declare(
 {
     match read_heading(alloc, heading, kind)? {
         HeadingTurn::Goes(next) => {
-            *state = ParserState::Before(Start::Declaring(decls, next));
+            put(state, ParserState::Before(Start::Declaring(decls, next)));
             Ok(Turn::Goes)
         }
         HeadingTurn::Ends(decl) => {
             decls.push(decl)?;
-            *state = ParserState::Before(Start::Between(decls));
+            put(state, ParserState::Before(Start::Between(decls)));
             Ok(Turn::Goes)
         }
         HeadingTurn::Wrong => Ok(Turn::Wrong),

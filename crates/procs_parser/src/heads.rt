@@ -11,14 +11,22 @@ use crate::states::{Front, Head, HeadPhase, ParserState, Start, Turn};
 use gr_base::Memory;
 use gr_word::{Label, Name};
 use src_lexer::TokenKind;
+use src_parser::putting::put;
 use src_procs::Param;
 use src_tree::Decl;
 use std::alloc::Global;
 
+// The token has no place in a head, which is dropped by this call: what is dropped in line is proved at each exit.
+fn wrong(_head: Head) -> Turn
+    ensures { result ≡ Turn.Wrong }
+{
+    Turn::Wrong
+}
+
 fn goes(state: &mut ParserState, head: Head, phase: HeadPhase) -> Turn
     ensures { turn_of result (state_of state.new) ≡ Goes (named head (head_phase_of phase)) }
 {
-    *state = ParserState::Before(Start::Naming(head, phase));
+    put(state, ParserState::Before(Start::Naming(head, phase)));
     Turn::Goes
 }
 
@@ -40,7 +48,7 @@ fn parameter(state: &mut ParserState, head: Head, params: Vec<Param>, kind: &Tok
             HeadPhase::ScalarLabelled(params, Label::Secret),
         ),
         TokenKind::Int => goes(state, head, HeadPhase::ArrayTyped(params)),
-        _ => Turn::Wrong,
+        _ => wrong(head),
     }
 }
 
@@ -88,7 +96,7 @@ fn scalar_name(
             let name = name.copy(alloc)?;
             add(state, head, params, Param::Scalar(label, name))
         }
-        _ => Ok(Turn::Wrong),
+        _ => Ok(wrong(head)),
     }
 }
 
@@ -109,7 +117,7 @@ fn array_name(
             let name = name.copy(alloc)?;
             Ok(goes(state, head, HeadPhase::ArrayTitled(params, name)))
         }
-        _ => Ok(Turn::Wrong),
+        _ => Ok(wrong(head)),
     }
 }
 
@@ -164,7 +172,7 @@ fn local_name(
                 HeadPhase::LocalTitled(params, locals, label, name),
             ))
         }
-        _ => Ok(Turn::Wrong),
+        _ => Ok(wrong(head)),
     }
 }
 
@@ -204,13 +212,13 @@ pub(crate) fn name_next(
     match phase {
         HeadPhase::Opening => match kind {
             TokenKind::LParen => Ok(goes(state, head, HeadPhase::NoneYet)),
-            _ => Ok(Turn::Wrong),
+            _ => Ok(wrong(head)),
         },
         HeadPhase::NoneYet => Ok(first(alloc, state, head, kind)),
         HeadPhase::OneMore(params) => Ok(parameter(state, head, params, kind)),
         HeadPhase::ScalarLabelled(params, label) => match kind {
             TokenKind::Int => Ok(goes(state, head, HeadPhase::ScalarTyped(params, label))),
-            _ => Ok(Turn::Wrong),
+            _ => Ok(wrong(head)),
         },
         HeadPhase::ScalarTyped(params, label) => scalar_name(
             alloc, state, head, params, label, kind,
@@ -218,16 +226,16 @@ pub(crate) fn name_next(
         HeadPhase::ArrayTyped(params) => array_name(alloc, state, head, params, kind),
         HeadPhase::ArrayTitled(params, name) => match kind {
             TokenKind::LBracket => Ok(goes(state, head, HeadPhase::ArrayClosing(params, name))),
-            _ => Ok(Turn::Wrong),
+            _ => Ok(wrong(head)),
         },
         HeadPhase::ArrayClosing(params, name) => match kind {
             TokenKind::RBracket => add(state, head, params, Param::Array(name)),
-            _ => Ok(Turn::Wrong),
+            _ => Ok(wrong(head)),
         },
         HeadPhase::Behind(params) => match kind {
             TokenKind::Semi => Ok(goes(state, head, HeadPhase::OneMore(params))),
             TokenKind::RParen => Ok(goes(state, head, HeadPhase::AllRead(params))),
-            _ => Ok(Turn::Wrong),
+            _ => Ok(wrong(head)),
         },
         HeadPhase::AllRead(params) => match kind {
             TokenKind::LBrace => Ok(goes(
@@ -235,19 +243,19 @@ pub(crate) fn name_next(
                 head,
                 HeadPhase::LocalFresh(params, Vec::new(alloc)),
             )),
-            _ => Ok(Turn::Wrong),
+            _ => Ok(wrong(head)),
         },
         HeadPhase::LocalFresh(params, locals) => start(alloc, state, head, params, locals, kind),
         HeadPhase::LocalLabelled(params, locals, label) => match kind {
             TokenKind::Int => Ok(goes(state, head, HeadPhase::LocalTyped(params, locals, label))),
-            _ => Ok(Turn::Wrong),
+            _ => Ok(wrong(head)),
         },
         HeadPhase::LocalTyped(params, locals, label) => {
             local_name(alloc, state, head, params, locals, label, kind)
         }
         HeadPhase::LocalTitled(params, locals, label, name) => match kind {
             TokenKind::Semi => add_local(state, head, params, locals, label, name),
-            _ => Ok(Turn::Wrong),
+            _ => Ok(wrong(head)),
         },
     }
 }

@@ -7,7 +7,7 @@ ghost use Rattle.procs_parser.specs.FileRefusals.{ExplainsFile};
 ghost use Rattle.procs_parser.specs.FileTurns.{turned, taken, is_hidden_token, program_of, file_at, Ready};
 ghost use Rattle.src_procs.specs.Promise.{ArePlain};
 ghost use Rattle.src_procs.specs.Seen.{file_of};
-ghost use Rattle.procs_parser.specs.StatesSeen.{turn_of, start_of, state_of, doing, mode_of};
+ghost use Rattle.procs_parser.specs.StatesSeen.{turn_of, start_of, state_of, doing, pause_of, mode_of};
 
 use crate::declarations::{begin_declaration, declare};
 use crate::heads::name_next;
@@ -16,6 +16,7 @@ use crate::states::{Blocks, Front, HeadPhase, ParserState, Pause, Phase, Start, 
 use gr_base::Memory;
 use src_lexer::{Token, TokenKind};
 use src_parser::ParseError;
+use src_parser::putting::put;
 use src_procs::{ProcFile, is_hidden};
 use std::alloc::Global;
 use std::mem;
@@ -86,23 +87,47 @@ fn whole(blocks: Blocks) -> Option<ProcFile>
     }
 }
 
-// The file, where its statements are whole.
-fn settle(alloc: Global, mut blocks: Blocks, mode: Phase) -> Result<Option<ProcFile>, Memory>
-    ensures { IfOk result (λ p. option_map file_of p ≡ program_of (doing blocks (mode_of mode))) }
+// The file, where its statements stand between two parts and are whole.
+fn paused(alloc: Global, mut blocks: Blocks, pause: Pause) -> Result<Option<ProcFile>, Memory>
+    ensures { IfOk result (λ p. option_map file_of p ≡ program_of (doing blocks (pause_of pause))) }
 {
-    match mode {
-        Phase::Between(Pause::Ready) => Ok(whole(blocks)),
-        Phase::Between(Pause::MayElse(guard, first)) => {
+    match pause {
+        Pause::Ready => Ok(whole(blocks)),
+        Pause::MayElse(guard, first) => {
             choose(alloc, &mut blocks, guard, first)?;
             Ok(whole(blocks))
         }
-        Phase::Between(Pause::Named(_name)) => Ok(None),
-        Phase::Between(Pause::Calling(_name)) => Ok(None),
-        Phase::Between(Pause::Argument(_name, _before, _reading)) => Ok(None),
-        Phase::Between(Pause::Called(_name, _arguments)) => Ok(None),
-        Phase::Between(Pause::Guarded(_form, _guard)) => Ok(None),
-        Phase::Between(Pause::Otherwise(_guard, _first)) => Ok(None),
+        Pause::Named(_name) => Ok(None),
+        Pause::Calling(_name) => Ok(None),
+        Pause::Argument(_name, _before, _reading) => Ok(None),
+        Pause::Called(_name, _arguments) => Ok(None),
+        Pause::Guarded(_form, _guard) => Ok(None),
+        Pause::Otherwise(_guard, _first) => Ok(None),
+    }
+}
+
+// The file, where its statements are whole.
+fn settle(alloc: Global, blocks: Blocks, mode: Phase) -> Result<Option<ProcFile>, Memory>
+    ensures { IfOk result (λ p. option_map file_of p ≡ program_of (doing blocks (mode_of mode))) }
+{
+    match mode {
+        Phase::Between(pause) => paused(alloc, blocks, pause),
         Phase::InPart(_part) => Ok(None),
+    }
+}
+
+// The file, where no statement was read.
+fn unbegun(alloc: Global, start: Start) -> Option<ProcFile>
+    ensures { option_map file_of result ≡ program_of (start_of start) }
+{
+    match start {
+        Start::Between(decls) => Some(ProcFile {
+            decls,
+            procs: Vec::new(alloc),
+            body: Vec::new(alloc),
+        }),
+        Start::Declaring(_decls, _heading) => None,
+        Start::Naming(_head, _phase) => None,
     }
 }
 
@@ -112,13 +137,7 @@ fn conclude(alloc: Global, state: ParserState) -> Result<Option<ProcFile>, Memor
 {
     match state {
         ParserState::Doing(blocks, mode) => settle(alloc, blocks, mode),
-        ParserState::Before(Start::Between(decls)) => Ok(Some(ProcFile {
-            decls,
-            procs: Vec::new(alloc),
-            body: Vec::new(alloc),
-        })),
-        ParserState::Before(Start::Declaring(_decls, _heading)) => Ok(None),
-        ParserState::Before(Start::Naming(_head, _phase)) => Ok(None),
+        ParserState::Before(start) => Ok(unbegun(alloc, start)),
     }
 }
 
@@ -140,12 +159,18 @@ pub fn parse_procs(alloc: Global, tokens: &[Token]) -> Result<ProcFile, ParseErr
     for token in tokens {
         match take(alloc, &mut state, &token.kind)? {
             Turn::Goes => {}
-            Turn::Opens(head) => state = ParserState::Before(Start::Naming(
-                head,
-                HeadPhase::Opening,
-            )),
-            Turn::Wrong => return Err(ParseError::Unexpected(token.start)),
-            Turn::TooMuch => return Err(ParseError::TooDeep(token.start)),
+            Turn::Opens(head) => {
+                let start = Start::Naming(head, HeadPhase::Opening);
+                put(&mut state, ParserState::Before(start));
+            }
+            Turn::Wrong => {
+                drop(state);
+                return Err(ParseError::Unexpected(token.start));
+            }
+            Turn::TooMuch => {
+                drop(state);
+                return Err(ParseError::TooDeep(token.start));
+            }
         }
     }
     match conclude(alloc, state)? {

@@ -1,7 +1,7 @@
-ghost use Rattle.std.specs.Prelude.{◌≡◌, ◌++◌, ◌+◌, ◌==◌, ◌∷◌, [], IfOk, length, nat_lt, bytes_eq};
+ghost use Rattle.std.specs.Prelude.{◌≡◌, ◌++◌, ◌+◌, ◌==◌, ◌∷◌, [], IfOk, length, nat_lt, bytes_eq, option_map};
 ghost use Rattle.src_tree.specs.Trees.{expr_tree, test_of};
 ghost use Rattle.src_parser.specs.Grammar.{limits};
-ghost use Rattle.src_parser.specs.Operands.{reads};
+ghost use Rattle.src_parser.specs.Operands.{reads, whole};
 ghost use Rattle.src_parser.specs.Parts.{Done, targeting};
 ghost use Rattle.src_parser.specs.Seen.{form_of, made_of, reading_of};
 ghost use Rattle.src_parser.specs.Tokenwise.{Goes, mapped, with_braces};
@@ -16,6 +16,7 @@ use gr_word::Name;
 use src_lexer::TokenKind;
 use src_parser::expressions::{finish, fresh, read};
 use src_parser::parts::{Form, Lead, Made, Part, PartTurn, read_part};
+use src_parser::putting::put;
 use src_parser::readings::{Reading, TokenStep};
 use src_procs::{PStmt, Proc};
 use src_tree::{Expr, Guard};
@@ -29,7 +30,7 @@ fn add(blocks: &mut Blocks, mode: &mut Phase, statement: PStmt) -> Result<Turn, 
         (calls_seen blocks.old.here.items ++ statement_of statement ∷ []) Ready)) }
 {
     blocks.here.push(statement)?;
-    *mode = Phase::Between(Pause::Ready);
+    put(mode, Phase::Between(Pause::Ready));
     Ok(Turn::Goes)
 }
 
@@ -55,8 +56,8 @@ fn close(alloc: Global, blocks: &mut Blocks, mode: &mut Phase) -> Result<Turn, M
                 locals,
                 body,
             })?;
-            blocks.front = Front::Outside(decls, procs);
-            *mode = Phase::Between(Pause::Ready);
+            put(&mut blocks.front, Front::Outside(decls, procs));
+            put(mode, Phase::Between(Pause::Ready));
             Ok(Turn::Goes)
         }
     }
@@ -71,7 +72,7 @@ fn leave(alloc: Global, blocks: &mut Blocks, mode: &mut Phase) -> Result<Turn, M
         None => close(alloc, blocks, mode),
         Some(Outer::InFirst(guard, before)) => {
             let first = mem::replace(&mut blocks.here, before);
-            *mode = Phase::Between(Pause::MayElse(guard, first));
+            put(mode, Phase::Between(Pause::MayElse(guard, first)));
             Ok(Turn::Goes)
         }
         Some(Outer::InSecond(guard, first, before)) => {
@@ -111,11 +112,11 @@ fn take_up(
 {
     match beginning {
         Beginning::Name(name) => {
-            *mode = Phase::Between(Pause::Named(name));
+            put(mode, Phase::Between(Pause::Named(name)));
             Ok(Turn::Goes)
         }
         Beginning::Guard(form) => {
-            *mode = Phase::InPart(Part::Before(Lead::Guarding(form)));
+            put(mode, Phase::InPart(Part::Before(Lead::Guarding(form))));
             Ok(Turn::Goes)
         }
         Beginning::Closing => leave(alloc, blocks, mode),
@@ -169,7 +170,7 @@ fn may_else(
 {
     match kind {
         TokenKind::Else => {
-            *mode = Phase::Between(Pause::Otherwise(guard, first));
+            put(mode, Phase::Between(Pause::Otherwise(guard, first)));
             Ok(Turn::Goes)
         }
         _ => {
@@ -217,7 +218,7 @@ fn settle(blocks: &mut Blocks, mode: &mut Phase, made: Made) -> Result<Turn, Mem
         Made::Variable(name, value) => add(blocks, mode, PStmt::Set(name, value)),
         Made::Element(name, index, value) => add(blocks, mode, PStmt::Put(name, index, value)),
         Made::Guard(form, guard) => {
-            *mode = Phase::Between(Pause::Guarded(form, guard));
+            put(mode, Phase::Between(Pause::Guarded(form, guard)));
             Ok(Turn::Goes)
         }
     }
@@ -236,11 +237,10 @@ fn assign(
         (calls_seen blocks.old.here.items)) (targeting name kind.now)) }
 {
     let mut part = Part::Before(Lead::Target(name));
-    match read_part(alloc, &mut part, kind)? {
-        PartTurn::Moves => {
-            *mode = Phase::InPart(part);
-            Ok(Turn::Goes)
-        }
+    let turn = read_part(alloc, &mut part, kind);
+    put(mode, Phase::InPart(part));
+    match turn? {
+        PartTurn::Moves => Ok(Turn::Goes),
         PartTurn::Ends(made) => settle(blocks, mode, made),
         PartTurn::Wrong => Ok(Turn::Wrong),
         PartTurn::TooMuch => Ok(Turn::TooMuch),
@@ -261,7 +261,7 @@ fn named(
 {
     match kind {
         TokenKind::LParen => {
-            *mode = Phase::Between(Pause::Calling(name));
+            put(mode, Phase::Between(Pause::Calling(name)));
             Ok(Turn::Goes)
         }
         TokenKind::Word(other) => {
@@ -293,16 +293,26 @@ fn behind_argument(
     match kind {
         TokenKind::Semi => {
             arguments.push(tree)?;
-            *mode = Phase::Between(Pause::Argument(name, arguments, fresh(alloc, 0, used)));
+            put(
+                mode,
+                Phase::Between(Pause::Argument(name, arguments, fresh(alloc, 0, used))),
+            );
             Ok(Turn::Goes)
         }
         TokenKind::RParen => {
             arguments.push(tree)?;
-            *mode = Phase::Between(Pause::Called(name, arguments));
+            put(mode, Phase::Between(Pause::Called(name, arguments)));
             Ok(Turn::Goes)
         }
         _ => Ok(Turn::Wrong),
     }
+}
+
+// The whole argument, where nothing waits.
+fn whole(mut reading: Reading) -> Option<Expr>
+    ensures { option_map expr_tree result ≡ whole (reading_of reading) }
+{
+    finish(&mut reading)
 }
 
 // A token of an argument of a call, behind those before it.
@@ -322,17 +332,20 @@ fn argue(
 {
     match read(alloc, &mut reading, kind)? {
         TokenStep::Moves => {
-            *mode = Phase::Between(Pause::Argument(name, before, reading));
+            put(mode, Phase::Between(Pause::Argument(name, before, reading)));
             Ok(Turn::Goes)
         }
         TokenStep::Stops => {
             let used = reading.used;
-            match finish(&mut reading) {
+            match whole(reading) {
                 None => Ok(Turn::Wrong),
                 Some(tree) => behind_argument(alloc, blocks, mode, name, before, tree, used, kind),
             }
         }
-        TokenStep::Deep => Ok(Turn::TooMuch),
+        TokenStep::Deep => {
+            drop(reading);
+            Ok(Turn::TooMuch)
+        }
     }
 }
 
@@ -350,7 +363,7 @@ fn call(
 {
     match kind {
         TokenKind::RParen => {
-            *mode = Phase::Between(Pause::Called(name, Vec::new(alloc)));
+            put(mode, Phase::Between(Pause::Called(name, Vec::new(alloc))));
             Ok(Turn::Goes)
         }
         _ => argue(
@@ -394,7 +407,7 @@ fn nest(alloc: Global, blocks: &mut Blocks, mode: &mut Phase, next: Outer) -> Re
     }
     blocks.outer.push(next)?;
     blocks.here = Vec::new(alloc);
-    *mode = Phase::Between(Pause::Ready);
+    put(mode, Phase::Between(Pause::Ready));
     Ok(Turn::Goes)
 }
 

@@ -39,7 +39,7 @@ loop-token-preserved c =
       | in-Opens w ↦ goes
           (sym c.in_ok-take.ensures
           ∙ (ap (λ t. turn_of t (state_of c.take.new.state)) w.in-Opens.is
-          ∙ ap (λ s. Goes (state_of s)) (sym w.state-is)))
+          ∙ ap (λ s. Goes (state_of s)) (sym (w.state-is ∙ w.put.ensures))))
     ]
 
 pub returns-in-Some-clause-parsed : goal.returns-in-Some-clause-parsed
