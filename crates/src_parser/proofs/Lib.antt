@@ -19,6 +19,7 @@ pub mod ExpressionPlaces
 pub mod ExpressionTokens
 pub mod TokenPlaces
 pub mod Tokenwise
+pub mod OneRefusal
 pub mod Rendered
 pub mod LoneTokens
 pub mod RoundTrips

@@ -42,6 +42,34 @@ too_deep tokens at s = record {
 pub cut_short : (tokens : List Token) → Cut Sentence tokens → CutShort tokens
 cut_short tokens c = record { begins = begun c.begins; none = c.none }
 
+-- and the other way round
+pub stray : {tokens : List Token} {at : ℕ} → Unexpected tokens at → Stray Sentence tokens at
+stray s = record {
+  before = s.before;
+  token = s.token;
+  after = s.after;
+  split = s.split;
+  place = s.place;
+  begins = begins s.begins;
+  none = λ most b. s.none most (begun b);
+}
+
+pub deeper : {tokens : List Token} {at : ℕ} → TooDeep tokens at → Deeper Sentence tokens at
+deeper s = record {
+  before = s.before;
+  token = s.token;
+  after = s.after;
+  split = s.split;
+  place = s.place;
+  begins = begins s.begins;
+  none = λ b. s.none (begun b);
+  wider = s.wider;
+  begins_wider = begins s.begins_wider;
+}
+
+pub cut : {tokens : List Token} → CutShort tokens → Cut Sentence tokens
+cut c = record { begins = begins c.begins; none = c.none }
+
 -- with its next token a front of a program begins one
 pub next_begins : (tokens before after : List Token) (token : Token) (p : Source) → tokens ≡ before ++ token ∷ after
     → Sentence limits (token_kinds tokens) p → ProgramBegins limits (token_kinds before ++ token.kind ∷ [])

@@ -1,8 +1,11 @@
-ghost use Rattle.std.specs.Prelude.{◌≡◌, ℕ, List, Err};
+ghost use Rattle.std.specs.Prelude.{◌≡◌, ◌≢◌, ℕ, List, Err};
 ghost use Rattle.src_lexer.specs.declared.tokens.TokenKind.{TokenKind};
 ghost use Rattle.src_lexer.specs.declared.tokens.Token.{Token};
 ghost use Rattle.src_lexer.specs.Splits.{Splits};
 ghost use Rattle.src_lexer.specs.declared.errors.LexError.{LexError};
+ghost use Rattle.src_parser.specs.declared.errors.ParseError.{ParseError};
+ghost use Rattle.src_parser.specs.declared.errors.ParseError.TheVariants.{Memory};
+ghost use Rattle.src_parser.specs.Explained.{ExplainsTokens};
 ghost use Rattle.src_parser.specs.Grammar.{limits, Sentence};
 ghost use Rattle.src_parser.specs.Printable.{IsPrintable};
 ghost use Rattle.src_parser.specs.Source.{SpellsSource};
@@ -23,6 +26,12 @@ pub fn no_refusal()
         → Sentence limits (token_kinds tokens) p → TooDeep tokens at → ⊥ }
     ensures cut_short { (tokens : List Token) (p : Source) → Sentence limits (token_kinds tokens) p → CutShort tokens
         → ⊥ }
+{}
+
+/// A law: of tokens one refusal is true at most, with its reason and its place. `Memory` says nothing of them.
+pub fn one_refusal()
+    ensures { (tokens : List Token) (a b : ParseError) → ExplainsTokens a tokens → ExplainsTokens b tokens
+        → a ≢ Memory → b ≢ Memory → a ≡ b }
 {}
 
 /// Laws of source texts: the canonical text of a printable program spells that program, so that its tokens are read as
