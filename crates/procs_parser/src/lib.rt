@@ -6,6 +6,7 @@
 
 mod declarations;
 mod heads;
+pub mod laws;
 pub mod parsing;
 mod statements;
 mod states;
