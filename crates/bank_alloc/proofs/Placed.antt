@@ -13,7 +13,7 @@ use Rattle.bank_alloc.specs.declared.classes.Class.TheVariants.{PublicScalar, Se
 use Rattle.bank_alloc.specs.declared.places.Place.{Place}
 use Rattle.bank_alloc.specs.Classes.{class_of}
 use Rattle.bank_alloc.specs.Places.{blocks_for, is_oblivious, is_scalar_in, is_array_in, scalars_in, oblivious_arrays, blocks_taken, first_free_block, place_behind, places_of}
-use Rattle.bank_alloc.specs.PlaceRules.{is_same, count_of, blocks_of_class, blocks_in_turn, place_by, ArePlaced, BanksNeed}
+use Rattle.bank_alloc.specs.PlaceRules.{is_same, class_count, blocks_of_class, blocks_in_turn, place_by, ArePlaced, BanksNeed}
 use Rattle.bank_alloc.proofs.EachPlace.{any_decl, any_place, length-places, get_or-places, array_block}
 
 -- what a place adds to each count
@@ -88,11 +88,11 @@ module _ (size : ℕ) (before : List Place) (words : ℕ) where
 
 -- counts of places, and of the variables that lie there
 record Mirrors (class : Decl → Class) (size : ℕ) (ds : List Decl) (places : List Place) : Type 0 where
-  public : scalars_in 0 places ≡ count_of class PublicScalar ds
-  secret : scalars_in 1 places ≡ count_of class SecretScalar ds
+  public : scalars_in 0 places ≡ class_count class PublicScalar ds
+  secret : scalars_in 1 places ≡ class_count class SecretScalar ds
   plain : first_free_block size 0 places ≡ 1 + blocks_of_class class size PublicArray ds
   encrypted : first_free_block size 1 places ≡ 1 + blocks_of_class class size EncryptedArray ds
-  oblivious : oblivious_arrays places ≡ count_of class ObliviousArray ds
+  oblivious : oblivious_arrays places ≡ class_count class ObliviousArray ds
   turns : (t : ℕ) → first_free_block size (2 + t) places ≡ blocks_in_turn class size t 0 ds
 
 -- the place behind others is that by the variables before it
@@ -149,13 +149,13 @@ turned false first taken_all took left_all rest last j n p q =
 
 turn_push : (class : Decl → Class) (size turn j : ℕ) (ds : List Decl) (d : Decl)
     → blocks_in_turn class size turn j (ds ++ d ∷ []) ≡ blocks_in_turn class size turn j ds
-    + in_turn size turn (words_of d) (is_same ObliviousArray (class d)) (j + count_of class ObliviousArray ds)
+    + in_turn size turn (words_of d) (is_same ObliviousArray (class d)) (j + class_count class ObliviousArray ds)
 turn_push class size turn j [] d = none_before size turn j (words_of d) (is_same ObliviousArray (class d))
 turn_push class size turn j (x ∷ ds) d =
     turned (is_same ObliviousArray (class x)) (cond (eqb (j % 8) turn) (blocks_for size (words_of x)) 0)
     (blocks_in_turn class size turn (j + 1) (ds ++ d ∷ [])) (blocks_in_turn class size turn (j + 1) ds)
     (blocks_in_turn class size turn j (ds ++ d ∷ [])) (blocks_in_turn class size turn j ds)
-    (in_turn size turn (words_of d) (is_same ObliviousArray (class d))) j (count_of class ObliviousArray ds)
+    (in_turn size turn (words_of d) (is_same ObliviousArray (class d))) j (class_count class ObliviousArray ds)
     (turn_push class size turn (j + 1) ds d) (turn_push class size turn j ds d)
     ∙ ap (λ m. blocks_in_turn class size turn j (x ∷ ds)
     + in_turn size turn (words_of d) (is_same ObliviousArray (class d)) (j + m))
@@ -176,7 +176,8 @@ turns_push class size ds places d q h is long t =
     (ap (is_array_in (2 + t)) is ∙ turn_more size places (words_of d) t (class d)) long in
     let number =
     ap (in_turn size t (words_of d) (is_same ObliviousArray (class d)))
-    (h.oblivious ∙ (let e : count_of class ObliviousArray ds ≡ 0 + count_of class ObliviousArray ds = omega arith in e)) in
+    (h.oblivious ∙ (let e : class_count class ObliviousArray ds
+        ≡ 0 + class_count class ObliviousArray ds = omega arith in e)) in
     let two = turn_push class size t 0 ds d in
     omega (arith, one, new, number, two, h.turns t)
 

@@ -18,8 +18,8 @@ is_same ObliviousArray ObliviousArray = true
 is_same c other = false
 
 -- how many of some variables are of a class, and how many blocks of `size` words these take
-abbrev pub count_of : (Decl → Class) → Class → List Decl → ℕ
-count_of class c ds = count_by (λ d. is_same c (class d)) ds
+abbrev pub class_count : (Decl → Class) → Class → List Decl → ℕ
+class_count class c ds = count_by (λ d. is_same c (class d)) ds
 
 abbrev pub blocks_of_class : (Decl → Class) → ℕ → Class → List Decl → ℕ
 blocks_of_class class size c ds = sum_by (λ d. if is_same c (class d) then blocks_for size (words_of d) else 0) ds
@@ -39,14 +39,14 @@ word_of_block bank block word words = record { bank = bank; block = block; word 
 -- the next word. Public arrays follow in bank 0, and encrypted ones in bank 1, on whole blocks. The j-th oblivious array,
 -- from 0, lies in bank 2 + j mod 8, behind those that are there.
 abbrev pub place_by : (Decl → Class) → ℕ → List Decl → Class → ℕ → Place
-place_by class size before PublicScalar words = word_of_block 0 0 (count_of class PublicScalar before) words
-place_by class size before SecretScalar words = word_of_block 1 0 (count_of class SecretScalar before) words
+place_by class size before PublicScalar words = word_of_block 0 0 (class_count class PublicScalar before) words
+place_by class size before SecretScalar words = word_of_block 1 0 (class_count class SecretScalar before) words
 place_by class size before PublicArray words =
     word_of_block 0 (1 + blocks_of_class class size PublicArray before) 0 words
 place_by class size before EncryptedArray words =
     word_of_block 1 (1 + blocks_of_class class size EncryptedArray before) 0 words
 place_by class size before ObliviousArray words =
-    let turn = count_of class ObliviousArray before % 8 in
+    let turn = class_count class ObliviousArray before % 8 in
     word_of_block (2 + turn) (blocks_in_turn class size turn 0 before) 0 words
 
 -- Each variable of a program has one place, by those that are declared before it.
@@ -62,4 +62,4 @@ pub record BanksNeed (p : Source) (w : ℕ) : Type 0 where
   pub plain : blocks_needed p w 0 ≡ 1 + blocks_of_class (class_of p) (2 ^ w) PublicArray p.decls
   pub encrypted : blocks_needed p w 1 ≡ 1 + blocks_of_class (class_of p) (2 ^ w) EncryptedArray p.decls
   pub oblivious : (turn : ℕ) → blocks_needed p w (2 + turn) ≡ blocks_in_turn (class_of p) (2 ^ w) turn 0 p.decls
-  pub banks : bank_count (places_of p w) ≡ 2 + min 8 (count_of (class_of p) ObliviousArray p.decls)
+  pub banks : bank_count (places_of p w) ≡ 2 + min 8 (class_count (class_of p) ObliviousArray p.decls)

@@ -10,7 +10,7 @@ use Rattle.lt_isa.specs.Object.{Parts, blocks_of}
 use Rattle.lt_isa.specs.Ranges.{IsInRange, InstrFits}
 use Rattle.lt_isa.specs.Machine.{State, Slot, Unbound, Bound, Observed, slot, register}
 use Rattle.lt_isa.specs.Shape.{IsShaped}
-use Rattle.lt_isa.specs.Step.{Outcome, Goes, Stops, Faults, step, step_start}
+use Rattle.lt_isa.specs.Step.{StepResult, Goes, Stops, Faults, step, step_start}
 use Rattle.lt_isa.specs.Trace.{Stamped, stamped, shown_then, trace_from, trace_within}
 use Rattle.lt_isa.proofs.Shapes.{block_named-below, step-shaped}
 use Rattle.lt_isa.proofs.Steps.{bound-fits, instruction-fits}
@@ -56,7 +56,8 @@ one_shown b start None = refl
 one_shown b start (Some event) = omega arith
 
 step_counts : (b : ℕ) → 2 ≤ b
-    → (start : ℕ) (made : Option Access) (outcome : Outcome) (shown : State → List Stamped) (rest : State → List Access)
+    → (start : ℕ) (made : Option Access) (outcome : StepResult) (shown : State → List Stamped)
+    (rest : State → List Access)
     → told_bank (event_of_outcome outcome) ≡ made_bank made
     → ((t : State) → accesses_shown b (shown t) ≡ length (in_bank b (rest t)))
     → accesses_shown b (shown_then start outcome shown)
@@ -145,7 +146,7 @@ listed_fits : (o : Parts) (made : Option Access) → OptionFits o made → All (
 listed_fits o None fits = All-nil (AccessFits o)
 listed_fits o (Some access) fits = All-cons (AccessFits o) access [] fits (All-nil (AccessFits o))
 
-then_fits : (o : Parts) (outcome : Outcome) (rest : State → List Access)
+then_fits : (o : Parts) (outcome : StepResult) (rest : State → List Access)
     → ((event : Option Observed) (t : State) → outcome ≡ Goes event t → All (AccessFits o) (rest t))
     → All (AccessFits o) (accessed_then outcome rest)
 then_fits o (Goes event t) rest later = later event t refl

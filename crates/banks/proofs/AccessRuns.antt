@@ -6,7 +6,7 @@ use Rattle.lt_isa.specs.declared.instructions.Instr.{Instr}
 use Rattle.lt_isa.specs.Object.{Parts}
 use Rattle.lt_isa.specs.Ranges.{IsInRange}
 use Rattle.lt_isa.specs.Machine.{State, Observed}
-use Rattle.lt_isa.specs.Step.{Outcome, Goes, Stops, Faults, step, step_start}
+use Rattle.lt_isa.specs.Step.{StepResult, Goes, Stops, Faults, step, step_start}
 use Rattle.lt_isa.specs.Shape.{IsShaped}
 use Rattle.lt_isa.proofs.Steps.{step_start-least, step-later}
 use Rattle.lt_isa.proofs.Shapes.{step-shaped}
@@ -23,7 +23,7 @@ pub accessed-outside : (o : Parts) (s : State) → slice_get o.code s.place ≡ 
 unfolding accessed
 accessed-outside o s at = ap (accessed_if o s) at
 
-accessed_then-same : (outcome : Outcome) (f g : State → List Access)
+accessed_then-same : (outcome : StepResult) (f g : State → List Access)
     → ((event : Option Observed) (t : State) → outcome ≡ Goes event t → f t ≡ g t)
     → accessed_then outcome f ≡ accessed_then outcome g
 accessed_then-same (Goes event t) f g same = same event t refl
@@ -71,7 +71,7 @@ module _ (o : Parts) (fits : IsInRange o) where
       (omega arith) (omega arith)))
 
   -- a step that ends so
-  pub accesses_from-step : (s : State) (outcome : Outcome) (n : ℕ)
+  pub accesses_from-step : (s : State) (outcome : StepResult) (n : ℕ)
       → IsShaped o s → step o s ≡ outcome → step_start o s < n
       → accesses_from o s n ≡ at_most_one (accessed o s) ++ accessed_then outcome (λ t. accesses_from o t n)
   accesses_from-step s outcome n shaped is less =

@@ -6,7 +6,7 @@ use Rattle.std.proofs.lemmas.List.Elements.{Contains-append_right}
 use Rattle.lt_isa.specs.Object.{Parts}
 use Rattle.lt_isa.specs.Ranges.{IsInRange}
 use Rattle.lt_isa.specs.Machine.{State, Observed, Halted}
-use Rattle.lt_isa.specs.Step.{Outcome, Goes, Stops, Faults, step, step_start}
+use Rattle.lt_isa.specs.Step.{StepResult, Goes, Stops, Faults, step, step_start}
 use Rattle.lt_isa.specs.Shape.{IsShaped}
 use Rattle.lt_isa.specs.Trace.{HaltsAt, seen_at, stamped, trace_from, final_from}
 use Rattle.lt_isa.proofs.Runs.{trace_from-goes, trace_from-stops, final_from-past, final_from-goes, final_from-faults}
@@ -23,7 +23,7 @@ module _ (o : Parts) (fits : IsInRange o) where
       → ((event : Option Observed) (t : State) → step o s ≡ Goes event t
       → ((at : ℕ) → HaltsAt (trace_from o t n) at → ⊥)
       → accesses_from o t m ≡ accesses_from o t n ++ accesses_from o (final_from o t n) m)
-      → (outcome : Outcome) → step o s ≡ outcome
+      → (outcome : StepResult) → step o s ≡ outcome
       → accesses_from o s m ≡ accesses_from o s n ++ accesses_from o (final_from o s n) m
   resumed_step s shaped n m le less none rest (Goes event t) is =
       let made = at_most_one (accessed o s) in

@@ -7,7 +7,7 @@ use Rattle.lt_isa.specs.declared.instructions.Instr.{Instr}
 use Rattle.lt_isa.specs.declared.instructions.Instr.TheVariants.{Nop, Halt, Li, Alu, Ldb, Stb, Idb, Ldw, Stw, Jmp, Br}
 use Rattle.lt_isa.specs.Object.{Parts, is_eram, is_ram}
 use Rattle.lt_isa.specs.Machine.{State, Slot, Unbound, Bound, Observed, RamRead, RamWrite, EncRead, EncWrite, Oram, Halted, slot, register, write_event}
-use Rattle.lt_isa.specs.Step.{Outcome, Goes, Stops, Faults, executed, executed_if, step, with_bound}
+use Rattle.lt_isa.specs.Step.{StepResult, Goes, Stops, Faults, executed, executed_if, step, with_bound}
 use Rattle.banks.specs.Accesses.{Access, ShowsAccess, ShowsItsAccess, access_on, accessed, accessed_by, accessed_if}
 use Rattle.banks.specs.ObliviousEvents.{oblivious}
 
@@ -90,7 +90,7 @@ made_bank None = None
 made_bank (Some access) = if_oblivious access.bank
 
 -- the event of an outcome
-abbrev pub event_of_outcome : Outcome → Option Observed
+abbrev pub event_of_outcome : StepResult → Option Observed
 event_of_outcome (Goes event t) = event
 event_of_outcome (Stops t) = Some Halted
 event_of_outcome Faults = None
@@ -110,7 +110,7 @@ bank_shown (Oram bank) access shows = sym (ap if_oblivious shows.0 ∙ itself ba
     itself (suc (suc i)) two = refl
 bank_shown Halted access shows = absurd shows
 
-outcome_bank : (outcome : Outcome) (made : Option Access)
+outcome_bank : (outcome : StepResult) (made : Option Access)
     → ShowsItsAccess outcome made → told_bank (event_of_outcome outcome) ≡ made_bank made
 outcome_bank (Goes None t) made shows = sym (ap made_bank shows)
 outcome_bank (Goes (Some event) t) made shows =

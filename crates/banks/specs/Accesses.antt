@@ -6,7 +6,7 @@ use Rattle.lt_isa.specs.declared.instructions.Instr.TheVariants.{Nop, Halt, Li, 
 use Rattle.lt_isa.specs.Object.{Parts}
 use Rattle.lt_isa.specs.Machine.{Slot, Unbound, Bound, State, Observed, RamRead, RamWrite, EncRead, EncWrite, Oram, Halted, register, slot}
 use Rattle.lt_isa.specs.Shape.{IsShaped}
-use Rattle.lt_isa.specs.Step.{Outcome, Goes, Stops, Faults, block_named, step, step_start}
+use Rattle.lt_isa.specs.Step.{StepResult, Goes, Stops, Faults, block_named, step, step_start}
 
 -- an access to a block of a bank
 pub record Access : Type 0 where
@@ -54,14 +54,14 @@ ShowsAccess (Oram bank) access = (access.bank ≡ bank) × (2 ≤ bank)
 ShowsAccess Halted access = ⊥
 
 -- A step makes an access exactly where it goes on and shows an event, and the event shows that access.
-abbrev pub ShowsItsAccess : Outcome → Option Access → Type 0
+abbrev pub ShowsItsAccess : StepResult → Option Access → Type 0
 ShowsItsAccess (Goes None t) made = made ≡ None
 ShowsItsAccess (Goes (Some event) t) made = (access : Access) × (made ≡ Some access) × ShowsAccess event access
 ShowsItsAccess (Stops t) made = made ≡ None
 ShowsItsAccess Faults made = made ≡ None
 
 -- what is accessed from the state behind a step
-abbrev pub accessed_then : Outcome → (State → List Access) → List Access
+abbrev pub accessed_then : StepResult → (State → List Access) → List Access
 accessed_then (Goes event next) rest = rest next
 accessed_then (Stops last) rest = []
 accessed_then Faults rest = []

@@ -1,9 +1,12 @@
-ghost use Rattle.std.specs.Prelude.{◌≡◌, ◌^◌, ◌<◌, [], ◌∷◌, ◌++◌, OnErr, OnOk, length};
+ghost use Rattle.std.specs.Prelude.{◌≡◌, ◌-◌, ◌^◌, ◌<◌, ◌≤◌, pos, [], ◌∷◌, ◌++◌, OnErr, OnOk, length, slice_set};
+ghost use Rattle.lt_isa.specs.Limits.{most_instructions};
+ghost use Rattle.lt_isa.specs.declared.instructions.Instr.TheVariants.{Br, Jmp};
 ghost use Rattle.block_cache_gen.specs.Behind.{IsAsBefore};
 ghost use Rattle.block_cache_gen.specs.Emitted.{Appended, CodeGrows, no_notes};
 
 use bank_alloc::Places;
 use gr_base::Memory;
+use gr_word::Cmp;
 use lt_isa::{Instr, Note, Profile};
 use scratch_alloc::SlotPlan;
 use src_tree::Program;
@@ -70,6 +73,36 @@ impl CodeBuf {
             Ok(()) => Ok(()),
             Err(_) => Err(Memory),
         }
+    }
+
+    /// The jump at a place leads behind the code so far. It serves `branch_padding` and `code_gen`.
+    pub fn set_jump(&mut self, at: u32)
+        requires before { at < length self.old.code.items }
+        requires room { length self.old.code.items ≤ most_instructions }
+        ensures code { self.new.code.items
+            ≡ slice_set self.old.code.items at (Jmp (pos (length self.old.code.items - at))) }
+        ensures notes { self.new.notes.items ≡ self.old.notes.items }
+    {
+        let offset = (self.next_place() - at) as i32;
+        self.code[at as usize] = Instr::Jmp { offset };
+    }
+
+    /// The branch at a place leads behind the code so far where a comparison of registers 0 and 1 holds. It serves
+    /// `branch_padding` and `code_gen`.
+    pub fn set_branch(&mut self, at: u32, cmp: Cmp)
+        requires before { at < length self.old.code.items }
+        requires room { length self.old.code.items ≤ most_instructions }
+        ensures code { self.new.code.items
+            ≡ slice_set self.old.code.items at (Br cmp 0 1 (pos (length self.old.code.items - at))) }
+        ensures notes { self.new.notes.items ≡ self.old.notes.items }
+    {
+        let offset = (self.next_place() - at) as i32;
+        self.code[at as usize] = Instr::Br {
+            cmp,
+            ra: 0,
+            rb: 1,
+            offset,
+        };
     }
 
     /// Appends a note, or changes nothing. It serves `code_gen`.

@@ -1,4 +1,4 @@
-ghost use Rattle.std.specs.Prelude.{◌≡◌, ◌≢◌, ◌+◌, ◌-◌, ◌*◌, ◌<◌, ◌≤◌, pos, List, [], ◌∷◌, OnOk, length, take, drop, slice_set};
+ghost use Rattle.std.specs.Prelude.{◌≡◌, ◌+◌, ◌-◌, ◌*◌, ◌<◌, ◌≤◌, [], ◌∷◌, OnOk, length};
 ghost use Rattle.gr_word.specs.declared.variables.Label.TheVariants as label;
 ghost use Rattle.src_tree.specs.Contexts.{context_of};
 ghost use Rattle.src_tree.specs.Labels.{label_of_test};
@@ -6,7 +6,6 @@ ghost use Rattle.src_tree.specs.Limits.{LowBlock, LowStatement, block_weight, st
 ghost use Rattle.src_tree.specs.Trees.{block_of_all, statement_of, test_of};
 ghost use Rattle.src_tree.specs.Typing.{TypedBlock, TypedStatement};
 ghost use Rattle.lt_isa.specs.Limits.{most_instructions};
-ghost use Rattle.lt_isa.specs.declared.instructions.Instr.TheVariants.{Br, Jmp};
 ghost use Rattle.block_cache_gen.specs.declared.frames.Mode.TheVariants as modes;
 ghost use Rattle.block_cache_gen.specs.Alike.{pair_count};
 ghost use Rattle.block_cache_gen.specs.Emitted.{Appended, CodeGrows, no_notes, notes_in};
@@ -20,7 +19,6 @@ use block_cache_gen::{
     CodeBuf, Emitter, Mode, pair_count, put_guard, put_set_element, put_set_variable,
 };
 use gr_base::Memory;
-use gr_word::Cmp;
 use lt_isa::Instr;
 use src_tree::{Guard, Stmt};
 
@@ -56,34 +54,6 @@ fn put_idle(out: &mut CodeBuf, cycles: u8) -> Result<(), Memory>
         done += 1;
     }
     Ok(())
-}
-
-// The branch at a place leads behind the code so far where a comparison of registers 0 and 1 holds.
-fn set_branch(out: &mut CodeBuf, at: u32, cmp: Cmp)
-    requires before { at < length out.old.code.items }
-    requires room { length out.old.code.items ≤ most_instructions }
-    ensures code { out.new.code.items
-        ≡ slice_set out.old.code.items at (Br cmp 0 1 (pos (length out.old.code.items - at))) }
-    ensures notes { out.new.notes.items ≡ out.old.notes.items }
-{
-    let offset = (out.next_place() - at) as i32;
-    out.code[at as usize] = Instr::Br {
-        cmp,
-        ra: 0,
-        rb: 1,
-        offset,
-    };
-}
-
-// The jump at a place leads behind the code so far.
-fn set_jump(out: &mut CodeBuf, at: u32)
-    requires before { at < length out.old.code.items }
-    requires room { length out.old.code.items ≤ most_instructions }
-    ensures code { out.new.code.items ≡ slice_set out.old.code.items at (Jmp (pos (length out.old.code.items - at))) }
-    ensures notes { out.new.notes.items ≡ out.old.notes.items }
-{
-    let offset = (out.next_place() - at) as i32;
-    out.code[at as usize] = Instr::Jmp { offset };
 }
 
 // A statement of secret code.
@@ -225,9 +195,9 @@ pub(crate) fn put_choice<'a>(
     put_untaken(emitter, out, &parts)?;
     let jump = out.next_place();
     out.put(&[Instr::Nop])?;
-    set_branch(out, branch, guard.cmp);
+    out.set_branch(branch, guard.cmp);
     put_taken(emitter, out, &parts)?;
-    set_jump(out, jump);
+    out.set_jump(jump);
     Ok(())
 }
 

@@ -11,10 +11,10 @@ use Rattle.lt_isa.specs.Object.{Parts, is_ram, is_eram, latency_of}
 use Rattle.lt_isa.specs.Ranges.{IsInRange, InstrFits}
 use Rattle.lt_isa.specs.Machine.{State, Observed, RamRead, RamWrite, EncRead, EncWrite, Oram, Halted, read_event, write_event, register, slot}
 use Rattle.lt_isa.specs.Shape.{IsShaped}
-use Rattle.lt_isa.specs.Step.{Outcome, Goes, Stops, Faults, executed, start_of, step, step_start}
+use Rattle.lt_isa.specs.Step.{StepResult, Goes, Stops, Faults, executed, start_of, step, step_start}
 use Rattle.lt_isa.specs.Trace.{Stamped, seen_at, stamped, trace_from, final_from, Reaches, Here, Then}
 use Rattle.lt_isa.specs.Windows.{IsOpen}
-use Rattle.lt_isa.proofs.Steps.{OnOutcome, on_goes, on_step, on_bound, on_choice, bound-fits, instruction-fits, step_start-at, step_start-least, step-later}
+use Rattle.lt_isa.proofs.Steps.{OnStepResult, on_goes, on_step, on_bound, on_choice, bound-fits, instruction-fits, step_start-at, step_start-least, step-later}
 use Rattle.lt_isa.proofs.Shapes.{step-shaped}
 use Rattle.lt_isa.proofs.Windows.{access_start-is}
 use Rattle.lt_isa.proofs.Runs.{trace_from-past, trace_from-goes, trace_from-stops, trace_from-faults}
@@ -63,7 +63,7 @@ accessed-at o fits cycle b e t exists is ends = record {
 
 executed-transfers : (o : Parts) → IsInRange o → (s : State) → IsShaped o s → (i : Instr)
     → InstrFits (length o.banks) i
-    → OnOutcome (MayTransfer o (start_of o.profile i s.cycle)) (λ t. Unit {0}) (executed o s i)
+    → OnStepResult (MayTransfer o (start_of o.profile i s.cycle)) (λ t. Unit {0}) (executed o s i)
 executed-transfers o fits s shaped Nop operands = tt
 executed-transfers o fits s shaped Halt operands = tt
 executed-transfers o fits s shaped (Li rd value) operands = tt
@@ -85,7 +85,7 @@ step-transfers : (o : Parts) → IsInRange o → (s : State) → IsShaped o s �
 step-transfers o fits s shaped event t goes =
     on_goes _ _ (step o s) event t
     (on_step _ _ o s (λ i at.
-    subst (λ n. OnOutcome (MayTransfer o n) (λ t. Unit {0}) (executed o s i)) (sym (step_start-at o s i at))
+    subst (λ n. OnStepResult (MayTransfer o n) (λ t. Unit {0}) (executed o s i)) (sym (step_start-at o s i at))
     (executed-transfers o fits s shaped i (instruction-fits o fits s.place i at))))
     goes
 
@@ -268,7 +268,7 @@ module _ (o : Parts) (fits : IsInRange o) (s : State) (shaped : IsShaped o s) (n
 stamps-step : (o : Parts) → IsInRange o → (s : State) (n : ℕ) → IsShaped o s → step_start o s < n
     → ((event : Option Observed) (t : State) → step o s ≡ Goes event t
     → (e : Stamped) → Contains (trace_from o t n) e → e.stamp < n)
-    → (outcome : Outcome) → step o s ≡ outcome → (e : Stamped) → Contains (trace_from o s n) e → e.stamp < n
+    → (outcome : StepResult) → step o s ≡ outcome → (e : Stamped) → Contains (trace_from o s n) e → e.stamp < n
 stamps-step o fits s n shaped less behind (Goes event t) is e c =
     ⊎_elim (λ here. one event here) (behind event t is e)
     (Contains-append_cases (stamped (step_start o s) event) (trace_from o t n) e

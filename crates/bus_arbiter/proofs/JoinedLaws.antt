@@ -12,7 +12,7 @@ use Rattle.lt_isa.proofs.Cycles.{latency-least}
 use Rattle.bus_arbiter.specs.declared.shares.Share.{Share}
 use Rattle.bus_arbiter.specs.Laws.{AllAgree, AllOblivious, AreOnBus, NoneOverlap, Run, shown_to, traces_on}
 use Rattle.bus_arbiter.specs.Shares.{no_share, share_at, share_of}
-use Rattle.bus_arbiter.specs.Transfers.{IsDuring, IsJoined, IsTransferIn, Rise, Transfer, all_transfers, bank_used, in_order, inserted, joined_of, moved_by, of_core, transfers_of}
+use Rattle.bus_arbiter.specs.Transfers.{IsDuring, IsJoined, IsTransferIn, Rise, Transfer, all_transfers, bank_used, ordered_transfers, inserted, joined_of, moved_by, of_core, transfers_of}
 use Rattle.bus_arbiter.proofs.CoreTransfers.{run-apart, run-moves, run-rises}
 use Rattle.bus_arbiter.proofs.Joining.{core-of}
 use Rattle.bus_arbiter.proofs.TransferLists.{has-shown, in-cases, in-here, in-none, in-there, of_core-has, of_core-in, rise-core, rise-same, shown-as}
@@ -56,18 +56,18 @@ has-inserted t (u ∷ us) x which = by (ltb t.stamp u.stamp) (has-inserted t us 
         (in-cases u us x old))
         which
 
-pub in-order : (ts : List Transfer) (x : Transfer) → Contains (in_order ts) x → Contains ts x
-in-order [] x c = c
-in-order (t ∷ ts) x c =
+pub in-ordered : (ts : List Transfer) (x : Transfer) → Contains (ordered_transfers ts) x → Contains ts x
+in-ordered [] x c = c
+in-ordered (t ∷ ts) x c =
     ⊎_elim
     (λ (is : t ≡ x). subst (Contains (t ∷ ts)) is (in-here t ts))
-    (λ old. in-there t ts x (in-order ts x old))
-    (in-inserted t (in_order ts) x c)
+    (λ old. in-there t ts x (in-ordered ts x old))
+    (in-inserted t (ordered_transfers ts) x c)
 
-pub has-order : (ts : List Transfer) (x : Transfer) → Contains ts x → Contains (in_order ts) x
+pub has-order : (ts : List Transfer) (x : Transfer) → Contains ts x → Contains (ordered_transfers ts) x
 has-order [] x c = c
 has-order (t ∷ ts) x c =
-    has-inserted t (in_order ts) x
+    has-inserted t (ordered_transfers ts) x
     (⊎_elim (λ is. inl is) (λ old. inr (has-order ts x old)) (in-cases t ts x c))
 
 -- no two have one stamp
@@ -101,10 +101,10 @@ rise-inserted t (u ∷ us) rises other =
     ))
     (cases_lt t.stamp u.stamp)
 
-pub rise-order : (ts : List Transfer) → Differ ts → Rise (in_order ts)
+pub rise-order : (ts : List Transfer) → Differ ts → Rise (ordered_transfers ts)
 rise-order [] differ = tt
 rise-order (t ∷ ts) differ =
-    rise-inserted t (in_order ts) (rise-order ts differ.1) (λ u c. differ.0 u (in-order ts u c))
+    rise-inserted t (ordered_transfers ts) (rise-order ts differ.1) (λ u c. differ.0 u (in-ordered ts u c))
 
 differ-rise : (ts : List Transfer) → Rise ts → Differ ts
 differ-rise [] rises = tt
@@ -291,7 +291,7 @@ module _ (runs : List Run) (bus : AreOnBus runs) (n : ℕ) where
       to : (t : Transfer) → Contains (joined_of (map (shown_to n) runs)) t → IsTransferIn (map (shown_to n) runs) t
       to t c =
           let among =
-          among-all 0 (map (shown_to n) runs) t (in-order (all_transfers 0 (map (shown_to n) runs)) t c) in
+          among-all 0 (map (shown_to n) runs) t (in-ordered (all_transfers 0 (map (shown_to n) runs)) t c) in
           let same : among.number ≡ t.core = omega (arith, among.core) in
           let is = shown-as t.core (get_or (map (shown_to n) runs) among.number []) t among.found in
           record {

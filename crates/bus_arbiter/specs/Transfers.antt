@@ -71,9 +71,9 @@ abbrev pub inserted : Transfer → List Transfer → List Transfer
 inserted t [] = t ∷ []
 inserted t (u ∷ us) = if nat_lt t.stamp u.stamp then t ∷ u ∷ us else u ∷ inserted t us
 
-abbrev pub in_order : List Transfer → List Transfer
-in_order [] = []
-in_order (t ∷ ts) = inserted t (in_order ts)
+abbrev pub ordered_transfers : List Transfer → List Transfer
+ordered_transfers [] = []
+ordered_transfers (t ∷ ts) = inserted t (ordered_transfers ts)
 
 abbrev pub joined_of : List (List Stamped) → List Transfer
-joined_of traces = in_order (all_transfers 0 traces)
+joined_of traces = ordered_transfers (all_transfers 0 traces)

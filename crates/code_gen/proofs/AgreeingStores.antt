@@ -10,7 +10,7 @@ use Rattle.src_tree.specs.Trees.{Source}
 use Rattle.src_tree.specs.Limits.{IsWithinLimits}
 use Rattle.src_tree.specs.Meaning.{Store, variable_number, words_of_number}
 use Rattle.src_tree.specs.Typing.{DeclaredOnce}
-use Rattle.flow_types.specs.Wants.{wants_of}
+use Rattle.flow_types.specs.Wants.{declared_wants}
 use Rattle.bank_alloc.specs.Fits.{Fits}
 use Rattle.bank_alloc.specs.Layout.{HasLayout}
 use Rattle.bank_alloc.specs.Places.{places_of, blocks_of_banks}
@@ -44,7 +44,7 @@ agree-each one other (s ∷ symbols) each =
 -- the inputs of stores that agree on what is public do so
 pub inputs-agree : (p : Source) (w : ℕ)
     → DeclaredOnce p.decls → IsWithinLimits p → Fits p w → (o : Parts) → HasLayout p w o
-    → (one other : Store) → FitsWants (wants_of p.decls) one → FitsWants (wants_of p.decls) other
+    → (one other : Store) → FitsWants (declared_wants p.decls) one → FitsWants (declared_wants p.decls) other
     → AgreeOnPublic p.decls one other → Agree o (by_name p o one) (by_name p o other)
 inputs-agree p w once limits room o layout one other first second agree = record {
   first_fits = inputs-fit p w once limits room o layout (program_setting p o.profile) setting one first;

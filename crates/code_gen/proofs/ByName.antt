@@ -13,8 +13,7 @@ use Rattle.lt_isa.specs.declared.symbols.Symbol.{Symbol}
 use Rattle.lt_isa.specs.Object.{Parts, block_words, blocks_of, first_word, end_word}
 use Rattle.lt_isa.specs.Machine.{State, block_at, word_in}
 use Rattle.lt_isa.specs.Outputs.{bank_word_numbered, symbol_word, symbol_words, outputs}
-use Rattle.lt_isa.specs.Start.{FitsObject, start_state}
-use Rattle.lt_isa.specs.Start as starts
+use Rattle.lt_isa.specs.Start.{FitsObject, start_state, want_of}
 use Rattle.lt_isa.proofs.StartWords.{Takes, start_word-taken, bank_word-start}
 use Rattle.src_tree.specs.declared.trees.Decl.{Decl}
 use Rattle.src_tree.specs.Trees.{Source}
@@ -22,7 +21,7 @@ use Rattle.src_tree.specs.Contexts.{context_of, label_and_shape, shape_of}
 use Rattle.src_tree.specs.Limits.{IsWithinLimits, words_of, words_of_length}
 use Rattle.src_tree.specs.Meaning.{Store, variable_number, words_of_number, scalar}
 use Rattle.src_tree.specs.Typing.{DeclaredOnce}
-use Rattle.flow_types.specs.Wants.{wants_of}
+use Rattle.flow_types.specs.Wants.{declared_wants}
 use Rattle.bank_alloc.specs.declared.places.Place.{Place}
 use Rattle.bank_alloc.specs.Fits.{Fits}
 use Rattle.bank_alloc.specs.Layout.{HasLayout, placed_symbol, placed_symbols}
@@ -45,7 +44,7 @@ record FitsAt (decls : List Decl) (store : Store) (k : ℕ) : Type 0 where
   size : length (words_of_number store k) ≡ words_of (get_or decls k no_decl)
   words : AreWords (words_of_number store k)
 
-fits-at : (decls : List Decl) (store : Store) → FitsWants (wants_of decls) store → (k : ℕ) → k < length decls
+fits-at : (decls : List Decl) (store : Store) → FitsWants (declared_wants decls) store → (k : ℕ) → k < length decls
     → FitsAt decls store k
 fits-at [] store fits k within = absurd (omega arith)
 fits-at (d ∷ decls) [] fits k within = absurd fits
@@ -53,7 +52,7 @@ fits-at (d ∷ decls) (words ∷ store) fits zero within = record { size = fits.
 fits-at (d ∷ decls) (words ∷ store) fits (suc k) within =
     let rest = fits-at decls store fits.2 k (omega arith) in record { size = rest.size; words = rest.words }
 
-fits-count : (decls : List Decl) (store : Store) → FitsWants (wants_of decls) store → length store ≡ length decls
+fits-count : (decls : List Decl) (store : Store) → FitsWants (declared_wants decls) store → length store ≡ length decls
 fits-count [] [] fits = refl
 fits-count [] (words ∷ store) fits = absurd fits
 fits-count (d ∷ decls) [] fits = absurd fits
@@ -62,7 +61,7 @@ fits-count (d ∷ decls) (words ∷ store) fits = ap suc (fits-count decls store
 no_words : AreWords []
 no_words i d within = absurd (omega arith)
 
-fits-words : (decls : List Decl) (store : Store) → FitsWants (wants_of decls) store → (k : ℕ)
+fits-words : (decls : List Decl) (store : Store) → FitsWants (declared_wants decls) store → (k : ℕ)
     → AreWords (words_of_number store k)
 fits-words decls store fits k =
     ⊎_elim
@@ -84,7 +83,7 @@ place-length p w k below = by (get_or p.decls k no_decl).length refl
 symbols-fit : (words : Symbol → List ℤ) (symbols : List Symbol)
     → ((k : ℕ) (d : Symbol) → k < length symbols
     → (length (words (get_or symbols k d)) ≡ (get_or symbols k d).length) × AreWords (words (get_or symbols k d)))
-    → FitsWants (map starts.want_of symbols) (map words symbols)
+    → FitsWants (map want_of symbols) (map words symbols)
 symbols-fit words [] each = tt
 symbols-fit words (s ∷ symbols) each =
     let first = each 0 s (omega arith) in
@@ -162,7 +161,7 @@ module _ (p : Source) (w : ℕ) (once : DeclaredOnce p.decls) (limits : IsWithin
   symbol-words store k below = ap (words_of_number store) (name-number k below)
 
   -- Inputs by name fit the object.
-  pub inputs-fit : (store : Store) → FitsWants (wants_of p.decls) store → FitsObject o (by_name p o store)
+  pub inputs-fit : (store : Store) → FitsWants (declared_wants p.decls) store → FitsObject o (by_name p o store)
   inputs-fit store given =
       symbols-fit (words_named store) o.symbols
       (λ k d within. of_variable (get_or o.symbols k d) (symbols-variables k d within))
@@ -278,7 +277,7 @@ module _ (p : Source) (w : ℕ) (once : DeclaredOnce p.decls) (limits : IsWithin
       (ap (λ kind. kind.1) (named-kind p w limits room o layout f setting x (label, Scalar) known))
 
   -- The banks at the start hold the store.
-  pub banks-start : (store : Store) → FitsWants (wants_of p.decls) store
+  pub banks-start : (store : Store) → FitsWants (declared_wants p.decls) store
       → BanksHold f (start_state o (by_name p o store)) store
   banks-start store given = record {
     scalars = λ x label known.
@@ -304,7 +303,7 @@ module _ (p : Source) (w : ℕ) (once : DeclaredOnce p.decls) (limits : IsWithin
   }
 
   -- A store that fits the declarations fits the homes.
-  pub store-fits : (store : Store) → FitsWants (wants_of p.decls) store → FitsHomes f store
+  pub store-fits : (store : Store) → FitsWants (declared_wants p.decls) store → FitsHomes f store
   store-fits store given = record {
     count = fits-count p.decls store given ∙ ap length (sym setting.decls);
     lengths = λ x label shape known.

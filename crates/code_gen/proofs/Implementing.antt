@@ -28,7 +28,7 @@ use Rattle.stretches.proofs.Coming.{comes-weaker}
 use Rattle.lt_isa.proofs.Lasting.{lasting-no_halt}
 use Rattle.src_tree.specs.Trees.{Source}
 use Rattle.src_tree.specs.Meaning.{Store, Left, run_of_block, meaning}
-use Rattle.flow_types.specs.Wants.{wants_of}
+use Rattle.flow_types.specs.Wants.{declared_wants}
 use Rattle.block_cache_gen.specs.Homes.{Setting, HasHomes}
 use Rattle.block_cache_gen.specs.StandsFor.{StandsFor, FitsHomes}
 use Rattle.code_gen.specs.Implements.{Implements, HasSymbols, by_name}
@@ -44,9 +44,9 @@ use Rattle.code_gen.proofs.Ended.{ending_shown, comes-ending}
 pub record NamesWords (p : Source) (o : Parts) (f : Setting) : Type 0 where
   pub decls : f.decls ≡ p.decls
   pub symbols : HasSymbols p o
-  pub fit : (store : Store) → FitsWants (wants_of p.decls) store → FitsHomes f store
-  pub inputs : (store : Store) → FitsWants (wants_of p.decls) store → FitsObject o (by_name p o store)
-  pub hold : (store : Store) → FitsWants (wants_of p.decls) store
+  pub fit : (store : Store) → FitsWants (declared_wants p.decls) store → FitsHomes f store
+  pub inputs : (store : Store) → FitsWants (declared_wants p.decls) store → FitsObject o (by_name p o store)
+  pub hold : (store : Store) → FitsWants (declared_wants p.decls) store
       → BanksHold f (start_state o (by_name p o store)) store
   pub tell : (u : State) (left : Store) → BanksHold f u left → FitsHomes f left → outputs o u ≡ by_name p o left
 
@@ -115,7 +115,7 @@ module _ (p : Source) (o : Parts) (fits : IsInRange o) (f : Setting) (homes : Ha
   halt-stands place at = at.each 2 Halt refl
 
   -- one run on a store
-  module _ (store : Store) (given : FitsWants (wants_of p.decls) store) where
+  module _ (store : Store) (given : FitsWants (declared_wants p.decls) store) where
     abbrev inputs : List (List ℤ)
     inputs = by_name p o store
 
@@ -186,14 +186,14 @@ module _ (p : Source) (o : Parts) (fits : IsInRange o) (f : Setting) (homes : Ha
       → meaning p store n ≡ option_map (λ (l : Left). l.store) found
   left-means store n found is = ap (option_map (λ (l : Left). l.store)) is
 
-  finishes : (store : Store) (given : FitsWants (wants_of p.decls) store) (n : ℕ) (left : Left)
+  finishes : (store : Store) (given : FitsWants (declared_wants p.decls) store) (n : ℕ) (left : Left)
       → run_of_block p.decls p.body (record { store = store; turns = n }) ≡ Some left
       → Finishes o f (comes-begun store given).end n left (length (beginning f) + length body) (greatest_costs o body)
   finishes store given n left done =
       let run = comes-begun store given in
       follows.done run.end store n left run.shaped run.comes run.holds (names.fit store given) done
 
-  lasts : (store : Store) (given : FitsWants (wants_of p.decls) store) (n : ℕ)
+  lasts : (store : Store) (given : FitsWants (declared_wants p.decls) store) (n : ℕ)
       → run_of_block p.decls p.body (record { store = store; turns = n }) ≡ None
       → Lasts o (comes-begun store given).end n
   lasts store given n spent =
@@ -214,7 +214,7 @@ module _ (p : Source) (o : Parts) (fits : IsInRange o) (f : Setting) (homes : Ha
   done-block store left n is (Some l) found =
       (l, found, some-same l.store left (sym (left-means store n (Some l) found) ∙ is))
 
-  run-halts : (store left : Store) (n : ℕ) → FitsWants (wants_of p.decls) store → meaning p store n ≡ Some left
+  run-halts : (store left : Store) (n : ℕ) → FitsWants (declared_wants p.decls) store → meaning p store n ≡ Some left
       → HaltsBelow o (start_state o (by_name p o store)) (costs * (n + 1)) (λ u. outputs o u ≡ by_name p o left)
   run-halts store left n given is =
       let block = done-block store left n is (run_of_block p.decls p.body (record { store = store; turns = n })) refl in
@@ -225,7 +225,7 @@ module _ (p : Source) (o : Parts) (fits : IsInRange o) (f : Setting) (homes : Ha
   costs-least : 1 ≤ costs
   costs-least = omega (arith, costs-are)
 
-  done-within : (store : Store) (n at : ℕ) → FitsWants (wants_of p.decls) store
+  done-within : (store : Store) (n at : ℕ) → FitsWants (declared_wants p.decls) store
       → HaltsAt (trace_from o (start_state o (by_name p o store)) n) at
       → (found : Option Left) → run_of_block p.decls p.body (record { store = store; turns = n }) ≡ found
       → (left : Store) × (meaning p store n ≡ Some left)

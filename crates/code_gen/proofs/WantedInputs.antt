@@ -4,7 +4,7 @@ use Rattle.std.proofs.lemmas.List.{get_or-map, length-map}
 use Rattle.gr_word.specs.declared.variables.Want.{Want}
 use Rattle.lt_isa.specs.declared.symbols.Symbol.{Symbol}
 use Rattle.lt_isa.specs.Object.{Parts}
-use Rattle.lt_isa.specs.Start as starts
+use Rattle.lt_isa.specs.Start.{want_of, wants_of}
 use Rattle.src_tree.specs.declared.trees.Decl.{Decl}
 use Rattle.src_tree.specs.Contexts.{shape_of}
 use Rattle.src_tree.specs.Limits.{IsWithinLimits}
@@ -12,7 +12,7 @@ use Rattle.src_tree.specs.Meaning.{Store, variable_number, words_of_number}
 use Rattle.src_tree.specs.Trees.{Source}
 use Rattle.src_tree.specs.Typing.{DeclaredOnce}
 use Rattle.src_tree.proofs.VariableNumbers.{number-of_declared}
-use Rattle.flow_types.specs.Wants.{want_of, wants_of}
+use Rattle.flow_types.specs.Wants.{declared_want, declared_wants}
 use Rattle.bank_alloc.specs.declared.places.Place.{Place}
 use Rattle.bank_alloc.specs.Fits.{Fits}
 use Rattle.bank_alloc.specs.Layout.{HasLayout, placed_symbol}
@@ -26,8 +26,8 @@ use Rattle.code_gen.proofs.ByName.{IsVariable, place-length, symbols-variables}
 
 -- what is made of each symbol's want
 each-want : (named : Symbol → List ℤ) (words : Want → List ℤ) (symbols : List Symbol) → ((k : ℕ) (d : Symbol)
-    → k < length symbols → named (get_or symbols k d) ≡ words (starts.want_of (get_or symbols k d)))
-    → map named symbols ≡ map words (map starts.want_of symbols)
+    → k < length symbols → named (get_or symbols k d) ≡ words (want_of (get_or symbols k d)))
+    → map named symbols ≡ map words (map want_of symbols)
 each-want named words [] each = refl
 each-want named words (s ∷ symbols) each =
     ap₂ (λ (x : List ℤ) (xs : List (List ℤ)). x ∷ xs) (each 0 s (omega arith))
@@ -50,7 +50,7 @@ module _ (p : Source) (w : ℕ) (once : DeclaredOnce p.decls) (limits : IsWithin
   }
 
   -- what is wanted of it is what its symbol wants
-  pub want-is : (k : ℕ) → k < length p.decls → want_of (decl k) ≡ starts.want_of (placed_symbol (decl k) (place k))
+  pub want-is : (k : ℕ) → k < length p.decls → declared_want (decl k) ≡ want_of (placed_symbol (decl k) (place k))
   want-is k below =
       let d = decl k in
       ap (λ n. record { name = d.name; label = d.label; shape = shape_of d.length; length = n })
@@ -58,26 +58,27 @@ module _ (p : Source) (w : ℕ) (once : DeclaredOnce p.decls) (limits : IsWithin
 
   -- inputs in the order of the symbols
   pub inputs-wanted : (words : Want → List ℤ)
-      → by_name p o (map words (wants_of p.decls)) ≡ map words (starts.wants_of o)
+      → by_name p o (map words (declared_wants p.decls)) ≡ map words (wants_of o)
   inputs-wanted words =
       each-want named words o.symbols (λ k d within. of_variable (get_or o.symbols k d)
       (symbols-variables p w once limits room o layout (program_setting p o.profile) setting k d within))
     where
       store : Store
-      store = map words (wants_of p.decls)
+      store = map words (declared_wants p.decls)
 
       named : Symbol → List ℤ
       named s = words_of_number store (variable_number p.decls s.name)
 
       of_variable : (s : Symbol) → IsVariable p w once limits room o layout (program_setting p o.profile) setting s
-          → named s ≡ words (starts.want_of s)
+          → named s ≡ words (want_of s)
       of_variable s variable =
           let k = variable.number in
           let number : variable_number p.decls s.name ≡ k =
           ap (λ (t : Symbol). variable_number p.decls t.name) variable.is
           ∙ number-of_declared p.decls once k no_decl variable.below in
           ap (words_of_number store) number
-          ∙ get_or-map words (wants_of p.decls) k (want_of no_decl) []
-          (omega (arith, variable.below, length-map p.decls want_of))
-          ∙ ap words (get_or-map want_of p.decls k no_decl (want_of no_decl) variable.below ∙ want-is k variable.below
-          ∙ ap starts.want_of (sym variable.is))
+          ∙ get_or-map words (declared_wants p.decls) k (declared_want no_decl) []
+          (omega (arith, variable.below, length-map p.decls declared_want))
+          ∙ ap words (get_or-map declared_want p.decls k no_decl (declared_want no_decl) variable.below
+          ∙ want-is k variable.below
+          ∙ ap want_of (sym variable.is))

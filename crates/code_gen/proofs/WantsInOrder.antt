@@ -8,7 +8,7 @@ use Rattle.std.proofs.lemmas.List.Sorted.{IsPermutation-map}
 use Rattle.gr_base.proofs.Permuted.{EachTwo}
 use Rattle.gr_word.specs.declared.variables.Want.{Want}
 use Rattle.lt_isa.specs.Object.{Parts}
-use Rattle.lt_isa.specs.Start as starts
+use Rattle.lt_isa.specs.Start.{want_of, wants_of}
 use Rattle.src_tree.specs.declared.trees.Decl.{Decl}
 use Rattle.src_tree.specs.Limits.{IsWithinLimits}
 use Rattle.src_tree.specs.Meaning.{Store, variable_number, words_of_number}
@@ -16,7 +16,7 @@ use Rattle.src_tree.specs.Trees.{Source}
 use Rattle.src_tree.specs.Typing.{DeclaredOnce}
 use Rattle.src_tree.proofs.NamesDiffer.{names_differ}
 use Rattle.src_tree.proofs.VariableNumbers.{number-of_declared}
-use Rattle.flow_types.specs.Wants.{want_of, wants_of}
+use Rattle.flow_types.specs.Wants.{declared_want, declared_wants}
 use Rattle.bank_alloc.specs.declared.places.Place.{Place}
 use Rattle.bank_alloc.specs.Fits.{Fits}
 use Rattle.bank_alloc.specs.Layout.{HasLayout, placed_symbol, placed_symbols}
@@ -28,8 +28,8 @@ use Rattle.code_gen.proofs.WantedInputs.{want-is}
 -- what variables want is what their symbols want
 wants-of_symbols : (ds : List Decl) (places : List Place) → length places ≡ length ds
     → ((k : ℕ) → k < length ds
-    → want_of (get_or ds k no_decl) ≡ starts.want_of (placed_symbol (get_or ds k no_decl) (get_or places k no_place)))
-    → wants_of ds ≡ map starts.want_of (placed_symbols ds places)
+    → declared_want (get_or ds k no_decl) ≡ want_of (placed_symbol (get_or ds k no_decl) (get_or places k no_place)))
+    → declared_wants ds ≡ map want_of (placed_symbols ds places)
 wants-of_symbols [] places same each = refl
 wants-of_symbols (d ∷ ds) [] same each = absurd (omega (arith, same))
 wants-of_symbols (d ∷ ds) (q ∷ places) same each =
@@ -38,26 +38,26 @@ wants-of_symbols (d ∷ ds) (q ∷ places) same each =
 
 module _ (p : Source) (w : ℕ) (once : DeclaredOnce p.decls) (limits : IsWithinLimits p) (room : Fits p w) (o : Parts)
     (layout : HasLayout p w o) where
-  pub wants-permuted : IsPermutation (wants_of p.decls) (starts.wants_of o)
+  pub wants-permuted : IsPermutation (declared_wants p.decls) (wants_of o)
   wants-permuted =
-      subst (λ wants. IsPermutation wants (starts.wants_of o))
+      subst (λ wants. IsPermutation wants (wants_of o))
       (sym (wants-of_symbols p.decls (places_of p w) (length-places p w) (want-is p w once limits room o layout)))
-      (IsPermutation-map starts.want_of (placed_symbols p.decls (places_of p w)) o.symbols layout.symbols.each)
+      (IsPermutation-map want_of (placed_symbols p.decls (places_of p w)) o.symbols layout.symbols.each)
 
 module _ (p : Source) (once : DeclaredOnce p.decls) where
-  wanted : (k : ℕ) (d : Want) → k < length (wants_of p.decls)
-      → (k < length p.decls) × (get_or (wants_of p.decls) k d ≡ want_of (get_or p.decls k no_decl))
+  wanted : (k : ℕ) (d : Want) → k < length (declared_wants p.decls)
+      → (k < length p.decls) × (get_or (declared_wants p.decls) k d ≡ declared_want (get_or p.decls k no_decl))
   wanted k d within =
-      let below : k < length p.decls = omega (arith, within, length-map p.decls want_of) in
-      (below, get_or-map want_of p.decls k no_decl d below)
+      let below : k < length p.decls = omega (arith, within, length-map p.decls declared_want) in
+      (below, get_or-map declared_want p.decls k no_decl d below)
 
   -- the names of what is wanted differ
-  pub wants-differ : EachTwo (λ (one other : Want). one.name ≢ other.name) (wants_of p.decls)
+  pub wants-differ : EachTwo (λ (one other : Want). one.name ≢ other.name) (declared_wants p.decls)
   wants-differ = record {
     at = λ i j d in_i in_j differ.
         let one = wanted i d in_i in
         let other = wanted j d in_j in
-        subst (λ (x : Want). x.name ≢ (get_or (wants_of p.decls) j d).name) (sym one.1)
+        subst (λ (x : Want). x.name ≢ (get_or (declared_wants p.decls) j d).name) (sym one.1)
         (subst (λ (y : Want). (get_or p.decls i no_decl).name ≢ y.name) (sym other.1)
         (⊎_elim (λ less. names_differ p.decls once i j no_decl less other.0)
         (λ past same. names_differ p.decls once j i no_decl (omega (arith, past, differ)) one.0 (sym same))
@@ -69,13 +69,14 @@ module _ (p : Source) (once : DeclaredOnce p.decls) where
   words_named store want = words_of_number store (variable_number p.decls want.name)
 
   pub store-named : (store : Store) → length store ≡ length p.decls
-      → map (words_named store) (wants_of p.decls) ≡ store
+      → map (words_named store) (declared_wants p.decls) ≡ store
   store-named store size =
-      ext_get_or [] (map (words_named store) (wants_of p.decls)) store
-      (length-map (wants_of p.decls) (words_named store) ∙ length-map p.decls want_of ∙ sym size) (λ k within.
-      let in_wants : k < length (wants_of p.decls) =
-      omega (arith, within, length-map (wants_of p.decls) (words_named store)) in
-      let here = wanted k (want_of no_decl) in_wants in
-      get_or-map (words_named store) (wants_of p.decls) k (want_of no_decl) [] in_wants
+      ext_get_or [] (map (words_named store) (declared_wants p.decls)) store
+      (length-map (declared_wants p.decls) (words_named store) ∙ length-map p.decls declared_want ∙ sym size)
+      (λ k within.
+      let in_wants : k < length (declared_wants p.decls) =
+      omega (arith, within, length-map (declared_wants p.decls) (words_named store)) in
+      let here = wanted k (declared_want no_decl) in_wants in
+      get_or-map (words_named store) (declared_wants p.decls) k (declared_want no_decl) [] in_wants
       ∙ ap (words_named store) here.1
       ∙ ap (words_of_number store) (number-of_declared p.decls once k no_decl here.0))

@@ -10,7 +10,7 @@ use Rattle.lt_isa.specs.Outputs.{outputs}
 use Rattle.lt_isa.specs.Runs.{Halts}
 use Rattle.src_tree.specs.Trees.{Source}
 use Rattle.src_tree.specs.Meaning.{Store, variable_number, words_of_number, meaning}
-use Rattle.flow_types.specs.Wants.{wants_of}
+use Rattle.flow_types.specs.Wants.{declared_wants}
 
 -- what a store holds for each symbol of an object, by the symbol's name
 abbrev pub by_name : Source → Parts → Store → List (List ℤ)
@@ -25,11 +25,11 @@ HasSymbols p o = All (λ d. (s : Symbol) × Contains o.symbols s × (s.name ≡ 
 -- done within n turns; and either way the words that the run leaves are those of the store that the program leaves.
 pub record Implements (p : Source) (o : Parts) : Type 0 where
   pub symbols : HasSymbols p o
-  pub halts : (store left : Store) (n : ℕ) → FitsWants (wants_of p.decls) store → meaning p store n ≡ Some left
+  pub halts : (store left : Store) (n : ℕ) → FitsWants (declared_wants p.decls) store → meaning p store n ≡ Some left
       → Halts o (by_name p o store) (greatest_costs o o.code * (n + 1))
-  pub leaves : (store left : Store) (n : ℕ) → FitsWants (wants_of p.decls) store → meaning p store n ≡ Some left
+  pub leaves : (store left : Store) (n : ℕ) → FitsWants (declared_wants p.decls) store → meaning p store n ≡ Some left
       → outputs o (final o (by_name p o store) (greatest_costs o o.code * (n + 1))) ≡ by_name p o left
-  pub done : (store : Store) (n : ℕ) → FitsWants (wants_of p.decls) store → Halts o (by_name p o store) n
+  pub done : (store : Store) (n : ℕ) → FitsWants (declared_wants p.decls) store → Halts o (by_name p o store) n
       → (left : Store)
       × (meaning p store n ≡ Some left)
       × (outputs o (final o (by_name p o store) n) ≡ by_name p o left)

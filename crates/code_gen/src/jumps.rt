@@ -1,13 +1,13 @@
-ghost use Rattle.std.specs.Prelude.{◌≡◌, ◌+◌, ◌-◌, ◌^◌, ◌<◌, ◌≤◌, pos, negsuc, [], ◌∷◌, OnOk, length, slice_set};
+ghost use Rattle.std.specs.Prelude.{◌≡◌, ◌-◌, ◌^◌, ◌<◌, ◌≤◌, pos, negsuc, [], ◌∷◌, OnOk, length, slice_set};
 ghost use Rattle.lt_isa.specs.Limits.{most_instructions};
-ghost use Rattle.lt_isa.specs.declared.instructions.Instr.TheVariants.{Br, Jmp};
+ghost use Rattle.lt_isa.specs.declared.instructions.Instr.TheVariants.{Br};
 ghost use Rattle.block_cache_gen.specs.Emitted.{Appended};
 ghost use Rattle.code_gen.specs.Statements.{head_note, head_unless, opposite};
 
 use block_cache_gen::{CodeBuf, Emitter};
 use gr_base::Memory;
 use gr_word::Cmp;
-use lt_isa::{Instr, Note};
+use lt_isa::Note;
 
 // The comparison that holds exactly where another doesn't.
 fn opposite(cmp: Cmp) -> Cmp
@@ -23,14 +23,6 @@ fn opposite(cmp: Cmp) -> Cmp
     }
 }
 
-// The offset that leads so many places on.
-fn forward(places: u32) -> i32
-    requires { places ≤ most_instructions }
-    ensures { result ≡ pos places }
-{
-    places as i32
-}
-
 /// The offset that leads so many places back.
 pub(crate) fn backward(places: u32) -> i32
     requires some { 1 ≤ places }
@@ -40,32 +32,15 @@ pub(crate) fn backward(places: u32) -> i32
     -(places as i32)
 }
 
-/// The jump at a place leads behind the code so far.
-pub(crate) fn set_jump(out: &mut CodeBuf, at: u32)
-    requires before { at < length out.old.code.items }
-    requires room { length out.old.code.items ≤ most_instructions }
-    ensures code { out.new.code.items ≡ slice_set out.old.code.items at (Jmp (pos (length out.old.code.items - at))) }
-    ensures notes { out.new.notes.items ≡ out.old.notes.items }
-{
-    let offset = forward(out.next_place() - at);
-    out.code[at as usize] = Instr::Jmp { offset };
-}
-
 /// The branch at a place leads behind the code so far where a comparison of registers 0 and 1 fails.
-pub(crate) fn set_branch(out: &mut CodeBuf, at: u32, cmp: Cmp)
+pub(crate) fn set_branch_unless(out: &mut CodeBuf, at: u32, cmp: Cmp)
     requires before { at < length out.old.code.items }
     requires room { length out.old.code.items ≤ most_instructions }
     ensures code { out.new.code.items
         ≡ slice_set out.old.code.items at (Br (opposite cmp) 0 1 (pos (length out.old.code.items - at))) }
     ensures notes { out.new.notes.items ≡ out.old.notes.items }
 {
-    let offset = forward(out.next_place() - at);
-    out.code[at as usize] = Instr::Br {
-        cmp: opposite(cmp),
-        ra: 0,
-        rb: 1,
-        offset,
-    };
+    out.set_branch(at, opposite(cmp));
 }
 
 /// Appends a note behind the code so far, to which public code may jump: every register may hold a secret. The only

@@ -13,7 +13,7 @@ ghost use Rattle.branch_padding.specs.EmittedBranches.{choice_of};
 ghost use Rattle.code_gen.specs.Emitted.{ClosesLoop, EmitsBlock, EmitsStatement};
 ghost use Rattle.code_gen.specs.Statements.{block_ends_noted, ends_noted};
 
-use crate::jumps::{backward, put_head_note, put_head_note_unless, set_branch, set_jump};
+use crate::jumps::{backward, put_head_note, put_head_note_unless, set_branch_unless};
 use block_cache_gen::{
     CodeBuf, Emitter, Mode, label_of, put_guard, put_set_element, put_set_variable,
 };
@@ -94,7 +94,7 @@ fn close_loop<'a>(
         (length out.new.code.items ≤ length out.old.code.items + 120 * test_weight (test_of guard.now)) }
     ensures words { OnOk result (TestHasWords (test_of guard.now)) }
 {
-    set_jump(out, start);
+    out.set_jump(start);
     let is_bare = out.next_place() == start + 1;
     put_head_note_unless(emitter, out, noted || is_bare)?;
     put_guard(emitter, out, guard, 0, Mode::Public)?;
@@ -196,15 +196,15 @@ fn put_choice<'a>(
     out.put(&[Instr::Jmp { offset: 0 }])?;
     let noted = put_block(emitter, out, first)?;
     if second.is_empty() {
-        set_branch(out, branch, guard.cmp);
+        set_branch_unless(out, branch, guard.cmp);
         return put_head_note_unless(emitter, out, noted);
     }
     let jump = out.next_place();
     out.put(&[Instr::Jmp { offset: 0 }])?;
-    set_branch(out, branch, guard.cmp);
+    set_branch_unless(out, branch, guard.cmp);
     put_head_note(emitter, out)?;
     let noted_at_end = put_block(emitter, out, second)?;
-    set_jump(out, jump);
+    out.set_jump(jump);
     put_head_note_unless(emitter, out, noted_at_end)
 }
 

@@ -13,14 +13,14 @@ use Rattle.src_tree.specs.Contexts.{shape_of}
 use Rattle.src_tree.specs.Limits.{words_of_length}
 use Rattle.src_tree.specs.Typing.{IsTyped}
 use Rattle.src_tree.proofs.NamesDiffer.{names_differ}
-use Rattle.flow_types.specs.Wants.{want_of, wants_of}
+use Rattle.flow_types.specs.Wants.{declared_want, declared_wants}
 
 distinct-from : (ds : List Decl)
     → ((i j : ℕ) (d : Decl) → i < j → j < length ds → (get_or ds i d).name ≢ (get_or ds j d).name)
-    → AreDistinct (wants_of ds)
+    → AreDistinct (declared_wants ds)
 distinct-from [] apart = tt
 distinct-from (x ∷ ds) apart = (
-  All-map (λ other. x.name ≢ other.name) want_of ds
+  All-map (λ other. x.name ≢ other.name) declared_want ds
       (λ k d within. apart 0 (suc k) d (omega arith) (omega (arith, within))),
   distinct-from ds (λ i j d less within. apart (suc i) (suc j) d (omega (arith, less)) (omega (arith, within))),
 )
@@ -29,17 +29,17 @@ one-word : (words : Option ℕ) → shape_of words ≡ Scalar → words_of_lengt
 one-word None is = refl
 one-word (Some n) is = absurd (let f : ◌≡◌ {A = Shape} Array Scalar = is in cc)
 
-pub wants_are_variables : (p : Source) → IsTyped p → AreVariables (wants_of p.decls)
+pub wants_are_variables : (p : Source) → IsTyped p → AreVariables (declared_wants p.decls)
 wants_are_variables p typed = record {
   distinct = distinct-from p.decls (names_differ p.decls typed.once);
-  scalars = All-map (λ want. want.shape ≡ Scalar → want.length ≡ 1) want_of p.decls
+  scalars = All-map (λ want. want.shape ≡ Scalar → want.length ≡ 1) declared_want p.decls
       (λ k d within. one-word (get_or p.decls k d).length);
 }
 
 -- the wants that were made of its declarations are variables
 pub made-are-variables : {Z E : Type 0} (made : Result (Vec Want Z) E) (p : Source) (decls : List Decl)
-    → decls ≡ p.decls → IsTyped p → IfOk made (λ wants. wants.items ≡ wants_of decls)
+    → decls ≡ p.decls → IsTyped p → IfOk made (λ wants. wants.items ≡ declared_wants decls)
     → IfOk made (λ wants. AreVariables wants.items)
 made-are-variables (Ok wants) p decls same typed is =
-    subst AreVariables (sym (is ∙ ap wants_of same)) (wants_are_variables p typed)
+    subst AreVariables (sym (is ∙ ap declared_wants same)) (wants_are_variables p typed)
 made-are-variables (Err e) p decls same typed is = tt

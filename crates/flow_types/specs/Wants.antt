@@ -6,8 +6,8 @@ use Rattle.src_tree.specs.declared.trees.Decl.{Decl}
 use Rattle.src_tree.specs.Contexts.{shape_of}
 use Rattle.src_tree.specs.Limits.{words_of}
 
-abbrev pub want_of : Decl → Want
-want_of d = record { name = d.name; label = d.label; shape = shape_of d.length; length = words_of d }
+abbrev pub declared_want : Decl → Want
+declared_want d = record { name = d.name; label = d.label; shape = shape_of d.length; length = words_of d }
 
-abbrev pub wants_of : List Decl → List Want
-wants_of decls = map want_of decls
+abbrev pub declared_wants : List Decl → List Want
+declared_wants decls = map declared_want decls

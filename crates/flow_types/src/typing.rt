@@ -5,13 +5,13 @@ ghost use Rattle.src_tree.specs.Typing.{IsTyped};
 ghost use Rattle.src_tree.specs.Limits.{weight_of, IsWithinLimits};
 ghost use Rattle.src_tree.specs.FirstFault.{first_fault, weight_fault};
 ghost use Rattle.flow_types.specs.Refusals.{ExplainsProgram};
-ghost use Rattle.flow_types.specs.Wants.{wants_of};
+ghost use Rattle.flow_types.specs.Wants.{declared_wants};
 ghost use Rattle.gr_base.specs.NameMaps.{found_under};
 ghost use Rattle.flow_types.specs.Walk.{fault_of, sizes_fault, found};
 
 use crate::declarations::{gather, length_fault, variables_fault, words_fault};
 use crate::walks::{Question, walk_block, where_true};
-use crate::wants::wants_of;
+use crate::wants::declared_wants;
 use crate::weights::block_weight;
 use gr_base::Memory;
 use gr_word::{Label, Want};
@@ -132,10 +132,10 @@ impl Typed {
 
     /// The variables, in the order of declaration.
     pub fn wants(&self, alloc: Global) -> Result<Vec<Want>, Memory>
-        ensures wants { IfOk result (λ wants. wants.items ≡ wants_of self.now.decls.items) }
+        ensures wants { IfOk result (λ wants. wants.items ≡ declared_wants self.now.decls.items) }
         ensures variables { IfOk result (λ wants. AreVariables wants.items) }
     {
-        wants_of(alloc, self.program.decls.as_slice())
+        declared_wants(alloc, self.program.decls.as_slice())
     }
 }
 

@@ -1,7 +1,7 @@
 ghost use Rattle.std.specs.Prelude.{◌≡◌, IfOk};
 ghost use Rattle.std.specs.List.{AllByRecursion};
 ghost use Rattle.src_tree.specs.Limits.{LengthFits};
-ghost use Rattle.flow_types.specs.Wants.{want_of, wants_of};
+ghost use Rattle.flow_types.specs.Wants.{declared_want, declared_wants};
 
 use crate::declarations::words_in;
 use gr_base::Memory;
@@ -10,9 +10,9 @@ use src_tree::{Decl, shape_of};
 use std::alloc::Global;
 
 // What a variable wants of inputs.
-fn want_of(alloc: Global, decl: &Decl) -> Result<Want, Memory>
+fn declared_want(alloc: Global, decl: &Decl) -> Result<Want, Memory>
     requires { LengthFits decl.now.length }
-    ensures { IfOk result (λ want. want ≡ want_of decl.now) }
+    ensures { IfOk result (λ want. want ≡ declared_want decl.now) }
 {
     let name = decl.name.copy(alloc)?;
     let words = words_in(decl.length);
@@ -25,13 +25,13 @@ fn want_of(alloc: Global, decl: &Decl) -> Result<Want, Memory>
 }
 
 // What variables want of inputs, in their order.
-pub(crate) fn wants_of(alloc: Global, decls: &[Decl]) -> Result<Vec<Want>, Memory>
+pub(crate) fn declared_wants(alloc: Global, decls: &[Decl]) -> Result<Vec<Want>, Memory>
     requires { AllByRecursion (λ d. LengthFits d.length) decls.now }
-    ensures { IfOk result (λ wants. wants.items ≡ wants_of decls.now) }
+    ensures { IfOk result (λ wants. wants.items ≡ declared_wants decls.now) }
 {
     let mut wants = Vec::new(alloc);
     for decl in decls {
-        wants.push(want_of(alloc, decl)?)?;
+        wants.push(declared_want(alloc, decl)?)?;
     }
     Ok(wants)
 }

@@ -2,7 +2,7 @@
 use Rattle.std.proofs.Common.{Bool, true, false, ℕ, List, subst}
 use Rattle.gr_word.specs.Fitting.{FitsWants}
 use Rattle.src_tree.specs.Trees.{Source}
-use Rattle.flow_types.specs.Wants.{wants_of}
+use Rattle.flow_types.specs.Wants.{declared_wants}
 use Rattle.src_procs.proofs.RoomForInputs.{room_for}
 use Rattle.ghost_cli.specs.Calls.{CallsAsMeant, MeansItsCalls}
 use Rattle.ghost_cli.specs.Sources.{Spells}
@@ -11,7 +11,7 @@ pub calls-as-meant : CallsAsMeant
 calls-as-meant text p spells store turns fits =
     let made = spells.of_file in
     made.means store turns
-    (room_for made.file store (subst (λ (q : Source). FitsWants (wants_of q.decls) store) made.made fits))
+    (room_for made.file store (subst (λ (q : Source). FitsWants (declared_wants q.decls) store) made.made fits))
 
 pub means-its-calls : (procs : Bool) (text : List ℕ) (p : Source) (spells : Spells procs text p)
     → MeansItsCalls procs text p spells

@@ -10,8 +10,7 @@ use Rattle.lt_isa.specs.Object.{Parts}
 use Rattle.lt_isa.specs.Outputs.{outputs}
 use Rattle.lt_isa.specs.Runs.{Halts}
 use Rattle.lt_isa.specs.Shape.{IsShaped}
-use Rattle.lt_isa.specs.Start.{FitsObject, start_state, final}
-use Rattle.lt_isa.specs.Start as starts
+use Rattle.lt_isa.specs.Start.{FitsObject, start_state, final, wants_of}
 use Rattle.lt_isa.proofs.Ends.{final_halted}
 use Rattle.lt_isa.proofs.Starts.{IsShaped-start}
 use Rattle.lt_isa.proofs.Variables as symbols
@@ -28,7 +27,7 @@ use Rattle.src_tree.specs.Meaning.{Store, meaning}
 use Rattle.src_tree.specs.Trees.{Source}
 use Rattle.src_tree.specs.Typing.{IsTyped}
 use Rattle.src_tree.proofs.StoreLengths.{length-meaning}
-use Rattle.flow_types.specs.Wants.{want_of, wants_of}
+use Rattle.flow_types.specs.Wants.{declared_want, declared_wants}
 use Rattle.flow_types.proofs.Distinct.{wants_are_variables}
 use Rattle.stretches.specs.Standing.{greatest_costs}
 use Rattle.code_gen.specs.Implements.{by_name}
@@ -47,10 +46,10 @@ module _ (p : Source) (profile : Profile) (bytes : List ℕ) (typed : IsTyped p)
   abbrev o : Parts
   o = compiled.o
 
-  arranges : (words : Want → List ℤ) → by_name p o (map words (wants_of p.decls)) ≡ map words (starts.wants_of o)
+  arranges : (words : Want → List ℤ) → by_name p o (map words (declared_wants p.decls)) ≡ map words (wants_of o)
   arranges words = inputs-wanted p profile.block_log typed.once limits compiled.room o compiled.layout words
 
-  permuted : IsPermutation (wants_of p.decls) (starts.wants_of o)
+  permuted : IsPermutation (declared_wants p.decls) (wants_of o)
   permuted = wants-permuted p profile.block_log typed.once limits compiled.room o compiled.layout
 
   named : (r : Result Store InputError) → result_map_both (by_name p o) (λ e. e) r ≡ given_by_name p o r
@@ -58,25 +57,25 @@ module _ (p : Source) (profile : Profile) (bytes : List ℕ) (typed : IsTyped p)
   named (Err fault) = refl
 
   text-given : (text : List ℕ)
-      → inputs_of (starts.wants_of o) (json_of text) ≡ given_by_name p o (inputs_of (wants_of p.decls) (json_of text))
+      → inputs_of (wants_of o) (json_of text) ≡ given_by_name p o (inputs_of (declared_wants p.decls) (json_of text))
   text-given text =
-      inputs_permuted (wants_of p.decls) (starts.wants_of o) permuted (wants-differ p typed.once) (by_name p o) arranges
+      inputs_permuted (declared_wants p.decls) (wants_of o) permuted (wants-differ p typed.once) (by_name p o) arranges
       (json_of text)
-      ∙ named (inputs_of (wants_of p.decls) (json_of text))
+      ∙ named (inputs_of (declared_wants p.decls) (json_of text))
 
-  text-fits : (text : List ℕ) (store : Store) → inputs_of (wants_of p.decls) (json_of text) ≡ Ok store
+  text-fits : (text : List ℕ) (store : Store) → inputs_of (declared_wants p.decls) (json_of text) ≡ Ok store
       → IsStoreOf p store
-  text-fits text store is = inputs_fit (wants_of p.decls) text store (wants_are_variables p typed) is
+  text-fits text store is = inputs_fit (declared_wants p.decls) text store (wants_are_variables p typed) is
 
   text-shown : (store : Store) → length store ≡ length p.decls
-      → output_of (starts.wants_of o) (by_name p o store) ≡ output_of (wants_of p.decls) store
+      → output_of (wants_of o) (by_name p o store) ≡ output_of (declared_wants p.decls) store
   text-shown store size =
       let words = words_named p typed.once store in
-      let is : map words (wants_of p.decls) ≡ store = store-named p typed.once store size in
-      ap (λ s. output_of (starts.wants_of o) (by_name p o s)) (sym is)
-      ∙ ap (output_of (starts.wants_of o)) (arranges words)
-      ∙ output_permuted words (wants_of p.decls) (starts.wants_of o) permuted (wants-differ p typed.once)
-      ∙ ap (output_of (wants_of p.decls)) is
+      let is : map words (declared_wants p.decls) ≡ store = store-named p typed.once store size in
+      ap (λ s. output_of (wants_of o) (by_name p o s)) (sym is)
+      ∙ ap (output_of (wants_of o)) (arranges words)
+      ∙ output_permuted words (declared_wants p.decls) (wants_of o) permuted (wants-differ p typed.once)
+      ∙ ap (output_of (declared_wants p.decls)) is
 
   -- a run that has halted leaves what the program does, however many cycles it was given
   outputs-left : (store left : Store) (turns cycles : ℕ) → IsStoreOf p store → FitsObject o (by_name p o store)
@@ -97,19 +96,19 @@ module _ (p : Source) (profile : Profile) (bytes : List ℕ) (typed : IsTyped p)
       ∙ compiled.implements.leaves store left turns fits is
 
   text-written : (text : List ℕ) (store left : Store) (inputs : List (List ℤ)) (turns cycles : ℕ)
-      → inputs_of (wants_of p.decls) (json_of text) ≡ Ok store → meaning p store turns ≡ Some left
-      → inputs_of (starts.wants_of o) (json_of text) ≡ Ok inputs → Halts o inputs cycles
-      → output_of (starts.wants_of o) (outputs o (final o inputs cycles)) ≡ output_of (wants_of p.decls) left
+      → inputs_of (declared_wants p.decls) (json_of text) ≡ Ok store → meaning p store turns ≡ Some left
+      → inputs_of (wants_of o) (json_of text) ≡ Ok inputs → Halts o inputs cycles
+      → output_of (wants_of o) (outputs o (final o inputs cycles)) ≡ output_of (declared_wants p.decls) left
   text-written text store left inputs turns cycles given is read halts =
       let same : inputs ≡ by_name p o store =
       ok-same inputs (by_name p o store) (sym read ∙ text-given text ∙ ap (given_by_name p o) given) in
       let fits = text-fits text store given in
       let in_object : FitsObject o inputs =
-      inputs_fit (starts.wants_of o) text inputs (symbols.wants_are_variables o compiled.spells.in_range) read in
+      inputs_fit (wants_of o) text inputs (symbols.wants_are_variables o compiled.spells.in_range) read in
       let count : length store ≡ length p.decls =
-      sym (fitting_length (wants_of p.decls) store fits) ∙ length-map p.decls want_of in
-      ap (λ words. output_of (starts.wants_of o) (outputs o (final o words cycles))) same
-      ∙ ap (output_of (starts.wants_of o))
+      sym (fitting_length (declared_wants p.decls) store fits) ∙ length-map p.decls declared_want in
+      ap (λ words. output_of (wants_of o) (outputs o (final o words cycles))) same
+      ∙ ap (output_of (wants_of o))
       (outputs-left store left turns cycles fits (subst (FitsObject o) same in_object) is
       (subst (λ words. Halts o words cycles) same halts))
       ∙ text-shown left (length-meaning p store left turns is ∙ count)

@@ -5,7 +5,7 @@ use Rattle.gr_outside.specs.Shelf.{ShelfSeen}
 use Rattle.gr_outside.specs.Sink.{SinkSeen}
 use Rattle.run_data.specs.OutputText.{output_of}
 use Rattle.src_tree.specs.Trees.{Source}
-use Rattle.flow_types.specs.Wants.{wants_of}
+use Rattle.flow_types.specs.Wants.{declared_wants}
 use Rattle.ghost_cli.specs.declared.replies.Verdict.TheVariants.{Spent}
 use Rattle.ghost_cli.specs.declared.replies.Done.TheVariants.{Evaluated}
 use Rattle.ghost_cli.specs.Texts.{Said, comes_to}
@@ -22,15 +22,16 @@ use Rattle.ghost_cli.proofs.Progressing.{leads-on, leads-later, stops-later, end
 pub variables-lead : (shelf between : ShelfSeen) (procs : Bool) (source input : List ℕ) (p : Source) (wants : List Want)
     (inputs : List (List ℤ)) (next : Source → List (List ℤ) → Work)
     → ((n : Source → Work) → HasLeft shelf (with_source procs source n) (n p)) → between ≡ shelf
-    → wants ≡ wants_of p.decls
+    → wants ≡ declared_wants p.decls
     → ((n : List (List ℤ) → Work) → HasLeft between (with_variables wants input n) (n inputs))
-    → HasLeft shelf (with_source procs source (λ q. with_variables (wants_of q.decls) input (next q))) (next p inputs)
+    → HasLeft shelf (with_source procs source (λ q. with_variables (declared_wants q.decls) input (next q)))
+    (next p inputs)
 variables-lead shelf between procs source input p wants inputs next found same is given =
-    leads-later shelf between (with_source procs source (λ q. with_variables (wants_of q.decls) input (next q)))
+    leads-later shelf between (with_source procs source (λ q. with_variables (declared_wants q.decls) input (next q)))
     (with_variables wants input (next p)) (next p inputs) same
     (subst (λ (ws : List Want). HasLeft shelf
-    (with_source procs source (λ q. with_variables (wants_of q.decls) input (next q)))
-    (with_variables ws input (next p))) (sym is) (found (λ q. with_variables (wants_of q.decls) input (next q))))
+    (with_source procs source (λ q. with_variables (declared_wants q.decls) input (next q)))
+    (with_variables ws input (next p))) (sym is) (found (λ q. with_variables (declared_wants q.decls) input (next q))))
     (given (next p))
 
 -- no inputs were found of a program that was found
@@ -38,15 +39,16 @@ pub variables-stop : (shelf between now : ShelfSeen) (procs : Bool) (source inpu
     (wants : List Want)
     (said : Said) (next : Source → List (List ℤ) → Work)
     → ((n : Source → Work) → HasLeft shelf (with_source procs source n) (n p)) → between ≡ shelf
-    → wants ≡ wants_of p.decls
+    → wants ≡ declared_wants p.decls
     → ((n : List (List ℤ) → Work) → Stops between now (with_variables wants input n) said)
-    → Stops shelf now (with_source procs source (λ q. with_variables (wants_of q.decls) input (next q))) said
+    → Stops shelf now (with_source procs source (λ q. with_variables (declared_wants q.decls) input (next q))) said
 variables-stop shelf between now procs source input p wants said next found same is stops =
-    stops-later shelf between now (with_source procs source (λ q. with_variables (wants_of q.decls) input (next q)))
+    stops-later shelf between now
+    (with_source procs source (λ q. with_variables (declared_wants q.decls) input (next q)))
     (with_variables wants input (next p)) said same
     (subst (λ (ws : List Want). HasLeft shelf
-    (with_source procs source (λ q. with_variables (wants_of q.decls) input (next q)))
-    (with_variables ws input (next p))) (sym is) (found (λ q. with_variables (wants_of q.decls) input (next q))))
+    (with_source procs source (λ q. with_variables (declared_wants q.decls) input (next q)))
+    (with_variables ws input (next p))) (sym is) (found (λ q. with_variables (declared_wants q.decls) input (next q))))
     (stops (next p))
 
 -- the values that are left were to be written
@@ -55,13 +57,13 @@ pub evaluated-said : (shelf between now : ShelfSeen) (before after : SinkSeen) (
     (bytes : List ℕ)
     → HasLeft shelf (evaluate_work source input output turns procs) (evaluates_on output turns p inputs)
     → between ≡ shelf
-    → IsLeft p inputs turns (Some left) → bytes ≡ output_of (wants_of p.decls) left
+    → IsLeft p inputs turns (Some left) → bytes ≡ output_of (declared_wants p.decls) left
     → WritesOut (outside between before) (outside now after) status output bytes Evaluated
     → Explains (outside shelf before) (outside now after) status (Some (evaluate_work source input output turns procs))
 evaluated-said shelf between now before after status source input output turns procs p inputs left bytes leads same is
     text writes =
     written-said shelf between now before after status (evaluate_work source input output turns procs) output
-    (output_of (wants_of p.decls) left) bytes Evaluated
+    (output_of (declared_wants p.decls) left) bytes Evaluated
     (leads-on shelf (evaluate_work source input output turns procs) (WhatIsLeft p inputs turns) (on_left p output turns)
     (Some left) leads is) same text writes
 

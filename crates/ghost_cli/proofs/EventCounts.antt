@@ -5,7 +5,7 @@ use Rattle.std.proofs.lemmas.List.{append-nil}
 use Rattle.std.proofs.lemmas.List.Sums.{count_by-le-length, sum_by_push}
 use Rattle.lt_isa.specs.Machine.{Observed, State}
 use Rattle.lt_isa.specs.Object.{Parts}
-use Rattle.lt_isa.specs.Step.{Outcome, Goes, Stops, Faults, step, step_start}
+use Rattle.lt_isa.specs.Step.{StepResult, Goes, Stops, Faults, step, step_start}
 use Rattle.lt_isa.specs.Trace.{Stamped, seen_at, stamped, shown_then, trace_within, trace_from}
 use Rattle.banks.specs.declared.bank.Leaves.{Leaves}
 use Rattle.processor.specs.Watching.{AnEvent, APath, TellsMore, events_in, with_paths}
@@ -50,7 +50,8 @@ path-uncounted w stamp bank leaves told counts =
 
 -- ---- a run has no more events than cycles
 
-shown-short : (at : ℕ) (outcome : Outcome) (rest : State → List Stamped) (n : ℕ) → ((t : State) → length (rest t) ≤ n)
+shown-short : (at : ℕ) (outcome : StepResult) (rest : State → List Stamped) (n : ℕ)
+    → ((t : State) → length (rest t) ≤ n)
     → length (shown_then at outcome rest) ≤ suc n
 shown-short at (Goes event next) rest n short = one event
   where

@@ -9,7 +9,7 @@ use Rattle.lt_isa.specs.Trace.{HaltsAt}
 use Rattle.object_file.specs.Spelling.{spelling}
 use Rattle.src_tree.specs.Meaning.{Store, meaning}
 use Rattle.src_tree.specs.Trees.{Source}
-use Rattle.flow_types.specs.Wants as variables
+use Rattle.flow_types.specs.Wants.{declared_wants}
 use Rattle.bank_alloc.specs.Layout.{HasLayout}
 use Rattle.code_gen.specs.Implements.{by_name}
 use Rattle.ghost_cli.specs.declared.replies.Done.TheVariants.{Sampled}
@@ -61,7 +61,7 @@ ready-done n p o at ready halts =
     let runs =
     compiled-runs p sample_profile (spelling o) o ready.spells.typed ready.spells.within ready.compiled
     (record { in_range = ready.in_range; spelled = refl }) in
-    let done = runs.leaves (sample_store p) sample_cycles (sample-fit (variables.wants_of p.decls))
+    let done = runs.leaves (sample_store p) sample_cycles (sample-fit (declared_wants p.decls))
     (at, subst (λ (i : List (List ℤ)). HaltsAt (trace o i sample_cycles) at) (sym inputs) halts) in
     (done.0, done.1)
 
@@ -93,7 +93,7 @@ file-made n p o bytes run file ready is ran spelled figured = record {
 
 -- ---- the variables of the counts
 
-pub counts-listed : (n : ℕ) (values : List (List ℤ)) → FitsWants (variables.wants_of (sample_decls n)) values
+pub counts-listed : (n : ℕ) (values : List (List ℤ)) → FitsWants (declared_wants (sample_decls n)) values
     → (2 < length values) × (length (words_at values 2) ≡ 16) × AreWords (words_at values 2)
 counts-listed n [] fits = absurd fits
 counts-listed n (i ∷ []) fits = absurd fits.2

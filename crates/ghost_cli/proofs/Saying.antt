@@ -32,7 +32,7 @@ use Rattle.run_data.specs.declared.errors.InputError.{InputError}
 use Rattle.run_data.specs.declared.errors.InputError.TheVariants as input
 use Rattle.ghost_cli.specs.declared.replies.InputFault.{InputFault}
 use Rattle.ghost_cli.specs.declared.source_faults.SourceFault.{SourceFault}
-use Rattle.ghost_cli.specs.Sources.{AreProgram, Spells, IsFirstSourceFault, InPieces, InTokens, InProgram, IsTokensFault, NoFile, InCalls, piece_fault, token_fault, call_fault, program_fault}
+use Rattle.ghost_cli.specs.Sources.{AreProgram, Spells, IsFirstSourceFault, InPieces, InTokens, InProgram, IsTokensFault, NoFile, InCalls, piece_fault, token_fault, shown_call_fault, program_fault}
 use Rattle.ghost_cli.specs.declared.replies.Verdict.TheVariants.{Malformed, BadSource, BadInput, BadAssembly, NoNotes}
 use Rattle.ghost_cli.specs.Texts.{Said}
 use Rattle.note_infer.specs.declared.faults.InferError.{InferError}
@@ -98,7 +98,7 @@ file-first tokens e (Some fault) is explains = NoFile e explains (sym is)
 
 -- of its calls
 pub call-first : (tokens : List Token) (f : File) (e : InlineError) (shown : Option SourceFault)
-    → shown ≡ call_fault e → SpellsFile limits (token_kinds tokens) f → ExplainsInlining e f
+    → shown ≡ shown_call_fault e → SpellsFile limits (token_kinds tokens) f → ExplainsInlining e f
     → IfSome shown (IsTokensFault true tokens)
 call-first tokens f e None is spells explains = tt
 call-first tokens f e (Some fault) is spells explains = InCalls f e spells explains (sym is)

@@ -15,7 +15,7 @@ use Rattle.procs_parser.proofs.ReadFiles.{file_read}
 use Rattle.src_procs.specs.Inlined.{inlined_file}
 use Rattle.src_procs.specs.Trees.{File}
 use Rattle.src_tree.specs.Trees.{Source}
-use Rattle.flow_types.specs.Wants.{wants_of}
+use Rattle.flow_types.specs.Wants.{declared_wants}
 use Rattle.ghost_cli.specs.declared.replies.Done.TheVariants.{Compiled}
 use Rattle.ghost_cli.specs.declared.replies.InputFault.{InputFault}
 use Rattle.ghost_cli.specs.declared.source_faults.SourceFault.{SourceFault}
@@ -88,7 +88,7 @@ module _ (files : Files) where
   evaluates-done : (source input output : List ℕ) (turns : ℕ) (procs : Bool)
       → Once is_done files (evaluate_work source input output turns procs)
   evaluates-done source input output turns procs =
-      source-done procs source _ (λ p. variables-done (wants_of p.decls) input (evaluates_on output turns p)
+      source-done procs source _ (λ p. variables-done (declared_wants p.decls) input (evaluates_on output turns p)
       (λ d. asks-once is_done files (WhatIsLeft p d turns) (on_left p output turns)
       (λ a b first second. sym first ∙ second) (λ a right. by p a)))
     where

@@ -12,7 +12,7 @@ use Rattle.src_tree.specs.Limits.{IsWithinLimits}
 use Rattle.src_tree.specs.Meaning.{Store, meaning}
 use Rattle.src_tree.specs.Trees.{Source}
 use Rattle.src_tree.specs.Typing.{IsTyped}
-use Rattle.flow_types.specs.Wants.{wants_of}
+use Rattle.flow_types.specs.Wants.{declared_wants}
 use Rattle.code_gen.specs.AgreeingStores.{AgreeOnPublic}
 use Rattle.code_gen.specs.Implements.{HasSymbols, by_name}
 use Rattle.ghost_cli.specs.Compiled.{IsCompiledTo}
@@ -20,7 +20,7 @@ use Rattle.ghost_cli.specs.Objects.{SpellsObject}
 
 -- a store that gives each variable of the program its number of words
 abbrev pub IsStoreOf : Source → Store → Type 0
-IsStoreOf p store = FitsWants (wants_of p.decls) store
+IsStoreOf p store = FitsWants (declared_wants p.decls) store
 
 -- Each variable of the program has a symbol. Runs on stores that agree on the program's public variables show the same, at every number of cycles. A run that has
 -- halted within n cycles leaves the values that the program leaves, which is done within n turns. Where the program is

@@ -11,7 +11,7 @@ use Rattle.src_tree.specs.Limits.{IsWithinLimits}
 use Rattle.src_tree.specs.Meaning.{Store}
 use Rattle.src_tree.specs.Trees.{Source}
 use Rattle.src_tree.specs.Typing.{IsTyped}
-use Rattle.flow_types.specs.Wants as variables
+use Rattle.flow_types.specs.Wants.{declared_wants}
 use Rattle.code_gen.specs.Implements.{by_name}
 use Rattle.ghost_cli.specs.Compiled.{IsCompiledTo}
 use Rattle.ghost_cli.specs.CompiledRuns.{IsStoreOf}
@@ -30,15 +30,15 @@ given_by_name p o (Err fault) = Err fault
 -- once halted, is what `eval` writes for the program: the output text of those values.
 pub record TextsAsMeant (p : Source) (o : Parts) : Type 0 where
   pub given : (text : List ℕ) → inputs_of (wants_of o) (json_of text)
-      ≡ given_by_name p o (inputs_of (variables.wants_of p.decls) (json_of text))
-  pub fits : (text : List ℕ) (store : Store) → AreInputs (variables.wants_of p.decls) text (Ok store)
+      ≡ given_by_name p o (inputs_of (declared_wants p.decls) (json_of text))
+  pub fits : (text : List ℕ) (store : Store) → AreInputs (declared_wants p.decls) text (Ok store)
       → IsStoreOf p store
   pub shown : (store : Store) → length store ≡ length p.decls
-      → output_of (wants_of o) (by_name p o store) ≡ output_of (variables.wants_of p.decls) store
+      → output_of (wants_of o) (by_name p o store) ≡ output_of (declared_wants p.decls) store
   pub written : (text : List ℕ) (store left : Store) (inputs : List (List ℤ)) (turns cycles : ℕ)
-      → AreInputs (variables.wants_of p.decls) text (Ok store) → IsLeft p store turns (Some left)
+      → AreInputs (declared_wants p.decls) text (Ok store) → IsLeft p store turns (Some left)
       → AreInputs (wants_of o) text (Ok inputs) → Halts o inputs cycles
-      → run_outputs o inputs cycles ≡ output_of (variables.wants_of p.decls) left
+      → run_outputs o inputs cycles ≡ output_of (declared_wants p.decls) left
 
 -- whatever object a compiled program's bytes spell reads and writes what the program does
 abbrev pub CompiledTexts : Type 0

@@ -4,7 +4,7 @@ use Rattle.std.specs.Option.{option_map}
 use Rattle.clap.specs.Words.{App, Row, Text, first_of, new_app, with_rule}
 use Rattle.run_data.specs.OutputText.{output_of}
 use Rattle.src_tree.specs.Trees.{Source}
-use Rattle.flow_types.specs.Wants.{wants_of}
+use Rattle.flow_types.specs.Wants.{declared_wants}
 use Rattle.ghost_cli.specs.declared.replies.Verdict.TheVariants.{Spent}
 use Rattle.ghost_cli.specs.declared.replies.Done.TheVariants.{Evaluated}
 use Rattle.ghost_cli.specs.Questions.{WhatIsLeft}
@@ -21,7 +21,7 @@ evaluate_app =
 
 -- the values that a program leaves are written, where its loops took no more than so many turns
 abbrev pub on_left : Source → List ℕ → ℕ → Option (List (List ℤ)) → Work
-on_left p output turns (Some left) = Writes output (output_of (wants_of p.decls) left) Evaluated
+on_left p output turns (Some left) = Writes output (output_of (declared_wants p.decls) left) Evaluated
 on_left p output turns None = Ends nothing_seen (Spent turns)
 
 abbrev pub evaluates_on : List ℕ → ℕ → Source → List (List ℤ) → Work
@@ -29,7 +29,7 @@ evaluates_on output turns p inputs = Asks (WhatIsLeft p inputs turns) (on_left p
 
 abbrev pub evaluate_work : List ℕ → List ℕ → List ℕ → ℕ → Bool → Work
 evaluate_work source input output turns procs =
-    with_source procs source (λ p. with_variables (wants_of p.decls) input (evaluates_on output turns p))
+    with_source procs source (λ p. with_variables (declared_wants p.decls) input (evaluates_on output turns p))
 
 -- the work on these names, with the turns that an option gives, and with procedures where the flag is given
 abbrev pub evaluate_named : Option (List ℕ) → Option (List ℕ) → Option (List ℕ) → Option (List ℕ)

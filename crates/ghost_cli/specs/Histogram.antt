@@ -10,7 +10,7 @@ use Rattle.lt_isa.specs.Start.{trace, wants_of}
 use Rattle.lt_isa.specs.Trace.{Stamped}
 use Rattle.src_tree.specs.Meaning.{Store, meaning, variable_number, words_of_number}
 use Rattle.src_tree.specs.Trees.{Source}
-use Rattle.flow_types.specs.Wants as variables
+use Rattle.flow_types.specs.Wants.{declared_wants}
 use Rattle.ghost_cli.specs.Compiled.{IsCompiledTo}
 use Rattle.ghost_cli.specs.Counting.{is_plain, is_encrypted, is_second, how_many}
 use Rattle.ghost_cli.specs.Objects.{SpellsObject}
@@ -53,7 +53,7 @@ sample_inputs wants = map sample_words wants
 
 -- the same for the variables of a program, in the order of declaration
 abbrev pub sample_store : Source → Store
-sample_store p = sample_inputs (variables.wants_of p.decls)
+sample_store p = sample_inputs (declared_wants p.decls)
 
 -- the most cycles of the run
 abbrev pub sample_cycles : ℕ

@@ -75,14 +75,14 @@ token_fault token.EndOfText = Some fault.End
 token_fault (token.TooDeep at) = Some (fault.Deep at)
 token_fault token.Memory = None
 
-abbrev pub call_fault : InlineError → Option SourceFault
-call_fault (calls.TwiceNamed n) = Some (fault.ProcedureTwice n)
-call_fault (calls.Undeclared n) = Some (fault.ProcedureUndeclared n)
-call_fault (calls.NoProcedure n) = Some (fault.CallUnknown n)
-call_fault (calls.WrongCount n) = Some (fault.CallCount n)
-call_fault (calls.NotAnArray n) = Some (fault.CallArray n)
-call_fault calls.TooLarge = Some fault.CallsLarge
-call_fault calls.Memory = None
+abbrev pub shown_call_fault : InlineError → Option SourceFault
+shown_call_fault (calls.TwiceNamed n) = Some (fault.ProcedureTwice n)
+shown_call_fault (calls.Undeclared n) = Some (fault.ProcedureUndeclared n)
+shown_call_fault (calls.NoProcedure n) = Some (fault.CallUnknown n)
+shown_call_fault (calls.WrongCount n) = Some (fault.CallCount n)
+shown_call_fault (calls.NotAnArray n) = Some (fault.CallArray n)
+shown_call_fault calls.TooLarge = Some fault.CallsLarge
+shown_call_fault calls.Memory = None
 
 abbrev pub program_fault : TypeError → Option SourceFault
 program_fault (program.TwiceDeclared n) = Some (fault.Twice n)
@@ -100,7 +100,7 @@ program_fault program.Memory = None
 pub data IsFileFault (tokens : List Token) (shown : SourceFault) : Type 0 where
   NoFile : (e : ParseError) → ExplainsFile e tokens → token_fault e ≡ Some shown → IsFileFault tokens shown
   InCalls : (f : File) (e : InlineError) → SpellsFile limits (token_kinds tokens) f → ExplainsInlining e f
-      → call_fault e ≡ Some shown → IsFileFault tokens shown
+      → shown_call_fault e ≡ Some shown → IsFileFault tokens shown
 
 abbrev pub IsTokensFault : Bool → List Token → SourceFault → Type 0
 IsTokensFault false tokens shown = (e : ParseError) × ExplainsTokens e tokens × (token_fault e ≡ Some shown)

@@ -2,7 +2,7 @@ ghost use Rattle.std.specs.Prelude.{◌≡◌, IfOk, Some};
 ghost use Rattle.std.specs.Option.{option_map};
 ghost use Rattle.gr_word.specs.Fitting.{FitsWants};
 ghost use Rattle.src_tree.specs.Trees.{source_of};
-ghost use Rattle.flow_types.specs.Wants.{wants_of};
+ghost use Rattle.flow_types.specs.Wants.{declared_wants};
 ghost use Rattle.clap.specs.Words.{app_of};
 ghost use Rattle.ghost_cli.specs.Evaluate.{evaluate_app, evaluate_named, evaluate_of, evaluate_work};
 ghost use Rattle.ghost_cli.specs.Evaluated.{LeavesText};
@@ -149,7 +149,7 @@ fn evaluate_to_end(
     inputs: Inputs,
     turns: u32,
 ) -> Result<Left, Memory>
-    requires wants { wants.now ≡ wants_of program.now.decls.items }
+    requires wants { wants.now ≡ declared_wants program.now.decls.items }
     requires fits { FitsWants wants.now inputs }
     ensures { IfOk result (λ left. LeavesText (source_of program.now) inputs turns left) }
 {

@@ -1,6 +1,6 @@
 ghost use Rattle.std.specs.Prelude.{◌≡◌, Some};
 ghost use Rattle.ghost_cli.specs.Compiled.{room_fault};
-ghost use Rattle.ghost_cli.specs.Sources.{call_fault, piece_fault, program_fault, token_fault};
+ghost use Rattle.ghost_cli.specs.Sources.{shown_call_fault, piece_fault, program_fault, token_fault};
 ghost use Rattle.ghost_cli.specs.Texts.{label_text, limit_name, source_fault};
 
 use code_gen::CompileError;
@@ -90,8 +90,8 @@ pub(crate) fn token_fault(fault: ParseError) -> Option<SourceFault>
 }
 
 /// The fault of a file's calls as it is shown; want of memory is none.
-pub(crate) fn call_fault(fault: InlineError) -> Option<SourceFault>
-    ensures { result ≡ call_fault fault }
+pub(crate) fn shown_call_fault(fault: InlineError) -> Option<SourceFault>
+    ensures { result ≡ shown_call_fault fault }
 {
     match fault {
         InlineError::TwiceNamed(n) => Some(SourceFault::ProcedureTwice(n)),

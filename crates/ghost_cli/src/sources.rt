@@ -11,7 +11,9 @@ ghost use Rattle.ghost_cli.specs.Work.{Work};
 
 use crate::reading::read_whole;
 use crate::replies::{Reply, Verdict};
-use crate::source_faults::{SourceFault, call_fault, piece_fault, program_fault, token_fault};
+use crate::source_faults::{
+    SourceFault, piece_fault, program_fault, shown_call_fault, token_fault,
+};
 use flow_types::{Typed, type_program};
 use gr_outside::Shelf;
 use procs_parser::parse_procs;
@@ -98,7 +100,7 @@ fn inlined(alloc: Global, tokens: &[Token]) -> Result<Program, Option<SourceFaul
     match parse_procs(alloc, tokens) {
         Ok(file) => match inline(alloc, &file) {
             Ok(program) => Ok(program),
-            Err(fault) => Err(call_fault(fault)),
+            Err(fault) => Err(shown_call_fault(fault)),
         },
         Err(fault) => Err(token_fault(fault)),
     }

@@ -64,10 +64,10 @@ fn window_of(period: Option<u64>, opens: Option<u64>, closes: Option<u64>) -> Op
     ensures value { result ≡ window_of_numbers period opens closes }
     ensures fits { IfSome result WindowFits }
 {
-    in_order(period? as u32, opens? as u32, closes? as u32)
+    checked_window(period? as u32, opens? as u32, closes? as u32)
 }
 
-fn in_order(period: u32, opens: u32, closes: u32) -> Option<Window>
+fn checked_window(period: u32, opens: u32, closes: u32) -> Option<Window>
     requires { period ≤ 1000000 }
     ensures value { result ≡ window_in_order period opens closes }
     ensures fits { IfSome result WindowFits }

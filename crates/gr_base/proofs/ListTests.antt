@@ -1,10 +1,20 @@
--- What tests of lists say: of each item, of one more item, and of equal bytes.
+-- What tests say: of a number in a range, of each item of a list, of one more item, and of equal bytes.
 use Rattle.std.proofs.Common.{◌≡◌, ◌≢◌, ℕ, zero, suc, ◌<◌, Bool, true, not, List, [], ◌∷◌, ◌++◌, length, get_or, refl, arith}
 use Rattle.std.specs.Prelude.{All, bytes_eq}
 use Rattle.std.specs.List.{list_all}
-use Rattle.std.proofs.lemmas.Bool.{and_parts, and_from, not-true, false_from_ne_true, not_from_false, both_ways}
+use Rattle.std.proofs.lemmas.Bool.{and_parts, and_from, leb-true, le-leb, not-true, false_from_ne_true, not_from_false, both_ways}
 use Rattle.std.proofs.lemmas.List.Elements.{All-nil, All-cons, All-head, All-tail}
 use Rattle.std.proofs.lemmas.Slice.Eq.{bytes_eq-Decides}
+use Rattle.gr_base.specs.Lists.{Within, is_within}
+
+-- a number in a range
+pub Within-is_within : (low high n : ℕ) → is_within low high n ≡ true → Within low high n
+unfolding is_within
+Within-is_within low high n e = let p = and_parts _ _ e in (leb-true _ _ p.0, leb-true _ _ p.1)
+
+pub is_within-Within : (low high n : ℕ) → Within low high n → is_within low high n ≡ true
+unfolding is_within
+is_within-Within low high n h = and_from _ _ (le-leb _ _ h.0) (le-leb _ _ h.1)
 
 -- an item of a list whose items all pass
 pub list_all-get_or : {X : Type 0} (p : X → Bool) (xs : List X) (i : ℕ) (d : X) → list_all p xs ≡ true

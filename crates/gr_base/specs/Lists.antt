@@ -1,9 +1,13 @@
 -- What is said of lists, item by item. (This project's profile.)
-use Rattle.std.specs.Prelude.{ℕ, ◌≤◌, List, [], ◌∷◌, ◌++◌}
+use Rattle.std.specs.Prelude.{ℕ, ◌≤◌, nat_le, Bool, ◌&&◌, List, [], ◌∷◌, ◌++◌}
 
 -- a number from low to high
 abbrev pub Within : ℕ → ℕ → ℕ → Type 0
 Within low high n = (low ≤ n) × (n ≤ high)
+
+-- the test of it
+unfoldable pub is_within : ℕ → ℕ → ℕ → Bool
+is_within low high n = nat_le low n && nat_le n high
 
 -- each item fits, given those before it
 abbrev pub EachAfter : {X : Type 0} → (List X → X → Type 0) → List X → List X → Type 0

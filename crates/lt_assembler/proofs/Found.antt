@@ -3,7 +3,7 @@ use Rattle.std.proofs.Common.{◌≡◌, ℕ, suc, ◌<◌, ◌≤◌, Bool, tru
 use Rattle.std.specs.Prelude.{◌&&◌, option_map, ℤ, pos, ◌^◌, ◌-◌, decimal}
 use Rattle.std.specs.Fmt.{signed_decimal}
 use Rattle.std.specs.Str.Parse.{digits_value}
-use Rattle.std.proofs.lemmas.Bool.{and_parts, leb-true, eqb-true}
+use Rattle.std.proofs.lemmas.Bool.{and_parts, eqb-true}
 use Rattle.std.proofs.lemmas.Int.{ints}
 use Rattle.std.proofs.lemmas.Int.Digits.{digits_value-lt}
 use Rattle.std.proofs.lemmas.Option.{cond_some}
@@ -11,8 +11,10 @@ use Rattle.gr_word.specs.Words.{IsWord}
 use Rattle.lt_isa.specs.Ranges.{IsOffset}
 use Rattle.lt_assembler.specs.declared.faults.Fault.{Fault}
 use Rattle.lt_assembler.specs.Words.{Word, offset_word}
-use Rattle.lt_assembler.specs.Numbers.{is_number, is_within, number_within, negative, begins_with, but_first, constant_of, forward_of, backward_of}
+use Rattle.lt_assembler.specs.Numbers.{is_number, number_within, negative, begins_with, but_first, constant_of, forward_of, backward_of}
+use Rattle.gr_base.specs.Lists.{is_within}
 use Rattle.gr_base.proofs.Digits.{numeral_text}
+use Rattle.gr_base.proofs.ListTests.{Within-is_within}
 use Rattle.gr_base.proofs.Results.{IfRead, read_err, mapped}
 use Rattle.lt_assembler.specs.Faults.{unless_not}
 use Rattle.gr_base.specs.Results.{◌>>=◌}
@@ -42,8 +44,8 @@ unfolding number_within
 number_from low high word n e =
     let found = cond_some (is_number word && is_within low high (digits_value 10 word)) (digits_value 10 word) n e in
     let p = and_parts _ _ found.0 in
-    let q = and_parts _ _ p.1 in
-    subst (IsNumber low high word) found.1 (leb-true _ _ q.0, leb-true _ _ q.1, sym (number_text word p.0))
+    let q = Within-is_within low high (digits_value 10 word) p.1 in
+    subst (IsNumber low high word) found.1 (q.0, q.1, sym (number_text word p.0))
 
 -- a word behind its first byte
 pub first_byte : (byte : ℕ) (word : Word) → 0 < byte → begins_with byte word ≡ true → word ≡ byte ∷ but_first word

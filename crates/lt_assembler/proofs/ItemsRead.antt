@@ -26,6 +26,7 @@ use Rattle.lt_isa.proofs.OtherNames.{pass_others}
 use Rattle.lt_isa.proofs.SymbolPlaces.{most_blocks-le, fields_of_lies}
 use Rattle.lt_assembler.specs.Words.{Word, register_word, label_word, shape_word, claim_word, hex_word}
 use Rattle.lt_isa.specs.InstructionTable.{cmp_word}
+use Rattle.gr_base.specs.Lists.{is_within}
 use Rattle.gr_base.specs.Numerals.{is_canonical_numeral}
 use Rattle.lt_assembler.specs.Numbers.{is_number, begins_with, number_within}
 use Rattle.lt_assembler.specs.Operands.{op_named, mnemonic_named, label_named, shape_named}
@@ -46,11 +47,11 @@ use Rattle.lt_assembler.proofs.CanonicalWords.{HasSmallNumbers, open_words, wind
 use Rattle.lt_isa.proofs.Windows.{by_window, opened, opened-is}
 
 one : number_within 1 1 (codes "1") ≡ Some 1
-unfolding number_within is_number is_canonical_numeral
+unfolding number_within is_within is_number is_canonical_numeral
 one = refl
 
 two : number_within 2 2 (codes "2") ≡ Some 2
-unfolding number_within is_number is_canonical_numeral
+unfolding number_within is_within is_number is_canonical_numeral
 two = refl
 
 cycles_again : (p : Profile) → ProfileFits p

@@ -14,7 +14,7 @@ use Rattle.std.proofs.lemmas.Int.Digits.{digits_value_push}
 use Rattle.std.proofs.lemmas.Fmt.{decimal_is_IsNumeral, length-decimal-le}
 use Rattle.std.proofs.lemmas.Str.Parse.{digit_from_value}
 use Rattle.gr_base.proofs.Digits.{decimal_canonical, numeral_value}
-use Rattle.gr_base.proofs.ListTests.{list_all-push}
+use Rattle.gr_base.proofs.ListTests.{list_all-push, is_within-Within}
 use Rattle.gr_word.specs.Words.{IsWord}
 use Rattle.lt_isa.specs.Ranges.{IsRegister, IsSlot, is_slot_claim}
 use Rattle.lt_assembler.specs.Words.{Word, register_word, bank_word, claim_word, hex_digit, hex_word}
@@ -66,7 +66,7 @@ number_test n small =
 pub number_again : (low high n : ℕ) → low ≤ n → n ≤ high → n < 10 ^ 19 → number_within low high (decimal n) ≡ Some n
 unfolding number_within
 number_again low high n ge le small =
-    rw (numeral_value n (omega arith), number_test n small, le-leb low n ge, le-leb n high le) refl
+    rw (numeral_value n (omega arith), number_test n small, is_within-Within low high n (ge, le)) refl
 
 -- a word of digits begins with no other byte
 pub no_other : (word : Word) (byte : ℕ) → IsDigits word → byte < 48 → begins_with byte word ≡ false

@@ -1,6 +1,7 @@
 -- Number words, for the computing form. Only proofs need them, but for `begins_with`. (This project's profile.)
 use Rattle.std.specs.Prelude.{ℕ, ◌-◌, ◌^◌, nat_le, Bool, ◌&&◌, ◌==◌, if◌then◌else◌, ℤ, pos, negsuc, length, drop, Option, Some, None, option_map, slice_index}
 use Rattle.std.specs.Str.Parse.{digits_value}
+use Rattle.gr_base.specs.Lists.{is_within}
 use Rattle.gr_base.specs.Numerals.{is_canonical_numeral}
 use Rattle.lt_assembler.specs.Words.{Word}
 
@@ -11,9 +12,6 @@ begins_with byte word = slice_index word 0 == byte
 -- A canonical numeral of at most 19 digits. A number of more digits is in no range.
 unfoldable pub is_number : Word → Bool
 is_number word = nat_le (length word) 19 && is_canonical_numeral word
-
-abbrev pub is_within : ℕ → ℕ → ℕ → Bool
-is_within low high n = nat_le low n && nat_le n high
 
 -- the number that a word writes, where it is from low to high
 unfoldable pub number_within : ℕ → ℕ → Word → Option ℕ

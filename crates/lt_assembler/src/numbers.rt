@@ -56,7 +56,7 @@ fn is_number(word: &[u8]) -> bool
 }
 
 /// The number that a word writes, where it is from `low` to `high`.
-#[tactic(auto, unfolding(crate::specs::Numbers::number_within))]
+#[tactic(auto, unfolding(crate::specs::Numbers::number_within, gr_base::specs::Lists::is_within))]
 pub fn number_within(low: u64, high: u64, word: &[u8]) -> Option<u64>
     ensures value { result ≡ number_within low high word.now }
     ensures range { IfSome result (λ n. Within low high n) }

@@ -8,7 +8,7 @@ use Rattle.lt_isa.specs.declared.instructions.Instr.TheVariants.{Jmp, Br}
 use Rattle.lt_isa.specs.Object.{Parts}
 use Rattle.lt_isa.specs.Ranges.{IsInRange}
 use Rattle.lt_isa.specs.Machine.{State, register}
-use Rattle.lt_isa.specs.Step.{Outcome, Goes, target_of, passed}
+use Rattle.lt_isa.specs.Step.{StepResult, Goes, target_of, passed}
 use Rattle.lt_isa.specs.Trace.{Here}
 use Rattle.lt_isa.specs.Shape.{IsShaped}
 use Rattle.lt_isa.proofs.Stretches.{reaches-shaped}
@@ -69,7 +69,7 @@ module _ (o : Parts) (fits : IsInRange o) (e : State) where
       let i = Br cmp ra rb offset in
       let next = passed o i true 0 (target_of o s.place offset) s in
       quiet o e s i next second o.profile.taken known (ap (slice_get o.code) place ∙ at)
-      (ap (λ (c : Bool). let x : Outcome = if c then Goes None next else Goes None
+      (ap (λ (c : Bool). let x : StepResult = if c then Goes None next else Goes None
       (passed o i false 0 (s.place + 1) s) in x) holds) (ap (λ (q : ℕ). target_of o q offset) place ∙ leads) refl
       (describes_moved e known s _ _ h)
 
@@ -80,7 +80,7 @@ module _ (o : Parts) (fits : IsInRange o) (e : State) where
       let i = Br cmp ra rb offset in
       let next = passed o i false 0 (s.place + 1) s in
       quiet o e s i next (p + 1) 1 known (ap (slice_get o.code) place ∙ at)
-      (ap (λ (c : Bool). let x : Outcome = if c then Goes None
+      (ap (λ (c : Bool). let x : StepResult = if c then Goes None
       (passed o i true 0 (target_of o s.place offset) s) else Goes None next in x) fails)
       (ap (λ (q : ℕ). q + 1) place) refl (describes_moved e known s _ _ h)
 

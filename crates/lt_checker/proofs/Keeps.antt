@@ -11,7 +11,7 @@ use Rattle.lt_isa.specs.declared.instructions.Instr.TheVariants.{Nop, Halt, Li, 
 use Rattle.lt_isa.specs.Object.{Parts, is_ram, is_eram}
 use Rattle.lt_isa.specs.Ranges.{InstrFits}
 use Rattle.lt_isa.specs.Machine.{Slot, Unbound, Bound, State, Observed, RamRead, RamWrite, EncRead, EncWrite, Oram, register, slot, bank_blocks, block_at, word_in, read_event, write_event}
-use Rattle.lt_isa.specs.Step.{Outcome, Goes, Stops, Faults, target_of, passed, with_bound, block_named, word_named, executed}
+use Rattle.lt_isa.specs.Step.{StepResult, Goes, Stops, Faults, target_of, passed, with_bound, block_named, word_named, executed}
 use Rattle.trace_patterns.specs.declared.reasons.Reason.TheVariants.{SecretAddress, SecretToRam}
 use Rattle.trace_patterns.specs.Known.{Known, is_secret, bank_known, set_secret, set_bank}
 use Rattle.trace_patterns.specs.Rules.{Ruling, Falls, Leaves, Opens, shows_block, refused_if, jumped, ruling_of}
@@ -27,7 +27,7 @@ OpensNone k (Br cmp ra rb offset) = (is_secret k ra || is_secret k rb) ≡ false
 OpensNone k i = Unit {0}
 
 -- two steps are alike: both go on, show the same and stand at one place again, or both stop
-abbrev pub StepsAlike : Parts → Outcome → Outcome → Type 0
+abbrev pub StepsAlike : Parts → StepResult → StepResult → Type 0
 StepsAlike o (Goes e s) (Goes f t) = (e ≡ f) × Stand o s t
 StepsAlike o (Goes e s) (Stops t) = ⊥
 StepsAlike o (Goes e s) Faults = ⊥
@@ -57,7 +57,7 @@ write_alike b a1 a2 words1 words2 h =
     event_alike RamWrite EncWrite (Oram b) (is_ram b) (is_eram b) a1 a2 words1 words2 h.block h.words
 
 -- what is done with two slots that are alike
-bound_alike : (o : Parts) (b : ℕ) (x y : Slot) (f g : ℕ → ℕ → List ℤ → Outcome) → SlotsAlike b x y
+bound_alike : (o : Parts) (b : ℕ) (x y : Slot) (f g : ℕ → ℕ → List ℤ → StepResult) → SlotsAlike b x y
     → ((a1 a2 : ℕ) (words1 words2 : List ℤ) → x ≡ Bound b a1 words1 → y ≡ Bound b a2 words2
     → BoundAlike b a1 a2 words1 words2 → StepsAlike o (f b a1 words1) (g b a2 words2))
     → StepsAlike o (with_bound x f) (with_bound y g)
@@ -70,7 +70,7 @@ bound_alike o b (Bound b1 a1 words1) (Bound b2 a2 words2) f g alike h =
     (ap (λ (c : ℕ). Bound c a2 words2) alike.1) alike.2))
 
 -- either of two ways, the same in both
-either_alike : (o : Parts) (c d : Bool) (x y u v : Outcome) → c ≡ d → StepsAlike o x y → StepsAlike o u v
+either_alike : (o : Parts) (c d : Bool) (x y u v : StepResult) → c ≡ d → StepsAlike o x y → StepsAlike o u v
     → StepsAlike o (if c then x else u) (if d then y else v)
 either_alike o true true x y u v same first second = first
 either_alike o true false x y u v same first second = absurd (true≢false same)

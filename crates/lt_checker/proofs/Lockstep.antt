@@ -9,7 +9,7 @@ use Rattle.lt_isa.specs.declared.instructions.Instr.TheVariants.{Nop, Halt, Li, 
 use Rattle.lt_isa.specs.Object.{Parts}
 use Rattle.lt_isa.specs.Ranges.{IsInRange}
 use Rattle.lt_isa.specs.Machine.{State, Observed}
-use Rattle.lt_isa.specs.Step.{Outcome, Goes, Stops, Faults, executed, step, step_start}
+use Rattle.lt_isa.specs.Step.{StepResult, Goes, Stops, Faults, executed, step, step_start}
 use Rattle.lt_isa.specs.Trace.{Stamped, stamped, trace_from, Reaches, Here, Then, NeverFaults}
 use Rattle.lt_isa.specs.Shape.{IsShaped}
 use Rattle.lt_isa.proofs.Steps.{step-at, step_start-same, step_start-least, step-later, instruction-fits}
@@ -83,7 +83,7 @@ join_reached o p offset k pattern join state visited opens crosses = record {
 
 module _ (o : Parts) (range : IsInRange o) (accepts : Accepts o) where
   -- steps that are alike lead on, or both stop
-  steps_meet : (s t : State) (x y : Outcome) → s.place ≡ t.place → s.cycle ≡ t.cycle → IsShaped o s → IsShaped o t
+  steps_meet : (s t : State) (x y : StepResult) → s.place ≡ t.place → s.cycle ≡ t.cycle → IsShaped o s → IsShaped o t
       → step o s ≡ x → step o t ≡ y → StepsAlike o x y → Meets o (Stand o) s t ⊎ StopsAlike o s t
   steps_meet s t (Goes e u) (Goes f v) place cycle shape_s shape_t is_s is_t alike =
       let start = step_start-same o s t place cycle in
@@ -193,7 +193,7 @@ module _ (o : Parts) (range : IsInRange o) (accepts : Accepts o) where
   goes_on : (u t : State) (es : List Stamped) → step o u ≡ Faults → Reaches o u es t → u ≡ t
   goes_on u t es faults reaches =
       stuck u t es reaches (λ event v goes. absurd
-      (let f : ◌≡◌ {A = Outcome} (Goes event v) Faults = sym goes ∙ faults in cc))
+      (let f : ◌≡◌ {A = StepResult} (Goes event v) Faults = sym goes ∙ faults in cc))
 
   -- a fault behind a stretch lies behind each stretch to a place where the run stands again
   on_way : (s u v : State) (es fs : List Stamped) → Reaches o s es u → step o u ≡ Faults → Reaches o s fs v
@@ -212,9 +212,9 @@ module _ (o : Parts) (range : IsInRange o) (accepts : Accepts o) where
   stopped s u es reaches faults ends =
       let on = on_way s u ends.first es ends.events reaches faults ends.first_reached in
       let same : ends.first ≡ u = stuck ends.first u on.0 on.1
-      (λ event v goes. absurd (let f : ◌≡◌ {A = Outcome} (Goes event v) (Stops ends.first_last) = sym goes
+      (λ event v goes. absurd (let f : ◌≡◌ {A = StepResult} (Goes event v) (Stops ends.first_last) = sym goes
       ∙ ends.first_stops in cc)) in
-      absurd (let f : ◌≡◌ {A = Outcome} Faults (Stops ends.first_last) = sym faults ∙ ap (step o) (sym same)
+      absurd (let f : ◌≡◌ {A = StepResult} Faults (Stops ends.first_last) = sym faults ∙ ap (step o) (sym same)
       ∙ ends.first_stops in cc)
 
   -- a run by itself meets no fault

@@ -9,10 +9,10 @@ use Rattle.lt_isa.specs.Machine.{State, Observed, Halted, RamRead, RamWrite, Enc
 use Rattle.lt_isa.specs.declared.instructions.Instr.{Instr}
 use Rattle.lt_isa.specs.declared.instructions.Instr.TheVariants.{Nop, Halt, Li, Alu, Ldb, Stb, Idb, Ldw, Stw, Jmp, Br}
 use Rattle.gr_word.specs.Words.{compared}
-use Rattle.lt_isa.specs.Step.{Outcome, Goes, Stops, Faults, executed, step, step_start}
+use Rattle.lt_isa.specs.Step.{StepResult, Goes, Stops, Faults, executed, step, step_start}
 use Rattle.lt_isa.specs.Trace.{Stamped, seen_at, stamped, trace_from, final_from, Reaches, Here, Then, HaltsAt}
 use Rattle.lt_isa.specs.Shape.{IsShaped}
-use Rattle.lt_isa.proofs.Steps.{OnOutcome, on_goes, on_step, on_bound, on_choice, step_start-least, step-later}
+use Rattle.lt_isa.proofs.Steps.{OnStepResult, on_goes, on_step, on_bound, on_choice, step_start-least, step-later}
 use Rattle.lt_isa.proofs.Shapes.{step-shaped, stop-shaped}
 use Rattle.std.proofs.lemmas.List.Elements.{Contains-append_cases, Contains-append_right}
 use Rattle.lt_isa.proofs.Stretches.{reaches-shaped}
@@ -108,7 +108,7 @@ module _ (o : Parts) (fits : IsInRange o) where
     );
   }
 
-  ends-step : (s : State) (n : ℕ) → IsShaped o s → step_start o s < n → (outcome : Outcome) → step o s ≡ outcome
+  ends-step : (s : State) (n : ℕ) → IsShaped o s → step_start o s < n → (outcome : StepResult) → step o s ≡ outcome
       → ((event : Option Observed) (t : State) → step o s ≡ Goes event t → IsSpent o t n ⊎ HasHalted o t n)
       → IsSpent o s n ⊎ HasHalted o s n
   ends-step s n shaped less (Goes event t) is behind =
@@ -155,7 +155,7 @@ ShowsNoHalt None = Unit {0}
 ShowsNoHalt (Some event) = event ≡ Halted → ⊥
 
 executed-no_halt : (o : Parts) (s : State) (i : Instr)
-    → OnOutcome (λ event t. ShowsNoHalt event) (λ t. Unit {0}) (executed o s i)
+    → OnStepResult (λ event t. ShowsNoHalt event) (λ t. Unit {0}) (executed o s i)
 executed-no_halt o s Nop = tt
 executed-no_halt o s Halt = tt
 executed-no_halt o s (Li rd value) = tt

@@ -3,7 +3,7 @@ use Rattle.std.proofs.Common.{◌≡◌, ℕ, zero, suc, ◌+◌, ◌≤◌, con
 use Rattle.lt_isa.specs.Object.{Parts}
 use Rattle.lt_isa.specs.Ranges.{IsInRange}
 use Rattle.lt_isa.specs.Machine.{State, Halted}
-use Rattle.lt_isa.specs.Step.{Outcome, Goes, Stops, Faults, step, step_start}
+use Rattle.lt_isa.specs.Step.{StepResult, Goes, Stops, Faults, step, step_start}
 use Rattle.lt_isa.specs.Trace.{Stamped, stamped, shown_then, trace_within, trace_from, Reaches}
 use Rattle.lt_isa.specs.Shape.{IsShaped}
 use Rattle.lt_isa.proofs.Steps.{step_start-least}
@@ -11,7 +11,7 @@ use Rattle.lt_isa.proofs.Runs.{trace_from-past}
 use Rattle.lt_isa.proofs.Stretches.{below, reaches-shaped, alike_over, trace_split-stops}
 
 -- two steps show the same and lead to related states, or end alike
-abbrev pub AreAlike : (State → State → Type 0) → Outcome → Outcome → Type 0
+abbrev pub AreAlike : (State → State → Type 0) → StepResult → StepResult → Type 0
 AreAlike Related (Goes event s) (Goes event' t) = (event ≡ event') × Related s t
 AreAlike Related (Goes event s) (Stops t) = ⊥
 AreAlike Related (Goes event s) Faults = ⊥
@@ -22,7 +22,7 @@ AreAlike Related Faults (Goes event t) = ⊥
 AreAlike Related Faults (Stops t) = ⊥
 AreAlike Related Faults Faults = Unit {0}
 
-shown-alike : (Related : State → State → Type 0) (start start' : ℕ) (first second : Outcome)
+shown-alike : (Related : State → State → Type 0) (start start' : ℕ) (first second : StepResult)
     (f g : State → List Stamped)
     → start ≡ start' → AreAlike Related first second → ((s t : State) → Related s t → f s ≡ g t)
     → shown_then start first f ≡ shown_then start' second g

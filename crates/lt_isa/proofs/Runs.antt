@@ -4,14 +4,14 @@ use Rattle.std.proofs.lemmas.Bool.{cases_lt, cond_below, cond_above}
 use Rattle.lt_isa.specs.Object.{Parts}
 use Rattle.lt_isa.specs.Ranges.{IsInRange}
 use Rattle.lt_isa.specs.Machine.{State, Observed, Halted}
-use Rattle.lt_isa.specs.Step.{Outcome, Goes, Stops, Faults, step, step_start}
+use Rattle.lt_isa.specs.Step.{StepResult, Goes, Stops, Faults, step, step_start}
 use Rattle.lt_isa.specs.Trace.{Stamped, stamped, shown_then, left_then, trace_within, final_within, trace_from, final_from}
 use Rattle.lt_isa.specs.Shape.{IsShaped}
 use Rattle.lt_isa.proofs.Steps.{step_start-least, step-later}
 use Rattle.lt_isa.proofs.Shapes.{step-shaped}
 
 -- what follows a step, by what follows each state that it may go on to
-pub shown_then-same : (at : ℕ) (outcome : Outcome) (f g : State → List Stamped)
+pub shown_then-same : (at : ℕ) (outcome : StepResult) (f g : State → List Stamped)
     → ((event : Option Observed) (t : State) → outcome ≡ Goes event t → f t ≡ g t)
     → shown_then at outcome f ≡ shown_then at outcome g
 shown_then-same at (Goes event t) f g same = ap (λ rest. stamped at event ++ rest) (same event t refl)
@@ -19,7 +19,7 @@ shown_then-same at (Stops t) f g same = refl
 shown_then-same at Faults f g same = refl
 
 -- what is left behind a step, by what is left of each state that it may go on to
-pub left_then-same : (s : State) (outcome : Outcome) (f g : State → State)
+pub left_then-same : (s : State) (outcome : StepResult) (f g : State → State)
     → ((event : Option Observed) (t : State) → outcome ≡ Goes event t → f t ≡ g t)
     → left_then s outcome f ≡ left_then s outcome g
 left_then-same s (Goes event t) f g same = same event t refl

@@ -16,7 +16,7 @@ use Rattle.lt_isa.specs.Machine.{State, Observed, Slot, slot, register, word_in,
 use Rattle.lt_isa.specs.Step.{Goes, Stops, executed, step, block_named}
 use Rattle.lt_isa.specs.Shape.{IsShaped, SlotFits, IsBlock}
 use Rattle.lt_isa.proofs.Cycles.{blocks-least, blocks-most}
-use Rattle.lt_isa.proofs.Steps.{OnOutcome, on_goes, on_stops, on_step, on_bound, on_choice, instruction-fits, bound-fits}
+use Rattle.lt_isa.proofs.Steps.{OnStepResult, on_goes, on_stops, on_step, on_bound, on_choice, instruction-fits, bound-fits}
 
 -- what is read from a list of words is a word, also past its end
 pub IsWord-at : (words : List ℤ) → AreWords words → (i : ℕ) → IsWord (word_in words i)
@@ -119,7 +119,7 @@ block_named-below o fits b exists word = mod-lt (unsigned_of word) (blocks-least
 
 -- the next state has the shape
 executed-shaped : (o : Parts) → IsInRange o → (s : State) → IsShaped o s → (i : Instr)
-    → InstrFits (length o.banks) i → OnOutcome (λ event t. IsShaped o t) (IsShaped o) (executed o s i)
+    → InstrFits (length o.banks) i → OnStepResult (λ event t. IsShaped o t) (IsShaped o) (executed o s i)
 executed-shaped o fits s shaped Nop operands = IsShaped-moved o s _ _ shaped
 executed-shaped o fits s shaped Halt operands = IsShaped-moved o s _ _ shaped
 executed-shaped o fits s shaped (Li rd value) operands =
@@ -159,7 +159,7 @@ executed-shaped o fits s shaped (Br cmp ra rb offset) operands =
     (IsShaped-moved o s _ _ shaped)
 
 step-shaped_both : (o : Parts) → IsInRange o → (s : State) → IsShaped o s
-    → OnOutcome (λ event t. IsShaped o t) (IsShaped o) (step o s)
+    → OnStepResult (λ event t. IsShaped o t) (IsShaped o) (step o s)
 step-shaped_both o fits s shaped =
     on_step _ _ o s (λ i at. executed-shaped o fits s shaped i (instruction-fits o fits s.place i at))
 

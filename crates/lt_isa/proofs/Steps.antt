@@ -12,7 +12,7 @@ use Rattle.lt_isa.specs.Object.{Parts}
 use Rattle.lt_isa.specs.Ranges.{IsInRange, InstrFits, ProfileFits}
 use Rattle.lt_isa.specs.Machine.{State, Observed, Slot, Unbound, Bound, slot, register}
 use Rattle.lt_isa.specs.Costs.{greatest_cost}
-use Rattle.lt_isa.specs.Step.{Outcome, Goes, Stops, Faults, start_of, with_bound, executed, executed_if, passed, step, start_if, step_start}
+use Rattle.lt_isa.specs.Step.{StepResult, Goes, Stops, Faults, start_of, with_bound, executed, executed_if, passed, step, start_if, step_start}
 use Rattle.lt_isa.specs.Shape.{IsShaped, SlotFits, IsBound}
 use Rattle.lt_isa.specs.Windows.{most_wait}
 use Rattle.lt_isa.proofs.Windows.{access_start-least, access_start-most}
@@ -77,46 +77,47 @@ step_start-most o fits s =
     ]
 
 -- what holds of the event and the state behind a step that goes on, and of the state behind one that stops
-abbrev pub OnOutcome : (Option Observed → State → Type 0) → (State → Type 0) → Outcome → Type 0
-OnOutcome Going Stopping (Goes event next) = Going event next
-OnOutcome Going Stopping (Stops last) = Stopping last
-OnOutcome Going Stopping Faults = Unit {0}
+abbrev pub OnStepResult : (Option Observed → State → Type 0) → (State → Type 0) → StepResult → Type 0
+OnStepResult Going Stopping (Goes event next) = Going event next
+OnStepResult Going Stopping (Stops last) = Stopping last
+OnStepResult Going Stopping Faults = Unit {0}
 
 -- what is known of all outcomes, where the run goes on
-pub on_goes : (Going : Option Observed → State → Type 0) (Stopping : State → Type 0) (outcome : Outcome)
+pub on_goes : (Going : Option Observed → State → Type 0) (Stopping : State → Type 0) (outcome : StepResult)
     (event : Option Observed) (next : State)
-    → OnOutcome Going Stopping outcome → outcome ≡ Goes event next → Going event next
-on_goes Going Stopping outcome event next holds is = subst (OnOutcome Going Stopping) is holds
+    → OnStepResult Going Stopping outcome → outcome ≡ Goes event next → Going event next
+on_goes Going Stopping outcome event next holds is = subst (OnStepResult Going Stopping) is holds
 
 -- what is known of all outcomes, where the run stops
-pub on_stops : (Going : Option Observed → State → Type 0) (Stopping : State → Type 0) (outcome : Outcome) (last : State)
-    → OnOutcome Going Stopping outcome → outcome ≡ Stops last → Stopping last
-on_stops Going Stopping outcome last holds is = subst (OnOutcome Going Stopping) is holds
+pub on_stops : (Going : Option Observed → State → Type 0) (Stopping : State → Type 0) (outcome : StepResult)
+    (last : State)
+    → OnStepResult Going Stopping outcome → outcome ≡ Stops last → Stopping last
+on_stops Going Stopping outcome last holds is = subst (OnStepResult Going Stopping) is holds
 
 -- it holds behind a step where it holds behind the instruction at the place
 pub on_step : (Going : Option Observed → State → Type 0) (Stopping : State → Type 0) (o : Parts) (s : State)
-    → ((i : Instr) → slice_get o.code s.place ≡ Some i → OnOutcome Going Stopping (executed o s i))
-    → OnOutcome Going Stopping (step o s)
+    → ((i : Instr) → slice_get o.code s.place ≡ Some i → OnStepResult Going Stopping (executed o s i))
+    → OnStepResult Going Stopping (step o s)
 unfolding step
 on_step Going Stopping o s each = on_found (slice_get o.code s.place) each
   where
-    on_found : (found : Option Instr) → ((i : Instr) → found ≡ Some i → OnOutcome Going Stopping (executed o s i))
-        → OnOutcome Going Stopping (executed_if o s found)
+    on_found : (found : Option Instr) → ((i : Instr) → found ≡ Some i → OnStepResult Going Stopping (executed o s i))
+        → OnStepResult Going Stopping (executed_if o s found)
     on_found None each = tt
     on_found (Some i) each = each i refl
 
 -- it holds of what is done with a slot where it holds for what the slot is bound to
 pub on_bound : (Going : Option Observed → State → Type 0) (Stopping : State → Type 0) (found : Slot)
-    (act : ℕ → ℕ → List ℤ → Outcome)
-    → ((b a : ℕ) (words : List ℤ) → found ≡ Bound b a words → OnOutcome Going Stopping (act b a words))
-    → OnOutcome Going Stopping (with_bound found act)
+    (act : ℕ → ℕ → List ℤ → StepResult)
+    → ((b a : ℕ) (words : List ℤ) → found ≡ Bound b a words → OnStepResult Going Stopping (act b a words))
+    → OnStepResult Going Stopping (with_bound found act)
 on_bound Going Stopping Unbound act each = tt
 on_bound Going Stopping (Bound b a words) act each = each b a words refl
 
 -- it holds of a choice where it holds of both
 pub on_choice : (Going : Option Observed → State → Type 0) (Stopping : State → Type 0) (b : Bool)
-    (first second : Outcome) → OnOutcome Going Stopping first → OnOutcome Going Stopping second
-    → OnOutcome Going Stopping (cond b first second)
+    (first second : StepResult) → OnStepResult Going Stopping first → OnStepResult Going Stopping second
+    → OnStepResult Going Stopping (cond b first second)
 on_choice Going Stopping true first second one two = one
 on_choice Going Stopping false first second one two = two
 
@@ -146,7 +147,7 @@ IsLater start t = start + 1 ≤ t.cycle
 
 -- every instruction ends a cycle at least behind its start
 pub executed-later : (o : Parts) → IsInRange o → (s : State) → IsShaped o s → (i : Instr) → InstrFits (length o.banks) i
-    → OnOutcome (λ event t. IsLater (start_of o.profile i s.cycle) t)
+    → OnStepResult (λ event t. IsLater (start_of o.profile i s.cycle) t)
     (IsLater (start_of o.profile i s.cycle)) (executed o s i)
 executed-later o fits s shaped Nop operands = omega arith
 executed-later o fits s shaped Halt operands = omega arith
@@ -168,11 +169,11 @@ executed-later o fits s shaped (Br cmp ra rb offset) operands =
     on_choice _ _ (compared cmp (register s ra) (register s rb)) _ _ (omega (arith, fits.profile.taken)) (omega arith)
 
 step-later_both : (o : Parts) → IsInRange o → (s : State) → IsShaped o s
-    → OnOutcome (λ event t. IsLater (step_start o s) t) (IsLater (step_start o s)) (step o s)
+    → OnStepResult (λ event t. IsLater (step_start o s) t) (IsLater (step_start o s)) (step o s)
 step-later_both o fits s shaped =
     on_step _ _ o s (λ i at.
     subst
-    (λ n. OnOutcome (λ event t. IsLater n t) (IsLater n) (executed o s i))
+    (λ n. OnStepResult (λ event t. IsLater n t) (IsLater n) (executed o s i))
     (sym (step_start-at o s i at))
     (executed-later o fits s shaped i (instruction-fits o fits s.place i at)))
 
@@ -183,7 +184,7 @@ step-later o fits s shaped event t goes = on_goes _ _ (step o s) event t (step-l
 
 -- a step that stops executes a halt, and leaves all but the cycle as it was
 executed-stops : (o : Parts) (s : State) (i : Instr)
-    → OnOutcome (λ event t. Unit {0}) (λ t. (i ≡ Halt) × (t ≡ passed o Halt false 0 s.place s)) (executed o s i)
+    → OnStepResult (λ event t. Unit {0}) (λ t. (i ≡ Halt) × (t ≡ passed o Halt false 0 s.place s)) (executed o s i)
 executed-stops o s Nop = tt
 executed-stops o s Halt = (refl, refl)
 executed-stops o s (Li rd value) = tt
@@ -201,7 +202,8 @@ abbrev IsBy : ℕ → State → Type 0
 IsBy end t = t.cycle ≤ end
 
 executed-by : (o : Parts) → IsInRange o → (s : State) → IsShaped o s → (i : Instr)
-    → OnOutcome (λ event t. IsBy (s.cycle + greatest_cost o i) t) (IsBy (s.cycle + greatest_cost o i)) (executed o s i)
+    → OnStepResult (λ event t. IsBy (s.cycle + greatest_cost o i) t) (IsBy (s.cycle + greatest_cost o i))
+    (executed o s i)
 executed-by o fits s shaped Nop = omega arith
 executed-by o fits s shaped Halt = omega arith
 executed-by o fits s shaped (Li rd value) = omega arith

@@ -17,7 +17,7 @@ use Rattle.lt_isa.specs.Limits.{most_words}
 use Rattle.lt_isa.specs.Ranges.{IsInRange, SymbolFits}
 use Rattle.lt_isa.specs.Machine.{State, bank_blocks, block_at}
 use Rattle.lt_isa.specs.Shape.{IsShaped}
-use Rattle.lt_isa.specs.Step.{Outcome, Goes, Stops, Faults, step, step_start}
+use Rattle.lt_isa.specs.Step.{StepResult, Goes, Stops, Faults, step, step_start}
 use Rattle.lt_isa.specs.Trace.{left_then, final_within, final_from}
 use Rattle.lt_isa.specs.Start.{want_of, wants_of, FitsObject, start_state, final}
 use Rattle.lt_isa.specs.Outputs.{symbol_word, symbol_words, outputs}
@@ -97,7 +97,7 @@ pub outputs-fit : (o : Parts) (s : State) → IsShaped o s → FitsObject o (out
 unfolding outputs
 outputs-fit o s shaped = symbols-fit o s shaped o.symbols
 
-left-shaped : (o : Parts) → IsInRange o → (s : State) → IsShaped o s → (found : Outcome) → step o s ≡ found
+left-shaped : (o : Parts) → IsInRange o → (s : State) → IsShaped o s → (found : StepResult) → step o s ≡ found
     → (rest : State → State) → ((t : State) → IsShaped o t → IsShaped o (rest t))
     → IsShaped o (left_then s found rest)
 left-shaped o fits s shaped (Goes event next) is rest go = go next (step-shaped o fits s shaped event next is)

@@ -11,10 +11,10 @@ use Rattle.lt_isa.specs.Costs.{cost_of}
 use Rattle.lt_isa.specs.Windows.{access_start}
 
 -- A step goes on to a state and shows at most one event; it stops the run, and shows the halt; or it is a fault.
-pub data Outcome : Type 0 where
-  Goes : (event : Option Observed) (next : State) → Outcome
-  Stops : (last : State) → Outcome
-  Faults : Outcome
+pub data StepResult : Type 0 where
+  Goes : (event : Option Observed) (next : State) → StepResult
+  Stops : (last : State) → StepResult
+  Faults : StepResult
 
 -- the cycle at which an instruction starts: only a load or a store of a block may wait
 abbrev pub start_of : Profile → Instr → ℕ → ℕ
@@ -38,7 +38,7 @@ abbrev pub went_on : Parts → Instr → State → State
 went_on o i s = passed o i false 0 (s.place + 1) s
 
 -- what is done with a slot that must be bound
-abbrev pub with_bound : Slot → (ℕ → ℕ → List ℤ → Outcome) → Outcome
+abbrev pub with_bound : Slot → (ℕ → ℕ → List ℤ → StepResult) → StepResult
 with_bound Unbound act = Faults
 with_bound (Bound bank block words) act = act bank block words
 
@@ -54,7 +54,7 @@ abbrev pub loaded : State → ℕ → ℕ → ℕ → State
 loaded s k b a = set_slot s k (Bound b a (block_at s b a))
 
 -- what an instruction does
-abbrev pub executed : Parts → State → Instr → Outcome
+abbrev pub executed : Parts → State → Instr → StepResult
 executed o s Nop = Goes None (went_on o Nop s)
 executed o s Halt = Stops (passed o Halt false 0 s.place s)
 executed o s (Li rd value) = Goes None (set_register (went_on o (Li rd value) s) rd value)
@@ -79,12 +79,12 @@ executed o s (Br cmp ra rb offset) =
     else Goes None (passed o (Br cmp ra rb offset) false 0 (s.place + 1) s)
 
 -- a place outside the code is a fault
-abbrev pub executed_if : Parts → State → Option Instr → Outcome
+abbrev pub executed_if : Parts → State → Option Instr → StepResult
 executed_if o s None = Faults
 executed_if o s (Some i) = executed o s i
 
 -- one step from a state
-unfoldable pub step : Parts → State → Outcome
+unfoldable pub step : Parts → State → StepResult
 step o s = executed_if o s (slice_get o.code s.place)
 
 -- the cycle at which the next step starts

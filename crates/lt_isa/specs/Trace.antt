@@ -3,7 +3,7 @@
 use Rattle.std.specs.Prelude.{◌≡◌, ℕ, zero, suc, if◌then◌else◌, nat_lt, List, [], ◌∷◌, ◌++◌, Option, Some, None, Contains}
 use Rattle.lt_isa.specs.Object.{Parts}
 use Rattle.lt_isa.specs.Machine.{State, Observed, Halted}
-use Rattle.lt_isa.specs.Step.{Outcome, Goes, Stops, Faults, step, step_start}
+use Rattle.lt_isa.specs.Step.{StepResult, Goes, Stops, Faults, step, step_start}
 
 -- an event and its stamp
 pub record Stamped : Type 0 where
@@ -19,13 +19,13 @@ stamped at None = []
 stamped at (Some event) = seen_at at event ∷ []
 
 -- what a step shows, followed by what is shown from the state behind it
-abbrev pub shown_then : ℕ → Outcome → (State → List Stamped) → List Stamped
+abbrev pub shown_then : ℕ → StepResult → (State → List Stamped) → List Stamped
 shown_then at (Goes event next) rest = stamped at event ++ rest next
 shown_then at (Stops last) rest = stamped at (Some Halted)
 shown_then at Faults rest = []
 
 -- the state behind a step, or what comes of that state; a fault changes nothing
-abbrev pub left_then : State → Outcome → (State → State) → State
+abbrev pub left_then : State → StepResult → (State → State) → State
 left_then s (Goes event next) rest = rest next
 left_then s (Stops last) rest = last
 left_then s Faults rest = s

@@ -184,7 +184,7 @@ module _ (b : Parts) (notes : List Note) (accepts : Accepts (with_notes b notes)
   instr_well p k i s at = falls_well p k (known_behind k i) (plain_ruled p k i s at refl)
 
   -- a place of the code that is reachable is reached by the ways, or lies in a region of one that is
-  record Within (p : ℕ) : Type 0 where
+  record IsInside (p : ℕ) : Type 0 where
     branch : ℕ
     known : Known
     at : states branch ≡ Some known
@@ -194,7 +194,7 @@ module _ (b : Parts) (notes : List Note) (accepts : Accepts (with_notes b notes)
     before : p < region.region.join
 
   Reached : ℕ → Type 0
-  Reached p = ((m : Known) × (states p ≡ Some m)) ⊎ Within p
+  Reached p = ((m : Known) × (states p ≡ Some m)) ⊎ IsInside p
 
   -- the join of a region is reached
   join_reached : (p : ℕ) (m : Known) → states p ≡ Some m → is_crossed crossed p ≡ true
@@ -383,7 +383,7 @@ module _ (b : Parts) (notes : List Note) (accepts : Accepts (with_notes b notes)
       behind_one q k (known_behind k i) visited (plain_ruled q k i (stands q k visited inside) code refl)
 
   -- or at the end of a region
-  behind_region : (q : ℕ) (m : Known) → states (suc q) ≡ Some m → (w : Within q) → IsVisited b w.branch
+  behind_region : (q : ℕ) (m : Known) → states (suc q) ≡ Some m → (w : IsInside q) → IsVisited b w.branch
       → IsVisited b (suc q)
   behind_region q m at w v =
       let e = ends b notes accepts crossed states last same some stand w.branch w.known w.region in
@@ -415,7 +415,7 @@ module _ (b : Parts) (notes : List Note) (accepts : Accepts (with_notes b notes)
         by (claimed_at b (suc q)) refl (reached q (reachable q (omega arith)))
         (λ x less k is within. visited_by n x less k is within)
       where
-        by : (c : Option Known) → claimed_at b (suc q) ≡ c → ((k : Known) × (states q ≡ Some k)) ⊎ Within q
+        by : (c : Option Known) → claimed_at b (suc q) ≡ c → ((k : Known) × (states q ≡ Some k)) ⊎ IsInside q
             → ((x : ℕ) → x < n → (k : Known) → states x ≡ Some k → x < length b.code → IsVisited b x)
             → IsVisited b (suc q)
         by (Some c) e r below = (c, Noted (suc q) c e)

@@ -8,9 +8,9 @@ use Rattle.lt_isa.specs.declared.instructions.Instr.{Instr}
 use Rattle.lt_isa.specs.declared.instruction_table.Kind.{Kind}
 use Rattle.lt_isa.specs.declared.instruction_table.Limits.{Limits}
 use Rattle.lt_isa.specs.InstructionTable.{kind_named, limits_of, instruction_of}
-use Rattle.object_file.specs.FieldRules.{within}
+use Rattle.gr_base.specs.Lists.{is_within}
 use Rattle.object_file.specs.Reading.{Read, number_at, field_at, kind_at, instruction_at}
-use Rattle.object_file.proofs.Readers.{within-Within}
+use Rattle.gr_base.proofs.ListTests.{is_within-Within}
 
 -- a byte is a number of one byte
 pub byte_number : (bytes : List ℕ) (place : ℕ) → slice_index bytes place ≡ little_number 1 (drop place bytes)
@@ -36,11 +36,12 @@ module _ (all : ℕ) (bytes : List ℕ) where
       rw (long, drop-drop n place bytes) refl
 
   field_there : (n place high : ℕ) → place + n ≤ length bytes → little_number n (drop place bytes) ≤ high
-      → field_at n all (within 0 high) (drop place bytes)
+      → field_at n all (is_within 0 high) (drop place bytes)
       ≡ valued (little_number n (drop place bytes)) (drop (place + n) bytes)
   unfolding field_at
   field_there n place high le small =
-      rw (number_there n place le, within-Within 0 high (little_number n (drop place bytes)) (omega arith, small)) refl
+      rw (number_there n place le, is_within-Within 0 high (little_number n (drop place bytes)) (omega arith, small))
+          refl
 
   kind_there : (kind : Kind) → 1 ≤ length bytes → kind_named (little_number 1 (drop 0 bytes)) ≡ Some kind
       → kind_at all (drop 0 bytes) ≡ kinded kind (drop 1 bytes)

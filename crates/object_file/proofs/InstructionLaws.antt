@@ -15,10 +15,9 @@ use Rattle.lt_isa.specs.declared.instruction_table.Operands.{Operands}
 use Rattle.lt_isa.specs.declared.instruction_table.Limits.{Limits}
 use Rattle.lt_isa.specs.InstructionTable.{opcode_of, kind_named, format_of, limits_of, most_bits, most_operand, kind_of, operands_of, instruction_of}
 use Rattle.lt_isa.proofs.InstructionTable.{opcode_of_named, kind_of_opcode, opcode_of-lt, instruction_again as instruction_again_of}
-use Rattle.gr_base.specs.Lists.{Within}
+use Rattle.gr_base.specs.Lists.{Within, is_within}
 use Rattle.lt_isa.specs.Ranges.{InstrFits}
 use Rattle.object_file.specs.Spelling.{number, listed, instruction}
-use Rattle.object_file.specs.FieldRules.{within}
 use Rattle.object_file.specs.Reading.{place, field_at, known, kind_at, instruction_at, code_at}
 use Rattle.object_file.proofs.Numbers.{IsBytes}
 use Rattle.gr_base.proofs.Results.{IfRead, read_ok, read_err, read_then, read_weaker}
@@ -297,22 +296,22 @@ limits_small banks kind few = record {
 
 module _ (banks all : ℕ) (some : 2 ≤ banks) (few : banks ≤ 10) where
   of_a : (kind : Kind)
-      → IsReader (field_at 1 all (within 0 (limits_of banks kind).a)) (number 1) (Within 0 (limits_of banks kind).a)
+      → IsReader (field_at 1 all (is_within 0 (limits_of banks kind).a)) (number 1) (Within 0 (limits_of banks kind).a)
   of_a kind = range 1 all 0 (limits_of banks kind).a (limits_small banks kind few).a_below
 
   of_b : (kind : Kind)
-      → IsReader (field_at 1 all (within 0 (limits_of banks kind).b)) (number 1) (Within 0 (limits_of banks kind).b)
+      → IsReader (field_at 1 all (is_within 0 (limits_of banks kind).b)) (number 1) (Within 0 (limits_of banks kind).b)
   of_b kind = range 1 all 0 (limits_of banks kind).b (limits_small banks kind few).b_below
 
   of_c : (kind : Kind)
-      → IsReader (field_at 1 all (within 0 (limits_of banks kind).c)) (number 1) (Within 0 (limits_of banks kind).c)
+      → IsReader (field_at 1 all (is_within 0 (limits_of banks kind).c)) (number 1) (Within 0 (limits_of banks kind).c)
   of_c kind = range 1 all 0 (limits_of banks kind).c (limits_small banks kind few).c_below
 
-  of_offset : (kind : Kind) → IsReader (field_at 4 all (within 0 (limits_of banks kind).offset)) (number 4)
+  of_offset : (kind : Kind) → IsReader (field_at 4 all (is_within 0 (limits_of banks kind).offset)) (number 4)
       (Within 0 (limits_of banks kind).offset)
   of_offset kind = range 4 all 0 (limits_of banks kind).offset (limits_small banks kind few).offset_below
 
-  of_constant : (kind : Kind) → IsReader (field_at 8 all (within 0 (limits_of banks kind).constant)) (number 8)
+  of_constant : (kind : Kind) → IsReader (field_at 8 all (is_within 0 (limits_of banks kind).constant)) (number 8)
       (Within 0 (limits_of banks kind).constant)
   of_constant kind = range 8 all 0 (limits_of banks kind).constant (limits_small banks kind few).constant_below
 

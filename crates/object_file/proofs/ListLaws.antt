@@ -3,9 +3,8 @@ use Rattle.std.proofs.Common.{◌≡◌, ℕ, zero, suc, ◌^◌, ◌<◌, List,
 use Rattle.std.specs.Prelude.{All}
 use Rattle.std.proofs.lemmas.List.{append-nil}
 use Rattle.std.proofs.lemmas.List.Elements.{All-nil, All-cons, All-head, All-tail}
-use Rattle.gr_base.specs.Lists.{Within, EachAfter}
+use Rattle.gr_base.specs.Lists.{Within, EachAfter, is_within}
 use Rattle.object_file.specs.Spelling.{number, listed}
-use Rattle.object_file.specs.FieldRules.{within}
 use Rattle.object_file.specs.Reading.{Read, items_at, list_at}
 use Rattle.object_file.proofs.Numbers.{IsBytes}
 use Rattle.gr_base.proofs.Results.{IfRead, read_ok, read_then}
@@ -62,7 +61,7 @@ module _ {X : Type 0} (read : List X → List ℕ → Read X) (text : X → List
       ∙ rw first (others ∙ ap (λ (xs : List X). Ok (xs, rest)) (append_assoc before (x ∷ []) items))
 
   -- a list of items behind its length
-  pub list : (n all low high : ℕ) → high < 256 ^ n → IsReader (list_at n all (within low high) read) (listed n text)
+  pub list : (n all low high : ℕ) → high < 256 ^ n → IsReader (list_at n all (is_within low high) read) (listed n text)
       (λ items. Within low high (length items) × EachAfter Fits [] items)
   unfolding list_at listed
   list n all low high small = record {
@@ -77,7 +76,7 @@ module _ {X : Type 0} (read : List X → List ℕ → Read X) (text : X → List
     again = λ items rest h.
         let bytes : listed n text items ++ rest ≡ number n (length items) ++ (flat_map text items ++ rest) =
         append_assoc (number n (length items)) (flat_map text items) rest in
-        ap (list_at n all (within low high) read) bytes
+        ap (list_at n all (is_within low high) read) bytes
         ∙ rw ((range n all low high small).again (length items) (flat_map text items ++ rest) h.0)
         (items_again items [] rest h.1);
   }

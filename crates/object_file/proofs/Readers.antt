@@ -1,13 +1,13 @@
 -- The two laws of a reader: what it reads is spelled in front of what it leaves, and what is spelled so it reads.
 use Rattle.std.proofs.Common.{◌≡◌, ℕ, ◌^◌, ◌<◌, ◌≤◌, Bool, true, false, ltb, List, ◌++◌, length, take, drop, Ok, refl, sym, ap, ◌∙◌, append_assoc, arith}
-use Rattle.std.proofs.lemmas.Bool.{ltb-false, le-ltb, leb-true, le-leb, and_parts, and_from}
+use Rattle.std.proofs.lemmas.Bool.{ltb-false, le-ltb}
 use Rattle.std.proofs.lemmas.List.{drop_at, take-append-drop, length-append, length-take-le}
 use Rattle.byteorder.specs.Endian.{little_number, little_bytes}
 use Rattle.byteorder.specs.Numbers.{little_from-take, little_from-lt, little_number-reads_back, length-bytes_low_first}
-use Rattle.gr_base.specs.Lists.{Within}
+use Rattle.gr_base.specs.Lists.{Within, is_within}
 use Rattle.object_file.specs.Spelling.{number}
+use Rattle.gr_base.proofs.ListTests.{Within-is_within, is_within-Within}
 use Rattle.gr_base.proofs.Results.{IfRead, read_ok, read_then, read_if, read_unless, read_weaker}
-use Rattle.object_file.specs.FieldRules.{within}
 use Rattle.object_file.specs.Reading.{Read, number_at, field_at}
 use Rattle.object_file.proofs.Numbers.{IsBytes, IsBytes-drop, IsBytes-take, little_bytes-little_number}
 
@@ -61,15 +61,6 @@ numbers n all = record { reads = number_read n all; again = number_again n all }
 
 -- numbers in a range
 
-pub Within-within : (low high x : ℕ) → within low high x ≡ true → Within low high x
-unfolding within
-Within-within low high x e = let p = and_parts _ _ e in (leb-true _ _ p.0, leb-true _ _ p.1)
-
--- a number within bounds, by its test
-pub within-Within : (low high x : ℕ) → Within low high x → within low high x ≡ true
-unfolding within
-within-Within low high x h = and_from _ _ (le-leb _ _ h.0) (le-leb _ _ h.1)
-
 -- a field that is read stands in front, and is allowed
 pub field_read : (n all : ℕ) (allowed : ℕ → Bool) (bytes : List ℕ) → IsBytes bytes
     → IfRead (field_at n all allowed bytes) (Found (number n) (λ x. (x < 256 ^ n) × (allowed x ≡ true)) bytes)
@@ -85,9 +76,10 @@ field_again n all allowed x rest lt ok = rw (number_again n all x rest lt, ok) r
 
 -- a number in a range
 pub range : (n all low high : ℕ) → high < 256 ^ n
-    → IsReader (field_at n all (within low high)) (number n) (Within low high)
+    → IsReader (field_at n all (is_within low high)) (number n) (Within low high)
 range n all low high small = record {
-  reads = λ bytes fits. read_weaker _ _ _ (field_read n all (within low high) bytes fits)
-      (λ x found. (found.0, Within-within low high x.0 found.1.1));
-  again = λ x rest h. field_again n all (within low high) x rest (omega (arith, h.1)) (within-Within low high x h);
+  reads = λ bytes fits. read_weaker _ _ _ (field_read n all (is_within low high) bytes fits)
+      (λ x found. (found.0, Within-is_within low high x.0 found.1.1));
+  again = λ x rest h. field_again n all (is_within low high) x rest (omega (arith, h.1))
+      (is_within-Within low high x h);
 }

@@ -7,12 +7,12 @@ use Rattle.gr_word.specs.declared.variables.Shape.TheVariants.{Scalar, Array}
 use Rattle.lt_isa.specs.declared.profiles.BankSpec.{BankSpec}
 use Rattle.lt_isa.specs.declared.symbols.Symbol.{Symbol}
 use Rattle.lt_isa.specs.Object.{first_word}
-use Rattle.gr_base.specs.Lists.{Within, EachAfter}
+use Rattle.gr_base.specs.Lists.{Within, EachAfter, is_within}
 use Rattle.lt_isa.specs.SymbolPlaces.{last_bank, blocks_in, first_free_word, most_length}
 use Rattle.lt_isa.proofs.SymbolPlaces.{most_length-le, lies_by_fields, fields_of_lies}
 use Rattle.lt_isa.specs.Ranges.{SymbolFits, total_length}
 use Rattle.object_file.specs.Spelling.{number, listed, symbol, label_code, shape_code}
-use Rattle.object_file.specs.FieldRules.{within, label_numbered, shape_numbered, most_length_behind}
+use Rattle.object_file.specs.FieldRules.{label_numbered, shape_numbered, most_length_behind}
 use Rattle.object_file.specs.Reading.{field_at, symbol_at, symbols_at}
 use Rattle.object_file.proofs.Numbers.{IsBytes}
 use Rattle.gr_base.proofs.Results.{IfRead, read_ok, read_then}
@@ -88,10 +88,10 @@ shape_takes : (bytes : List ℕ) (x : ℕ × List ℕ) → Found (number 1) (Wit
 shape_takes bytes x found = subst (λ n. Takes bytes (number 1 n) x.1) (sym (shape_code-shape_of x.0 found.1.1)) found.0
 
 module _ (w : ℕ) (banks : List BankSpec) (all : ℕ) (before : List Symbol) (memory : IsMemory w banks) where
-  codes : IsReader (field_at 1 all (within 0 1)) (number 1) (Within 0 1)
+  codes : IsReader (field_at 1 all (is_within 0 1)) (number 1) (Within 0 1)
   codes = range 1 all 0 1 (omega arith)
 
-  of_bank : IsReader (field_at 1 all (within (last_bank before) (length banks - 1))) (number 1)
+  of_bank : IsReader (field_at 1 all (is_within (last_bank before) (length banks - 1))) (number 1)
       (Within (last_bank before) (length banks - 1))
   of_bank = range 1 all (last_bank before) (length banks - 1) (omega (arith, memory.count.1))
 
@@ -99,16 +99,17 @@ module _ (w : ℕ) (banks : List BankSpec) (all : ℕ) (before : List Symbol) (m
   has_blocks bank le = memory.blocks bank (omega (arith, le, memory.count.0))
 
   of_block : (bank : ℕ) → bank ≤ length banks - 1
-      → IsReader (field_at 4 all (within 0 (blocks_in banks bank - 1))) (number 4) (Within 0 (blocks_in banks bank - 1))
+      → IsReader (field_at 4 all (is_within 0 (blocks_in banks bank - 1))) (number 4)
+          (Within 0 (blocks_in banks bank - 1))
   of_block bank le = range 4 all 0 (blocks_in banks bank - 1) (omega (arith, has_blocks bank le))
 
-  of_word : (bank block : ℕ) → IsReader (field_at 2 all (within (first_free_word w before bank block) (w - 1)))
+  of_word : (bank block : ℕ) → IsReader (field_at 2 all (is_within (first_free_word w before bank block) (w - 1)))
       (number 2)
       (Within (first_free_word w before bank block) (w - 1))
   of_word bank block = range 2 all (first_free_word w before bank block) (w - 1) (omega (arith, memory.words.1))
 
   of_length : (shape : Shape) (bank start : ℕ)
-      → IsReader (field_at 4 all (within 1 (most_length_behind w banks before shape bank start))) (number 4)
+      → IsReader (field_at 4 all (is_within 1 (most_length_behind w banks before shape bank start))) (number 4)
       (Within 1 (most_length_behind w banks before shape bank start))
   of_length shape bank start =
       range 4 all 1 (most_length_behind w banks before shape bank start)

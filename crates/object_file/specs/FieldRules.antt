@@ -1,6 +1,6 @@
--- What may stand in the fields of an object file: numbers in a range, a name that is no earlier symbol's, and how long
--- a symbol may be. (This project's profile.)
-use Rattle.std.specs.Prelude.{ℕ, ◌-◌, min, Bool, not, ◌&&◌, nat_le, ◌==◌, if◌then◌else◌, List, bytes_eq}
+-- What may stand in the fields of an object file, beside numbers in a range: a name that is no earlier symbol's, and
+-- how long a symbol may be. (This project's profile.)
+use Rattle.std.specs.Prelude.{ℕ, ◌-◌, min, Bool, not, ◌&&◌, ◌==◌, if◌then◌else◌, List, bytes_eq}
 use Rattle.std.specs.List.{list_all}
 use Rattle.gr_word.specs.declared.variables.Label.{Label}
 use Rattle.gr_word.specs.declared.variables.Label.TheVariants.{Public, Secret}
@@ -12,10 +12,6 @@ use Rattle.lt_isa.specs.declared.symbols.Symbol.{Symbol}
 use Rattle.lt_isa.specs.Limits.{most_symbol_words}
 use Rattle.lt_isa.specs.SymbolPlaces.{most_length}
 use Rattle.lt_isa.specs.Ranges.{total_length}
-
--- from low to high
-unfoldable pub within : ℕ → ℕ → ℕ → Bool
-within low high n = nat_le low n && nat_le n high
 
 -- The bytes are a name, and no symbol's so far.
 unfoldable pub is_new_name : List Symbol → List ℕ → Bool

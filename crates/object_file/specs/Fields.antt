@@ -17,7 +17,8 @@ use Rattle.lt_isa.specs.Limits.{fewest_banks, most_banks, least_block_log, most_
 use Rattle.lt_isa.specs.SymbolPlaces.{last_bank, blocks_in, first_free_word}
 use Rattle.lt_isa.specs.Ranges.{next_place, is_slot_claim}
 use Rattle.object_file.specs.Spelling.{magic}
-use Rattle.object_file.specs.FieldRules.{within, is_new_name, label_numbered, shape_numbered, most_length_behind}
+use Rattle.gr_base.specs.Lists.{is_within}
+use Rattle.object_file.specs.FieldRules.{is_new_name, label_numbered, shape_numbered, most_length_behind}
 
 -- what is told of a field that isn't allowed: that the file isn't an object, its version, or the field's place
 pub data Telling : Type 0 where
@@ -76,11 +77,11 @@ version_field = number_told Version 2 (λ n. (n == 1) || (n == 2))
 -- the size of blocks and cycles of instructions, with memory that is always open
 unfoldable pub cycles_fields : Fields Profile
 cycles_fields = do
-  block_log ← number_field 1 (within least_block_log most_block_log)
-  alu ← number_field 1 (within 1 most_cycles)
-  mul ← number_field 1 (within 1 most_cycles)
-  word ← number_field 1 (within 1 most_cycles)
-  taken ← number_field 1 (within 1 most_taken)
+  block_log ← number_field 1 (is_within least_block_log most_block_log)
+  alu ← number_field 1 (is_within 1 most_cycles)
+  mul ← number_field 1 (is_within 1 most_cycles)
+  word ← number_field 1 (is_within 1 most_cycles)
+  taken ← number_field 1 (is_within 1 most_taken)
   NoField (record {
     block_log = block_log;
     alu = alu;
@@ -95,9 +96,9 @@ cycles_fields = do
 -- a profile with the window that stands behind it
 unfoldable pub window_fields : Profile → Fields Profile
 window_fields p = do
-  period ← number_field 4 (within 2 most_period)
-  opens ← number_field 4 (within 0 (period - 1))
-  closes ← number_field 4 (within (opens + 1) period)
+  period ← number_field 4 (is_within 2 most_period)
+  opens ← number_field 4 (is_within 0 (period - 1))
+  closes ← number_field 4 (is_within (opens + 1) period)
   NoField (record p { period = period; opens = opens; closes = closes })
 
 -- version 2 has a window
@@ -109,25 +110,26 @@ profile_fields = do
 
 unfoldable pub bank_fields : List BankSpec → Fields BankSpec
 bank_fields before = do
-  blocks ← number_field 4 (within 1 (most_blocks (length before)))
-  latency ← number_field 4 (within 1 most_latency)
+  blocks ← number_field 4 (is_within 1 (most_blocks (length before)))
+  latency ← number_field 4 (is_within 1 most_latency)
   NoField (record { blocks = blocks; latency = latency })
 
 -- a length, and so many bytes that are a name and no earlier symbol's
 unfoldable pub name_fields : List Symbol → Fields (List ℕ)
 name_fields before = do
-  n ← number_field 1 (within 1 32)
+  n ← number_field 1 (is_within 1 32)
   FieldThen (record { size = n; allowed = is_new_name before; telling = Place }) NoField
 
 unfoldable pub symbol_fields : ℕ → List BankSpec → List Symbol → Fields Symbol
 symbol_fields w banks before = do
   name ← name_fields before
-  label ← number_field 1 (within 0 1)
-  shape ← number_field 1 (within 0 1)
-  bank ← number_field 1 (within (last_bank before) (length banks - 1))
-  block ← number_field 4 (within 0 (blocks_in banks bank - 1))
-  word ← number_field 2 (within (first_free_word w before bank block) (w - 1))
-  length ← number_field 4 (within 1 (most_length_behind w banks before (shape_numbered shape) bank (block * w + word)))
+  label ← number_field 1 (is_within 0 1)
+  shape ← number_field 1 (is_within 0 1)
+  bank ← number_field 1 (is_within (last_bank before) (length banks - 1))
+  block ← number_field 4 (is_within 0 (blocks_in banks bank - 1))
+  word ← number_field 2 (is_within (first_free_word w before bank block) (w - 1))
+  length ← number_field 4 (is_within 1 (most_length_behind w banks before (shape_numbered shape) bank
+      (block * w + word)))
   NoField (record {
     name = name;
     label = label_numbered label;
@@ -140,7 +142,7 @@ symbol_fields w banks before = do
 
 unfoldable pub note_fields : ℕ → List Note → Fields Note
 note_fields banks before = do
-  pc ← number_field 4 (within (next_place before) (2 ^ 32 - 1))
+  pc ← number_field 4 (is_within (next_place before) (2 ^ 32 - 1))
   secrets ← number_field 4 (λ any. true)
   slots ← items_fields (λ earlier. number_field 1 (is_slot_claim banks)) 8 []
   NoField (record { pc = pc; secrets = secrets; slots = slots })
@@ -148,11 +150,11 @@ note_fields banks before = do
 -- the operands of a kind of instruction: a field that isn't used is 0
 unfoldable pub operand_fields : ℕ → Kind → Fields Instr
 operand_fields banks kind = do
-  a ← number_field 1 (within 0 (limits_of banks kind).a)
-  b ← number_field 1 (within 0 (limits_of banks kind).b)
-  c ← number_field 1 (within 0 (limits_of banks kind).c)
-  offset ← number_field 4 (within 0 (limits_of banks kind).offset)
-  constant ← number_field 8 (within 0 (limits_of banks kind).constant)
+  a ← number_field 1 (is_within 0 (limits_of banks kind).a)
+  b ← number_field 1 (is_within 0 (limits_of banks kind).b)
+  c ← number_field 1 (is_within 0 (limits_of banks kind).c)
+  offset ← number_field 4 (is_within 0 (limits_of banks kind).offset)
+  constant ← number_field 8 (is_within 0 (limits_of banks kind).constant)
   NoField (instruction_of kind
       (record { a = a; b = b; c = c; offset = cast_signed w32 offset; constant = cast_signed w64 constant }))
 
@@ -167,9 +169,10 @@ unfoldable pub object_fields : Fields Parts
 object_fields = do
   begins ← magic_field
   profile ← profile_fields
-  banks ← list_fields 1 (within fewest_banks most_banks) bank_fields
-  symbols ← list_fields 2 (within 0 most_symbols) (symbol_fields (2 ^ profile.block_log) banks)
-  notes ← list_fields 4 (within 0 most_notes) (note_fields (length banks))
+  banks ← list_fields 1 (is_within fewest_banks most_banks) bank_fields
+  symbols ← list_fields 2 (is_within 0 most_symbols) (symbol_fields (2 ^ profile.block_log) banks)
+  notes ← list_fields 4 (is_within 0 most_notes) (note_fields (length banks))
   code ←
-      list_fields 4 (within (max 1 (next_place notes)) most_instructions) (λ before. instruction_fields (length banks))
+      list_fields 4 (is_within (max 1 (next_place notes)) most_instructions)
+          (λ before. instruction_fields (length banks))
   NoField (record { profile = profile; banks = banks; symbols = symbols; notes = notes; code = code })

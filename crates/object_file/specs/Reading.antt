@@ -19,7 +19,8 @@ use Rattle.lt_isa.specs.Ranges.{next_place, is_slot_claim}
 use Rattle.object_file.specs.declared.errors.DecodeError.{DecodeError}
 use Rattle.object_file.specs.declared.errors.DecodeError.TheVariants.{Truncated, BadMagic, BadVersion, BadField, TrailingBytes, Memory}
 use Rattle.object_file.specs.Spelling.{magic}
-use Rattle.object_file.specs.FieldRules.{within, is_new_name, label_numbered, shape_numbered, most_length_behind}
+use Rattle.gr_base.specs.Lists.{is_within}
+use Rattle.object_file.specs.FieldRules.{is_new_name, label_numbered, shape_numbered, most_length_behind}
 
 -- What a function returned, seen by view, is what reading gives, unless memory ran out.
 abbrev pub Fails : {Y : Type 0} → DecodeError → Result Y DecodeError → Type 0
@@ -75,11 +76,11 @@ version_at all bytes = do
 -- the size of blocks and cycles of instructions, with memory that is always open
 unfoldable pub cycles_at : ℕ → List ℕ → Read Profile
 cycles_at all bytes = do
-  block_log ← field_at 1 all (within least_block_log most_block_log) bytes
-  alu ← field_at 1 all (within 1 most_cycles) block_log.1
-  mul ← field_at 1 all (within 1 most_cycles) alu.1
-  word ← field_at 1 all (within 1 most_cycles) mul.1
-  taken ← field_at 1 all (within 1 most_taken) word.1
+  block_log ← field_at 1 all (is_within least_block_log most_block_log) bytes
+  alu ← field_at 1 all (is_within 1 most_cycles) block_log.1
+  mul ← field_at 1 all (is_within 1 most_cycles) alu.1
+  word ← field_at 1 all (is_within 1 most_cycles) mul.1
+  taken ← field_at 1 all (is_within 1 most_taken) word.1
   Ok (
     record {
       block_log = block_log.0;
@@ -97,9 +98,9 @@ cycles_at all bytes = do
 -- the profile with the window that is read
 unfoldable pub window_at : ℕ → Profile → List ℕ → Read Profile
 window_at all p bytes = do
-  period ← field_at 4 all (within 2 most_period) bytes
-  opens ← field_at 4 all (within 0 (period.0 - 1)) period.1
-  closes ← field_at 4 all (within (opens.0 + 1) period.0) opens.1
+  period ← field_at 4 all (is_within 2 most_period) bytes
+  opens ← field_at 4 all (is_within 0 (period.0 - 1)) period.1
+  closes ← field_at 4 all (is_within (opens.0 + 1) period.0) opens.1
   Ok (record p { period = period.0; opens = opens.0; closes = closes.0 }, closes.1)
 
 -- the version and a profile: version 2 has a window
@@ -111,8 +112,8 @@ profile_at all bytes = do
 
 unfoldable pub bank_at : ℕ → List BankSpec → List ℕ → Read BankSpec
 bank_at all before bytes = do
-  blocks ← field_at 4 all (within 1 (most_blocks (length before))) bytes
-  latency ← field_at 4 all (within 1 most_latency) blocks.1
+  blocks ← field_at 4 all (is_within 1 (most_blocks (length before))) bytes
+  latency ← field_at 4 all (is_within 1 most_latency) blocks.1
   Ok (record { blocks = blocks.0; latency = latency.0 }, latency.1)
 
 -- n bytes that are a new name
@@ -124,20 +125,20 @@ name_bytes_at all n before bytes =
 
 unfoldable pub name_at : ℕ → List Symbol → List ℕ → Read (List ℕ)
 name_at all before bytes = do
-  n ← field_at 1 all (within 1 32) bytes
+  n ← field_at 1 all (is_within 1 32) bytes
   name_bytes_at all n.0 before n.1
 
 unfoldable pub symbol_at : ℕ → List BankSpec → ℕ → List Symbol → List ℕ → Read Symbol
 symbol_at w banks all before bytes = do
   name ← name_at all before bytes
-  label ← field_at 1 all (within 0 1) name.1
-  shape ← field_at 1 all (within 0 1) label.1
-  bank ← field_at 1 all (within (last_bank before) (length banks - 1)) shape.1
-  block ← field_at 4 all (within 0 (blocks_in banks bank.0 - 1)) bank.1
-  word ← field_at 2 all (within (first_free_word w before bank.0 block.0) (w - 1)) block.1
+  label ← field_at 1 all (is_within 0 1) name.1
+  shape ← field_at 1 all (is_within 0 1) label.1
+  bank ← field_at 1 all (is_within (last_bank before) (length banks - 1)) shape.1
+  block ← field_at 4 all (is_within 0 (blocks_in banks bank.0 - 1)) bank.1
+  word ← field_at 2 all (is_within (first_free_word w before bank.0 block.0) (w - 1)) block.1
   length ←
       field_at 4 all
-      (within 1 (most_length_behind w banks before (shape_numbered shape.0) bank.0 (block.0 * w + word.0))) word.1
+      (is_within 1 (most_length_behind w banks before (shape_numbered shape.0) bank.0 (block.0 * w + word.0))) word.1
   Ok (
     record {
       name = name.0;
@@ -156,7 +157,7 @@ slots_at banks all bytes = items_at (λ before. field_at 1 all (is_slot_claim ba
 
 unfoldable pub note_at : ℕ → ℕ → List Note → List ℕ → Read Note
 note_at banks all before bytes = do
-  pc ← field_at 4 all (within (next_place before) (2 ^ 32 - 1)) bytes
+  pc ← field_at 4 all (is_within (next_place before) (2 ^ 32 - 1)) bytes
   secrets ← number_at 4 all pc.1
   slots ← slots_at banks all secrets.1
   Ok (record { pc = pc.0; secrets = secrets.0; slots = slots.0 }, slots.1)
@@ -174,11 +175,11 @@ kind_at all bytes = do
 unfoldable pub instruction_at : ℕ → ℕ → List ℕ → Read Instr
 instruction_at banks all bytes = do
   kind ← kind_at all bytes
-  a ← field_at 1 all (within 0 (limits_of banks kind.0).a) kind.1
-  b ← field_at 1 all (within 0 (limits_of banks kind.0).b) a.1
-  c ← field_at 1 all (within 0 (limits_of banks kind.0).c) b.1
-  offset ← field_at 4 all (within 0 (limits_of banks kind.0).offset) c.1
-  constant ← field_at 8 all (within 0 (limits_of banks kind.0).constant) offset.1
+  a ← field_at 1 all (is_within 0 (limits_of banks kind.0).a) kind.1
+  b ← field_at 1 all (is_within 0 (limits_of banks kind.0).b) a.1
+  c ← field_at 1 all (is_within 0 (limits_of banks kind.0).c) b.1
+  offset ← field_at 4 all (is_within 0 (limits_of banks kind.0).offset) c.1
+  constant ← field_at 8 all (is_within 0 (limits_of banks kind.0).constant) offset.1
   Ok (
     instruction_of kind.0 (record {
       a = a.0;
@@ -191,17 +192,17 @@ instruction_at banks all bytes = do
   )
 
 unfoldable pub banks_at : ℕ → List ℕ → Read (List BankSpec)
-banks_at all bytes = list_at 1 all (within fewest_banks most_banks) (bank_at all) bytes
+banks_at all bytes = list_at 1 all (is_within fewest_banks most_banks) (bank_at all) bytes
 
 unfoldable pub symbols_at : ℕ → List BankSpec → ℕ → List ℕ → Read (List Symbol)
-symbols_at w banks all bytes = list_at 2 all (within 0 most_symbols) (symbol_at w banks all) bytes
+symbols_at w banks all bytes = list_at 2 all (is_within 0 most_symbols) (symbol_at w banks all) bytes
 
 unfoldable pub notes_at : ℕ → ℕ → List ℕ → Read (List Note)
-notes_at banks all bytes = list_at 4 all (within 0 most_notes) (note_at banks all) bytes
+notes_at banks all bytes = list_at 4 all (is_within 0 most_notes) (note_at banks all) bytes
 
 unfoldable pub code_at : ℕ → ℕ → ℕ → List ℕ → Read (List Instr)
 code_at banks fewest all bytes =
-    list_at 4 all (within fewest most_instructions) (λ before. instruction_at banks all) bytes
+    list_at 4 all (is_within fewest most_instructions) (λ before. instruction_at banks all) bytes
 
 -- the object, where no bytes are left
 abbrev pub ended : ℕ → Parts → List ℕ → Result Parts DecodeError

@@ -1,6 +1,6 @@
 ghost use Rattle.std.specs.Prelude.{◌≡◌, IfOk};
 ghost use Rattle.gr_base.specs.Lists.{Within};
-ghost use Rattle.object_file.specs.FieldRules.{within};
+ghost use Rattle.gr_base.specs.Lists.{is_within};
 ghost use Rattle.object_file.specs.Reading.{Decodes, place, number_at, field_at};
 
 use crate::errors::DecodeError;
@@ -58,9 +58,9 @@ fn u64_at(all: u32, bytes: &[u8]) -> Result<(u64, &[u8]), DecodeError>
 }
 
 /// A field of one byte, from `low` to `high`, and the bytes behind it.
-#[tactic(auto, unfolding(crate::specs::Reading::field_at, crate::specs::FieldRules::within))]
+#[tactic(auto, unfolding(crate::specs::Reading::field_at, gr_base::specs::Lists::is_within))]
 pub fn u8_field(all: u32, low: u64, high: u64, bytes: &[u8]) -> Result<(u8, &[u8]), DecodeError>
-    ensures read { Decodes (λ x. (x.0, x.1.now)) result (field_at 1 all (within low high) bytes.now) }
+    ensures read { Decodes (λ x. (x.0, x.1.now)) result (field_at 1 all (is_within low high) bytes.now) }
     ensures range { IfOk result (λ x. Within low high x.0) }
 {
     let (number, rest) = u8_at(all, bytes)?;
@@ -71,9 +71,9 @@ pub fn u8_field(all: u32, low: u64, high: u64, bytes: &[u8]) -> Result<(u8, &[u8
 }
 
 /// A field of two bytes, from `low` to `high`, and the bytes behind it.
-#[tactic(auto, unfolding(crate::specs::Reading::field_at, crate::specs::FieldRules::within))]
+#[tactic(auto, unfolding(crate::specs::Reading::field_at, gr_base::specs::Lists::is_within))]
 pub fn u16_field(all: u32, low: u64, high: u64, bytes: &[u8]) -> Result<(u16, &[u8]), DecodeError>
-    ensures read { Decodes (λ x. (x.0, x.1.now)) result (field_at 2 all (within low high) bytes.now) }
+    ensures read { Decodes (λ x. (x.0, x.1.now)) result (field_at 2 all (is_within low high) bytes.now) }
     ensures range { IfOk result (λ x. Within low high x.0) }
 {
     let (number, rest) = u16_at(all, bytes)?;
@@ -84,9 +84,9 @@ pub fn u16_field(all: u32, low: u64, high: u64, bytes: &[u8]) -> Result<(u16, &[
 }
 
 /// A field of four bytes, from `low` to `high`, and the bytes behind it.
-#[tactic(auto, unfolding(crate::specs::Reading::field_at, crate::specs::FieldRules::within))]
+#[tactic(auto, unfolding(crate::specs::Reading::field_at, gr_base::specs::Lists::is_within))]
 pub fn u32_field(all: u32, low: u64, high: u64, bytes: &[u8]) -> Result<(u32, &[u8]), DecodeError>
-    ensures read { Decodes (λ x. (x.0, x.1.now)) result (field_at 4 all (within low high) bytes.now) }
+    ensures read { Decodes (λ x. (x.0, x.1.now)) result (field_at 4 all (is_within low high) bytes.now) }
     ensures range { IfOk result (λ x. Within low high x.0) }
 {
     let (number, rest) = u32_at(all, bytes)?;
@@ -97,9 +97,9 @@ pub fn u32_field(all: u32, low: u64, high: u64, bytes: &[u8]) -> Result<(u32, &[
 }
 
 /// A field of eight bytes, from `low` to `high`, and the bytes behind it.
-#[tactic(auto, unfolding(crate::specs::Reading::field_at, crate::specs::FieldRules::within))]
+#[tactic(auto, unfolding(crate::specs::Reading::field_at, gr_base::specs::Lists::is_within))]
 pub fn u64_field(all: u32, low: u64, high: u64, bytes: &[u8]) -> Result<(u64, &[u8]), DecodeError>
-    ensures read { Decodes (λ x. (x.0, x.1.now)) result (field_at 8 all (within low high) bytes.now) }
+    ensures read { Decodes (λ x. (x.0, x.1.now)) result (field_at 8 all (is_within low high) bytes.now) }
     ensures range { IfOk result (λ x. Within low high x.0) }
 {
     let (number, rest) = u64_at(all, bytes)?;

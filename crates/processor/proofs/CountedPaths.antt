@@ -3,7 +3,7 @@ use Rattle.std.proofs.Common.{◌≡◌, ℕ, zero, suc, ◌+◌, ◌≤◌, Boo
 use Rattle.std.proofs.lemmas.Bool.{false≢true}
 use Rattle.std.proofs.lemmas.List.{length-append}
 use Rattle.lt_isa.specs.Machine.{Halted, Observed}
-use Rattle.lt_isa.specs.Step.{Outcome, Goes, Stops, Faults}
+use Rattle.lt_isa.specs.Step.{StepResult, Goes, Stops, Faults}
 use Rattle.banks.specs.declared.bank.Leaves.{Leaves}
 use Rattle.banks.specs.Accesses.{Access, at_most_one}
 use Rattle.banks.specs.ObliviousEvents.{oblivious}
@@ -60,7 +60,7 @@ most_one made = let is = made_count made in omega (arith, is, low (made_bank mad
     low (Some bank) = omega arith
 
 -- a step tells as many paths as it makes accesses to oblivious banks
-pub step_counted : (start : ℕ) (outcome : Outcome) (leaves : Leaves) (made : Option Access)
+pub step_counted : (start : ℕ) (outcome : StepResult) (leaves : Leaves) (made : Option Access)
     → told_bank (event_of_outcome outcome) ≡ made_bank made
     → oblivious_count (at_most_one made) ≡ path_count (told_of_step start outcome leaves)
 unfolding one_if
@@ -93,7 +93,7 @@ few_shown : (start : ℕ) (event : Option Observed) (leaves : Leaves) → length
 few_shown start None leaves = omega arith
 few_shown start (Some event) leaves = omega (arith, few_behind start (oblivious event) leaves)
 
-few : (start : ℕ) (outcome : Outcome) (leaves : Leaves) → length (told_of_step start outcome leaves) ≤ 2
+few : (start : ℕ) (outcome : StepResult) (leaves : Leaves) → length (told_of_step start outcome leaves) ≤ 2
 few start (Goes event t) leaves = few_shown start event leaves
 few start (Stops t) leaves = few_shown start (Some Halted) leaves
 few start Faults leaves = omega arith
@@ -104,14 +104,15 @@ unfolding starts_with_path
 first_shown start None leaves = refl
 first_shown start (Some event) leaves = refl
 
-first : (start : ℕ) (outcome : Outcome) (leaves : Leaves) → starts_with_path (told_of_step start outcome leaves) ≡ false
+first : (start : ℕ) (outcome : StepResult) (leaves : Leaves)
+    → starts_with_path (told_of_step start outcome leaves) ≡ false
 unfolding starts_with_path
 first start (Goes event t) leaves = first_shown start event leaves
 first start (Stops t) leaves = first_shown start (Some Halted) leaves
 first start Faults leaves = refl
 
 -- no path is told before the event of its step
-pub none_before : (start : ℕ) (outcome : Outcome) (leaves : Leaves) (told : List WatcherTold) (next : WatcherTold)
+pub none_before : (start : ℕ) (outcome : StepResult) (leaves : Leaves) (told : List WatcherTold) (next : WatcherTold)
     (rest : List WatcherTold) → told_of_step start outcome leaves ≡ told ++ next ∷ rest → path_count told ≡ 0
 unfolding starts_with_path
 none_before start outcome leaves [] next rest is = refl

@@ -6,7 +6,7 @@ use Rattle.lt_isa.specs.Object.{Parts}
 use Rattle.lt_isa.specs.Ranges.{IsInRange}
 use Rattle.lt_isa.specs.Machine.{State, Halted, slot, read_event, write_event}
 use Rattle.lt_isa.specs.Shape.{IsShaped}
-use Rattle.lt_isa.specs.Step.{Outcome, Goes, Stops, Faults, step, step_start}
+use Rattle.lt_isa.specs.Step.{StepResult, Goes, Stops, Faults, step, step_start}
 use Rattle.lt_isa.specs.Trace.{Stamped, seen_at, stamped, trace_from, final_from, HaltsAt}
 use Rattle.lt_isa.proofs.Steps.{step-later, step_start-least}
 use Rattle.lt_isa.proofs.Runs.{trace_from-past, trace_from-goes, trace_from-stops, trace_from-faults, final_from-past, final_from-goes, final_from-stops, final_from-faults}
@@ -85,7 +85,7 @@ starts shows comes hears each none o s orams n watch nothing = record {
 }
 
 -- how a step went, by what it left to be told
-pub came_to : (left : Untold) (outcome : Outcome) (t : State)
+pub came_to : (left : Untold) (outcome : StepResult) (t : State)
     → outcome ≡ outcome_of left t → CameTo (went_of left) outcome t
 came_to (done.Read k leaves) outcome t is = (on_slot (slot t k) read_event, is)
 came_to (done.Wrote k leaves) outcome t is = (on_slot (slot t k) write_event, is)
@@ -138,7 +138,7 @@ module _ {B W : Type 0} {shows : B → List ℕ → List Leaves} {comes : B → 
     (so_far : Progress shows comes hears o first banks now orams n before between) where
   -- what a step leaves to be shown
   front : {after : W} (next : List B) (told : StepTold shows comes hears o now orams next between after)
-      (outcome : Outcome)
+      (outcome : StepResult)
       → step o now ≡ outcome → step_start o now < n
       → run_shown shows o first banks n
       ≡ (so_far.shown ++ told_of_step (step_start o now) outcome told.leaves)
@@ -149,7 +149,7 @@ module _ {B W : Type 0} {shows : B → List ℕ → List Leaves} {comes : B → 
       ∙ sym (append_assoc so_far.shown (told_of_step (step_start o now) outcome told.leaves)
       (left_behind shows comes o outcome next n))
 
-  made_on : (outcome : Outcome) → step o now ≡ outcome → step_start o now < n
+  made_on : (outcome : StepResult) → step o now ≡ outcome → step_start o now < n
       → accesses_from o first n
       ≡ (so_far.made ++ at_most_one (accessed o now)) ++ accessed_then outcome (λ t. accesses_from o t n)
   made_on outcome is less =
@@ -168,7 +168,7 @@ module _ {B W : Type 0} {shows : B → List ℕ → List Leaves} {comes : B → 
       (accessed o now) leaves so_far.show (access-shows_on shows each comes orams next (accessed o now) leaves made)
 
   heard_on : {after : W} (next : List B) (told : StepTold shows comes hears o now orams next between after)
-      (outcome : Outcome) → step o now ≡ outcome
+      (outcome : StepResult) → step o now ≡ outcome
       → hears before (so_far.shown ++ told_of_step (step_start o now) outcome told.leaves) after
   heard_on {after = after} next told outcome is =
       hears_then before between after so_far.shown (told_of_step (step_start o now) outcome told.leaves) so_far.heard

@@ -6,7 +6,7 @@ use Rattle.lt_isa.specs.Object.{Parts}
 use Rattle.lt_isa.specs.Ranges.{IsInRange}
 use Rattle.lt_isa.specs.Machine.{State, Observed}
 use Rattle.lt_isa.specs.Shape.{IsShaped}
-use Rattle.lt_isa.specs.Step.{Outcome, Goes, Stops, Faults, step, step_start}
+use Rattle.lt_isa.specs.Step.{StepResult, Goes, Stops, Faults, step, step_start}
 use Rattle.lt_isa.specs.Trace.{Stamped, seen_at, stamped, trace_from}
 use Rattle.lt_isa.proofs.Runs.{trace_from-goes, trace_from-stops, trace_from-faults}
 use Rattle.banks.specs.declared.bank.Leaves.{Leaves}
@@ -156,7 +156,7 @@ module _ {B : Type 0} (shows : B → List ℕ → List Leaves) (comes : B → Li
           (λ b other. paths-other before now access leaves rest made b (λ b_is. other (b_is ∙ sym is)))
 
   -- what is left to be told behind a step
-  abbrev pub left_behind : Parts → Outcome → List B → ℕ → List WatcherTold
+  abbrev pub left_behind : Parts → StepResult → List B → ℕ → List WatcherTold
   left_behind o (Goes event t) orams n = run_shown shows o t orams n
   left_behind o (Stops t) orams n = []
   left_behind o Faults orams n = []
@@ -164,7 +164,7 @@ module _ {B : Type 0} (shows : B → List ℕ → List Leaves) (comes : B → Li
   -- what a run shows, over one step
   pub run_shown-step : (o : Parts) → IsInRange o → (s : State) → IsShaped o s → (n : ℕ) → step_start o s < n
       → (before now : List B) (leaves : Leaves) → MayAccess shows comes before now (accessed o s) leaves
-      → (outcome : Outcome) → step o s ≡ outcome
+      → (outcome : StepResult) → step o s ≡ outcome
       → run_shown shows o s before n ≡ told_of_step (step_start o s) outcome leaves ++ left_behind o outcome now n
   run_shown-step o range s shaped n less before now leaves made (Goes event t) is =
       ap (λ events. with_paths events (paths_shown shows before (accesses_from o s n)))

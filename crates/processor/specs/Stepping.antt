@@ -5,7 +5,7 @@ use Rattle.lt_isa.specs.Object.{Parts, block_words}
 use Rattle.lt_isa.specs.Ranges.{IsInRange, InstrFits}
 use Rattle.lt_isa.specs.Machine.{Slot, Unbound, Bound, State, Observed, Halted, slot, read_event, write_event}
 use Rattle.lt_isa.specs.Shape.{IsShaped}
-use Rattle.lt_isa.specs.Step.{Outcome, Goes, Stops, Faults, executed, step, step_start}
+use Rattle.lt_isa.specs.Step.{StepResult, Goes, Stops, Faults, executed, step, step_start}
 use Rattle.lt_isa.specs.Trace.{seen_at}
 use Rattle.banks.specs.declared.bank.Leaves.{Leaves}
 use Rattle.banks.specs.Accesses.{Access, access_on, accessed, accessed_by}
@@ -41,7 +41,7 @@ on_slot Unbound event = None
 on_slot (Bound b a words) event = Some (event b a words)
 
 -- what an instruction came to that left this to be told and led to this state
-abbrev pub outcome_of : Untold → State → Outcome
+abbrev pub outcome_of : Untold → State → StepResult
 outcome_of (done.Read k leaves) t = Goes (on_slot (slot t k) read_event) t
 outcome_of (done.Wrote k leaves) t = Goes (on_slot (slot t k) write_event) t
 outcome_of done.Stopped t = Stops t
@@ -55,7 +55,7 @@ went_of done.Stopped = went.Halted
 went_of done.Fault = went.Faulted
 
 -- how a step went that came to this and led to this state
-abbrev pub CameTo : Went → Outcome → State → Type 0
+abbrev pub CameTo : Went → StepResult → State → Type 0
 CameTo went.On outcome t = (event : Option Observed) × (outcome ≡ Goes event t)
 CameTo went.Halted outcome t = outcome ≡ Stops t
 CameTo went.Faulted outcome t = outcome ≡ Faults
@@ -108,7 +108,7 @@ abbrev pub may_show : ℕ → Option Observed → Leaves → List WatcherTold
 may_show start None leaves = []
 may_show start (Some event) leaves = with_path (seen_at start event) leaves
 
-abbrev pub told_of_step : ℕ → Outcome → Leaves → List WatcherTold
+abbrev pub told_of_step : ℕ → StepResult → Leaves → List WatcherTold
 told_of_step start (Goes event t) leaves = may_show start event leaves
 told_of_step start (Stops t) leaves = may_show start (Some Halted) leaves
 told_of_step start Faults leaves = []

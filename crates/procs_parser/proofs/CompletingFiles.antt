@@ -15,7 +15,7 @@ use Rattle.src_parser.proofs.Held.{HasNoName}
 use Rattle.src_parser.proofs.HeadingTokens.{declares_both, rest_of, heading_completes}
 use Rattle.src_parser.proofs.PartTokens.{word_of, Makes, MakesVariable, MakesElement, MakesGuard, PartCompletes, part_completes, IsTarget}
 use Rattle.src_parser.proofs.Reached.{Fitting, fitting}
-use Rattle.procs_parser.specs.FileTurns.{Outer, InFirst, InSecond, InLoop, Phase, ParserState, HeadPhase, Front, Outside, count_of}
+use Rattle.procs_parser.specs.FileAdvances.{Outer, InFirst, InSecond, InLoop, Phase, ParserState, HeadPhase, Front, Outside, open_braces}
 use Rattle.procs_parser.proofs.StandingFiles.{Sentence, Program, Begun, AtTop, InBody, Enclosed, Top, First, Second, Looped, Argues, IsFirst, IsNext, Stands, IsReady, IsMayElse, IsNamed, IsCalling, IsArgument, IsCalled, IsPart, IsGuarded, IsOtherwise, ParametersBefore, SomeBefore, head_of, Names, IsOpening, IsNoneYet, IsOneMore, IsScalarLabelled, IsScalarTyped, IsArrayTyped, IsArrayTitled, IsArrayClosing, IsBehind, IsAllRead, IsLocalFresh, IsLocalLabelled, IsLocalTyped, IsLocalTitled, one_parameter, one_local, procedure_ends, Standing, InBetween, InHeading, InHead, InBlock, enclosed_depth, writes_at, one_statement, trees_more, operators_more}
 
 -- some more tokens, in which no name is hidden, make a file
@@ -273,7 +273,7 @@ names_complete {name = name} b (IsLocalTitled {ts = ts} {us = us} label x p fit 
 
 -- tokens that lead to a state within the braces go on to a file
 pub standing_completes : {most : Limits} {state : ParserState} {tokens : List TokenKind}
-    → Standing most state tokens → count_of state < most.braces → Complete most tokens
+    → Standing most state tokens → open_braces state < most.braces → Complete most tokens
 standing_completes (InBetween d) room = declared_completes d
 standing_completes (InHeading {heading = heading} {first = first} {us = us} d h) room =
     shorter (first ++ us) (rest_of heading (120 ∷ [])) (rest_shown heading)

@@ -9,7 +9,7 @@ use Rattle.src_parser.proofs.Tokenwise.{Laws}
 use Rattle.src_procs.specs.Trees.{Statement, Choice, File, Nothing}
 use Rattle.src_procs.specs.Seen.{block_of}
 use Rattle.procs_parser.specs.FileGrammar.{HasNoHiddenName, SpellsFile, AFile, Ends, Chooses, NoProcedure}
-use Rattle.procs_parser.specs.FileTurns.{ParserState, Between, Front, Outside, Within, Outer, Phase, file_at, taken, is_hidden_token, program_of, count_of, Doing}
+use Rattle.procs_parser.specs.FileAdvances.{ParserState, Between, Front, Outside, InProcedure, Outer, Phase, file_at, taken, is_hidden_token, program_of, open_braces, Doing}
 use Rattle.procs_parser.proofs.RoomsOfFiles.{shape}
 use Rattle.procs_parser.proofs.BracesOfFiles.{shown, counted}
 use Rattle.procs_parser.proofs.CompletingFiles.{standing_completes, shown_both}
@@ -44,7 +44,7 @@ shown_file {most} (Program {first = first} {middle = middle} {back = back} {decl
     (sym (append_assoc first middle back)) (AFile (subst HasNoHiddenName (append_assoc first middle back) s) d p w)
 
 completes : (most : Limits) (last : ParserState) (tokens : List TokenKind) → WasTaken most last tokens
-    → count_of last < most.braces → Completes SpellsFile most tokens
+    → open_braces last < most.braces → Completes SpellsFile most tokens
 completes most last tokens w room =
     let c = standing_completes w.standing room in
     record {
@@ -59,7 +59,7 @@ sentence_at {most} {f} xs ys e s = subst (λ z. Sentence most z f) e s
 not_inside : (front : Front) (o : Outer) (outer : List Outer) (here : List Statement) (f : File)
     → file_at front (o ∷ outer) here ≡ Some f → ⊥
 not_inside (Outside decls procedures) o outer here f e = cc
-not_inside (Within decls procedures name ps ls) o outer here f e = cc
+not_inside (InProcedure decls procedures name ps ls) o outer here f e = cc
 
 whole_block : {most : Limits} {front : Front} {outer : List Outer} {depth : ℕ} {here : List Statement}
     {ts : List TokenKind} → Enclosed most front outer depth here ts → (f : File)
@@ -97,7 +97,7 @@ whole (InHeading d h) f e = absurd (cc)
 whole (InHead b n) f e = absurd (cc)
 whole (InBlock o s) f e = whole_statements o s f e
 
-pub file_laws : Laws taken program_of count_of (Between []) SpellsFile WasTaken
+pub file_laws : Laws taken program_of open_braces (Between []) SpellsFile WasTaken
 file_laws = record {
   shape = shape;
   counted = counted;

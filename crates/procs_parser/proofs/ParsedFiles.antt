@@ -9,14 +9,14 @@ use Rattle.src_tree.specs.Trees.{Tree, Test}
 use Rattle.src_procs.specs.Trees.{Statement, SetVariable, SetElement, Choice, Loop, Call, Block, Nothing, Then, File}
 use Rattle.src_procs.specs.Seen.{block_of}
 use Rattle.src_parser.specs.Tokenwise as tokenwise
-use Rattle.src_parser.specs.Tokenwise.{after_turn, mapped, with_braces}
+use Rattle.src_parser.specs.Tokenwise.{after_advance, mapped, with_braces}
 use Rattle.src_parser.specs.Grammar.{Limits, operators, SpellsTree, Joined}
 use Rattle.src_parser.specs.Operands.{At, Wanted}
 use Rattle.src_parser.specs.Parts.{ForChoice, ForLoop, in_expression}
 use Rattle.src_parser.proofs.Complete.{Runs, complete}
 use Rattle.src_parser.proofs.PartRead.{PartRuns, right_paren, semicolon, variable_read, element_read, guard_read}
 use Rattle.procs_parser.specs.FileGrammar.{SpellsTrees, Last, Before, NoArgument, Given, operators_of, SpellsBlock, Ends, Sets, Puts, Calls, Chooses, ChoosesElse, Repeats}
-use Rattle.procs_parser.specs.FileTurns.{Outer, InFirst, InSecond, InLoop, Ready, MayElse, Calling, Argument, Called, Doing, Front, depth_of, between_statements, chosen, elsing, with_part, in_argument, program_of, turned, ParserState}
+use Rattle.procs_parser.specs.FileAdvances.{Outer, InFirst, InSecond, InLoop, Ready, MayElse, Calling, Argument, Called, Doing, Front, depth_of, between_statements, chosen, elsing, with_part, in_argument, program_of, advanced, ParserState}
 
 -- the statements of a block
 abbrev pub statements_of : Block → List Statement
@@ -28,7 +28,7 @@ block_again Nothing = refl
 block_again (Then s block) = ap (Then s) (block_again block)
 
 abbrev pub parsed : Limits → ParserState → List TokenKind → Option File
-parsed = tokenwise.parsed turned program_of
+parsed = tokenwise.parsed advanced program_of
 
 -- tokens that don't begin with `else`
 abbrev pub NoElse : List TokenKind → Type 0
@@ -58,14 +58,15 @@ settled : (most : Limits) (front : Front) (outer : List Outer) (here : List Stat
     ≡ parsed most (Doing front outer (chosen here test first) Ready) ks
 settled most front outer here test first [] h = settled_end front outer here test first
 settled most front outer here test first (k ∷ ks) h =
-    ap (λ t. after_turn t (λ next. parsed most next ks)) (settled_kind most front outer here test first k ks h)
+    ap (λ t. after_advance t (λ next. parsed most next ks)) (settled_kind most front outer here test first k ks h)
 
 -- a part in a statement goes on as its tokens are read
 part_runs : (most : Limits) (front : Front) (outer : List Outer) (here : List Statement)
     → PartRuns most (λ s ks. parsed most (with_part front outer here s) ks)
 part_runs most front outer here = record {
-  goes = λ part s k ks e. ap (λ t. after_turn (mapped (with_part front outer here) t) (λ next. parsed most next ks)) e;
-  same = λ asked x y k ks e. ap (λ s. after_turn (mapped (with_part front outer here) (in_expression asked k s))
+  goes = λ part s k ks e. ap (λ t. after_advance (mapped (with_part front outer here) t)
+      (λ next. parsed most next ks)) e;
+  same = λ asked x y k ks e. ap (λ s. after_advance (mapped (with_part front outer here) (in_expression asked k s))
       (λ next. parsed most next ks)) e;
 }
 
@@ -74,9 +75,9 @@ argument_runs : (most : Limits) (front : Front) (outer : List Outer) (here : Lis
     (before : List Tree) → Runs most (λ x ks. parsed most (Doing front outer here (Argument name before x)) ks)
 argument_runs most front outer here name before = record {
   moves = λ x y k ks e.
-      ap (λ s. after_turn (in_argument front outer here name before k s) (λ next. parsed most next ks)) e;
+      ap (λ s. after_advance (in_argument front outer here name before k s) (λ next. parsed most next ks)) e;
   same = λ x y k ks e.
-      ap (λ s. after_turn (in_argument front outer here name before k s) (λ next. parsed most next ks)) e;
+      ap (λ s. after_advance (in_argument front outer here name before k s) (λ next. parsed most next ks)) e;
 }
 
 -- tokens that don't begin with `)`
@@ -132,10 +133,10 @@ arguments_parsed most (Before {tokens = tokens} {rest = rest} {e = e} {es = es} 
 
 enters : (most : Limits) (front : Front) (outer : List Outer) (next : Outer) (depth : ℕ) (ks : List TokenKind)
     → depth_of front outer ≡ depth → depth < most.braces
-    → after_turn (with_braces (nat_lt (depth_of front outer) most.braces) (Doing front (next ∷ outer) [] Ready))
+    → after_advance (with_braces (nat_lt (depth_of front outer) most.braces) (Doing front (next ∷ outer) [] Ready))
     (λ state. parsed most state ks) ≡ parsed most (Doing front (next ∷ outer) [] Ready) ks
 enters most front outer next depth ks is room =
-    ap (λ t. after_turn (with_braces t (Doing front (next ∷ outer) [] Ready)) (λ state. parsed most state ks))
+    ap (λ t. after_advance (with_braces t (Doing front (next ∷ outer) [] Ready)) (λ state. parsed most state ks))
     (lt-ltb (depth_of front outer) most.braces (omega arith))
 
 one_more : (here : List Statement) (s : Statement) (block : Block)

@@ -9,11 +9,11 @@ use Rattle.src_lexer.specs.declared.tokens.TokenKind.TheVariants as kind
 use Rattle.src_tree.specs.declared.trees.Decl.{Decl}
 use Rattle.src_procs.specs.Trees.{Block, Parameter, Procedure, File}
 use Rattle.src_parser.specs.Tokenwise as tokenwise
-use Rattle.src_parser.specs.Tokenwise.{Turn, Goes, Wrong, after_turn, with_braces}
+use Rattle.src_parser.specs.Tokenwise.{Advance, Goes, Wrong, after_advance, with_braces}
 use Rattle.src_parser.specs.Headings.{declared}
 use Rattle.src_parser.specs.Grammar.{Limits, Declares, NoMore, Scalar, Array}
 use Rattle.procs_parser.specs.FileGrammar.{HasNoHiddenName, SpellsBlock, Ends, SpellsParameter, AScalar, AnArray, SpellsParameters, LastOne, Another, Parameters, NoParameter, SomeParameters, Locals, NoLocal, Local, Procedures, NoProcedure, AProcedure, SpellsFile, AFile}
-use Rattle.procs_parser.specs.FileTurns.{Ready, Between, Naming, Doing, NoneYet, OneMore, Behind, AllRead, LocalFresh, Outside, Within, is_hidden_token, taken, turned, program_of, ParserState}
+use Rattle.procs_parser.specs.FileAdvances.{Ready, Between, Naming, Doing, NoneYet, OneMore, Behind, AllRead, LocalFresh, Outside, InProcedure, is_hidden_token, taken, advanced, program_of, ParserState}
 use Rattle.procs_parser.proofs.ParsedFiles.{parsed, written, block_again}
 
 -- tokens that don't begin with a label
@@ -44,7 +44,7 @@ file_starts most decls (_ ∷ ks) h = refl
 body_starts : (most : Limits) (decls : List Decl) (procedures : List Procedure) (name : List ℕ) (ps : List Parameter)
     (ls : List Decl) (tokens : List TokenKind) → NoLabel tokens
     → parsed most (Naming decls procedures name (LocalFresh ps ls)) tokens
-    ≡ parsed most (Doing (Within decls procedures name ps ls) [] [] Ready) tokens
+    ≡ parsed most (Doing (InProcedure decls procedures name ps ls) [] [] Ready) tokens
 body_starts most decls procedures name ps ls [] h = refl
 body_starts most decls procedures name ps ls (kind.Public ∷ ks) h = absurd h
 body_starts most decls procedures name ps ls (kind.Secret ∷ ks) h = absurd h
@@ -135,7 +135,7 @@ opens : (most : Limits) (decls : List Decl) (procedures : List Procedure) (name 
     → parsed most (Naming decls procedures name (AllRead ps)) (kind.LBrace ∷ ks)
     ≡ parsed most (Naming decls procedures name (LocalFresh ps [])) ks
 opens most decls procedures name ps ks room =
-    ap (λ t. after_turn (with_braces t (Naming decls procedures name (LocalFresh ps [])))
+    ap (λ t. after_advance (with_braces t (Naming decls procedures name (LocalFresh ps [])))
     (λ state. parsed most state ks))
     (lt-ltb 0 most.braces room)
 
@@ -158,7 +158,7 @@ procedures_parsed most (AProcedure {ps = ps} {ls = ls} {body = body} {rest = res
     ∙ (locals_parsed most l decls before name parameters [] (body ++ kind.RBrace ∷ (rest ++ ks))
     ∙ (body_starts most decls before name parameters locals (body ++ kind.RBrace ∷ (rest ++ ks))
     (writes_no_label w (kind.RBrace ∷ (rest ++ ks)) tt)
-    ∙ (written w (Within decls before name parameters locals) [] [] (kind.RBrace ∷ (rest ++ ks)) refl tt
+    ∙ (written w (InProcedure decls before name parameters locals) [] [] (kind.RBrace ∷ (rest ++ ks)) refl tt
     ∙ (ap (λ z. parsed most (Doing (Outside decls
     (before ++ record { name = name; parameters = parameters; locals = locals; body = z } ∷ [])) [] [] Ready)
     (rest ++ ks)) (block_again block)
@@ -181,7 +181,7 @@ file_parsed {most} (AFile {front = front} {middle = middle} {back = back} {decls
     ∙ ap (λ z. Some (record { decls = decls; procedures = procedures; body = z })) (block_again body)))))
 
 -- where no name is hidden, each token is taken as it is
-pub shown_kind : (b : Bool) (t : Turn ParserState) → b ≡ false → (if b then Wrong else t) ≡ t
+pub shown_kind : (b : Bool) (t : Advance ParserState) → b ≡ false → (if b then Wrong else t) ≡ t
 shown_kind true t e = absurd (cc)
 shown_kind false t e = refl
 
@@ -193,10 +193,10 @@ pub rest_shown : (k : TokenKind) (ks : List TokenKind) → HasNoHiddenName (k �
 rest_shown (kind.Word name) ks s = s.1
 rest_shown _ ks s = s
 
-all_taken : (most : Limits) (ks : List TokenKind) (t : Turn ParserState)
+all_taken : (most : Limits) (ks : List TokenKind) (t : Advance ParserState)
     → ((next : ParserState) → tokenwise.parsed taken program_of most next ks ≡ parsed most next ks)
-    → after_turn t (λ next. tokenwise.parsed taken program_of most next ks)
-    ≡ after_turn t (λ next. parsed most next ks)
+    → after_advance t (λ next. tokenwise.parsed taken program_of most next ks)
+    ≡ after_advance t (λ next. parsed most next ks)
 all_taken most ks (Goes next) rest = rest next
 all_taken most ks _ rest = refl
 
@@ -204,9 +204,9 @@ taken_all : (most : Limits) (tokens : List TokenKind) (state : ParserState) → 
     → tokenwise.parsed taken program_of most state tokens ≡ parsed most state tokens
 taken_all most [] state s = refl
 taken_all most (k ∷ ks) state s =
-    ap (λ t. after_turn t (λ next. tokenwise.parsed taken program_of most next ks))
-    (shown_kind (is_hidden_token k) (turned most state k) (kind_shown k ks s))
-    ∙ all_taken most ks (turned most state k) (λ next. taken_all most ks next (rest_shown k ks s))
+    ap (λ t. after_advance t (λ next. tokenwise.parsed taken program_of most next ks))
+    (shown_kind (is_hidden_token k) (advanced most state k) (kind_shown k ks s))
+    ∙ all_taken most ks (advanced most state k) (λ next. taken_all most ks next (rest_shown k ks s))
 
 file_shown : {most : Limits} {tokens : List TokenKind} {f : File} → SpellsFile most tokens f → HasNoHiddenName tokens
 file_shown (AFile shown d p w) = shown

@@ -7,17 +7,17 @@ use Rattle.src_tree.specs.declared.trees.Decl.{Decl}
 use Rattle.src_tree.specs.Trees.{Tree, Test}
 use Rattle.src_procs.specs.Trees.{Statement, Parameter, Procedure}
 use Rattle.procs_parser.specs.FileGrammar.{proc_word}
-use Rattle.src_parser.specs.Headings.{heading_turned}
+use Rattle.src_parser.specs.Headings.{heading_advanced}
 use Rattle.src_parser.specs.Operands.{Reading, At, Wanted, whole, used_of}
 use Rattle.src_parser.specs.Parts.{Form, targeting}
 use Rattle.src_parser.specs.Tokenwise.{Goes, Wrong, TooMuch, mapped}
 use Rattle.src_parser.proofs.Tokenwise.{Shape}
 use Rattle.src_parser.proofs.Rooms.{constant, wrong_not_much, brace_room, mapped_not, mapped_shape, step_shape, targeting_not, part_shape, heading_not, reads_shape}
-use Rattle.procs_parser.specs.FileTurns.{Outer, InFirst, Phase, Ready, MayElse, Named, Calling, Argument, Called, InPart, Guarded, Otherwise, ParserState, Between, Declaring, Doing, Naming, Front, Outside, Within, HeadPhase, Opening, NoneYet, OneMore, ScalarLabelled, ScalarTyped, ArrayTyped, ArrayTitled, ArrayClosing, Behind, AllRead, LocalFresh, LocalLabelled, LocalTyped, LocalTitled, depth_of, opening, parameter_begins, names_next, is_hidden_token, taken, head_depth, leaving, between_statements, chosen, elsing, with_part, behind_name, behind_argument, argument_ends, calling, calling_ends, entering, otherwise, does, between, with_heading, turned, count_of}
+use Rattle.procs_parser.specs.FileAdvances.{Outer, InFirst, Phase, Ready, MayElse, Named, Calling, Argument, Called, InPart, Guarded, Otherwise, ParserState, Between, Declaring, Doing, Naming, Front, Outside, InProcedure, HeadPhase, Opening, NoneYet, OneMore, ScalarLabelled, ScalarTyped, ArrayTyped, ArrayTitled, ArrayClosing, Behind, AllRead, LocalFresh, LocalLabelled, LocalTyped, LocalTitled, depth_of, opening, parameter_begins, names_next, is_hidden_token, taken, head_depth, leaving, between_statements, chosen, elsing, with_part, behind_name, behind_argument, argument_ends, calling, calling_ends, entering, otherwise, does, between, with_heading, advanced, open_braces}
 
 leaving_not : (front : Front) (outer : List Outer) (here : List Statement) → leaving front outer here ≢ TooMuch
 leaving_not (Outside decls procedures) [] here e = absurd (cc)
-leaving_not (Within decls procedures name ps ls) [] here e = absurd (cc)
+leaving_not (InProcedure decls procedures name ps ls) [] here e = absurd (cc)
 leaving_not front (InFirst test before ∷ outer) here e = absurd (cc)
 leaving_not front (_ ∷ outer) here e = absurd (cc)
 
@@ -130,7 +130,7 @@ local_shape : (decls : List Decl) (procedures : List Procedure) (name : List ℕ
     → Shape ParserState k 1 (λ most. names_next most decls procedures name (LocalFresh ps ls) k)
 local_shape decls procedures name ps ls kind.Public = constant _ (λ e. absurd (cc))
 local_shape decls procedures name ps ls kind.Secret = constant _ (λ e. absurd (cc))
-local_shape decls procedures name ps ls k = constant _ (beginning_not (Within decls procedures name ps ls) [] [] k)
+local_shape decls procedures name ps ls k = constant _ (beginning_not (InProcedure decls procedures name ps ls) [] [] k)
 
 names_shape : (decls : List Decl) (procedures : List Procedure) (name : List ℕ) (phase : HeadPhase) (k : TokenKind)
     → Shape ParserState k (head_depth phase) (λ most. names_next most decls procedures name phase k)
@@ -162,17 +162,17 @@ names_shape decls procedures name (LocalTitled ps ls label x) kind.Semi = consta
 names_shape decls procedures name (LocalTitled ps ls label x) _ = constant Wrong wrong_not_much
 
 plain_shape : (state : ParserState) (k : TokenKind)
-    → Shape ParserState k (count_of state) (λ most. turned most state k)
+    → Shape ParserState k (open_braces state) (λ most. advanced most state k)
 plain_shape (Between decls) k = constant _ (between_not decls k)
 plain_shape (Declaring decls heading) k =
-    mapped_shape (with_heading decls) (constant (heading_turned heading k) (heading_not heading k))
+    mapped_shape (with_heading decls) (constant (heading_advanced heading k) (heading_not heading k))
 plain_shape (Naming decls procedures name phase) k = names_shape decls procedures name phase k
 plain_shape (Doing front outer here mode) k = does_shape front outer here mode k
 
 shown_shape : (b : Bool) (state : ParserState) (k : TokenKind)
-    → Shape ParserState k (count_of state) (λ most. if b then Wrong else turned most state k)
+    → Shape ParserState k (open_braces state) (λ most. if b then Wrong else advanced most state k)
 shown_shape true state k = constant Wrong wrong_not_much
 shown_shape false state k = plain_shape state k
 
-pub shape : (state : ParserState) (k : TokenKind) → Shape ParserState k (count_of state) (λ most. taken most state k)
+pub shape : (state : ParserState) (k : TokenKind) → Shape ParserState k (open_braces state) (λ most. taken most state k)
 shape state k = shown_shape (is_hidden_token k) state k

@@ -16,7 +16,7 @@ use Rattle.src_parser.specs.Parts.{Form, Part}
 use Rattle.src_parser.proofs.HeadingTokens.{Heads}
 use Rattle.src_parser.proofs.PartTokens.{word_of, PartStands}
 use Rattle.src_parser.proofs.Reached.{Reached}
-use Rattle.procs_parser.specs.FileTurns.{Outer, InFirst, InSecond, InLoop, Phase, Ready, MayElse, Named, Calling, Argument, Called, InPart, Guarded, Otherwise, ParserState, Between, Declaring, Naming, Doing, HeadPhase, Opening, NoneYet, OneMore, ScalarLabelled, ScalarTyped, ArrayTyped, ArrayTitled, ArrayClosing, Behind, AllRead, LocalFresh, LocalLabelled, LocalTyped, LocalTitled, Front, Outside, Within, depth_of}
+use Rattle.procs_parser.specs.FileAdvances.{Outer, InFirst, InSecond, InLoop, Phase, Ready, MayElse, Named, Calling, Argument, Called, InPart, Guarded, Otherwise, ParserState, Between, Declaring, Naming, Doing, HeadPhase, Opening, NoneYet, OneMore, ScalarLabelled, ScalarTyped, ArrayTyped, ArrayTitled, ArrayClosing, Behind, AllRead, LocalFresh, LocalLabelled, LocalTyped, LocalTitled, Front, Outside, InProcedure, depth_of}
 
 -- tokens that are a file, whatever its names
 pub data Sentence (most : Limits) : List TokenKind → File → Type 0 where
@@ -31,7 +31,7 @@ pub data Begun (most : Limits) : Front → (depth : ℕ) → List TokenKind → 
   InBody : {before ps ls : List TokenKind} {decls locals : List Decl} {procedures : List Procedure}
       {parameters : List Parameter} (name : List ℕ) → Begun most (Outside decls procedures) 0 before
       → Parameters ps parameters → 0 < most.braces → Locals ls locals
-      → Begun most (Within decls procedures name parameters locals) 1
+      → Begun most (InProcedure decls procedures name parameters locals) 1
       (before ++ (kind.Word proc_word ∷ kind.Word name ∷ kind.LParen ∷ (ps ++ kind.RParen ∷ kind.LBrace ∷ ls)))
 
 -- these tokens lead into these open blocks, of which there are so many, with these statements in the innermost
@@ -170,7 +170,7 @@ begun_at {most} {front} {depth} xs ys e b = subst (λ z. Begun most front depth 
 -- a procedure that is closed
 pub procedure_ends : {most : Limits} {decls locals : List Decl} {procedures : List Procedure} {name : List ℕ}
     {parameters : List Parameter} {before body : List TokenKind} {block : Block}
-    → Begun most (Within decls procedures name parameters locals) 1 before → SpellsBlock most 1 body block
+    → Begun most (InProcedure decls procedures name parameters locals) 1 before → SpellsBlock most 1 body block
     → Begun most
     (Outside decls
     (procedures ++ record { name = name; parameters = parameters; locals = locals; body = block } ∷ [])) 0

@@ -13,16 +13,16 @@ use Rattle.src_procs.specs.Trees.{Statement, SetVariable, SetElement, Choice, Lo
 use Rattle.src_procs.specs.Seen.{block_of}
 use Rattle.procs_parser.specs.FileGrammar.{AScalar, AnArray, Parameters, NoParameter, SomeParameters, Locals, NoLocal, NoProcedure, proc_word, Last, Arguments, NoArgument, Given, SpellsBlock, Ends, Sets, Puts, Calls, Chooses, ChoosesElse, Repeats}
 use Rattle.src_parser.specs.Grammar.{Limits, Compares, Declares, NoMore}
-use Rattle.src_parser.specs.Headings.{HeadingState, Begun, Declared, heading_turned}
+use Rattle.src_parser.specs.Headings.{HeadingState, Begun, Declared, heading_advanced}
 use Rattle.src_parser.specs.Operands.{Reading, At, Wanted, TokenStep, Moves, Stops, Deep, reads, whole, used_of}
-use Rattle.src_parser.specs.Parts.{Form, ForChoice, ForLoop, PartState, Still, Done, targeting, part_turned}
+use Rattle.src_parser.specs.Parts.{Form, ForChoice, ForLoop, PartState, Still, Done, targeting, part_advanced}
 use Rattle.src_parser.specs.Tokenwise.{Goes, mapped, with_braces}
 use Rattle.src_parser.proofs.Braces.{mapped_goes}
 use Rattle.src_parser.proofs.Held.{Start}
 use Rattle.src_parser.proofs.HeadingTokens.{declares_both, IsLabelled, HeadingStands, heading_steps}
 use Rattle.src_parser.proofs.PartTokens.{word_of, IsTarget, IsGuarding, MakesVariable, MakesElement, MakesGuard, StateStands, part_steps}
 use Rattle.src_parser.proofs.Reached.{Reached, Wants, reaches, Ended, ends}
-use Rattle.procs_parser.specs.FileTurns.{Outer, Phase, Otherwise, Called, Doing, ParserState, Between, HeadPhase, NoneYet, LocalFresh, Front, Outside, Within, depth_of, opening, parameter_begins, names_next, leaving, between_statements, chosen, elsing, with_part, behind_name, behind_argument, argument_ends, in_argument, calling, calling_ends, entering, otherwise, does, between, with_heading, turned}
+use Rattle.procs_parser.specs.FileAdvances.{Outer, Phase, Otherwise, Called, Doing, ParserState, Between, HeadPhase, NoneYet, LocalFresh, Front, Outside, InProcedure, depth_of, opening, parameter_begins, names_next, leaving, between_statements, chosen, elsing, with_part, behind_name, behind_argument, argument_ends, in_argument, calling, calling_ends, entering, otherwise, does, between, with_heading, advanced}
 use Rattle.procs_parser.proofs.StandingFiles as files
 use Rattle.procs_parser.proofs.StandingFiles.{AtTop, InBody, ParametersBefore, NoneBefore, SomeBefore, head_of, Names, IsOpening, IsNoneYet, IsOneMore, IsScalarLabelled, IsScalarTyped, IsArrayTyped, IsArrayTitled, IsArrayClosing, IsBehind, IsAllRead, IsLocalFresh, IsLocalLabelled, IsLocalTyped, IsLocalTitled, one_parameter, one_local, procedure_ends, Enclosed, Top, First, Second, Looped, Argues, IsFirst, IsNext, trees_more, operators_more, Stands, IsReady, IsMayElse, IsNamed, IsCalling, IsArgument, IsCalled, IsPart, IsGuarded, IsOtherwise, Standing, InBetween, InHeading, InHead, InBlock, enclosed_depth, one_statement}
 
@@ -88,12 +88,12 @@ same_word name e = (bytes_eq-Decides name proc_word).0 e
 in_block : (front : Front) (o : Outer) (outer : List Outer) (here : List Statement) (b : Bool) (name : List ℕ)
     (next : ParserState) → opening front (o ∷ outer) here b name ≡ Goes next → ⊥
 in_block (Outside decls procedures) o outer here b name next e = absurd (cc)
-in_block (Within decls procedures x ps ls) o outer here b name next e = absurd (cc)
+in_block (InProcedure decls procedures x ps ls) o outer here b name next e = absurd (cc)
 
 behind_one : (front : Front) (s : Statement) (here : List Statement) (b : Bool) (name : List ℕ) (next : ParserState)
     → opening front [] (s ∷ here) b name ≡ Goes next → ⊥
 behind_one (Outside decls procedures) s here b name next e = absurd (cc)
-behind_one (Within decls procedures x ps ls) s here b name next e = absurd (cc)
+behind_one (InProcedure decls procedures x ps ls) s here b name next e = absurd (cc)
 
 -- a procedure begins
 opening_stands : {most : Limits} {front : Front} {outer : List Outer} {depth : ℕ} {here : List Statement}
@@ -283,7 +283,7 @@ does_stands {most} o (IsArgument {x = x} name a r) k next e =
     argument_stands name x o a r k (reads most x k) refl next e
 does_stands o (IsCalled name given) k next e = called_stands name o given k next e
 does_stands {most} {front} {outer} {here = here} o (IsPart {part = part} p) k next e =
-    mapped_goes (with_part front outer here) (part_turned most part k) next e
+    mapped_goes (with_part front outer here) (part_advanced most part k) next e
     (λ s is at. part_stands _ o k s (part_steps p k s is) next at)
 does_stands o (IsGuarded form g) k next e = entering_stands form o g k next e
 does_stands o (IsOtherwise {first = first} g room w) k next e = otherwise_stands first o g room w k next e
@@ -341,7 +341,7 @@ first_stands name b k next e = parameter_stands name b NoneBefore k next e
 local_begins : {most : Limits} {decls : List Decl} {procedures : List Procedure} {name : List ℕ}
     {before ts us : List TokenKind} {ps : List Parameter} {ls : List Decl}
     → files.Begun most (Outside decls procedures) 0 before → Parameters ts ps → 0 < most.braces → Locals us ls
-    → Enclosed most (Within decls procedures name ps ls) [] 1 []
+    → Enclosed most (InProcedure decls procedures name ps ls) [] 1 []
     (before ++ head_of name (ts ++ kind.RParen ∷ kind.LBrace ∷ us))
     → (k : TokenKind) (next : ParserState) → names_next most decls procedures name (LocalFresh ps ls) k ≡ Goes next
     → Standing most next ((before ++ head_of name (ts ++ kind.RParen ∷ kind.LBrace ∷ us)) ++ k ∷ [])
@@ -359,7 +359,7 @@ local_stands : {most : Limits} {decls : List Decl} {procedures : List Procedure}
 local_stands {most} {decls} {procedures} {name} {before} {ps = ps} {ls = ls}
     b (IsLocalFresh {ts = ts} {us = us} p room l) k next e =
     local_begins b p room l
-    (subst (λ z. Enclosed most (Within decls procedures name ps ls) [] 1 [] z) (append-nil _)
+    (subst (λ z. Enclosed most (InProcedure decls procedures name ps ls) [] 1 [] z) (append-nil _)
     (Top {here = []} (InBody name b p room l) Ends)) k next e
 
 names_stand : {most : Limits} {decls : List Decl} {procedures : List Procedure} {name : List ℕ} {phase : HeadPhase}
@@ -410,10 +410,10 @@ names_stand b (IsLocalTitled label x p room l) _ next e = absurd (cc)
 
 -- a token leads on
 pub steps : {most : Limits} {state : ParserState} {tokens : List TokenKind} → Standing most state tokens
-    → (k : TokenKind) (next : ParserState) → turned most state k ≡ Goes next → Standing most next (tokens ++ k ∷ [])
+    → (k : TokenKind) (next : ParserState) → advanced most state k ≡ Goes next → Standing most next (tokens ++ k ∷ [])
 steps (InBetween d) k next e = between_stands d k next e
 steps (InHeading {decls = decls} {heading = heading} d h) k next e =
-    mapped_goes (with_heading decls) (heading_turned heading k) next e
+    mapped_goes (with_heading decls) (heading_advanced heading k) next e
     (λ s is at. heading_stands _ d k s (heading_steps h k s is) next at)
 steps (InHead b n) k next e = names_stand b n k next e
 steps (InBlock o s) k next e = does_stands o s k next e

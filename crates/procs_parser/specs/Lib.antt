@@ -1,4 +1,4 @@
 pub mod FileGrammar
 pub mod FileRefusals
-pub mod FileTurns
+pub mod FileAdvances
 pub mod StatesSeen

@@ -18,15 +18,15 @@ use Rattle.procs_parser.specs.declared.states.Start as starts
 use Rattle.procs_parser.specs.declared.states.Start.TheVariants as start
 use Rattle.procs_parser.specs.declared.states.ParserState as states
 use Rattle.procs_parser.specs.declared.states.ParserState.TheVariants as state
-use Rattle.procs_parser.specs.declared.states.Turn as turns
-use Rattle.procs_parser.specs.declared.states.Turn.TheVariants as turn
+use Rattle.procs_parser.specs.declared.states.Advance as advances
+use Rattle.procs_parser.specs.declared.states.Advance.TheVariants as advance
 use Rattle.procs_parser.specs.declared.states.Blocks as blocks
 use Rattle.procs_parser.specs.declared.states.Head as heads
 use Rattle.src_parser.specs.Seen.{form_of, heading_of, part_of, reading_of}
 use Rattle.src_parser.specs.Tokenwise as tokenwise
 use Rattle.src_procs.specs.Trees.{Statement}
 use Rattle.src_procs.specs.Seen.{statement_of, trees_of, parameter_of, procedure_of}
-use Rattle.procs_parser.specs.FileTurns.{Beginning, BeginsName, BeginsGuard, EndsBlock, BeginsNothing, Outer, InFirst, InSecond, InLoop, Phase, Ready, MayElse, Named, Calling, Argument, Called, InPart, Guarded, Otherwise, HeadPhase, Opening, NoneYet, OneMore, ScalarLabelled, ScalarTyped, ArrayTyped, ArrayTitled, ArrayClosing, Behind, AllRead, LocalFresh, LocalLabelled, LocalTyped, LocalTitled, Front, Outside, Within, ParserState, Between, Declaring, Naming, Doing}
+use Rattle.procs_parser.specs.FileAdvances.{Beginning, BeginsName, BeginsGuard, EndsBlock, BeginsNothing, Outer, InFirst, InSecond, InLoop, Phase, Ready, MayElse, Named, Calling, Argument, Called, InPart, Guarded, Otherwise, HeadPhase, Opening, NoneYet, OneMore, ScalarLabelled, ScalarTyped, ArrayTyped, ArrayTitled, ArrayClosing, Behind, AllRead, LocalFresh, LocalLabelled, LocalTyped, LocalTitled, Front, Outside, InProcedure, ParserState, Between, Declaring, Naming, Doing}
 
 abbrev pub calls_seen : List PStmt → List Statement
 calls_seen statements = map statement_of statements
@@ -79,8 +79,8 @@ head_phase_of (head.LocalTitled ps ls label name) = LocalTitled (map parameter_o
 
 abbrev pub front_of : fronts.Front → Front
 front_of (front.Outside decls procs) = Outside decls.items (map procedure_of procs.items)
-front_of (front.Within h ps ls) =
-    Within h.decls.items (map procedure_of h.procs.items) h.name (map parameter_of ps.items) ls.items
+front_of (front.InProcedure h ps ls) =
+    InProcedure h.decls.items (map procedure_of h.procs.items) h.name (map parameter_of ps.items) ls.items
 
 abbrev pub doing : blocks.Blocks → Phase → ParserState
 doing b mode = Doing (front_of b.front) (outers_of b.outer.items) (calls_seen b.here.items) mode
@@ -98,13 +98,13 @@ state_of (state.Before s) = start_of s
 state_of (state.Doing b mode) = doing b (mode_of mode)
 
 -- a procedure begins, or none
-abbrev pub opened : Option heads.Head → tokenwise.Turn ParserState
+abbrev pub opened : Option heads.Head → tokenwise.Advance ParserState
 opened (Some h) = tokenwise.Goes (named h Opening)
 opened None = tokenwise.Wrong
 
 -- by the state that is left
-abbrev pub turn_of : turns.Turn → ParserState → tokenwise.Turn ParserState
-turn_of turn.Goes s = tokenwise.Goes s
-turn_of (turn.Opens h) s = tokenwise.Goes (named h Opening)
-turn_of turn.Wrong s = tokenwise.Wrong
-turn_of turn.TooMuch s = tokenwise.TooMuch
+abbrev pub advance_of : advances.Advance → ParserState → tokenwise.Advance ParserState
+advance_of advance.Goes s = tokenwise.Goes s
+advance_of (advance.Opens h) s = tokenwise.Goes (named h Opening)
+advance_of advance.Wrong s = tokenwise.Wrong
+advance_of advance.TooMuch s = tokenwise.TooMuch

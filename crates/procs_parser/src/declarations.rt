@@ -1,15 +1,15 @@
 ghost use Rattle.std.specs.Prelude.{◌≡◌, [], IfOk};
 ghost use Rattle.src_parser.specs.Grammar.{limits};
 ghost use Rattle.src_parser.specs.Seen.{heading_of};
-ghost use Rattle.procs_parser.specs.FileTurns.{between, between_statements, turned, Declaring};
-ghost use Rattle.procs_parser.specs.StatesSeen.{turn_of, state_of, front_of};
+ghost use Rattle.procs_parser.specs.FileAdvances.{between, between_statements, advanced, Declaring};
+ghost use Rattle.procs_parser.specs.StatesSeen.{advance_of, state_of, front_of};
 
 use crate::statements::begin;
-use crate::states::{Blocks, Front, ParserState, Pause, Phase, Start, Turn};
+use crate::states::{Advance, Blocks, Front, ParserState, Pause, Phase, Start};
 use gr_base::Memory;
 use gr_word::Label;
 use src_lexer::TokenKind;
-use src_parser::headings::{Heading, HeadingTurn, read_heading};
+use src_parser::headings::{Heading, HeadingAdvance, read_heading};
 use src_parser::putting::put;
 use src_tree::Decl;
 use std::alloc::Global;
@@ -20,8 +20,8 @@ pub(crate) fn start_statements(
     state: &mut ParserState,
     front: Front,
     kind: &TokenKind,
-) -> Result<Turn, Memory>
-    ensures { IfOk result (λ t. turn_of t (state_of state.new) ≡ between_statements (front_of front) [] [] kind.now) }
+) -> Result<Advance, Memory>
+    ensures { IfOk result (λ t. advance_of t (state_of state.new) ≡ between_statements (front_of front) [] [] kind.now) }
 {
     let mut blocks = Blocks {
         front,
@@ -29,9 +29,9 @@ pub(crate) fn start_statements(
         here: Vec::new(alloc),
     };
     let mut mode = Phase::Between(Pause::Ready);
-    let turn = begin(alloc, &mut blocks, &mut mode, kind);
+    let advance = begin(alloc, &mut blocks, &mut mode, kind);
     put(state, ParserState::Doing(blocks, mode));
-    turn
+    advance
 }
 
 // A token between declarations, or the first of the statements.
@@ -40,8 +40,8 @@ pub(crate) fn begin_declaration(
     state: &mut ParserState,
     decls: Vec<Decl>,
     kind: &TokenKind,
-) -> Result<Turn, Memory>
-    ensures { IfOk result (λ t. turn_of t (state_of state.new) ≡ between decls.items kind.now) }
+) -> Result<Advance, Memory>
+    ensures { IfOk result (λ t. advance_of t (state_of state.new) ≡ between decls.items kind.now) }
 {
     match kind {
         TokenKind::Public => {
@@ -49,14 +49,14 @@ pub(crate) fn begin_declaration(
                 state,
                 ParserState::Before(Start::Declaring(decls, Heading::Labelled(Label::Public))),
             );
-            Ok(Turn::Goes)
+            Ok(Advance::Goes)
         }
         TokenKind::Secret => {
             put(
                 state,
                 ParserState::Before(Start::Declaring(decls, Heading::Labelled(Label::Secret))),
             );
-            Ok(Turn::Goes)
+            Ok(Advance::Goes)
         }
         _ => start_statements(alloc, state, Front::Outside(decls, Vec::new(alloc)), kind),
     }
@@ -69,20 +69,20 @@ pub(crate) fn declare(
     mut decls: Vec<Decl>,
     heading: Heading,
     kind: &TokenKind,
-) -> Result<Turn, Memory>
-    ensures { IfOk result (λ t. turn_of t (state_of state.new)
-        ≡ turned limits (Declaring decls.items (heading_of heading)) kind.now) }
+) -> Result<Advance, Memory>
+    ensures { IfOk result (λ t. advance_of t (state_of state.new)
+        ≡ advanced limits (Declaring decls.items (heading_of heading)) kind.now) }
 {
     match read_heading(alloc, heading, kind)? {
-        HeadingTurn::Goes(next) => {
+        HeadingAdvance::Goes(next) => {
             put(state, ParserState::Before(Start::Declaring(decls, next)));
-            Ok(Turn::Goes)
+            Ok(Advance::Goes)
         }
-        HeadingTurn::Ends(decl) => {
+        HeadingAdvance::Ends(decl) => {
             decls.push(decl)?;
             put(state, ParserState::Before(Start::Between(decls)));
-            Ok(Turn::Goes)
+            Ok(Advance::Goes)
         }
-        HeadingTurn::Wrong => Ok(Turn::Wrong),
+        HeadingAdvance::Wrong => Ok(Advance::Wrong),
     }
 }

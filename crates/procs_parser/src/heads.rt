@@ -1,13 +1,13 @@
 ghost use Rattle.std.specs.Prelude.{◌≡◌, ◌++◌, ◌∷◌, [], IfOk, None, map};
 ghost use Rattle.src_parser.specs.Grammar.{limits};
 ghost use Rattle.src_parser.specs.Tokenwise.{Goes};
-ghost use Rattle.procs_parser.specs.FileTurns.{names_next, parameter_begins, Behind, ScalarTyped, ArrayTyped, ArrayTitled, NoneYet, LocalFresh, LocalTyped};
+ghost use Rattle.procs_parser.specs.FileAdvances.{names_next, parameter_begins, Behind, ScalarTyped, ArrayTyped, ArrayTitled, NoneYet, LocalFresh, LocalTyped};
 ghost use Rattle.src_procs.specs.Seen.{parameter_of, procedure_of};
 ghost use Rattle.src_parser.specs.Headings.{declared};
-ghost use Rattle.procs_parser.specs.StatesSeen.{turn_of, state_of, named, head_phase_of};
+ghost use Rattle.procs_parser.specs.StatesSeen.{advance_of, state_of, named, head_phase_of};
 
 use crate::declarations::start_statements;
-use crate::states::{Front, Head, HeadPhase, ParserState, Start, Turn};
+use crate::states::{Advance, Front, Head, HeadPhase, ParserState, Start};
 use gr_base::Memory;
 use gr_word::{Label, Name};
 use src_lexer::TokenKind;
@@ -17,22 +17,22 @@ use src_tree::Decl;
 use std::alloc::Global;
 
 // The token has no place in a head, which is dropped by this call: what is dropped in line is proved at each exit.
-fn wrong(_head: Head) -> Turn
-    ensures { result ≡ Turn.Wrong }
+fn wrong(_head: Head) -> Advance
+    ensures { result ≡ Advance.Wrong }
 {
-    Turn::Wrong
+    Advance::Wrong
 }
 
-fn goes(state: &mut ParserState, head: Head, phase: HeadPhase) -> Turn
-    ensures { turn_of result (state_of state.new) ≡ Goes (named head (head_phase_of phase)) }
+fn goes(state: &mut ParserState, head: Head, phase: HeadPhase) -> Advance
+    ensures { advance_of result (state_of state.new) ≡ Goes (named head (head_phase_of phase)) }
 {
     put(state, ParserState::Before(Start::Naming(head, phase)));
-    Turn::Goes
+    Advance::Goes
 }
 
 // The first token of a parameter.
-fn parameter(state: &mut ParserState, head: Head, params: Vec<Param>, kind: &TokenKind) -> Turn
-    ensures { turn_of result (state_of state.new)
+fn parameter(state: &mut ParserState, head: Head, params: Vec<Param>, kind: &TokenKind) -> Advance
+    ensures { advance_of result (state_of state.new)
         ≡ parameter_begins head.decls.items (map procedure_of head.procs.items) head.name
         (map parameter_of params.items) kind.now }
 {
@@ -53,8 +53,8 @@ fn parameter(state: &mut ParserState, head: Head, params: Vec<Param>, kind: &Tok
 }
 
 // The first token behind the bracket of a head.
-fn first(alloc: Global, state: &mut ParserState, head: Head, kind: &TokenKind) -> Turn
-    ensures { turn_of result (state_of state.new)
+fn first(alloc: Global, state: &mut ParserState, head: Head, kind: &TokenKind) -> Advance
+    ensures { advance_of result (state_of state.new)
         ≡ names_next limits head.decls.items (map procedure_of head.procs.items) head.name NoneYet
         kind.now }
 {
@@ -70,8 +70,8 @@ fn add(
     head: Head,
     mut params: Vec<Param>,
     param: Param,
-) -> Result<Turn, Memory>
-    ensures { IfOk result (λ t. turn_of t (state_of state.new)
+) -> Result<Advance, Memory>
+    ensures { IfOk result (λ t. advance_of t (state_of state.new)
         ≡ Goes (named head (Behind (map parameter_of params.items ++ parameter_of param ∷ [])))) }
 {
     params.push(param)?;
@@ -86,8 +86,8 @@ fn scalar_name(
     params: Vec<Param>,
     label: Label,
     kind: &TokenKind,
-) -> Result<Turn, Memory>
-    ensures { IfOk result (λ t. turn_of t (state_of state.new)
+) -> Result<Advance, Memory>
+    ensures { IfOk result (λ t. advance_of t (state_of state.new)
         ≡ names_next limits head.decls.items (map procedure_of head.procs.items)
         head.name (ScalarTyped (map parameter_of params.items) label) kind.now) }
 {
@@ -107,8 +107,8 @@ fn array_name(
     head: Head,
     params: Vec<Param>,
     kind: &TokenKind,
-) -> Result<Turn, Memory>
-    ensures { IfOk result (λ t. turn_of t (state_of state.new)
+) -> Result<Advance, Memory>
+    ensures { IfOk result (λ t. advance_of t (state_of state.new)
         ≡ names_next limits head.decls.items (map procedure_of head.procs.items)
         head.name (ArrayTyped (map parameter_of params.items)) kind.now) }
 {
@@ -129,8 +129,8 @@ fn start(
     params: Vec<Param>,
     locals: Vec<Decl>,
     kind: &TokenKind,
-) -> Result<Turn, Memory>
-    ensures { IfOk result (λ t. turn_of t (state_of state.new)
+) -> Result<Advance, Memory>
+    ensures { IfOk result (λ t. advance_of t (state_of state.new)
         ≡ names_next limits head.decls.items (map procedure_of head.procs.items)
         head.name (LocalFresh (map parameter_of params.items) locals.items) kind.now) }
 {
@@ -145,7 +145,7 @@ fn start(
             head,
             HeadPhase::LocalLabelled(params, locals, Label::Secret),
         )),
-        _ => { start_statements(alloc, state, Front::Within(head, params, locals), kind) }
+        _ => { start_statements(alloc, state, Front::InProcedure(head, params, locals), kind) }
     }
 }
 
@@ -158,8 +158,8 @@ fn local_name(
     locals: Vec<Decl>,
     label: Label,
     kind: &TokenKind,
-) -> Result<Turn, Memory>
-    ensures { IfOk result (λ t. turn_of t (state_of state.new)
+) -> Result<Advance, Memory>
+    ensures { IfOk result (λ t. advance_of t (state_of state.new)
         ≡ names_next limits head.decls.items (map procedure_of head.procs.items)
         head.name (LocalTyped (map parameter_of params.items) locals.items label) kind.now) }
 {
@@ -184,8 +184,8 @@ fn add_local(
     mut locals: Vec<Decl>,
     label: Label,
     name: Name,
-) -> Result<Turn, Memory>
-    ensures { IfOk result (λ t. turn_of t (state_of state.new)
+) -> Result<Advance, Memory>
+    ensures { IfOk result (λ t. advance_of t (state_of state.new)
         ≡ Goes (named head (LocalFresh (map parameter_of params.items)
         (locals.items ++ declared label name None ∷ [])))) }
 {
@@ -204,8 +204,8 @@ pub(crate) fn name_next(
     head: Head,
     phase: HeadPhase,
     kind: &TokenKind,
-) -> Result<Turn, Memory>
-    ensures { IfOk result (λ t. turn_of t (state_of state.new)
+) -> Result<Advance, Memory>
+    ensures { IfOk result (λ t. advance_of t (state_of state.new)
         ≡ names_next limits head.decls.items (map procedure_of head.procs.items)
         head.name (head_phase_of phase) kind.now) }
 {

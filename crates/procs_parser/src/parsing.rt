@@ -4,15 +4,15 @@ ghost use Rattle.src_parser.specs.Refusals.{token_kinds};
 ghost use Rattle.src_parser.specs.Tokenwise.{Wrong};
 ghost use Rattle.procs_parser.specs.FileGrammar.{SpellsFile};
 ghost use Rattle.procs_parser.specs.FileRefusals.{ExplainsFile};
-ghost use Rattle.procs_parser.specs.FileTurns.{turned, taken, is_hidden_token, program_of, file_at, Ready};
+ghost use Rattle.procs_parser.specs.FileAdvances.{advanced, taken, is_hidden_token, program_of, file_at, Ready};
 ghost use Rattle.src_procs.specs.Promise.{ArePlain};
 ghost use Rattle.src_procs.specs.Seen.{file_of};
-ghost use Rattle.procs_parser.specs.StatesSeen.{turn_of, start_of, state_of, doing, pause_of, mode_of};
+ghost use Rattle.procs_parser.specs.StatesSeen.{advance_of, start_of, state_of, doing, pause_of, mode_of};
 
 use crate::declarations::{begin_declaration, declare};
 use crate::heads::name_next;
 use crate::statements::{choose, perform};
-use crate::states::{Blocks, Front, HeadPhase, ParserState, Pause, Phase, Start, Turn};
+use crate::states::{Advance, Blocks, Front, HeadPhase, ParserState, Pause, Phase, Start};
 use gr_base::Memory;
 use src_lexer::{Token, TokenKind};
 use src_parser::ParseError;
@@ -37,8 +37,8 @@ fn start(
     state: &mut ParserState,
     start: Start,
     kind: &TokenKind,
-) -> Result<Turn, Memory>
-    ensures { IfOk result (λ t. turn_of t (state_of state.new) ≡ turned limits (start_of start) kind.now) }
+) -> Result<Advance, Memory>
+    ensures { IfOk result (λ t. advance_of t (state_of state.new) ≡ advanced limits (start_of start) kind.now) }
 {
     match start {
         Start::Between(decls) => begin_declaration(alloc, state, decls, kind),
@@ -48,8 +48,8 @@ fn start(
 }
 
 // The next token of a file, whatever its name.
-fn turn(alloc: Global, state: &mut ParserState, kind: &TokenKind) -> Result<Turn, Memory>
-    ensures { IfOk result (λ t. turn_of t (state_of state.new) ≡ turned limits (state_of state.old) kind.now) }
+fn advance(alloc: Global, state: &mut ParserState, kind: &TokenKind) -> Result<Advance, Memory>
+    ensures { IfOk result (λ t. advance_of t (state_of state.new) ≡ advanced limits (state_of state.old) kind.now) }
 {
     match state {
         ParserState::Doing(blocks, mode) => perform(alloc, blocks, mode, kind),
@@ -61,13 +61,13 @@ fn turn(alloc: Global, state: &mut ParserState, kind: &TokenKind) -> Result<Turn
 }
 
 // The next token of a file.
-fn take(alloc: Global, state: &mut ParserState, kind: &TokenKind) -> Result<Turn, Memory>
-    ensures { IfOk result (λ t. turn_of t (state_of state.new) ≡ taken limits (state_of state.old) kind.now) }
+fn take(alloc: Global, state: &mut ParserState, kind: &TokenKind) -> Result<Advance, Memory>
+    ensures { IfOk result (λ t. advance_of t (state_of state.new) ≡ taken limits (state_of state.old) kind.now) }
 {
     if is_hidden_token(kind) {
-        return Ok(Turn::Wrong);
+        return Ok(Advance::Wrong);
     }
-    turn(alloc, state, kind)
+    advance(alloc, state, kind)
 }
 
 fn whole(blocks: Blocks) -> Option<ProcFile>
@@ -83,7 +83,7 @@ fn whole(blocks: Blocks) -> Option<ProcFile>
             procs,
             body: here,
         }),
-        Front::Within(_head, _params, _locals) => None,
+        Front::InProcedure(_head, _params, _locals) => None,
     }
 }
 
@@ -158,16 +158,16 @@ pub fn parse_procs(alloc: Global, tokens: &[Token]) -> Result<ProcFile, ParseErr
     let mut state = ParserState::Before(Start::Between(Vec::new(alloc)));
     for token in tokens {
         match take(alloc, &mut state, &token.kind)? {
-            Turn::Goes => {}
-            Turn::Opens(head) => {
+            Advance::Goes => {}
+            Advance::Opens(head) => {
                 let start = Start::Naming(head, HeadPhase::Opening);
                 put(&mut state, ParserState::Before(start));
             }
-            Turn::Wrong => {
+            Advance::Wrong => {
                 drop(state);
                 return Err(ParseError::Unexpected(token.start));
             }
-            Turn::TooMuch => {
+            Advance::TooMuch => {
                 drop(state);
                 return Err(ParseError::TooDeep(token.start));
             }

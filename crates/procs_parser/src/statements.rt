@@ -6,16 +6,16 @@ ghost use Rattle.src_parser.specs.Parts.{Done, targeting};
 ghost use Rattle.src_parser.specs.Seen.{form_of, made_of, reading_of};
 ghost use Rattle.src_parser.specs.Tokenwise.{Goes, mapped, with_braces};
 ghost use Rattle.procs_parser.specs.FileGrammar.{proc_word};
-ghost use Rattle.procs_parser.specs.FileTurns.{behind_argument, behind_name, begins, begun, between_statements, calling, calling_ends, chosen, depth_of, does, elsing, entering, front_depth, in_argument, leaving, opening, otherwise, with_part, Doing, Ready};
+ghost use Rattle.procs_parser.specs.FileAdvances.{behind_argument, behind_name, begins, begun, between_statements, calling, calling_ends, chosen, depth_of, does, elsing, entering, front_depth, in_argument, leaving, opening, otherwise, with_part, Doing, Ready};
 ghost use Rattle.src_procs.specs.Seen.{statement_of, trees_of};
-ghost use Rattle.procs_parser.specs.StatesSeen.{beginning_of, opened, turn_of, outer_of, doing, outers_of, calls_seen, front_of, pause_of, mode_of};
+ghost use Rattle.procs_parser.specs.StatesSeen.{beginning_of, opened, advance_of, outer_of, doing, outers_of, calls_seen, front_of, pause_of, mode_of};
 
-use crate::states::{Beginning, Blocks, Front, Head, MAX_BRACES, Outer, Pause, Phase, Turn};
+use crate::states::{Advance, Beginning, Blocks, Front, Head, MAX_BRACES, Outer, Pause, Phase};
 use gr_base::Memory;
 use gr_word::Name;
 use src_lexer::TokenKind;
 use src_parser::expressions::{finish, fresh, read};
-use src_parser::parts::{Form, Lead, Made, Part, PartTurn, read_part};
+use src_parser::parts::{Form, Lead, Made, Part, PartAdvance, read_part};
 use src_parser::putting::put;
 use src_parser::readings::{Reading, TokenStep};
 use src_procs::{PStmt, Proc};
@@ -24,26 +24,26 @@ use std::alloc::Global;
 use std::mem;
 
 // One more statement, and then the next may begin.
-fn add(blocks: &mut Blocks, mode: &mut Phase, statement: PStmt) -> Result<Turn, Memory>
-    ensures { IfOk result (λ t. turn_of t (doing blocks.new (mode_of mode.new))
+fn add(blocks: &mut Blocks, mode: &mut Phase, statement: PStmt) -> Result<Advance, Memory>
+    ensures { IfOk result (λ t. advance_of t (doing blocks.new (mode_of mode.new))
         ≡ Goes (Doing (front_of blocks.old.front) (outers_of blocks.old.outer.items)
         (calls_seen blocks.old.here.items ++ statement_of statement ∷ []) Ready)) }
 {
     blocks.here.push(statement)?;
     put(mode, Phase::Between(Pause::Ready));
-    Ok(Turn::Goes)
+    Ok(Advance::Goes)
 }
 
 // The closing brace of a procedure, where one is open.
-fn close(alloc: Global, blocks: &mut Blocks, mode: &mut Phase) -> Result<Turn, Memory>
+fn close(alloc: Global, blocks: &mut Blocks, mode: &mut Phase) -> Result<Advance, Memory>
     requires { blocks.old.outer.items ≡ [] }
-    ensures { IfOk result (λ t. turn_of t (doing blocks.new (mode_of mode.new))
+    ensures { IfOk result (λ t. advance_of t (doing blocks.new (mode_of mode.new))
         ≡ leaving (front_of blocks.old.front) [] (calls_seen blocks.old.here.items)) }
 {
     let front = Front::Outside(Vec::new(alloc), Vec::new(alloc));
     match mem::replace(&mut blocks.front, front) {
-        Front::Outside(_decls, _procs) => Ok(Turn::Wrong),
-        Front::Within(head, params, locals) => {
+        Front::Outside(_decls, _procs) => Ok(Advance::Wrong),
+        Front::InProcedure(head, params, locals) => {
             let Head {
                 decls,
                 mut procs,
@@ -58,14 +58,14 @@ fn close(alloc: Global, blocks: &mut Blocks, mode: &mut Phase) -> Result<Turn, M
             })?;
             put(&mut blocks.front, Front::Outside(decls, procs));
             put(mode, Phase::Between(Pause::Ready));
-            Ok(Turn::Goes)
+            Ok(Advance::Goes)
         }
     }
 }
 
 // A closing brace.
-fn leave(alloc: Global, blocks: &mut Blocks, mode: &mut Phase) -> Result<Turn, Memory>
-    ensures { IfOk result (λ t. turn_of t (doing blocks.new (mode_of mode.new))
+fn leave(alloc: Global, blocks: &mut Blocks, mode: &mut Phase) -> Result<Advance, Memory>
+    ensures { IfOk result (λ t. advance_of t (doing blocks.new (mode_of mode.new))
         ≡ leaving (front_of blocks.old.front) (outers_of blocks.old.outer.items) (calls_seen blocks.old.here.items)) }
 {
     match blocks.outer.pop() {
@@ -73,7 +73,7 @@ fn leave(alloc: Global, blocks: &mut Blocks, mode: &mut Phase) -> Result<Turn, M
         Some(Outer::InFirst(guard, before)) => {
             let first = mem::replace(&mut blocks.here, before);
             put(mode, Phase::Between(Pause::MayElse(guard, first)));
-            Ok(Turn::Goes)
+            Ok(Advance::Goes)
         }
         Some(Outer::InSecond(guard, first, before)) => {
             let second = mem::replace(&mut blocks.here, before);
@@ -105,22 +105,22 @@ fn take_up(
     blocks: &mut Blocks,
     mode: &mut Phase,
     beginning: Beginning,
-) -> Result<Turn, Memory>
-    ensures { IfOk result (λ t. turn_of t (doing blocks.new (mode_of mode.new))
+) -> Result<Advance, Memory>
+    ensures { IfOk result (λ t. advance_of t (doing blocks.new (mode_of mode.new))
         ≡ begun (front_of blocks.old.front) (outers_of blocks.old.outer.items)
         (calls_seen blocks.old.here.items) (beginning_of beginning)) }
 {
     match beginning {
         Beginning::Name(name) => {
             put(mode, Phase::Between(Pause::Named(name)));
-            Ok(Turn::Goes)
+            Ok(Advance::Goes)
         }
         Beginning::Guard(form) => {
             put(mode, Phase::InPart(Part::Before(Lead::Guarding(form))));
-            Ok(Turn::Goes)
+            Ok(Advance::Goes)
         }
         Beginning::Closing => leave(alloc, blocks, mode),
-        Beginning::Nothing => Ok(Turn::Wrong),
+        Beginning::Nothing => Ok(Advance::Wrong),
     }
 }
 
@@ -130,8 +130,8 @@ pub(crate) fn begin(
     blocks: &mut Blocks,
     mode: &mut Phase,
     kind: &TokenKind,
-) -> Result<Turn, Memory>
-    ensures { IfOk result (λ t. turn_of t (doing blocks.new (mode_of mode.new))
+) -> Result<Advance, Memory>
+    ensures { IfOk result (λ t. advance_of t (doing blocks.new (mode_of mode.new))
         ≡ between_statements (front_of blocks.old.front) (outers_of blocks.old.outer.items)
         (calls_seen blocks.old.here.items) kind.now) }
 {
@@ -163,15 +163,15 @@ fn may_else(
     guard: Guard,
     first: Vec<PStmt>,
     kind: &TokenKind,
-) -> Result<Turn, Memory>
-    ensures { IfOk result (λ t. turn_of t (doing blocks.new (mode_of mode.new))
+) -> Result<Advance, Memory>
+    ensures { IfOk result (λ t. advance_of t (doing blocks.new (mode_of mode.new))
         ≡ elsing (front_of blocks.old.front) (outers_of blocks.old.outer.items) (calls_seen blocks.old.here.items)
         (test_of guard) (calls_seen first.items) kind.now) }
 {
     match kind {
         TokenKind::Else => {
             put(mode, Phase::Between(Pause::Otherwise(guard, first)));
-            Ok(Turn::Goes)
+            Ok(Advance::Goes)
         }
         _ => {
             choose(alloc, blocks, guard, first)?;
@@ -204,13 +204,13 @@ fn open(alloc: Global, blocks: &mut Blocks, is_proc: bool, name: Name) -> Option
     let front = Front::Outside(Vec::new(alloc), Vec::new(alloc));
     match mem::replace(&mut blocks.front, front) {
         Front::Outside(decls, procs) => Some(Head { decls, procs, name }),
-        Front::Within(_head, _params, _locals) => None,
+        Front::InProcedure(_head, _params, _locals) => None,
     }
 }
 
 // What a part has made.
-fn settle(blocks: &mut Blocks, mode: &mut Phase, made: Made) -> Result<Turn, Memory>
-    ensures { IfOk result (λ t. turn_of t (doing blocks.new (mode_of mode.new))
+fn settle(blocks: &mut Blocks, mode: &mut Phase, made: Made) -> Result<Advance, Memory>
+    ensures { IfOk result (λ t. advance_of t (doing blocks.new (mode_of mode.new))
         ≡ Goes (with_part (front_of blocks.old.front) (outers_of blocks.old.outer.items)
         (calls_seen blocks.old.here.items) (Done (made_of made)))) }
 {
@@ -219,7 +219,7 @@ fn settle(blocks: &mut Blocks, mode: &mut Phase, made: Made) -> Result<Turn, Mem
         Made::Element(name, index, value) => add(blocks, mode, PStmt::Put(name, index, value)),
         Made::Guard(form, guard) => {
             put(mode, Phase::Between(Pause::Guarded(form, guard)));
-            Ok(Turn::Goes)
+            Ok(Advance::Goes)
         }
     }
 }
@@ -231,19 +231,19 @@ fn assign(
     mode: &mut Phase,
     name: Name,
     kind: &TokenKind,
-) -> Result<Turn, Memory>
-    ensures { IfOk result (λ t. turn_of t (doing blocks.new (mode_of mode.new))
+) -> Result<Advance, Memory>
+    ensures { IfOk result (λ t. advance_of t (doing blocks.new (mode_of mode.new))
         ≡ mapped (with_part (front_of blocks.old.front) (outers_of blocks.old.outer.items)
         (calls_seen blocks.old.here.items)) (targeting name kind.now)) }
 {
     let mut part = Part::Before(Lead::Target(name));
-    let turn = read_part(alloc, &mut part, kind);
+    let advance = read_part(alloc, &mut part, kind);
     put(mode, Phase::InPart(part));
-    match turn? {
-        PartTurn::Moves => Ok(Turn::Goes),
-        PartTurn::Ends(made) => settle(blocks, mode, made),
-        PartTurn::Wrong => Ok(Turn::Wrong),
-        PartTurn::TooMuch => Ok(Turn::TooMuch),
+    match advance? {
+        PartAdvance::Moves => Ok(Advance::Goes),
+        PartAdvance::Ends(made) => settle(blocks, mode, made),
+        PartAdvance::Wrong => Ok(Advance::Wrong),
+        PartAdvance::TooMuch => Ok(Advance::TooMuch),
     }
 }
 
@@ -254,21 +254,21 @@ fn named(
     mode: &mut Phase,
     name: Name,
     kind: &TokenKind,
-) -> Result<Turn, Memory>
-    ensures { IfOk result (λ t. turn_of t (doing blocks.new (mode_of mode.new))
+) -> Result<Advance, Memory>
+    ensures { IfOk result (λ t. advance_of t (doing blocks.new (mode_of mode.new))
         ≡ behind_name (front_of blocks.old.front) (outers_of blocks.old.outer.items)
         (calls_seen blocks.old.here.items) name kind.now) }
 {
     match kind {
         TokenKind::LParen => {
             put(mode, Phase::Between(Pause::Calling(name)));
-            Ok(Turn::Goes)
+            Ok(Advance::Goes)
         }
         TokenKind::Word(other) => {
             let is_proc = is_proc(&name);
             match open(alloc, blocks, is_proc, other.copy(alloc)?) {
-                Some(head) => Ok(Turn::Opens(head)),
-                None => Ok(Turn::Wrong),
+                Some(head) => Ok(Advance::Opens(head)),
+                None => Ok(Advance::Wrong),
             }
         }
         _ => assign(alloc, blocks, mode, name, kind),
@@ -285,8 +285,8 @@ fn behind_argument(
     tree: Expr,
     used: u32,
     kind: &TokenKind,
-) -> Result<Turn, Memory>
-    ensures { IfOk result (λ t. turn_of t (doing blocks.now (mode_of mode.new))
+) -> Result<Advance, Memory>
+    ensures { IfOk result (λ t. advance_of t (doing blocks.now (mode_of mode.new))
         ≡ behind_argument (front_of blocks.now.front) (outers_of blocks.now.outer.items)
         (calls_seen blocks.now.here.items) name (trees_of arguments.items) (expr_tree tree) used kind.now) }
 {
@@ -297,14 +297,14 @@ fn behind_argument(
                 mode,
                 Phase::Between(Pause::Argument(name, arguments, fresh(alloc, 0, used))),
             );
-            Ok(Turn::Goes)
+            Ok(Advance::Goes)
         }
         TokenKind::RParen => {
             arguments.push(tree)?;
             put(mode, Phase::Between(Pause::Called(name, arguments)));
-            Ok(Turn::Goes)
+            Ok(Advance::Goes)
         }
-        _ => Ok(Turn::Wrong),
+        _ => Ok(Advance::Wrong),
     }
 }
 
@@ -324,8 +324,8 @@ fn argue(
     before: Vec<Expr>,
     mut reading: Reading,
     kind: &TokenKind,
-) -> Result<Turn, Memory>
-    ensures { IfOk result (λ t. turn_of t (doing blocks.now (mode_of mode.new))
+) -> Result<Advance, Memory>
+    ensures { IfOk result (λ t. advance_of t (doing blocks.now (mode_of mode.new))
         ≡ in_argument (front_of blocks.now.front) (outers_of blocks.now.outer.items)
         (calls_seen blocks.now.here.items) name (trees_of before.items) kind.now
         (reads limits (reading_of reading) kind.now)) }
@@ -333,18 +333,18 @@ fn argue(
     match read(alloc, &mut reading, kind)? {
         TokenStep::Moves => {
             put(mode, Phase::Between(Pause::Argument(name, before, reading)));
-            Ok(Turn::Goes)
+            Ok(Advance::Goes)
         }
         TokenStep::Stops => {
             let used = reading.used;
             match whole(reading) {
-                None => Ok(Turn::Wrong),
+                None => Ok(Advance::Wrong),
                 Some(tree) => behind_argument(alloc, blocks, mode, name, before, tree, used, kind),
             }
         }
         TokenStep::Deep => {
             drop(reading);
-            Ok(Turn::TooMuch)
+            Ok(Advance::TooMuch)
         }
     }
 }
@@ -356,15 +356,15 @@ fn call(
     mode: &mut Phase,
     name: Name,
     kind: &TokenKind,
-) -> Result<Turn, Memory>
-    ensures { IfOk result (λ t. turn_of t (doing blocks.now (mode_of mode.new))
+) -> Result<Advance, Memory>
+    ensures { IfOk result (λ t. advance_of t (doing blocks.now (mode_of mode.new))
         ≡ calling limits (front_of blocks.now.front) (outers_of blocks.now.outer.items)
         (calls_seen blocks.now.here.items) name kind.now) }
 {
     match kind {
         TokenKind::RParen => {
             put(mode, Phase::Between(Pause::Called(name, Vec::new(alloc))));
-            Ok(Turn::Goes)
+            Ok(Advance::Goes)
         }
         _ => argue(
             alloc,
@@ -384,7 +384,7 @@ fn front_depth(front: &Front) -> usize
 {
     match front {
         Front::Outside(_, _) => 0,
-        Front::Within(_, _, _) => 1,
+        Front::InProcedure(_, _, _) => 1,
     }
 }
 
@@ -397,18 +397,23 @@ fn has_room(front: &Front, outer: &[Outer]) -> bool
 }
 
 // Opens a block, where one more may be open. The statements before it are in `next`.
-fn nest(alloc: Global, blocks: &mut Blocks, mode: &mut Phase, next: Outer) -> Result<Turn, Memory>
-    ensures { IfOk result (λ t. turn_of t (doing blocks.new (mode_of mode.new))
+fn nest(
+    alloc: Global,
+    blocks: &mut Blocks,
+    mode: &mut Phase,
+    next: Outer,
+) -> Result<Advance, Memory>
+    ensures { IfOk result (λ t. advance_of t (doing blocks.new (mode_of mode.new))
         ≡ with_braces (nat_lt (depth_of (front_of blocks.old.front) (outers_of blocks.old.outer.items)) 32)
         (Doing (front_of blocks.old.front) (outer_of next ∷ outers_of blocks.old.outer.items) [] Ready)) }
 {
     if !has_room(&blocks.front, blocks.outer.as_slice()) {
-        return Ok(Turn::TooMuch);
+        return Ok(Advance::TooMuch);
     }
     blocks.outer.push(next)?;
     blocks.here = Vec::new(alloc);
     put(mode, Phase::Between(Pause::Ready));
-    Ok(Turn::Goes)
+    Ok(Advance::Goes)
 }
 
 // The block behind a guard.
@@ -419,8 +424,8 @@ fn enter(
     form: Form,
     guard: Guard,
     kind: &TokenKind,
-) -> Result<Turn, Memory>
-    ensures { IfOk result (λ t. turn_of t (doing blocks.new (mode_of mode.new))
+) -> Result<Advance, Memory>
+    ensures { IfOk result (λ t. advance_of t (doing blocks.new (mode_of mode.new))
         ≡ entering limits (front_of blocks.old.front) (outers_of blocks.old.outer.items)
         (calls_seen blocks.old.here.items) (form_of form) (test_of guard) kind.now) }
 {
@@ -432,7 +437,7 @@ fn enter(
                 Form::Loop => nest(alloc, blocks, mode, Outer::InLoop(guard, before)),
             }
         }
-        _ => Ok(Turn::Wrong),
+        _ => Ok(Advance::Wrong),
     }
 }
 
@@ -444,8 +449,8 @@ fn other(
     guard: Guard,
     first: Vec<PStmt>,
     kind: &TokenKind,
-) -> Result<Turn, Memory>
-    ensures { IfOk result (λ t. turn_of t (doing blocks.new (mode_of mode.new))
+) -> Result<Advance, Memory>
+    ensures { IfOk result (λ t. advance_of t (doing blocks.new (mode_of mode.new))
         ≡ otherwise limits (front_of blocks.old.front) (outers_of blocks.old.outer.items)
         (calls_seen blocks.old.here.items) (test_of guard) (calls_seen first.items) kind.now) }
 {
@@ -454,7 +459,7 @@ fn other(
             let before = mem::replace(&mut blocks.here, Vec::new(alloc));
             nest(alloc, blocks, mode, Outer::InSecond(guard, first, before))
         }
-        _ => Ok(Turn::Wrong),
+        _ => Ok(Advance::Wrong),
     }
 }
 
@@ -465,8 +470,8 @@ fn go_on(
     mode: &mut Phase,
     pause: Pause,
     kind: &TokenKind,
-) -> Result<Turn, Memory>
-    ensures { IfOk result (λ t. turn_of t (doing blocks.new (mode_of mode.new))
+) -> Result<Advance, Memory>
+    ensures { IfOk result (λ t. advance_of t (doing blocks.new (mode_of mode.new))
         ≡ does limits (front_of blocks.old.front) (outers_of blocks.old.outer.items) (calls_seen blocks.old.here.items)
         (pause_of pause) kind.now) }
 {
@@ -480,7 +485,7 @@ fn go_on(
         ),
         Pause::Called(name, arguments) => match kind {
             TokenKind::Semi => add(blocks, mode, PStmt::Call(name, arguments)),
-            _ => Ok(Turn::Wrong),
+            _ => Ok(Advance::Wrong),
         },
         Pause::Guarded(form, guard) => enter(alloc, blocks, mode, form, guard, kind),
         Pause::Otherwise(guard, first) => other(alloc, blocks, mode, guard, first, kind),
@@ -493,17 +498,17 @@ pub(crate) fn perform(
     blocks: &mut Blocks,
     mode: &mut Phase,
     kind: &TokenKind,
-) -> Result<Turn, Memory>
-    ensures { IfOk result (λ t. turn_of t (doing blocks.new (mode_of mode.new))
+) -> Result<Advance, Memory>
+    ensures { IfOk result (λ t. advance_of t (doing blocks.new (mode_of mode.new))
         ≡ does limits (front_of blocks.old.front) (outers_of blocks.old.outer.items) (calls_seen blocks.old.here.items)
         (mode_of mode.old) kind.now) }
 {
     match mode {
         Phase::InPart(part) => match read_part(alloc, part, kind)? {
-            PartTurn::Moves => Ok(Turn::Goes),
-            PartTurn::Ends(made) => settle(blocks, mode, made),
-            PartTurn::Wrong => Ok(Turn::Wrong),
-            PartTurn::TooMuch => Ok(Turn::TooMuch),
+            PartAdvance::Moves => Ok(Advance::Goes),
+            PartAdvance::Ends(made) => settle(blocks, mode, made),
+            PartAdvance::Wrong => Ok(Advance::Wrong),
+            PartAdvance::TooMuch => Ok(Advance::TooMuch),
         },
         Phase::Between(pause) => {
             let pause = mem::replace(pause, Pause::Ready);

@@ -79,7 +79,7 @@ pub(crate) struct Head {
 #[derive(Drop)]
 pub(crate) enum Front {
     Outside(Vec<Decl>, Vec<Proc>),
-    Within(Head, Vec<Param>, Vec<Decl>),
+    InProcedure(Head, Vec<Param>, Vec<Decl>),
 }
 
 // What was read of the statements: what stands before them, the open blocks, the last behind the others, and the
@@ -109,7 +109,7 @@ pub(crate) enum ParserState {
 // What a token does to a file: it is read; it is the name of a procedure that begins; none goes on with it; it passes a
 // limit.
 #[derive(Drop)]
-pub(crate) enum Turn {
+pub(crate) enum Advance {
     Goes,
     Opens(Head),
     Wrong,

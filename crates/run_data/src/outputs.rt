@@ -21,13 +21,17 @@ pub fn output_text(alloc: Global, wants: &[Want], values: &Inputs) -> Result<Vec
     requires { FitsWants wants.now values.now }
     ensures { IfOk result (λ text. text.items ≡ output_of wants.now values.now) }
 {
-    let members = in_order(alloc, wants, values)?;
+    let members = ordered_members(alloc, wants, values)?;
     let mut text = Vec::new(alloc);
     add_object(&mut text, &members)?;
     Ok(text)
 }
 
-fn in_order<'a>(alloc: Global, wants: &'a [Want], values: &'a Inputs) -> Result<Members<'a>, Memory>
+fn ordered_members<'a>(
+    alloc: Global,
+    wants: &'a [Want],
+    values: &'a Inputs,
+) -> Result<Members<'a>, Memory>
     requires { FitsWants wants.now values.now }
     ensures seen { IfOk result (λ m. members_seen m.entries ≡ members_with no_members wants.now values.now) }
     ensures names { IfOk result (λ m. HaveNames m.entries) }

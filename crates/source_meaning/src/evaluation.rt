@@ -2,7 +2,7 @@ ghost use Rattle.std.specs.Prelude.{◌≡◌, IfOk};
 ghost use Rattle.gr_word.specs.Fitting.{FitsWants};
 ghost use Rattle.src_tree.specs.Trees.{source_of};
 ghost use Rattle.src_tree.specs.Meaning.{meaning};
-ghost use Rattle.flow_types.specs.Wants.{wants_of};
+ghost use Rattle.flow_types.specs.Wants.{declared_wants};
 ghost use Rattle.source_meaning.specs.Outcomes.{left_of, LeftFits};
 
 use crate::placing::place_block;
@@ -25,9 +25,9 @@ pub enum Outcome {
 /// exactly the program's meaning. All memory is taken before the run, for a copy of the program that has the numbers of
 /// variables in place of their names.
 pub fn eval(alloc: Global, t: &Typed, s: Inputs, turns: u64) -> Result<Outcome, Memory>
-    requires { FitsWants (wants_of t.now.decls.items) s }
+    requires { FitsWants (declared_wants t.now.decls.items) s }
     ensures left { IfOk result (λ outcome. left_of outcome ≡ meaning (source_of t.now) s turns) }
-    ensures fits { IfOk result (λ outcome. LeftFits (wants_of t.now.decls.items) outcome) }
+    ensures fits { IfOk result (λ outcome. LeftFits (declared_wants t.now.decls.items) outcome) }
 {
     let program = t.program();
     let steps = place_block(alloc, program.decls.as_slice(), program.body.as_slice())?;

@@ -8,26 +8,26 @@ use Rattle.src_lexer.specs.declared.tokens.TokenKind.TheVariants as kind
 use Rattle.src_tree.specs.Trees.{Tree}
 use Rattle.src_parser.specs.Grammar.{Limits, comparison_of}
 use Rattle.src_parser.specs.Operands.{Reading, At, Wanted, Named, Given, TokenStep, Moves, Stops, Deep, Joint, Joins, closing, reads, whole, used_of}
-use Rattle.src_parser.specs.Tokenwise.{Turn, Goes, Wrong, TooMuch, mapped, with_braces}
-use Rattle.src_parser.specs.Parts.{Form, Asked, Value, Place, Stored, Left, Right, Part, Target, Placed, Guarding, Inside, PartState, targeting, placing, guarding, comparing, behind_expression, ending_where, in_expression, part_turned}
-use Rattle.src_parser.specs.Headings.{Heading, Labelled, Typed, Titled, Sizing, Sized, Closing, HeadingState, heading_turned}
+use Rattle.src_parser.specs.Tokenwise.{Advance, Goes, Wrong, TooMuch, mapped, with_braces}
+use Rattle.src_parser.specs.Parts.{Form, Asked, Value, Place, Stored, Left, Right, Part, Target, Placed, Guarding, Inside, PartState, targeting, placing, guarding, comparing, behind_expression, ending_where, in_expression, part_advanced}
+use Rattle.src_parser.specs.Headings.{Heading, Labelled, Typed, Titled, Sizing, Sized, Closing, HeadingState, heading_advanced}
 use Rattle.src_parser.proofs.Tokenwise.{Counted}
 
-pub same_state : {S : Type 0} (x y : S) → ◌≡◌ {A = Turn S} (Goes x) (Goes y) → x ≡ y
+pub same_state : {S : Type 0} (x y : S) → ◌≡◌ {A = Advance S} (Goes x) (Goes y) → x ≡ y
 same_state x y e = cc
 
 -- what is read as a part was read as its part
-pub mapped_goes : {A B R : Type 0} (f : A → B) (t : Turn A) (b : B) → mapped f t ≡ Goes b
+pub mapped_goes : {A B R : Type 0} (f : A → B) (t : Advance A) (b : B) → mapped f t ≡ Goes b
     → ((a : A) → t ≡ Goes a → f a ≡ b → R) → R
 mapped_goes f (Goes a) b e so = so a refl (same_state (f a) b e)
 mapped_goes f Wrong b e so = absurd (cc)
 mapped_goes f TooMuch b e so = absurd (cc)
 
-pub braces_counted : {S : Type 0} (count_of : S → ℕ) (most count : ℕ) (b : Bool) (x next : S) → nat_lt count most ≡ b
-    → count_of x ≡ count + 1 → with_braces b x ≡ Goes next → (count < most) × (count_of next ≡ count + 1)
-braces_counted count_of most count true x next t is e =
-    (ltb-true count most t, ap count_of (sym (same_state x next e)) ∙ is)
-braces_counted count_of most count false x next t is e = absurd (cc)
+pub braces_counted : {S : Type 0} (open_braces : S → ℕ) (most count : ℕ) (b : Bool) (x next : S) → nat_lt count most ≡ b
+    → open_braces x ≡ count + 1 → with_braces b x ≡ Goes next → (count < most) × (open_braces next ≡ count + 1)
+braces_counted open_braces most count true x next t is e =
+    (ltb-true count most t, ap open_braces (sym (same_state x next e)) ∙ is)
+braces_counted open_braces most count false x next t is e = absurd (cc)
 
 -- no brace is part of an expression
 closing_left : (used : ℕ) (joint : Joint) (y : Reading) → closing used kind.LBrace joint ≡ Moves y → ⊥
@@ -107,7 +107,7 @@ inside_counted most asked x k (Stops y) r s count after e is =
 inside_counted most asked x k Deep r s count after e is = absurd (cc)
 
 pub part_counted : (most : Limits) (part : Part) (k : TokenKind) (s : PartState) (count after : ℕ)
-    → part_turned most part k ≡ Goes s → after ≡ count → Counted k most.braces count after
+    → part_advanced most part k ≡ Goes s → after ≡ count → Counted k most.braces count after
 part_counted most (Target name) k s count after e is = targeting_counted most.braces name k s count after e is
 part_counted most (Placed name index used) k s count after e is =
     placing_counted most.braces name index used k s count after e is
@@ -116,7 +116,7 @@ part_counted most (Inside asked x) k s count after e is =
     inside_counted most asked x k (reads most x k) refl s count after e is
 
 pub heading_counted : (most : ℕ) (heading : Heading) (k : TokenKind) (s : HeadingState) (count after : ℕ)
-    → heading_turned heading k ≡ Goes s → after ≡ count → Counted k most count after
+    → heading_advanced heading k ≡ Goes s → after ≡ count → Counted k most count after
 heading_counted most (Labelled label) kind.Int s count after e is = is
 heading_counted most (Labelled label) _ s count after e is = absurd (cc)
 heading_counted most (Typed label) (kind.Word name) s count after e is = is

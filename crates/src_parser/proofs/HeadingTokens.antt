@@ -5,7 +5,7 @@ use Rattle.src_lexer.specs.declared.tokens.TokenKind.{TokenKind}
 use Rattle.src_lexer.specs.declared.tokens.TokenKind.TheVariants as kind
 use Rattle.src_tree.specs.declared.trees.Decl.{Decl}
 use Rattle.src_parser.specs.Grammar.{keyword_of, Declares, NoMore, Scalar, Array}
-use Rattle.src_parser.specs.Headings.{Heading, Labelled, Typed, Titled, Sizing, Sized, Closing, HeadingState, Begun, Declared, declared, heading_turned}
+use Rattle.src_parser.specs.Headings.{Heading, Labelled, Typed, Titled, Sizing, Sized, Closing, HeadingState, Begun, Declared, declared, heading_advanced}
 use Rattle.src_parser.specs.Tokenwise.{Goes}
 use Rattle.src_parser.proofs.Braces.{same_state}
 
@@ -41,7 +41,7 @@ went tokens x y e s = subst (λ z. HeadingStands z tokens) (same_state x y e) s
 
 -- a token of a declaration leads on
 pub heading_steps : {heading : Heading} {tokens : List TokenKind} → Heads heading tokens → (k : TokenKind)
-    (s : HeadingState) → heading_turned heading k ≡ Goes s → HeadingStands s (tokens ++ k ∷ [])
+    (s : HeadingState) → heading_advanced heading k ≡ Goes s → HeadingStands s (tokens ++ k ∷ [])
 heading_steps (IsLabelled label) kind.Int s e = went _ _ s e (IsTyped label)
 heading_steps (IsLabelled label) _ s e = absurd (cc)
 heading_steps (IsTyped label) (kind.Word name) s e = went _ _ s e (IsTitled label name)

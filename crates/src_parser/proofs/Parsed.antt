@@ -12,8 +12,8 @@ use Rattle.src_parser.specs.Grammar.{Limits, Writes, Ends, Sets, Puts, Chooses, 
 use Rattle.src_parser.specs.Headings.{declared}
 use Rattle.src_parser.specs.Parts.{ForChoice, ForLoop, in_expression}
 use Rattle.src_parser.specs.Tokenwise as tokenwise
-use Rattle.src_parser.specs.Tokenwise.{after_turn, mapped, with_braces}
-use Rattle.src_parser.specs.Turns.{Outer, InFirst, InSecond, InLoop, Ready, MayElse, ParserState, Between, Doing, between_statements, chosen, elsing, with_part, program_of, turned}
+use Rattle.src_parser.specs.Tokenwise.{after_advance, mapped, with_braces}
+use Rattle.src_parser.specs.Advances.{Outer, InFirst, InSecond, InLoop, Ready, MayElse, ParserState, Between, Doing, between_statements, chosen, elsing, with_part, program_of, advanced}
 use Rattle.src_parser.proofs.PartRead.{PartRuns, variable_read, element_read, guard_read}
 
 -- the statements of a block
@@ -26,7 +26,7 @@ block_again Nothing = refl
 block_again (Then s block) = ap (Then s) (block_again block)
 
 abbrev pub parsed : Limits → ParserState → List TokenKind → Option Source
-parsed = tokenwise.parsed turned program_of
+parsed = tokenwise.parsed advanced program_of
 
 -- tokens that don't begin with `else`
 abbrev pub NoElse : List TokenKind → Type 0
@@ -57,23 +57,24 @@ settled : (most : Limits) (decls : List Decl) (outer : List Outer) (here : List 
     ≡ parsed most (Doing decls outer (chosen here test first) Ready) ks
 settled most decls outer here test first [] h = settled_end decls outer here test first
 settled most decls outer here test first (k ∷ ks) h =
-    ap (λ t. after_turn t (λ next. parsed most next ks)) (settled_kind most decls outer here test first k ks h)
+    ap (λ t. after_advance t (λ next. parsed most next ks)) (settled_kind most decls outer here test first k ks h)
 
 -- a part in a statement goes on as its tokens are read
 part_runs : (most : Limits) (decls : List Decl) (outer : List Outer) (here : List Statement)
     → PartRuns most (λ s ks. parsed most (with_part decls outer here s) ks)
 part_runs most decls outer here = record {
-  goes = λ part s k ks e. ap (λ t. after_turn (mapped (with_part decls outer here) t) (λ next. parsed most next ks)) e;
-  same = λ asked x y k ks e. ap (λ s. after_turn (mapped (with_part decls outer here) (in_expression asked k s))
+  goes = λ part s k ks e. ap (λ t. after_advance (mapped (with_part decls outer here) t)
+      (λ next. parsed most next ks)) e;
+  same = λ asked x y k ks e. ap (λ s. after_advance (mapped (with_part decls outer here) (in_expression asked k s))
       (λ next. parsed most next ks)) e;
 }
 
 enters : (most : Limits) (decls : List Decl) (outer : List Outer) (next : Outer) (depth : ℕ) (ks : List TokenKind)
     → length outer ≡ depth → depth < most.braces
-    → after_turn (with_braces (nat_lt (length outer) most.braces) (Doing decls (next ∷ outer) [] Ready))
+    → after_advance (with_braces (nat_lt (length outer) most.braces) (Doing decls (next ∷ outer) [] Ready))
     (λ state. parsed most state ks) ≡ parsed most (Doing decls (next ∷ outer) [] Ready) ks
 enters most decls outer next depth ks is room =
-    ap (λ t. after_turn (with_braces t (Doing decls (next ∷ outer) [] Ready)) (λ state. parsed most state ks))
+    ap (λ t. after_advance (with_braces t (Doing decls (next ∷ outer) [] Ready)) (λ state. parsed most state ks))
     (lt-ltb (length outer) most.braces (omega arith))
 
 one_more : (here : List Statement) (s : Statement) (block : Block)

@@ -7,12 +7,12 @@ use Rattle.src_tree.specs.Trees.{Tree, Test}
 use Rattle.src_parser.specs.Grammar.{Limits, operator_of, comparison_of, operators, SpellsTree, Compares, Compared}
 use Rattle.src_parser.specs.Operands.{Reading, At, Wanted, Given, Stops, Joins, closing, reads}
 use Rattle.src_parser.specs.Tokenwise.{Goes}
-use Rattle.src_parser.specs.Parts.{Form, Asked, Value, Place, Stored, Left, Right, Part, Target, Placed, Guarding, Inside, VariableSet, ElementSet, GuardRead, PartState, Still, Done, in_expression, part_turned}
+use Rattle.src_parser.specs.Parts.{Form, Asked, Value, Place, Stored, Left, Right, Part, Target, Placed, Guarding, Inside, VariableSet, ElementSet, GuardRead, PartState, Still, Done, in_expression, part_advanced}
 use Rattle.src_parser.proofs.Complete.{Runs, Follows, closer, complete}
 
--- a reading of parts that goes on by `part_turned`, whatever comes of it
+-- a reading of parts that goes on by `part_advanced`, whatever comes of it
 pub record PartRuns (most : Limits) {R : Type 0} (go : PartState → List TokenKind → R) : Type 0 where
-  pub goes : (part : Part) (s : PartState) (k : TokenKind) (ks : List TokenKind) → part_turned most part k ≡ Goes s
+  pub goes : (part : Part) (s : PartState) (k : TokenKind) (ks : List TokenKind) → part_advanced most part k ≡ Goes s
       → go (Still part) (k ∷ ks) ≡ go s ks
   pub same : (asked : Asked) (x y : Reading) (k : TokenKind) (ks : List TokenKind) → reads most x k ≡ reads most y k
       → go (Still (Inside asked x)) (k ∷ ks) ≡ go (Still (Inside asked y)) (k ∷ ks)
@@ -74,7 +74,7 @@ module _ {R : Type 0} (most : Limits) (go : PartState → List TokenKind → R) 
       refl))))
 
   left_ends : (form : Form) (a : Tree) (used : ℕ) (sign : TokenKind) (cmp : Cmp) → comparison_of sign ≡ Some cmp
-      → part_turned most (Inside (Left form) (At [] 0 used (Given a))) sign
+      → part_advanced most (Inside (Left form) (At [] 0 used (Given a))) sign
       ≡ Goes (Still (Inside (Right form cmp a) (At [] 0 used Wanted)))
   left_ends form a used sign cmp is = rw (no_operator sign cmp is, stops_whole used a 0 sign, is) refl
 

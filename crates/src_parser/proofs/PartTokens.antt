@@ -10,7 +10,7 @@ use Rattle.src_tree.specs.Trees.{Tree, Number, Test}
 use Rattle.src_parser.specs.Grammar.{Limits, comparison_of, operators, SpellsTree, Numeral, Compares, Compared}
 use Rattle.src_parser.specs.Operands.{Reading, TokenStep, Moves, Stops, Deep, reads, whole, used_of}
 use Rattle.src_parser.specs.Tokenwise.{Goes}
-use Rattle.src_parser.specs.Parts.{Form, ForChoice, ForLoop, Asked, Value, Place, Stored, Left, Right, Part, Target, Placed, Guarding, Inside, Made, VariableSet, ElementSet, GuardRead, PartState, Still, Done, targeting, placing, guarding, comparing, behind_expression, ending_where, in_expression, part_turned}
+use Rattle.src_parser.specs.Parts.{Form, ForChoice, ForLoop, Asked, Value, Place, Stored, Left, Right, Part, Target, Placed, Guarding, Inside, Made, VariableSet, ElementSet, GuardRead, PartState, Still, Done, targeting, placing, guarding, comparing, behind_expression, ending_where, in_expression, part_advanced}
 use Rattle.src_parser.proofs.Braces.{same_state}
 use Rattle.src_parser.proofs.Held.{HasNoName, no_name_in_both, Start}
 use Rattle.src_parser.proofs.Reached.{Reached, Wants, reaches, Ended, ends, Fitting, fitting}
@@ -142,7 +142,7 @@ inside_steps x a r k Deep is s e = absurd (cc)
 
 -- a token of a part leads on
 pub part_steps : {most : Limits} {part : Part} {tokens : List TokenKind} → PartStands most part tokens
-    → (k : TokenKind) (s : PartState) → part_turned most part k ≡ Goes s → StateStands most s (tokens ++ k ∷ [])
+    → (k : TokenKind) (s : PartState) → part_advanced most part k ≡ Goes s → StateStands most s (tokens ++ k ∷ [])
 part_steps {most} (IsTarget name) k s e = targeting_steps most name k s e
 part_steps {most} (IsPlaced name i is fits) k s e = placing_steps most name i is fits k s e
 part_steps {most} (IsGuarding form) k s e = guarding_steps most form k s e

@@ -4,10 +4,10 @@ use Rattle.src_lexer.specs.declared.tokens.TokenKind.{TokenKind}
 use Rattle.src_lexer.specs.declared.tokens.TokenKind.TheVariants as kind
 use Rattle.src_tree.specs.declared.trees.Decl.{Decl}
 use Rattle.src_tree.specs.Trees.{Test, Statement}
-use Rattle.src_parser.specs.Headings.{heading_turned}
+use Rattle.src_parser.specs.Headings.{heading_advanced}
 use Rattle.src_parser.specs.Parts.{Form}
 use Rattle.src_parser.specs.Tokenwise.{Wrong, TooMuch}
-use Rattle.src_parser.specs.Turns.{Outer, InFirst, Phase, Ready, MayElse, InPart, Guarded, Otherwise, ParserState, Between, Declaring, Doing, leaving, between_statements, chosen, elsing, with_part, entering, otherwise, does, between, with_heading, turned, count_of}
+use Rattle.src_parser.specs.Advances.{Outer, InFirst, Phase, Ready, MayElse, InPart, Guarded, Otherwise, ParserState, Between, Declaring, Doing, leaving, between_statements, chosen, elsing, with_part, entering, otherwise, does, between, with_heading, advanced, open_braces}
 use Rattle.src_parser.proofs.Tokenwise.{Shape}
 use Rattle.src_parser.proofs.Rooms.{constant, wrong_not_much, brace_room, mapped_shape, part_shape, heading_not}
 
@@ -52,8 +52,9 @@ between_not decls kind.Public e = absurd (cc)
 between_not decls kind.Secret e = absurd (cc)
 between_not decls k e = beginning_not decls [] [] k e
 
-pub shape : (state : ParserState) (k : TokenKind) → Shape ParserState k (count_of state) (λ most. turned most state k)
+pub shape : (state : ParserState) (k : TokenKind) → Shape ParserState k (open_braces state)
+    (λ most. advanced most state k)
 shape (Between decls) k = constant _ (between_not decls k)
 shape (Declaring decls heading) k =
-    mapped_shape (with_heading decls) (constant (heading_turned heading k) (heading_not heading k))
+    mapped_shape (with_heading decls) (constant (heading_advanced heading k) (heading_not heading k))
 shape (Doing decls outer here mode) k = does_shape decls outer here mode k

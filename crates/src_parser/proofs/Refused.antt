@@ -4,7 +4,7 @@ use Rattle.std.proofs.Common.{◌≡◌, List, [], refl}
 use Rattle.src_lexer.specs.declared.tokens.TokenKind.{TokenKind}
 use Rattle.src_tree.specs.Trees.{Source}
 use Rattle.src_parser.specs.Grammar.{Limits, Sentence}
-use Rattle.src_parser.specs.Turns.{ParserState, Between, turned, program_of, count_of}
+use Rattle.src_parser.specs.Advances.{ParserState, Between, advanced, program_of, open_braces}
 use Rattle.src_parser.proofs.Tokenwise.{Laws}
 use Rattle.src_parser.proofs.Standing.{Standing, standing_completes}
 use Rattle.src_parser.proofs.Steps.{steps, nothing_read, finished}
@@ -16,7 +16,7 @@ use Rattle.src_parser.proofs.ProgramBraces.{counted}
 abbrev pub start : ParserState
 start = Between []
 
-pub program_laws : Laws turned program_of count_of start Sentence (λ most. Standing most)
+pub program_laws : Laws advanced program_of open_braces start Sentence (λ most. Standing most)
 program_laws = record {
   shape = shape;
   counted = counted;

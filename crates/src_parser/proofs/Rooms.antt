@@ -11,9 +11,9 @@ use Rattle.src_lexer.specs.declared.tokens.TokenKind.TheVariants as kind
 use Rattle.src_tree.specs.Trees.{Tree, Variable}
 use Rattle.src_parser.specs.Grammar.{Limits, operator_of, comparison_of}
 use Rattle.src_parser.specs.Operands.{Waiting, Open, Index, Reading, At, Wanted, Named, Given, TokenStep, Moves, Stops, Deep, Joint, Joins, where_room, wanting, pending, closing, having, naming, reads, whole, used_of}
-use Rattle.src_parser.specs.Tokenwise.{Turn, Goes, Wrong, TooMuch, mapped, with_braces}
-use Rattle.src_parser.specs.Parts.{Form, Asked, Value, Place, Stored, Left, Right, Part, Target, Placed, Guarding, Inside, PartState, Still, after_step, targeting, placing, guarding, comparing, behind_expression, ending_where, part_turned}
-use Rattle.src_parser.specs.Headings.{Heading, Labelled, Typed, Titled, Sizing, Sized, Closing, heading_turned}
+use Rattle.src_parser.specs.Tokenwise.{Advance, Goes, Wrong, TooMuch, mapped, with_braces}
+use Rattle.src_parser.specs.Parts.{Form, Asked, Value, Place, Stored, Left, Right, Part, Target, Placed, Guarding, Inside, PartState, Still, after_step, targeting, placing, guarding, comparing, behind_expression, ending_where, part_advanced}
+use Rattle.src_parser.specs.Headings.{Heading, Labelled, Typed, Titled, Sizing, Sized, Closing, heading_advanced}
 use Rattle.src_parser.proofs.Tokenwise.{Shape, Always, Where}
 
 -- a token of an expression: the same whatever the limits; or read where so many brackets may be open and so many
@@ -91,11 +91,11 @@ reads_shape (At stack depth used Wanted) k = wanting_shape stack depth used k
 reads_shape (At stack depth used (Named name)) k = naming_shape stack depth used name k
 reads_shape (At stack depth used (Given tree)) k = having_shape stack depth used tree k (operator_of k)
 
--- a turn that is the same whatever the limits
-pub constant : {S : Type 0} {k : TokenKind} {count : ℕ} (t : Turn S) → t ≢ TooMuch → Shape S k count (λ most. t)
+-- an advance that is the same whatever the limits
+pub constant : {S : Type 0} {k : TokenKind} {count : ℕ} (t : Advance S) → t ≢ TooMuch → Shape S k count (λ most. t)
 constant t h = Always t h (λ most. refl)
 
-pub wrong_not_much : {S : Type 0} → ◌≢◌ {A = Turn S} Wrong TooMuch
+pub wrong_not_much : {S : Type 0} → ◌≢◌ {A = Advance S} Wrong TooMuch
 wrong_not_much e = absurd (cc)
 
 much_or : {S P : Type 0} (b : Bool) (x : S) → (b ≡ true → P) → (with_braces b x ≡ TooMuch) ⊎ P
@@ -110,26 +110,26 @@ brace_room count y = Where (record { brackets = 0; braces = count + 1; operators
     record { brackets = omega arith; braces = omega arith; operators = omega arith }))
     (inr (refl, refl))
 
-pub mapped_not : {A B : Type 0} (f : A → B) (t : Turn A) → t ≢ TooMuch → mapped f t ≢ TooMuch
+pub mapped_not : {A B : Type 0} (f : A → B) (t : Advance A) → t ≢ TooMuch → mapped f t ≢ TooMuch
 mapped_not f (Goes s) h e = absurd (cc)
 mapped_not f Wrong h e = absurd (cc)
 mapped_not f TooMuch h e = h refl
 
-pub mapped_shape : {A B : Type 0} {k : TokenKind} {count : ℕ} {g : Limits → Turn A} (f : A → B)
+pub mapped_shape : {A B : Type 0} {k : TokenKind} {count : ℕ} {g : Limits → Advance A} (f : A → B)
     → Shape A k count g → Shape B k count (λ most. mapped f (g most))
 mapped_shape f (Always t h is) = Always (mapped f t) (mapped_not f t h) (λ most. ap (mapped f) (is most))
 mapped_shape f (Where need next goes much braces) =
     Where need (f next) (λ most fits. ap (mapped f) (goes most fits))
     (λ most. elim (much most) [ inl e ↦ inl (ap (mapped f) e) | inr w ↦ inr w ]) braces
 
-after_not : {S : Type 0} (on : Reading → S) (over : Reading → Turn S) → ((x : Reading) → over x ≢ TooMuch)
+after_not : {S : Type 0} (on : Reading → S) (over : Reading → Advance S) → ((x : Reading) → over x ≢ TooMuch)
     → (s : TokenStep) → s ≢ Deep → after_step on over s ≢ TooMuch
 after_not on over free (Moves x) h e = absurd (cc)
 after_not on over free (Stops x) h e = free x e
 after_not on over free Deep h e = h refl
 
 pub step_shape : {S : Type 0} {k : TokenKind} {count : ℕ} {g : Limits → TokenStep} (on : Reading → S)
-    (over : Reading → Turn S) → ((x : Reading) → over x ≢ TooMuch) → StepShape g
+    (over : Reading → Advance S) → ((x : Reading) → over x ≢ TooMuch) → StepShape g
     → Shape S k count (λ most. after_step on over (g most))
 step_shape on over free (Steady s h is) =
     Always (after_step on over s) (after_not on over free s h) (λ most. ap (after_step on over) (is most))
@@ -172,7 +172,7 @@ ending_where_not asked None used k e = absurd (cc)
 ending_where_not asked (Some tree) used k e = ending_not asked tree used k e
 
 pub part_shape : (part : Part) (k : TokenKind) (count : ℕ)
-    → Shape PartState k count (λ most. part_turned most part k)
+    → Shape PartState k count (λ most. part_advanced most part k)
 part_shape (Target name) k count = constant _ (targeting_not name k)
 part_shape (Placed name index used) k count = constant _ (placing_not name index used k)
 part_shape (Guarding form) k count = constant _ (guarding_not form k)
@@ -180,7 +180,7 @@ part_shape (Inside asked x) k count =
     step_shape (λ y. Still (Inside asked y)) (λ y. ending_where asked (whole y) (used_of y) k)
     (λ y. ending_where_not asked (whole y) (used_of y) k) (reads_shape x k)
 
-pub heading_not : (heading : Heading) (k : TokenKind) → heading_turned heading k ≢ TooMuch
+pub heading_not : (heading : Heading) (k : TokenKind) → heading_advanced heading k ≢ TooMuch
 heading_not (Labelled label) kind.Int e = absurd (cc)
 heading_not (Typed label) (kind.Word name) e = absurd (cc)
 heading_not (Titled label name) kind.Semi e = absurd (cc)

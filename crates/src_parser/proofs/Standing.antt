@@ -9,7 +9,7 @@ use Rattle.src_parser.specs.Grammar.{Limits, Compares, Writes, Ends, Sets, Puts,
 use Rattle.src_parser.specs.Headings.{Heading}
 use Rattle.src_parser.specs.Parts.{Form, ForChoice, ForLoop, Part, Made}
 use Rattle.src_parser.specs.Tokenwise as tokenwise
-use Rattle.src_parser.specs.Turns.{Outer, InFirst, InSecond, InLoop, Phase, Ready, MayElse, InPart, Guarded, Otherwise, ParserState, Between, Declaring, Doing, count_of}
+use Rattle.src_parser.specs.Advances.{Outer, InFirst, InSecond, InLoop, Phase, Ready, MayElse, InPart, Guarded, Otherwise, ParserState, Between, Declaring, Doing, open_braces}
 use Rattle.src_parser.proofs.HeadingTokens.{declares_both, Heads, rest_of, heading_completes}
 use Rattle.src_parser.proofs.PartTokens.{word_of, PartStands, Makes, MakesVariable, MakesElement, MakesGuard, PartCompletes, part_completes}
 
@@ -223,7 +223,7 @@ declared_completes {most} {decls} {front} d = record {
 
 -- tokens that lead to a state within the braces go on to a program
 pub standing_completes : {most : Limits} {state : ParserState} {tokens : List TokenKind}
-    → Standing most state tokens → count_of state < most.braces → Completes most tokens
+    → Standing most state tokens → open_braces state < most.braces → Completes most tokens
 standing_completes (InBetween d) room = declared_completes d
 standing_completes (InHeading {heading = heading} {front = front} {us = us} d h) room =
     shorter (front ++ us) (rest_of heading (120 ∷ []))

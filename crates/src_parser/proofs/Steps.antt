@@ -8,10 +8,10 @@ use Rattle.src_lexer.specs.declared.tokens.TokenKind.TheVariants as kind
 use Rattle.src_tree.specs.declared.trees.Decl.{Decl}
 use Rattle.src_tree.specs.Trees.{Test, Statement, SetVariable, SetElement, Choice, Loop, Nothing, block_of, Source}
 use Rattle.src_parser.specs.Grammar.{Limits, Compares, Writes, Ends, Sets, Puts, Chooses, ChoosesElse, Repeats, Declares, NoMore, Sentence, Program}
-use Rattle.src_parser.specs.Headings.{HeadingState, Begun, Declared, heading_turned}
-use Rattle.src_parser.specs.Parts.{Form, ForChoice, ForLoop, PartState, Still, Done, part_turned}
+use Rattle.src_parser.specs.Headings.{HeadingState, Begun, Declared, heading_advanced}
+use Rattle.src_parser.specs.Parts.{Form, ForChoice, ForLoop, PartState, Still, Done, part_advanced}
 use Rattle.src_parser.specs.Tokenwise.{Goes, with_braces}
-use Rattle.src_parser.specs.Turns.{Outer, Phase, Otherwise, ParserState, Between, Doing, leaving, between_statements, chosen, elsing, with_part, entering, otherwise, does, between, with_heading, turned, program_of}
+use Rattle.src_parser.specs.Advances.{Outer, Phase, Otherwise, ParserState, Between, Doing, leaving, between_statements, chosen, elsing, with_part, entering, otherwise, does, between, with_heading, advanced, program_of}
 use Rattle.src_parser.proofs.Braces.{mapped_goes}
 use Rattle.src_parser.proofs.HeadingTokens.{declares_both, IsLabelled, HeadingStands, heading_steps}
 use Rattle.src_parser.proofs.PartTokens.{word_of, IsTarget, IsGuarding, MakesVariable, MakesElement, MakesGuard, StateStands, part_steps}
@@ -132,7 +132,7 @@ does_stands {ts = ts} o IsReady k next e =
     standing_at (ts ++ k ∷ []) _ (rw append-nil refl) (beginning_stands o k next e)
 does_stands o (IsMayElse {first = first} g room w) k next e = elsing_stands first o g room w k next e
 does_stands {most} {decls} {outer} {here = here} o (IsPart {part = part} p) k next e =
-    mapped_goes (with_part decls outer here) (part_turned most part k) next e
+    mapped_goes (with_part decls outer here) (part_advanced most part k) next e
     (λ s is at. part_stands _ o k s (part_steps p k s is) next at)
 does_stands o (IsGuarded form g) k next e = entering_stands form o g k next e
 does_stands o (IsOtherwise {first = first} g room w) k next e = otherwise_stands first o g room w k next e
@@ -166,10 +166,10 @@ heading_stands {most} {front = front} us d k s h next e =
 
 -- a token leads on
 pub steps : {most : Limits} {state : ParserState} {tokens : List TokenKind} → Standing most state tokens
-    → (k : TokenKind) (next : ParserState) → turned most state k ≡ Goes next → Standing most next (tokens ++ k ∷ [])
+    → (k : TokenKind) (next : ParserState) → advanced most state k ≡ Goes next → Standing most next (tokens ++ k ∷ [])
 steps (InBetween d) k next e = between_stands d k next e
 steps (InHeading {decls = decls} {heading = heading} d h) k next e =
-    mapped_goes (with_heading decls) (heading_turned heading k) next e
+    mapped_goes (with_heading decls) (heading_advanced heading k) next e
     (λ s is at. heading_stands _ d k s (heading_steps h k s is) next at)
 steps (InBlock o s) k next e = does_stands o s k next e
 

@@ -1,4 +1,4 @@
--- A parser that reads token by token: what its turns say of the grammar, from a few laws of single tokens.
+-- A parser that reads token by token: what its advances say of the grammar, from a few laws of single tokens.
 use Rattle.std.proofs.Common.{◌≡◌, ◌≢◌, ◌⊎◌, inl, inr, ℕ, ◌+◌, ◌<◌, ◌≤◌, List, [], ◌∷◌, ◌++◌, length, take, drop, get_or, Option, Some, None, refl, sym, ap, ◌∙◌, subst, append_assoc, arith}
 use Rattle.std.proofs.lemmas.Bool.{cases_lt}
 use Rattle.std.proofs.lemmas.List.{append-nil, map-append, take_all}
@@ -8,7 +8,7 @@ use Rattle.src_lexer.specs.declared.tokens.Token.{Token}
 use Rattle.src_parser.specs.Grammar.{Limits, limits}
 use Rattle.src_parser.specs.Refusals.{token_kinds, Shallow}
 use Rattle.src_parser.proofs.TokenPlaces.{split_at, kinds_more}
-use Rattle.src_parser.specs.Tokenwise.{Turn, Goes, Wrong, TooMuch, then_turn, turns, after_turn, parsed, Completes, Begins, Stray, Deeper, Cut}
+use Rattle.src_parser.specs.Tokenwise.{Advance, Goes, Wrong, TooMuch, then_advance, advances, after_advance, parsed, Completes, Begins, Stray, Deeper, Cut}
 
 -- there is room for what is needed
 pub record Fits (need most : Limits) : Type 0 where
@@ -25,14 +25,14 @@ Counted _ most before after = after ≡ before
 -- what a token does depends on the limits in one way only: it is read where there is room, and is too much where
 -- there is
 -- none; braces matter only to a `{`
-pub data Shape (S : Type 0) (k : TokenKind) (count : ℕ) (f : Limits → Turn S) : Type 0 where
-  Always : (t : Turn S) → t ≢ TooMuch → ((most : Limits) → f most ≡ t) → Shape S k count f
+pub data Shape (S : Type 0) (k : TokenKind) (count : ℕ) (f : Limits → Advance S) : Type 0 where
+  Always : (t : Advance S) → t ≢ TooMuch → ((most : Limits) → f most ≡ t) → Shape S k count f
   Where : (need : Limits) (next : S) → ((most : Limits) → Fits need most → f most ≡ Goes next)
       → ((most : Limits) → (f most ≡ TooMuch) ⊎ Fits need most)
       → (need.braces ≡ 0) ⊎ ((k ≡ kind.LBrace) × (need.braces ≡ count + 1)) → Shape S k count f
 
 -- what is read within some limits is read within wider ones
-wider_shape : {S : Type 0} {k : TokenKind} {count : ℕ} {f : Limits → Turn S}
+wider_shape : {S : Type 0} {k : TokenKind} {count : ℕ} {f : Limits → Advance S}
     → Shape S k count f → (most wide : Limits) (next : S) → Fits most wide → f most ≡ Goes next → f wide
     ≡ Goes next
 wider_shape (Always t h is) most wide next fits e = let a = is most in let b = is wide in cc
@@ -47,7 +47,7 @@ wider_shape {f = f} (Where need s goes much braces) most wide next fits e =
     ]
 
 -- whatever the limits, a token that is read leads to the same state
-same_shape : {S : Type 0} {k : TokenKind} {count : ℕ} {f : Limits → Turn S} → Shape S k count f
+same_shape : {S : Type 0} {k : TokenKind} {count : ℕ} {f : Limits → Advance S} → Shape S k count f
     → (most other : Limits) (next : S)
     → f most ≡ Goes next → (f other ≡ Goes next) ⊎ (f other ≡ TooMuch)
 same_shape (Always t h is) most other next e = let a = is most in let b = is other in inl (cc)
@@ -61,20 +61,20 @@ same_shape {f = f} (Where need s goes much braces) most other next e =
     ]
 
 -- whatever the limits, a token that doesn't belong there is wrong
-wrong_shape : {S : Type 0} {k : TokenKind} {count : ℕ} {f : Limits → Turn S}
+wrong_shape : {S : Type 0} {k : TokenKind} {count : ℕ} {f : Limits → Advance S}
     → Shape S k count f → (most other : Limits) → f most ≡ Wrong → f other ≡ Wrong
 wrong_shape (Always t h is) most other e = let a = is most in let b = is other in cc
 wrong_shape {f = f} (Where need s goes much braces) most other e =
     elim (much most) [ inl m ↦ absurd (cc) | inr w ↦ (let y : f most ≡ Goes s = goes most w in absurd (cc)) ]
 
 -- what is too much is read within some wider limits
-pub record ReadWider (S : Type 0) (most : Limits) (f : Limits → Turn S) : Type 0 where
+pub record ReadWider (S : Type 0) (most : Limits) (f : Limits → Advance S) : Type 0 where
   pub wide : Limits
   pub next : S
   pub fits : Fits most wide
   pub goes : f wide ≡ Goes next
 
-deep_shape : {S : Type 0} {k : TokenKind} {count : ℕ} {f : Limits → Turn S}
+deep_shape : {S : Type 0} {k : TokenKind} {count : ℕ} {f : Limits → Advance S}
     → Shape S k count f → (most : Limits) → f most ≡ TooMuch → ReadWider S most f
 deep_shape (Always t h is) most e = absurd (h (let a = is most in cc))
 deep_shape (Where need s goes much braces) most e = record {
@@ -89,7 +89,7 @@ deep_shape (Where need s goes much braces) most e = record {
 }
 
 -- where only the braces differ, only a brace is too much
-brace_shape : {S : Type 0} {k : TokenKind} {count : ℕ} {f : Limits → Turn S} → Shape S k count f
+brace_shape : {S : Type 0} {k : TokenKind} {count : ℕ} {f : Limits → Advance S} → Shape S k count f
     → (most other : Limits) (next : S)
     → most.brackets ≡ other.brackets → most.operators ≡ other.operators
     → f most ≡ TooMuch → f other ≡ Goes next → (k ≡ kind.LBrace) × (most.braces ≤ count)
@@ -134,31 +134,32 @@ deeper_step most before after kind.RBrace ks c s = subst (λ n. Shallow most n k
 deeper_step most before after _ ks c s = subst (λ n. Shallow most n ks) (sym c) s
 
 -- what is known of single tokens, and of the states that tokens lead to (`Standing`)
-pub record Laws {S P : Type 0} (turned : Limits → S → TokenKind → Turn S) (gives : S → Option P) (count_of : S → ℕ)
+pub record Laws {S P : Type 0} (advanced : Limits → S → TokenKind → Advance S) (gives : S → Option P)
+    (open_braces : S → ℕ)
     (start : S) (Sentence : Limits → List TokenKind → P → Type 0) (Standing : Limits → S → List TokenKind → Type 0)
     : Type 0 where
-  pub shape : (state : S) (k : TokenKind) → Shape S k (count_of state) (λ most. turned most state k)
-  pub counted : (most : Limits) (state : S) (k : TokenKind) (next : S) → turned most state k ≡ Goes next
-      → Counted k most.braces (count_of state) (count_of next)
-  pub starts : count_of start ≡ 0
+  pub shape : (state : S) (k : TokenKind) → Shape S k (open_braces state) (λ most. advanced most state k)
+  pub counted : (most : Limits) (state : S) (k : TokenKind) (next : S) → advanced most state k ≡ Goes next
+      → Counted k most.braces (open_braces state) (open_braces next)
+  pub starts : open_braces start ≡ 0
   pub nothing_read : (most : Limits) → Standing most start []
   pub steps : (most : Limits) (state : S) (tokens : List TokenKind) → Standing most state tokens
-      → (k : TokenKind) (next : S) → turned most state k ≡ Goes next → Standing most next (tokens ++ k ∷ [])
+      → (k : TokenKind) (next : S) → advanced most state k ≡ Goes next → Standing most next (tokens ++ k ∷ [])
   pub completes : (most : Limits) (state : S) (tokens : List TokenKind) → Standing most state tokens
-      → count_of state < most.braces → Completes Sentence most tokens
+      → open_braces state < most.braces → Completes Sentence most tokens
   pub finished : (most : Limits) (state : S) (tokens : List TokenKind) → Standing most state tokens
       → (tree : P) → gives state ≡ Some tree → Sentence most tokens tree
   pub read : (most : Limits) (tokens : List TokenKind) (tree : P) → Sentence most tokens tree
-      → parsed turned gives most start tokens ≡ Some tree
+      → parsed advanced gives most start tokens ≡ Some tree
 
-module _ {S P : Type 0} {turned : Limits → S → TokenKind → Turn S} {gives : S → Option P} {count_of : S → ℕ}
+module _ {S P : Type 0} {advanced : Limits → S → TokenKind → Advance S} {gives : S → Option P} {open_braces : S → ℕ}
     {start : S} {Sentence : Limits → List TokenKind → P → Type 0} {Standing : Limits → S → List TokenKind → Type 0}
-    (laws : Laws turned gives count_of start Sentence Standing) where
-  abbrev goes_over : Limits → S → List TokenKind → Turn S
-  goes_over = turns turned
+    (laws : Laws advanced gives open_braces start Sentence Standing) where
+  abbrev goes_over : Limits → S → List TokenKind → Advance S
+  goes_over = advances advanced
 
   abbrev tree_of : Limits → S → List TokenKind → Option P
-  tree_of = parsed turned gives
+  tree_of = parsed advanced gives
 
   abbrev ProgramBegins : Limits → List TokenKind → Type 0
   ProgramBegins = Begins Sentence
@@ -166,10 +167,11 @@ module _ {S P : Type 0} {turned : Limits → S → TokenKind → Turn S} {gives 
   abbrev program_of : S → Option P
   program_of = gives
 
-  stands_step : (most : Limits) (tokens : List TokenKind) (k : TokenKind) (ks : List TokenKind) (state : S) (t : Turn S)
+  stands_step : (most : Limits) (tokens : List TokenKind) (k : TokenKind) (ks : List TokenKind) (state : S)
+      (t : Advance S)
       (last : S) → ((next : S) → Standing most next (tokens ++ k ∷ []) → goes_over most next ks ≡ Goes last
-      → Standing most last ((tokens ++ k ∷ []) ++ ks)) → Standing most state tokens → turned most state k ≡ t
-      → then_turn t (λ next. goes_over most next ks) ≡ Goes last → Standing most last (tokens ++ k ∷ ks)
+      → Standing most last ((tokens ++ k ∷ []) ++ ks)) → Standing most state tokens → advanced most state k ≡ t
+      → then_advance t (λ next. goes_over most next ks) ≡ Goes last → Standing most last (tokens ++ k ∷ ks)
   stands_step most tokens k ks state (Goes next) last rest s is e =
       subst (λ z. Standing most last z) (append_assoc tokens (k ∷ []) ks)
       (rest next (laws.steps most state tokens s k next is) e)
@@ -182,7 +184,7 @@ module _ {S P : Type 0} {turned : Limits → S → TokenKind → Turn S} {gives 
       let f : state ≡ last = cc in
       subst (λ z. Standing most z (tokens ++ [])) f (subst (λ z. Standing most state z) (sym (append-nil tokens)) s)
   stands_many most (k ∷ ks) tokens state last s e =
-      stands_step most tokens k ks state (turned most state k) last
+      stands_step most tokens k ks state (advanced most state k) last
       (λ next r g. stands_many most ks (tokens ++ k ∷ []) next last r g) s refl e
 
   -- each state that tokens lead to has read them
@@ -193,23 +195,24 @@ module _ {S P : Type 0} {turned : Limits → S → TokenKind → Turn S} {gives 
   -- tokens that were read are within the braces
   pub record Read (most : Limits) (state : S) (tokens : List TokenKind) (last : S) : Type 0 where
     pub shallow : (more : List TokenKind)
-        → Shallow most.braces (count_of last) more → Shallow most.braces (count_of state) (tokens ++ more)
-    pub within : count_of state ≤ most.braces → count_of last ≤ most.braces
+        → Shallow most.braces (open_braces last) more → Shallow most.braces (open_braces state) (tokens ++ more)
+    pub within : open_braces state ≤ most.braces → open_braces last ≤ most.braces
     pub deeper : (more : List TokenKind)
-        → Shallow most.braces (count_of state) (tokens ++ more) → Shallow most.braces (count_of last) more
+        → Shallow most.braces (open_braces state) (tokens ++ more) → Shallow most.braces (open_braces last) more
 
-  read_step : (most : Limits) (state : S) (k : TokenKind) (ks : List TokenKind) (t : Turn S) (last : S)
+  read_step : (most : Limits) (state : S) (k : TokenKind) (ks : List TokenKind) (t : Advance S) (last : S)
       → ((next : S) → goes_over most next ks ≡ Goes last → Read most next ks last)
-      → turned most state k ≡ t → then_turn t (λ next. goes_over most next ks) ≡ Goes last
+      → advanced most state k ≡ t → then_advance t (λ next. goes_over most next ks) ≡ Goes last
       → Read most state (k ∷ ks) last
   read_step most state k ks (Goes next) last rest is e =
       let c = laws.counted most state k next is in
       let r = rest next e in
       record {
-        shallow = λ more s. shallow_step most.braces (count_of state) (count_of next) k (ks ++ more) c
+        shallow = λ more s. shallow_step most.braces (open_braces state) (open_braces next) k (ks ++ more) c
             (r.shallow more s);
-        within = λ h. r.within (fewer most.braces (count_of state) (count_of next) k c h);
-        deeper = λ more s. r.deeper more (deeper_step most.braces (count_of state) (count_of next) k (ks ++ more) c s);
+        within = λ h. r.within (fewer most.braces (open_braces state) (open_braces next) k c h);
+        deeper = λ more s. r.deeper more (deeper_step most.braces (open_braces state) (open_braces next) k
+            (ks ++ more) c s);
       }
   read_step most state k ks Wrong last rest is e = absurd (cc)
   read_step most state k ks TooMuch last rest is e = absurd (cc)
@@ -221,24 +224,25 @@ module _ {S P : Type 0} {turned : Limits → S → TokenKind → Turn S} {gives 
       let f : state ≡ last = cc in
       subst (λ z. Read most state [] z) f (record { shallow = λ more s. s; within = λ h. h; deeper = λ more s. s })
   read most (k ∷ ks) state last e =
-      read_step most state k ks (turned most state k) last (λ next g. read most ks next last g) refl e
+      read_step most state k ks (advanced most state k) last (λ next g. read most ks next last g) refl e
 
-  wider_step : (most wide : Limits) (k : TokenKind) (ks : List TokenKind) (state : S) (t : Turn S)
+  wider_step : (most wide : Limits) (k : TokenKind) (ks : List TokenKind) (state : S) (t : Advance S)
       (last : S) → Fits most wide
-      → ((next : S) → goes_over most next ks ≡ Goes last → goes_over wide next ks ≡ Goes last) → turned most state k ≡ t
-      → then_turn t (λ next. goes_over most next ks) ≡ Goes last → goes_over wide state (k ∷ ks) ≡ Goes last
+      → ((next : S) → goes_over most next ks ≡ Goes last → goes_over wide next ks ≡ Goes last) → advanced most state k
+      ≡ t
+      → then_advance t (λ next. goes_over most next ks) ≡ Goes last → goes_over wide state (k ∷ ks) ≡ Goes last
   wider_step most wide k ks state (Goes next) last fits rest is e =
-      ap (λ t. then_turn t (λ n. goes_over wide n ks)) (wider_shape (laws.shape state k) most wide next fits is)
+      ap (λ t. then_advance t (λ n. goes_over wide n ks)) (wider_shape (laws.shape state k) most wide next fits is)
       ∙ rest next e
   wider_step most wide k ks state Wrong last fits rest is e = absurd (cc)
   wider_step most wide k ks state TooMuch last fits rest is e = absurd (cc)
 
-  pub turns_wider : (most wide : Limits) (ks : List TokenKind) (state last : S)
+  pub advances_wider : (most wide : Limits) (ks : List TokenKind) (state last : S)
       → Fits most wide → goes_over most state ks ≡ Goes last → goes_over wide state ks ≡ Goes last
-  turns_wider most wide [] state last fits e = e
-  turns_wider most wide (k ∷ ks) state last fits e =
-      wider_step most wide k ks state (turned most state k) last fits
-      (λ next g. turns_wider most wide ks next last fits g) refl e
+  advances_wider most wide [] state last fits e = e
+  advances_wider most wide (k ∷ ks) state last fits e =
+      wider_step most wide k ks state (advanced most state k) last fits
+      (λ next g. advances_wider most wide ks next last fits g) refl e
 
   -- tokens that were read begin a program
   pub begins : (most : Limits) (tokens : List TokenKind) (last : S)
@@ -249,7 +253,8 @@ module _ {S P : Type 0} {turned : Limits → S → TokenKind → Turn S} {gives 
       let fits : Fits most wide = record { brackets = omega arith; braces = omega arith; operators = omega arith } in
       let begun = laws.starts in
       let within = r.within (omega arith) in
-      let c = laws.completes wide last tokens (stands wide tokens last (turns_wider most wide tokens start last fits e))
+      let c = laws.completes wide last tokens (stands wide tokens last
+      (advances_wider most wide tokens start last fits e))
       (omega arith) in
       record {
         shallow = subst (λ z. Shallow most.braces 0 z) (append-nil tokens)
@@ -260,18 +265,18 @@ module _ {S P : Type 0} {turned : Limits → S → TokenKind → Turn S} {gives 
         sentence = c.sentence;
       }
 
-  through_step : (most other : Limits) (k : TokenKind) (ks more : List TokenKind) (state : S) (t : Turn S)
+  through_step : (most other : Limits) (k : TokenKind) (ks more : List TokenKind) (state : S) (t : Advance S)
       (last : S)
       (p : P) → ((next : S) → goes_over most next ks ≡ Goes last → tree_of other next (ks ++ more) ≡ Some p
-      → tree_of other last more ≡ Some p) → turned most state k ≡ t → then_turn t (λ next. goes_over most next ks)
+      → tree_of other last more ≡ Some p) → advanced most state k ≡ t → then_advance t (λ next. goes_over most next ks)
       ≡ Goes last
-      → after_turn (turned other state k) (λ next. tree_of other next (ks ++ more)) ≡ Some p
+      → after_advance (advanced other state k) (λ next. tree_of other next (ks ++ more)) ≡ Some p
       → tree_of other last more ≡ Some p
   through_step most other k ks more state (Goes next) last p rest is e w =
       elim (same_shape (laws.shape state k) most other next is) [
-        | inl g ↦ rest next e (sym (ap (λ t. after_turn t (λ n. tree_of other n (ks ++ more))) g) ∙ w)
+        | inl g ↦ rest next e (sym (ap (λ t. after_advance t (λ n. tree_of other n (ks ++ more))) g) ∙ w)
         | inr m ↦
-            (let f : None ≡ Some p = sym (ap (λ t. after_turn t (λ n. tree_of other n (ks ++ more))) m) ∙ w in
+            (let f : None ≡ Some p = sym (ap (λ t. after_advance t (λ n. tree_of other n (ks ++ more))) m) ∙ w in
             absurd (cc))
       ]
   through_step most other k ks more state Wrong last p rest is e w = absurd (cc)
@@ -284,7 +289,7 @@ module _ {S P : Type 0} {turned : Limits → S → TokenKind → Turn S} {gives 
   through most other [] more state last p e w =
       let f : state ≡ last = cc in subst (λ z. tree_of other z more ≡ Some p) f w
   through most other (k ∷ ks) more state last p e w =
-      through_step most other k ks more state (turned most state k) last p
+      through_step most other k ks more state (advanced most state k) last p
       (λ next g v. through most other ks more next last p g v) refl e w
 
   goes_on : (most other : Limits) (tokens : List TokenKind) (k : TokenKind) (last : S) (more : List TokenKind)
@@ -297,13 +302,13 @@ module _ {S P : Type 0} {turned : Limits → S → TokenKind → Turn S} {gives 
 
   -- with a token that is wrong no program begins
   pub wrong_begins : (most other : Limits) (tokens : List TokenKind) (k : TokenKind) (last : S)
-      → goes_over most start tokens ≡ Goes last → turned most last k ≡ Wrong → ProgramBegins other (tokens ++ k ∷ [])
+      → goes_over most start tokens ≡ Goes last → advanced most last k ≡ Wrong → ProgramBegins other (tokens ++ k ∷ [])
       → ⊥
   wrong_begins most other tokens k last e w b =
       let o : Limits = record { brackets = other.brackets; braces = b.braces; operators = other.operators } in
       let f = goes_on most o tokens k last b.more b.tree e b.sentence in
       let g : None ≡ Some b.tree =
-      sym (ap (λ t. after_turn t (λ n. tree_of o n b.more)) (wrong_shape (laws.shape last k) most o w)) ∙ f in
+      sym (ap (λ t. after_advance t (λ n. tree_of o n b.more)) (wrong_shape (laws.shape last k) most o w)) ∙ f in
       absurd (cc)
 
   brace_fits : (most count : ℕ) (k : TokenKind) → k ≡ kind.LBrace → most ≤ count → Shallow most count (k ∷ []) → ⊥
@@ -313,47 +318,48 @@ module _ {S P : Type 0} {turned : Limits → S → TokenKind → Turn S} {gives 
 
   much_step : (most other : Limits) (tokens : List TokenKind) (k : TokenKind) (last : S)
       (more : List TokenKind) (p : P)
-      (t : Turn S) → most.brackets ≡ other.brackets → most.operators ≡ other.operators
-      → turned other last k ≡ t → after_turn t (λ n. tree_of other n more) ≡ Some p → turned most last k ≡ TooMuch
-      → Shallow most.braces (count_of last) (k ∷ []) → ⊥
+      (t : Advance S) → most.brackets ≡ other.brackets → most.operators ≡ other.operators
+      → advanced other last k ≡ t → after_advance t (λ n. tree_of other n more) ≡ Some p → advanced most last k
+      ≡ TooMuch
+      → Shallow most.braces (open_braces last) (k ∷ []) → ⊥
   much_step most other tokens k last more p (Goes next) a b is w e s =
       let f = brace_shape (laws.shape last k) most other next a b e is in brace_fits most.braces
-      (count_of last) k f.0 f.1 s
+      (open_braces last) k f.0 f.1 s
   much_step most other tokens k last more p Wrong a b is w e s = absurd (cc)
   much_step most other tokens k last more p TooMuch a b is w e s = absurd (cc)
 
   -- with a token that is too much no program begins within the limits
   pub much_begins : (most : Limits) (tokens : List TokenKind) (k : TokenKind) (last : S)
-      → goes_over most start tokens ≡ Goes last → turned most last k ≡ TooMuch → ProgramBegins most (tokens ++ k ∷ [])
+      → goes_over most start tokens ≡ Goes last → advanced most last k ≡ TooMuch → ProgramBegins most (tokens ++ k ∷ [])
       → ⊥
   much_begins most tokens k last e w b =
       let o : Limits = record { brackets = most.brackets; braces = b.braces; operators = most.operators } in
       let f = goes_on most o tokens k last b.more b.tree e b.sentence in
-      much_step most o tokens k last b.more b.tree (turned o last k) refl refl refl f w
+      much_step most o tokens k last b.more b.tree (advanced o last k) refl refl refl f w
       ((read most tokens start last e).deeper (k ∷ [])
       (subst (λ n. Shallow most.braces n (tokens ++ k ∷ [])) (sym laws.starts) b.shallow))
 
   -- one token more
-  pub turn_at : (t : Turn S) (next : S → Turn S) (last : S) → t ≡ Goes last → then_turn t next ≡ next last
-  turn_at t next last e = ap (λ z. then_turn z next) e
+  pub advance_at : (t : Advance S) (next : S → Advance S) (last : S) → t ≡ Goes last → then_advance t next ≡ next last
+  advance_at t next last e = ap (λ z. then_advance z next) e
 
-  more_step : (most : Limits) (k : TokenKind) (ks : List TokenKind) (t : Turn S) (last next : S)
+  more_step : (most : Limits) (k : TokenKind) (ks : List TokenKind) (t : Advance S) (last next : S)
       → ((s : S) → goes_over most s ks ≡ Goes last → goes_over most s (ks ++ k ∷ []) ≡ Goes next)
-      → then_turn t (λ s. goes_over most s ks) ≡ Goes last → then_turn t (λ s. goes_over most s (ks ++ k ∷ []))
+      → then_advance t (λ s. goes_over most s ks) ≡ Goes last → then_advance t (λ s. goes_over most s (ks ++ k ∷ []))
       ≡ Goes next
   more_step most k ks (Goes s) last next rest e = rest s e
   more_step most k ks Wrong last next rest e = absurd (cc)
   more_step most k ks TooMuch last next rest e = absurd (cc)
 
-  -- one turn more
-  pub one_more_turn : (most : Limits) (ks : List TokenKind) (k : TokenKind) (state last next : S)
-      → goes_over most state ks ≡ Goes last → turned most last k ≡ Goes next → goes_over most state (ks ++ k ∷ [])
+  -- one advance more
+  pub one_more_advance : (most : Limits) (ks : List TokenKind) (k : TokenKind) (state last next : S)
+      → goes_over most state ks ≡ Goes last → advanced most last k ≡ Goes next → goes_over most state (ks ++ k ∷ [])
       ≡ Goes next
-  one_more_turn most [] k state last next e g =
+  one_more_advance most [] k state last next e g =
       let f : state ≡ last = cc in
-      turn_at (turned most state k) (λ s. Goes s) next (subst (λ z. turned most z k ≡ Goes next) (sym f) g)
-  one_more_turn most (k1 ∷ ks) k state last next e g =
-      more_step most k ks (turned most state k1) last next (λ s h. one_more_turn most ks k s last next h g) e
+      advance_at (advanced most state k) (λ s. Goes s) next (subst (λ z. advanced most z k ≡ Goes next) (sym f) g)
+  one_more_advance most (k1 ∷ ks) k state last next e g =
+      more_step most k ks (advanced most state k1) last next (λ s h. one_more_advance most ks k s last next h g) e
 
   -- with a token that is too much one begins within wider limits
   pub record WiderBegins (tokens : List TokenKind) : Type 0 where
@@ -362,13 +368,13 @@ module _ {S P : Type 0} {turned : Limits → S → TokenKind → Turn S} {gives 
 
   -- a token that nests too deep would go on with wider limits
   pub wider_begins : (most : Limits) (tokens : List TokenKind) (k : TokenKind) (last : S)
-      → goes_over most start tokens ≡ Goes last → turned most last k ≡ TooMuch → WiderBegins (tokens ++ k ∷ [])
+      → goes_over most start tokens ≡ Goes last → advanced most last k ≡ TooMuch → WiderBegins (tokens ++ k ∷ [])
   wider_begins most tokens k last e w =
       let d = deep_shape (laws.shape last k) most w in
-      let f = turns_wider most d.wide tokens start last d.fits e in
+      let f = advances_wider most d.wide tokens start last d.fits e in
       record {
         wide = d.wide;
-        begins = begins d.wide (tokens ++ k ∷ []) d.next (one_more_turn d.wide tokens k start last d.next f d.goes);
+        begins = begins d.wide (tokens ++ k ∷ []) d.next (one_more_advance d.wide tokens k start last d.next f d.goes);
       }
 
   -- tokens that lead to a whole program are one
@@ -388,44 +394,44 @@ module _ {S P : Type 0} {turned : Limits → S → TokenKind → Turn S} {gives 
   -- tokens of which a program is read are read one by one
   pub record Reads (most : Limits) (tokens : List TokenKind) (state : S) : Type 0 where
     pub last : S
-    pub turns_to : goes_over most state tokens ≡ Goes last
+    pub advances_to : goes_over most state tokens ≡ Goes last
 
-  reads_step : (most : Limits) (k : TokenKind) (ks more : List TokenKind) (state : S) (t : Turn S) (p : P)
-      → ((next : S) → tree_of most next (ks ++ more) ≡ Some p → Reads most ks next) → turned most state k ≡ t
-      → after_turn t (λ next. tree_of most next (ks ++ more)) ≡ Some p → Reads most (k ∷ ks) state
+  reads_step : (most : Limits) (k : TokenKind) (ks more : List TokenKind) (state : S) (t : Advance S) (p : P)
+      → ((next : S) → tree_of most next (ks ++ more) ≡ Some p → Reads most ks next) → advanced most state k ≡ t
+      → after_advance t (λ next. tree_of most next (ks ++ more)) ≡ Some p → Reads most (k ∷ ks) state
   reads_step most k ks more state (Goes next) p rest is e =
       let r = rest next e in
-      record { last = r.last; turns_to = ap (λ t. then_turn t (λ n. goes_over most n ks)) is ∙ r.turns_to }
+      record { last = r.last; advances_to = ap (λ t. then_advance t (λ n. goes_over most n ks)) is ∙ r.advances_to }
   reads_step most k ks more state Wrong p rest is e = absurd (cc)
   reads_step most k ks more state TooMuch p rest is e = absurd (cc)
 
   reads_front : (most : Limits) (ks more : List TokenKind) (state : S) (p : P)
       → tree_of most state (ks ++ more) ≡ Some p → Reads most ks state
-  reads_front most [] more state p e = record { last = state; turns_to = refl }
+  reads_front most [] more state p e = record { last = state; advances_to = refl }
   reads_front most (k ∷ ks) more state p e =
-      reads_step most k ks more state (turned most state k) p (λ next g. reads_front most ks more next p g) refl e
+      reads_step most k ks more state (advanced most state k) p (λ next g. reads_front most ks more next p g) refl e
 
   -- each front of a program begins one
   pub front_begins : (most : Limits) (front back : List TokenKind) (p : P)
       → Sentence most (front ++ back) p → ProgramBegins most front
   front_begins most front back p s =
-      let r = reads_front most front back start p (laws.read _ _ _ s) in begins most front r.last r.turns_to
+      let r = reads_front most front back start p (laws.read _ _ _ s) in begins most front r.last r.advances_to
 
   -- a token that the goes_over take
   pub goes_at : (tokens : List Token) (i : ℕ) (token : Token) (state next : S)
       → i < length tokens → token ≡ get_or tokens i token → goes_over limits start (token_kinds (take i tokens))
       ≡ Goes state
-      → turned limits state token.kind ≡ Goes next → goes_over limits start (token_kinds (take (i + 1) tokens))
+      → advanced limits state token.kind ≡ Goes next → goes_over limits start (token_kinds (take (i + 1) tokens))
       ≡ Goes next
   goes_at tokens i token state next h is before now =
       ap (λ ks. goes_over limits start ks) (kinds_more tokens i token h is)
-      ∙ one_more_turn limits (token_kinds (take i tokens)) token.kind start state next before now
+      ∙ one_more_advance limits (token_kinds (take i tokens)) token.kind start state next before now
 
   -- a token that can't stand where it stands
   pub unexpected_at : (tokens : List Token) (i : ℕ) (token : Token) (state : S)
       → i < length tokens → token ≡ get_or tokens i token → goes_over limits start (token_kinds (take i tokens))
       ≡ Goes state
-      → turned limits state token.kind ≡ Wrong → Stray Sentence tokens token.start
+      → advanced limits state token.kind ≡ Wrong → Stray Sentence tokens token.start
   unexpected_at tokens i token state h is before now = record {
     before = take i tokens;
     token = token;
@@ -440,7 +446,7 @@ module _ {S P : Type 0} {turned : Limits → S → TokenKind → Turn S} {gives 
   pub too_deep_at : (tokens : List Token) (i : ℕ) (token : Token) (state : S)
       → i < length tokens → token ≡ get_or tokens i token → goes_over limits start (token_kinds (take i tokens))
       ≡ Goes state
-      → turned limits state token.kind ≡ TooMuch → Deeper Sentence tokens token.start
+      → advanced limits state token.kind ≡ TooMuch → Deeper Sentence tokens token.start
   too_deep_at tokens i token state h is before now =
       let wider = wider_begins limits (token_kinds (take i tokens)) token.kind state before now in
       record {

@@ -3,7 +3,7 @@ pub mod Refusals
 pub mod Operands
 pub mod Headings
 pub mod Parts
-pub mod Turns
+pub mod Advances
 pub mod Seen
 pub mod Explained
 pub mod Printable

@@ -6,7 +6,7 @@ use Rattle.src_lexer.specs.declared.tokens.TokenKind.{TokenKind}
 use Rattle.src_lexer.specs.declared.tokens.TokenKind.TheVariants as kind
 use Rattle.src_tree.specs.Trees.{Tree, Test}
 use Rattle.src_parser.specs.Grammar.{Limits, comparison_of}
-use Rattle.src_parser.specs.Tokenwise.{Turn, Goes, Wrong, TooMuch}
+use Rattle.src_parser.specs.Tokenwise.{Advance, Goes, Wrong, TooMuch}
 use Rattle.src_parser.specs.Operands.{Reading, At, Wanted, TokenStep, Moves, Stops, Deep, reads, whole, used_of}
 
 -- whether a guard is that of a choice or of a loop
@@ -40,32 +40,32 @@ pub data PartState : Type 0 where
   Done : (made : Made) → PartState
 
 -- what a token of an expression does, where its reading goes on, and where it ends with the token
-abbrev pub after_step : {S : Type 0} → (Reading → S) → (Reading → Turn S) → TokenStep → Turn S
+abbrev pub after_step : {S : Type 0} → (Reading → S) → (Reading → Advance S) → TokenStep → Advance S
 after_step on over (Moves x) = Goes (on x)
 after_step on over (Stops x) = over x
 after_step on over Deep = TooMuch
 
 -- a token behind the name of an assignment
-abbrev pub targeting : List ℕ → TokenKind → Turn PartState
+abbrev pub targeting : List ℕ → TokenKind → Advance PartState
 targeting name kind.Assign = Goes (Still (Inside (Value name) (At [] 0 0 Wanted)))
 targeting name kind.LBracket = Goes (Still (Inside (Place name) (At [] 1 0 Wanted)))
 targeting name _ = Wrong
 
-abbrev pub placing : List ℕ → Tree → ℕ → TokenKind → Turn PartState
+abbrev pub placing : List ℕ → Tree → ℕ → TokenKind → Advance PartState
 placing name index used kind.Assign = Goes (Still (Inside (Stored name index) (At [] 0 used Wanted)))
 placing name index used _ = Wrong
 
-abbrev pub guarding : Form → TokenKind → Turn PartState
+abbrev pub guarding : Form → TokenKind → Advance PartState
 guarding form kind.LParen = Goes (Still (Inside (Left form) (At [] 0 0 Wanted)))
 guarding form _ = Wrong
 
 -- a comparison, or none
-abbrev pub comparing : Form → Tree → ℕ → Option Cmp → Turn PartState
+abbrev pub comparing : Form → Tree → ℕ → Option Cmp → Advance PartState
 comparing form left used (Some cmp) = Goes (Still (Inside (Right form cmp left) (At [] 0 used Wanted)))
 comparing form left used None = Wrong
 
 -- a token behind the whole expression that was asked for
-abbrev pub behind_expression : Asked → Tree → ℕ → TokenKind → Turn PartState
+abbrev pub behind_expression : Asked → Tree → ℕ → TokenKind → Advance PartState
 behind_expression (Value name) tree used kind.Semi = Goes (Done (VariableSet name tree))
 behind_expression (Value name) tree used _ = Wrong
 behind_expression (Place name) tree used kind.RBracket = Goes (Still (Placed name tree used))
@@ -77,18 +77,18 @@ behind_expression (Right form cmp left) tree used kind.RParen =
     Goes (Done (GuardRead form (record { cmp = cmp; left = left; right = tree })))
 behind_expression (Right form cmp left) tree used _ = Wrong
 
-abbrev pub ending_where : Asked → Option Tree → ℕ → TokenKind → Turn PartState
+abbrev pub ending_where : Asked → Option Tree → ℕ → TokenKind → Advance PartState
 ending_where asked None used k = Wrong
 ending_where asked (Some tree) used k = behind_expression asked tree used k
 
 -- a token where an expression is read
-abbrev pub in_expression : Asked → TokenKind → TokenStep → Turn PartState
+abbrev pub in_expression : Asked → TokenKind → TokenStep → Advance PartState
 in_expression asked k s =
     after_step (λ x. Still (Inside asked x)) (λ x. ending_where asked (whole x) (used_of x) k) s
 
 -- a token of a part
-abbrev pub part_turned : Limits → Part → TokenKind → Turn PartState
-part_turned most (Target name) k = targeting name k
-part_turned most (Placed name index used) k = placing name index used k
-part_turned most (Guarding form) k = guarding form k
-part_turned most (Inside asked x) k = in_expression asked k (reads most x k)
+abbrev pub part_advanced : Limits → Part → TokenKind → Advance PartState
+part_advanced most (Target name) k = targeting name k
+part_advanced most (Placed name index used) k = placing name index used k
+part_advanced most (Guarding form) k = guarding form k
+part_advanced most (Inside asked x) k = in_expression asked k (reads most x k)

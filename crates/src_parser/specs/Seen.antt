@@ -21,12 +21,12 @@ use Rattle.src_parser.specs.declared.parts.Part as parts
 use Rattle.src_parser.specs.declared.parts.Part.TheVariants as part
 use Rattle.src_parser.specs.declared.parts.Made as mades
 use Rattle.src_parser.specs.declared.parts.Made.TheVariants as made
-use Rattle.src_parser.specs.declared.parts.PartTurn as part_turns
-use Rattle.src_parser.specs.declared.parts.PartTurn.TheVariants as part_turn
+use Rattle.src_parser.specs.declared.parts.PartAdvance as part_advances
+use Rattle.src_parser.specs.declared.parts.PartAdvance.TheVariants as part_advance
 use Rattle.src_parser.specs.declared.headings.Heading as headings
 use Rattle.src_parser.specs.declared.headings.Heading.TheVariants as heading
-use Rattle.src_parser.specs.declared.headings.HeadingTurn as heading_turns
-use Rattle.src_parser.specs.declared.headings.HeadingTurn.TheVariants as heading_turn
+use Rattle.src_parser.specs.declared.headings.HeadingAdvance as heading_advances
+use Rattle.src_parser.specs.declared.headings.HeadingAdvance.TheVariants as heading_advance
 use Rattle.src_parser.specs.declared.states.Outer as outers
 use Rattle.src_parser.specs.declared.states.Outer.TheVariants as outer
 use Rattle.src_parser.specs.declared.states.Pause as pauses
@@ -35,13 +35,13 @@ use Rattle.src_parser.specs.declared.states.Phase as modes
 use Rattle.src_parser.specs.declared.states.Phase.TheVariants as mode
 use Rattle.src_parser.specs.declared.states.ParserState as states
 use Rattle.src_parser.specs.declared.states.ParserState.TheVariants as state
-use Rattle.src_parser.specs.declared.states.Turn as turns
-use Rattle.src_parser.specs.declared.states.Turn.TheVariants as turn
+use Rattle.src_parser.specs.declared.states.Advance as advances
+use Rattle.src_parser.specs.declared.states.Advance.TheVariants as advance
 use Rattle.src_parser.specs.declared.states.Blocks as blocks
 use Rattle.src_parser.specs.Headings.{Heading, Labelled, Typed, Titled, Sizing, Sized, Closing, HeadingState, Begun, Declared}
 use Rattle.src_parser.specs.Parts.{Form, ForChoice, ForLoop, Asked, Value, Place, Stored, Left, Right, Part, Target, Placed, Guarding, Inside, Made, VariableSet, ElementSet, GuardRead, PartState, Still, Done}
-use Rattle.src_parser.specs.Turns.{Outer, InFirst, InSecond, InLoop, Phase, Ready, MayElse, InPart, Guarded, Otherwise, ParserState, Between, Declaring, Doing}
-use Rattle.src_parser.specs.Tokenwise.{Turn, Goes, Wrong, TooMuch}
+use Rattle.src_parser.specs.Advances.{Outer, InFirst, InSecond, InLoop, Phase, Ready, MayElse, InPart, Guarded, Otherwise, ParserState, Between, Declaring, Doing}
+use Rattle.src_parser.specs.Tokenwise.{Advance, Goes, Wrong, TooMuch}
 use Rattle.src_parser.specs.Operands.{Waiting, Open, Index, Sign, Pending, OperandState, Wanted, Named, Given, Reading, At, TokenStep, Moves, Stops, Deep, Joint, Joins}
 
 abbrev pub frame_of : frames.Waiting → Waiting
@@ -97,11 +97,11 @@ made_of (made.Element name index value) = ElementSet name (expr_tree index) (exp
 made_of (made.Guard f guard) = GuardRead (form_of f) (test_of guard)
 
 -- by the part that is left
-abbrev pub part_turn_of : part_turns.PartTurn → Part → Turn PartState
-part_turn_of part_turn.Moves p = Goes (Still p)
-part_turn_of (part_turn.Ends m) p = Goes (Done (made_of m))
-part_turn_of part_turn.Wrong p = Wrong
-part_turn_of part_turn.TooMuch p = TooMuch
+abbrev pub part_advance_of : part_advances.PartAdvance → Part → Advance PartState
+part_advance_of part_advance.Moves p = Goes (Still p)
+part_advance_of (part_advance.Ends m) p = Goes (Done (made_of m))
+part_advance_of part_advance.Wrong p = Wrong
+part_advance_of part_advance.TooMuch p = TooMuch
 
 abbrev pub heading_of : headings.Heading → Heading
 heading_of (heading.Labelled label) = Labelled label
@@ -111,10 +111,10 @@ heading_of (heading.Sizing label name) = Sizing label name
 heading_of (heading.Sized label name n) = Sized label name n
 heading_of (heading.Closing label name n) = Closing label name n
 
-abbrev pub heading_turn_of : heading_turns.HeadingTurn → Turn HeadingState
-heading_turn_of (heading_turn.Goes h) = Goes (Begun (heading_of h))
-heading_turn_of (heading_turn.Ends decl) = Goes (Declared decl)
-heading_turn_of heading_turn.Wrong = Wrong
+abbrev pub heading_advance_of : heading_advances.HeadingAdvance → Advance HeadingState
+heading_advance_of (heading_advance.Goes h) = Goes (Begun (heading_of h))
+heading_advance_of (heading_advance.Ends decl) = Goes (Declared decl)
+heading_advance_of heading_advance.Wrong = Wrong
 
 abbrev pub statements_seen : List Stmt → List Statement
 statements_seen statements = map statement_of statements
@@ -148,7 +148,7 @@ state_of (state.Declaring decls h) = Declaring decls.items (heading_of h)
 state_of (state.Doing b mode) = doing b (mode_of mode)
 
 -- by the state that is left
-abbrev pub turn_of : turns.Turn → ParserState → Turn ParserState
-turn_of turn.Goes s = Goes s
-turn_of turn.Wrong s = Wrong
-turn_of turn.TooMuch s = TooMuch
+abbrev pub advance_of : advances.Advance → ParserState → Advance ParserState
+advance_of advance.Goes s = Goes s
+advance_of advance.Wrong s = Wrong
+advance_of advance.TooMuch s = TooMuch

@@ -6,41 +6,41 @@ use Rattle.src_lexer.specs.declared.tokens.Token.{Token}
 use Rattle.src_parser.specs.Grammar.{Limits, limits}
 use Rattle.src_parser.specs.Refusals.{token_kinds, Shallow}
 
-pub data Turn (S : Type 0) : Type 0 where
-  Goes : (state : S) → Turn S
-  Wrong : Turn S
-  TooMuch : Turn S
+pub data Advance (S : Type 0) : Type 0 where
+  Goes : (state : S) → Advance S
+  Wrong : Advance S
+  TooMuch : Advance S
 
--- a turn of a part, as one of the whole
-abbrev pub mapped : {A B : Type 0} → (A → B) → Turn A → Turn B
+-- an advance of a part, as one of the whole
+abbrev pub mapped : {A B : Type 0} → (A → B) → Advance A → Advance B
 mapped f (Goes state) = Goes (f state)
 mapped f Wrong = Wrong
 mapped f TooMuch = TooMuch
 
 -- one that opens a brace, where there is room
-abbrev pub with_braces : {S : Type 0} → Bool → S → Turn S
+abbrev pub with_braces : {S : Type 0} → Bool → S → Advance S
 with_braces true state = Goes state
 with_braces false state = TooMuch
 
-abbrev pub then_turn : {S : Type 0} → Turn S → (S → Turn S) → Turn S
-then_turn (Goes state) next = next state
-then_turn Wrong next = Wrong
-then_turn TooMuch next = TooMuch
+abbrev pub then_advance : {S : Type 0} → Advance S → (S → Advance S) → Advance S
+then_advance (Goes state) next = next state
+then_advance Wrong next = Wrong
+then_advance TooMuch next = TooMuch
 
-abbrev pub turns : {S : Type 0} → (Limits → S → TokenKind → Turn S) → Limits → S → List TokenKind → Turn S
-turns turned most state [] = Goes state
-turns turned most state (k ∷ ks) = then_turn (turned most state k) (λ next. turns turned most next ks)
+abbrev pub advances : {S : Type 0} → (Limits → S → TokenKind → Advance S) → Limits → S → List TokenKind → Advance S
+advances advanced most state [] = Goes state
+advances advanced most state (k ∷ ks) = then_advance (advanced most state k) (λ next. advances advanced most next ks)
 
-abbrev pub after_turn : {S P : Type 0} → Turn S → (S → Option P) → Option P
-after_turn (Goes state) next = next state
-after_turn Wrong next = None
-after_turn TooMuch next = None
+abbrev pub after_advance : {S P : Type 0} → Advance S → (S → Option P) → Option P
+after_advance (Goes state) next = next state
+after_advance Wrong next = None
+after_advance TooMuch next = None
 
-abbrev pub parsed : {S P : Type 0} → (Limits → S → TokenKind → Turn S) → (S → Option P) → Limits → S → List TokenKind
+abbrev pub parsed : {S P : Type 0} → (Limits → S → TokenKind → Advance S) → (S → Option P) → Limits → S → List TokenKind
     → Option P
-parsed turned gives most state [] = gives state
-parsed turned gives most state (k ∷ ks) =
-    after_turn (turned most state k) (λ next. parsed turned gives most next ks)
+parsed advanced gives most state [] = gives state
+parsed advanced gives most state (k ∷ ks) =
+    after_advance (advanced most state k) (λ next. parsed advanced gives most next ks)
 
 -- some more tokens make a sentence
 pub record Completes {P : Type 0} (Sentence : Limits → List TokenKind → P → Type 0) (most : Limits)

@@ -1,7 +1,7 @@
 ghost use Rattle.std.specs.Prelude.{◌≡◌, IfOk};
 ghost use Rattle.src_lexer.specs.declared.tokens.TokenKind.TheVariants.{Num};
-ghost use Rattle.src_parser.specs.Headings.{declared, heading_turned, Declared, Sizing, Typed};
-ghost use Rattle.src_parser.specs.Seen.{heading_of, heading_turn_of};
+ghost use Rattle.src_parser.specs.Headings.{declared, heading_advanced, Declared, Sizing, Typed};
+ghost use Rattle.src_parser.specs.Seen.{heading_of, heading_advance_of};
 ghost use Rattle.src_parser.specs.Tokenwise.{Goes};
 
 use gr_base::Memory;
@@ -23,17 +23,17 @@ pub enum Heading {
 
 /// What a token does to a declaration: it is read; it ends the declaration; none goes on with it.
 #[derive(Drop)]
-pub enum HeadingTurn {
+pub enum HeadingAdvance {
     Goes(Heading),
     Ends(Decl),
     Wrong,
 }
 
 // The whole declaration.
-fn end(label: Label, name: Name, length: Option<u64>) -> HeadingTurn
-    ensures { heading_turn_of result ≡ Goes (Declared (declared label name length)) }
+fn end(label: Label, name: Name, length: Option<u64>) -> HeadingAdvance
+    ensures { heading_advance_of result ≡ Goes (Declared (declared label name length)) }
 {
-    HeadingTurn::Ends(Decl {
+    HeadingAdvance::Ends(Decl {
         name,
         label,
         length,
@@ -41,24 +41,24 @@ fn end(label: Label, name: Name, length: Option<u64>) -> HeadingTurn
 }
 
 // The length of an array.
-fn size(label: Label, name: Name, value: i64) -> HeadingTurn
-    ensures { heading_turn_of result ≡ heading_turned (Sizing label name) (Num value) }
+fn size(label: Label, name: Name, value: i64) -> HeadingAdvance
+    ensures { heading_advance_of result ≡ heading_advanced (Sizing label name) (Num value) }
 {
     if value < 0 {
-        return HeadingTurn::Wrong;
+        return HeadingAdvance::Wrong;
     }
-    HeadingTurn::Goes(Heading::Sized(label, name, value as u64))
+    HeadingAdvance::Goes(Heading::Sized(label, name, value as u64))
 }
 
-fn typed(alloc: Global, label: Label, kind: &TokenKind) -> Result<HeadingTurn, Memory>
-    ensures { IfOk result (λ t. heading_turn_of t ≡ heading_turned (Typed label) kind.now) }
+fn typed(alloc: Global, label: Label, kind: &TokenKind) -> Result<HeadingAdvance, Memory>
+    ensures { IfOk result (λ t. heading_advance_of t ≡ heading_advanced (Typed label) kind.now) }
 {
     match kind {
         TokenKind::Word(name) => {
             let name = name.copy(alloc)?;
-            Ok(HeadingTurn::Goes(Heading::Titled(label, name)))
+            Ok(HeadingAdvance::Goes(Heading::Titled(label, name)))
         }
-        _ => Ok(HeadingTurn::Wrong),
+        _ => Ok(HeadingAdvance::Wrong),
     }
 }
 
@@ -67,31 +67,31 @@ pub fn read_heading(
     alloc: Global,
     heading: Heading,
     kind: &TokenKind,
-) -> Result<HeadingTurn, Memory>
-    ensures { IfOk result (λ t. heading_turn_of t ≡ heading_turned (heading_of heading) kind.now) }
+) -> Result<HeadingAdvance, Memory>
+    ensures { IfOk result (λ t. heading_advance_of t ≡ heading_advanced (heading_of heading) kind.now) }
 {
     match heading {
         Heading::Labelled(label) => match kind {
-            TokenKind::Int => Ok(HeadingTurn::Goes(Heading::Typed(label))),
-            _ => Ok(HeadingTurn::Wrong),
+            TokenKind::Int => Ok(HeadingAdvance::Goes(Heading::Typed(label))),
+            _ => Ok(HeadingAdvance::Wrong),
         },
         Heading::Typed(label) => typed(alloc, label, kind),
         Heading::Titled(label, name) => match kind {
             TokenKind::Semi => Ok(end(label, name, None)),
-            TokenKind::LBracket => Ok(HeadingTurn::Goes(Heading::Sizing(label, name))),
-            _ => Ok(HeadingTurn::Wrong),
+            TokenKind::LBracket => Ok(HeadingAdvance::Goes(Heading::Sizing(label, name))),
+            _ => Ok(HeadingAdvance::Wrong),
         },
         Heading::Sizing(label, name) => match kind {
             TokenKind::Num(value) => Ok(size(label, name, *value)),
-            _ => Ok(HeadingTurn::Wrong),
+            _ => Ok(HeadingAdvance::Wrong),
         },
         Heading::Sized(label, name, length) => match kind {
-            TokenKind::RBracket => Ok(HeadingTurn::Goes(Heading::Closing(label, name, length))),
-            _ => Ok(HeadingTurn::Wrong),
+            TokenKind::RBracket => Ok(HeadingAdvance::Goes(Heading::Closing(label, name, length))),
+            _ => Ok(HeadingAdvance::Wrong),
         },
         Heading::Closing(label, name, length) => match kind {
             TokenKind::Semi => Ok(end(label, name, Some(length))),
-            _ => Ok(HeadingTurn::Wrong),
+            _ => Ok(HeadingAdvance::Wrong),
         },
     }
 }

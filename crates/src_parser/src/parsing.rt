@@ -3,14 +3,14 @@ ghost use Rattle.src_tree.specs.Trees.{source_of};
 ghost use Rattle.src_parser.specs.Explained.{ExplainsTokens};
 ghost use Rattle.src_parser.specs.Grammar.{limits, Sentence};
 ghost use Rattle.src_parser.specs.Refusals.{token_kinds};
-ghost use Rattle.src_parser.specs.Seen.{turn_of, state_of, doing, heading_of, pause_of, mode_of};
-ghost use Rattle.src_parser.specs.Turns.{between, between_statements, turned, program_of, Declaring, Ready};
+ghost use Rattle.src_parser.specs.Seen.{advance_of, state_of, doing, heading_of, pause_of, mode_of};
+ghost use Rattle.src_parser.specs.Advances.{between, between_statements, advanced, program_of, Declaring, Ready};
 
 use crate::errors::ParseError;
-use crate::headings::{Heading, HeadingTurn, read_heading};
+use crate::headings::{Heading, HeadingAdvance, read_heading};
 use crate::putting::put;
 use crate::statements::{begin, choose, perform};
-use crate::states::{Blocks, ParserState, Pause, Phase, Turn};
+use crate::states::{Advance, Blocks, ParserState, Pause, Phase};
 use gr_base::Memory;
 use gr_word::Label;
 use src_lexer::{Token, TokenKind};
@@ -24,8 +24,8 @@ fn start(
     state: &mut ParserState,
     decls: Vec<Decl>,
     kind: &TokenKind,
-) -> Result<Turn, Memory>
-    ensures { IfOk result (λ t. turn_of t (state_of state.new) ≡ between_statements decls.items [] [] kind.now) }
+) -> Result<Advance, Memory>
+    ensures { IfOk result (λ t. advance_of t (state_of state.new) ≡ between_statements decls.items [] [] kind.now) }
 {
     let mut blocks = Blocks {
         decls,
@@ -33,9 +33,9 @@ fn start(
         here: Vec::new(alloc),
     };
     let mut mode = Phase::Between(Pause::Ready);
-    let turn = begin(alloc, &mut blocks, &mut mode, kind);
+    let advance = begin(alloc, &mut blocks, &mut mode, kind);
     put(state, ParserState::Doing(blocks, mode));
-    turn
+    advance
 }
 
 // A token between declarations, or the first of the statements.
@@ -44,8 +44,8 @@ fn begin_declaration(
     state: &mut ParserState,
     decls: Vec<Decl>,
     kind: &TokenKind,
-) -> Result<Turn, Memory>
-    ensures { IfOk result (λ t. turn_of t (state_of state.new) ≡ between decls.items kind.now) }
+) -> Result<Advance, Memory>
+    ensures { IfOk result (λ t. advance_of t (state_of state.new) ≡ between decls.items kind.now) }
 {
     match kind {
         TokenKind::Public => {
@@ -53,14 +53,14 @@ fn begin_declaration(
                 state,
                 ParserState::Declaring(decls, Heading::Labelled(Label::Public)),
             );
-            Ok(Turn::Goes)
+            Ok(Advance::Goes)
         }
         TokenKind::Secret => {
             put(
                 state,
                 ParserState::Declaring(decls, Heading::Labelled(Label::Secret)),
             );
-            Ok(Turn::Goes)
+            Ok(Advance::Goes)
         }
         _ => start(alloc, state, decls, kind),
     }
@@ -73,27 +73,27 @@ fn declare(
     mut decls: Vec<Decl>,
     heading: Heading,
     kind: &TokenKind,
-) -> Result<Turn, Memory>
-    ensures { IfOk result (λ t. turn_of t (state_of state.new)
-        ≡ turned limits (Declaring decls.items (heading_of heading)) kind.now) }
+) -> Result<Advance, Memory>
+    ensures { IfOk result (λ t. advance_of t (state_of state.new)
+        ≡ advanced limits (Declaring decls.items (heading_of heading)) kind.now) }
 {
     match read_heading(alloc, heading, kind)? {
-        HeadingTurn::Goes(next) => {
+        HeadingAdvance::Goes(next) => {
             put(state, ParserState::Declaring(decls, next));
-            Ok(Turn::Goes)
+            Ok(Advance::Goes)
         }
-        HeadingTurn::Ends(decl) => {
+        HeadingAdvance::Ends(decl) => {
             decls.push(decl)?;
             put(state, ParserState::Between(decls));
-            Ok(Turn::Goes)
+            Ok(Advance::Goes)
         }
-        HeadingTurn::Wrong => Ok(Turn::Wrong),
+        HeadingAdvance::Wrong => Ok(Advance::Wrong),
     }
 }
 
 // The next token of a program.
-fn take(alloc: Global, state: &mut ParserState, kind: &TokenKind) -> Result<Turn, Memory>
-    ensures { IfOk result (λ t. turn_of t (state_of state.new) ≡ turned limits (state_of state.old) kind.now) }
+fn take(alloc: Global, state: &mut ParserState, kind: &TokenKind) -> Result<Advance, Memory>
+    ensures { IfOk result (λ t. advance_of t (state_of state.new) ≡ advanced limits (state_of state.old) kind.now) }
 {
     match state {
         ParserState::Doing(blocks, mode) => perform(alloc, blocks, mode, kind),
@@ -171,12 +171,12 @@ pub fn parse(alloc: Global, tokens: &[Token]) -> Result<Program, ParseError>
     let mut state = ParserState::Between(Vec::new(alloc));
     for token in tokens {
         match take(alloc, &mut state, &token.kind)? {
-            Turn::Goes => {}
-            Turn::Wrong => {
+            Advance::Goes => {}
+            Advance::Wrong => {
                 drop(state);
                 return Err(ParseError::Unexpected(token.start));
             }
-            Turn::TooMuch => {
+            Advance::TooMuch => {
                 drop(state);
                 return Err(ParseError::TooDeep(token.start));
             }

@@ -1,8 +1,8 @@
 ghost use Rattle.std.specs.Prelude.{◌≡◌, IfOk};
 ghost use Rattle.src_tree.specs.Trees.{expr_tree};
 ghost use Rattle.src_parser.specs.Grammar.{limits, comparison_of};
-ghost use Rattle.src_parser.specs.Parts.{behind_expression, comparing, part_turned};
-ghost use Rattle.src_parser.specs.Seen.{asked_seen, form_of, lead_of, part_of, part_turn_of};
+ghost use Rattle.src_parser.specs.Parts.{behind_expression, comparing, part_advanced};
+ghost use Rattle.src_parser.specs.Seen.{asked_seen, form_of, lead_of, part_of, part_advance_of};
 
 use crate::expressions::{finish, fresh, read};
 use crate::putting::put;
@@ -57,7 +57,7 @@ pub enum Made {
 
 /// What a token does to a part: it is read; it ends the part; none goes on with it; it passes a limit.
 #[derive(Drop)]
-pub enum PartTurn {
+pub enum PartAdvance {
     Moves,
     Ends(Made),
     Wrong,
@@ -80,20 +80,20 @@ fn comparison(kind: &TokenKind) -> Option<Cmp>
 }
 
 // A token before an expression.
-fn lead_on(alloc: Global, part: &mut Part, lead: Lead, kind: &TokenKind) -> PartTurn
-    ensures { part_turn_of result (part_of part.new) ≡ part_turned limits (lead_of lead) kind.now }
+fn lead_on(alloc: Global, part: &mut Part, lead: Lead, kind: &TokenKind) -> PartAdvance
+    ensures { part_advance_of result (part_of part.new) ≡ part_advanced limits (lead_of lead) kind.now }
 {
     match lead {
         Lead::Target(name) => match kind {
             TokenKind::Assign => {
                 put(part, Part::Inside(Asked::Value(name), fresh(alloc, 0, 0)));
-                PartTurn::Moves
+                PartAdvance::Moves
             }
             TokenKind::LBracket => {
                 put(part, Part::Inside(Asked::Place(name), fresh(alloc, 1, 0)));
-                PartTurn::Moves
+                PartAdvance::Moves
             }
-            _ => PartTurn::Wrong,
+            _ => PartAdvance::Wrong,
         },
         Lead::Placed(name, index, used) => match kind {
             TokenKind::Assign => {
@@ -101,16 +101,16 @@ fn lead_on(alloc: Global, part: &mut Part, lead: Lead, kind: &TokenKind) -> Part
                     part,
                     Part::Inside(Asked::Stored(name, index), fresh(alloc, 0, used)),
                 );
-                PartTurn::Moves
+                PartAdvance::Moves
             }
-            _ => PartTurn::Wrong,
+            _ => PartAdvance::Wrong,
         },
         Lead::Guarding(form) => match kind {
             TokenKind::LParen => {
                 put(part, Part::Inside(Asked::Left(form), fresh(alloc, 0, 0)));
-                PartTurn::Moves
+                PartAdvance::Moves
             }
-            _ => PartTurn::Wrong,
+            _ => PartAdvance::Wrong,
         },
     }
 }
@@ -123,8 +123,8 @@ fn compare(
     left: Expr,
     used: u32,
     kind: &TokenKind,
-) -> PartTurn
-    ensures { part_turn_of result (part_of part.new)
+) -> PartAdvance
+    ensures { part_advance_of result (part_of part.new)
         ≡ comparing (form_of form) (expr_tree left) used (comparison_of kind.now) }
 {
     match comparison(kind) {
@@ -133,9 +133,9 @@ fn compare(
                 part,
                 Part::Inside(Asked::Right(form, cmp, left), fresh(alloc, 0, used)),
             );
-            PartTurn::Moves
+            PartAdvance::Moves
         }
-        None => PartTurn::Wrong,
+        None => PartAdvance::Wrong,
     }
 }
 
@@ -147,29 +147,29 @@ fn end(
     tree: Expr,
     used: u32,
     kind: &TokenKind,
-) -> PartTurn
-    ensures { part_turn_of result (part_of part.new)
+) -> PartAdvance
+    ensures { part_advance_of result (part_of part.new)
         ≡ behind_expression (asked_seen asked) (expr_tree tree) used kind.now }
 {
     match asked {
         Asked::Value(name) => match kind {
-            TokenKind::Semi => PartTurn::Ends(Made::Variable(name, tree)),
-            _ => PartTurn::Wrong,
+            TokenKind::Semi => PartAdvance::Ends(Made::Variable(name, tree)),
+            _ => PartAdvance::Wrong,
         },
         Asked::Place(name) => match kind {
             TokenKind::RBracket => {
                 put(part, Part::Before(Lead::Placed(name, tree, used)));
-                PartTurn::Moves
+                PartAdvance::Moves
             }
-            _ => PartTurn::Wrong,
+            _ => PartAdvance::Wrong,
         },
         Asked::Stored(name, index) => match kind {
-            TokenKind::Semi => PartTurn::Ends(Made::Element(name, index, tree)),
-            _ => PartTurn::Wrong,
+            TokenKind::Semi => PartAdvance::Ends(Made::Element(name, index, tree)),
+            _ => PartAdvance::Wrong,
         },
         Asked::Left(form) => compare(alloc, part, form, tree, used, kind),
         Asked::Right(form, cmp, left) => match kind {
-            TokenKind::RParen => PartTurn::Ends(Made::Guard(
+            TokenKind::RParen => PartAdvance::Ends(Made::Guard(
                 form,
                 Guard {
                     cmp,
@@ -177,14 +177,14 @@ fn end(
                     right: tree,
                 },
             )),
-            _ => PartTurn::Wrong,
+            _ => PartAdvance::Wrong,
         },
     }
 }
 
 /// The next token of a part. `Memory` says nothing of the tokens.
-pub fn read_part(alloc: Global, part: &mut Part, kind: &TokenKind) -> Result<PartTurn, Memory>
-    ensures { IfOk result (λ t. part_turn_of t (part_of part.new) ≡ part_turned limits (part_of part.old) kind.now) }
+pub fn read_part(alloc: Global, part: &mut Part, kind: &TokenKind) -> Result<PartAdvance, Memory>
+    ensures { IfOk result (λ t. part_advance_of t (part_of part.new) ≡ part_advanced limits (part_of part.old) kind.now) }
 {
     match part {
         Part::Before(lead) => {
@@ -192,16 +192,16 @@ pub fn read_part(alloc: Global, part: &mut Part, kind: &TokenKind) -> Result<Par
             Ok(lead_on(alloc, part, lead, kind))
         }
         Part::Inside(asked, reading) => match read(alloc, reading, kind)? {
-            TokenStep::Moves => Ok(PartTurn::Moves),
+            TokenStep::Moves => Ok(PartAdvance::Moves),
             TokenStep::Stops => {
                 let asked = mem::replace(asked, Asked::Left(Form::Choice));
                 let used = reading.used;
                 match finish(reading) {
-                    None => Ok(PartTurn::Wrong),
+                    None => Ok(PartAdvance::Wrong),
                     Some(tree) => Ok(end(alloc, part, asked, tree, used, kind)),
                 }
             }
-            TokenStep::Deep => Ok(PartTurn::TooMuch),
+            TokenStep::Deep => Ok(PartAdvance::TooMuch),
         },
     }
 }

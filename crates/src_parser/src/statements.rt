@@ -2,13 +2,13 @@ ghost use Rattle.std.specs.Prelude.{◌≡◌, ◌++◌, ◌∷◌, [], IfOk, le
 ghost use Rattle.src_tree.specs.Trees.{test_of, statement_of};
 ghost use Rattle.src_parser.specs.Grammar.{limits};
 ghost use Rattle.src_parser.specs.Parts.{Done};
-ghost use Rattle.src_parser.specs.Seen.{turn_of, outer_of, doing, outers_of, statements_seen, form_of, made_of, pause_of, mode_of};
+ghost use Rattle.src_parser.specs.Seen.{advance_of, outer_of, doing, outers_of, statements_seen, form_of, made_of, pause_of, mode_of};
 ghost use Rattle.src_parser.specs.Tokenwise.{Goes, with_braces};
-ghost use Rattle.src_parser.specs.Turns.{leaving, between_statements, chosen, elsing, entering, otherwise, does, with_part, Doing, Ready};
+ghost use Rattle.src_parser.specs.Advances.{leaving, between_statements, chosen, elsing, entering, otherwise, does, with_part, Doing, Ready};
 
-use crate::parts::{Form, Lead, Made, Part, PartTurn, read_part};
+use crate::parts::{Form, Lead, Made, Part, PartAdvance, read_part};
 use crate::putting::put;
-use crate::states::{Blocks, MAX_BRACES, Outer, Pause, Phase, Turn};
+use crate::states::{Advance, Blocks, MAX_BRACES, Outer, Pause, Phase};
 use gr_base::Memory;
 use src_lexer::TokenKind;
 use src_tree::{Guard, Stmt};
@@ -16,27 +16,27 @@ use std::alloc::Global;
 use std::mem;
 
 // One more statement, and then the next may begin.
-fn add(blocks: &mut Blocks, mode: &mut Phase, statement: Stmt) -> Result<Turn, Memory>
-    ensures { IfOk result (λ t. turn_of t (doing blocks.new (mode_of mode.new))
+fn add(blocks: &mut Blocks, mode: &mut Phase, statement: Stmt) -> Result<Advance, Memory>
+    ensures { IfOk result (λ t. advance_of t (doing blocks.new (mode_of mode.new))
         ≡ Goes (Doing blocks.old.decls.items (outers_of blocks.old.outer.items)
         (statements_seen blocks.old.here.items ++ statement_of statement ∷ []) Ready)) }
 {
     blocks.here.push(statement)?;
     put(mode, Phase::Between(Pause::Ready));
-    Ok(Turn::Goes)
+    Ok(Advance::Goes)
 }
 
 // A closing brace.
-fn leave(blocks: &mut Blocks, mode: &mut Phase) -> Result<Turn, Memory>
-    ensures { IfOk result (λ t. turn_of t (doing blocks.new (mode_of mode.new))
+fn leave(blocks: &mut Blocks, mode: &mut Phase) -> Result<Advance, Memory>
+    ensures { IfOk result (λ t. advance_of t (doing blocks.new (mode_of mode.new))
         ≡ leaving blocks.old.decls.items (outers_of blocks.old.outer.items) (statements_seen blocks.old.here.items)) }
 {
     match blocks.outer.pop() {
-        None => Ok(Turn::Wrong),
+        None => Ok(Advance::Wrong),
         Some(Outer::InFirst(guard, before)) => {
             let first = mem::replace(&mut blocks.here, before);
             put(mode, Phase::Between(Pause::MayElse(guard, first)));
-            Ok(Turn::Goes)
+            Ok(Advance::Goes)
         }
         Some(Outer::InSecond(guard, first, before)) => {
             let second = mem::replace(&mut blocks.here, before);
@@ -55,8 +55,8 @@ pub(crate) fn begin(
     blocks: &mut Blocks,
     mode: &mut Phase,
     kind: &TokenKind,
-) -> Result<Turn, Memory>
-    ensures { IfOk result (λ t. turn_of t (doing blocks.new (mode_of mode.new))
+) -> Result<Advance, Memory>
+    ensures { IfOk result (λ t. advance_of t (doing blocks.new (mode_of mode.new))
         ≡ between_statements blocks.old.decls.items (outers_of blocks.old.outer.items)
         (statements_seen blocks.old.here.items) kind.now) }
 {
@@ -66,24 +66,24 @@ pub(crate) fn begin(
                 mode,
                 Phase::InPart(Part::Before(Lead::Target(name.copy(alloc)?))),
             );
-            Ok(Turn::Goes)
+            Ok(Advance::Goes)
         }
         TokenKind::If => {
             put(
                 mode,
                 Phase::InPart(Part::Before(Lead::Guarding(Form::Choice))),
             );
-            Ok(Turn::Goes)
+            Ok(Advance::Goes)
         }
         TokenKind::While => {
             put(
                 mode,
                 Phase::InPart(Part::Before(Lead::Guarding(Form::Loop))),
             );
-            Ok(Turn::Goes)
+            Ok(Advance::Goes)
         }
         TokenKind::RBrace => leave(blocks, mode),
-        _ => Ok(Turn::Wrong),
+        _ => Ok(Advance::Wrong),
     }
 }
 
@@ -111,15 +111,15 @@ fn may_else(
     guard: Guard,
     first: Vec<Stmt>,
     kind: &TokenKind,
-) -> Result<Turn, Memory>
-    ensures { IfOk result (λ t. turn_of t (doing blocks.new (mode_of mode.new))
+) -> Result<Advance, Memory>
+    ensures { IfOk result (λ t. advance_of t (doing blocks.new (mode_of mode.new))
         ≡ elsing blocks.old.decls.items (outers_of blocks.old.outer.items) (statements_seen blocks.old.here.items)
         (test_of guard) (statements_seen first.items) kind.now) }
 {
     match kind {
         TokenKind::Else => {
             put(mode, Phase::Between(Pause::Otherwise(guard, first)));
-            Ok(Turn::Goes)
+            Ok(Advance::Goes)
         }
         _ => {
             choose(alloc, blocks, guard, first)?;
@@ -129,8 +129,8 @@ fn may_else(
 }
 
 // What a part has made.
-fn settle(blocks: &mut Blocks, mode: &mut Phase, made: Made) -> Result<Turn, Memory>
-    ensures { IfOk result (λ t. turn_of t (doing blocks.new (mode_of mode.new))
+fn settle(blocks: &mut Blocks, mode: &mut Phase, made: Made) -> Result<Advance, Memory>
+    ensures { IfOk result (λ t. advance_of t (doing blocks.new (mode_of mode.new))
         ≡ Goes (with_part blocks.old.decls.items (outers_of blocks.old.outer.items)
         (statements_seen blocks.old.here.items) (Done (made_of made)))) }
 {
@@ -139,24 +139,29 @@ fn settle(blocks: &mut Blocks, mode: &mut Phase, made: Made) -> Result<Turn, Mem
         Made::Element(name, index, value) => add(blocks, mode, Stmt::Put(name, index, value)),
         Made::Guard(form, guard) => {
             put(mode, Phase::Between(Pause::Guarded(form, guard)));
-            Ok(Turn::Goes)
+            Ok(Advance::Goes)
         }
     }
 }
 
 // Opens a block, where one more may be open. The statements before it are in `next`.
-fn nest(alloc: Global, blocks: &mut Blocks, mode: &mut Phase, next: Outer) -> Result<Turn, Memory>
-    ensures { IfOk result (λ t. turn_of t (doing blocks.new (mode_of mode.new))
+fn nest(
+    alloc: Global,
+    blocks: &mut Blocks,
+    mode: &mut Phase,
+    next: Outer,
+) -> Result<Advance, Memory>
+    ensures { IfOk result (λ t. advance_of t (doing blocks.new (mode_of mode.new))
         ≡ with_braces (nat_lt (length (outers_of blocks.old.outer.items)) 32)
         (Doing blocks.old.decls.items (outer_of next ∷ outers_of blocks.old.outer.items) [] Ready)) }
 {
     if blocks.outer.len() >= MAX_BRACES {
-        return Ok(Turn::TooMuch);
+        return Ok(Advance::TooMuch);
     }
     blocks.outer.push(next)?;
     blocks.here = Vec::new(alloc);
     put(mode, Phase::Between(Pause::Ready));
-    Ok(Turn::Goes)
+    Ok(Advance::Goes)
 }
 
 // The block behind a guard.
@@ -167,8 +172,8 @@ fn enter(
     form: Form,
     guard: Guard,
     kind: &TokenKind,
-) -> Result<Turn, Memory>
-    ensures { IfOk result (λ t. turn_of t (doing blocks.new (mode_of mode.new))
+) -> Result<Advance, Memory>
+    ensures { IfOk result (λ t. advance_of t (doing blocks.new (mode_of mode.new))
         ≡ entering limits blocks.old.decls.items (outers_of blocks.old.outer.items)
         (statements_seen blocks.old.here.items) (form_of form) (test_of guard) kind.now) }
 {
@@ -180,7 +185,7 @@ fn enter(
                 Form::Loop => nest(alloc, blocks, mode, Outer::InLoop(guard, before)),
             }
         }
-        _ => Ok(Turn::Wrong),
+        _ => Ok(Advance::Wrong),
     }
 }
 
@@ -192,8 +197,8 @@ fn other(
     guard: Guard,
     first: Vec<Stmt>,
     kind: &TokenKind,
-) -> Result<Turn, Memory>
-    ensures { IfOk result (λ t. turn_of t (doing blocks.new (mode_of mode.new))
+) -> Result<Advance, Memory>
+    ensures { IfOk result (λ t. advance_of t (doing blocks.new (mode_of mode.new))
         ≡ otherwise limits blocks.old.decls.items (outers_of blocks.old.outer.items)
         (statements_seen blocks.old.here.items) (test_of guard) (statements_seen first.items) kind.now) }
 {
@@ -202,7 +207,7 @@ fn other(
             let before = mem::replace(&mut blocks.here, Vec::new(alloc));
             nest(alloc, blocks, mode, Outer::InSecond(guard, first, before))
         }
-        _ => Ok(Turn::Wrong),
+        _ => Ok(Advance::Wrong),
     }
 }
 
@@ -213,8 +218,8 @@ fn go_on(
     mode: &mut Phase,
     pause: Pause,
     kind: &TokenKind,
-) -> Result<Turn, Memory>
-    ensures { IfOk result (λ t. turn_of t (doing blocks.new (mode_of mode.new))
+) -> Result<Advance, Memory>
+    ensures { IfOk result (λ t. advance_of t (doing blocks.new (mode_of mode.new))
         ≡ does limits blocks.old.decls.items (outers_of blocks.old.outer.items) (statements_seen blocks.old.here.items)
         (pause_of pause) kind.now) }
 {
@@ -232,17 +237,17 @@ pub(crate) fn perform(
     blocks: &mut Blocks,
     mode: &mut Phase,
     kind: &TokenKind,
-) -> Result<Turn, Memory>
-    ensures { IfOk result (λ t. turn_of t (doing blocks.new (mode_of mode.new))
+) -> Result<Advance, Memory>
+    ensures { IfOk result (λ t. advance_of t (doing blocks.new (mode_of mode.new))
         ≡ does limits blocks.old.decls.items (outers_of blocks.old.outer.items) (statements_seen blocks.old.here.items)
         (mode_of mode.old) kind.now) }
 {
     match mode {
         Phase::InPart(part) => match read_part(alloc, part, kind)? {
-            PartTurn::Moves => Ok(Turn::Goes),
-            PartTurn::Ends(made) => settle(blocks, mode, made),
-            PartTurn::Wrong => Ok(Turn::Wrong),
-            PartTurn::TooMuch => Ok(Turn::TooMuch),
+            PartAdvance::Moves => Ok(Advance::Goes),
+            PartAdvance::Ends(made) => settle(blocks, mode, made),
+            PartAdvance::Wrong => Ok(Advance::Wrong),
+            PartAdvance::TooMuch => Ok(Advance::TooMuch),
         },
         Phase::Between(pause) => {
             let pause = mem::replace(pause, Pause::Ready);

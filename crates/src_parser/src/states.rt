@@ -48,7 +48,7 @@ pub(crate) enum ParserState {
 
 // What a token does to a program: it is read; none goes on with it; it passes a limit.
 #[derive(Drop)]
-pub(crate) enum Turn {
+pub(crate) enum Advance {
     Goes,
     Wrong,
     TooMuch,

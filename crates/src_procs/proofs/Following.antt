@@ -12,7 +12,7 @@ use Rattle.src_tree.proofs.KeptByRuns.{left}
 use Rattle.src_procs.specs.Trees.{Statement, SetVariable, SetElement, Choice, Loop, Call, Block, Nothing, Then, Procedure}
 use Rattle.src_procs.specs.Frames.{naming_all, new_values, new_labels}
 use Rattle.src_procs.specs.CallMeaning.{Names, RunsOfCalls, valued, passes, with_scalar, with_element, does, does_all, called, calls_of, of_caller, one_word}
-use Rattle.src_procs.specs.Inlined.{Renaming, renamed, renamed_test, Inlined, Inlines, joined, inlined, inlined_all, assigned, inlined_call, inlines_of, new_name, no_name}
+use Rattle.src_procs.specs.Inlined.{Renaming, renamed, renamed_test, Inlined, Inlines, blocks_joined, inlined, inlined_all, assigned, inlined_call, inlines_of, new_name, no_name}
 use Rattle.src_procs.proofs.Mirrors.{Sizes, ArePlaces, Mirrors, Match, places_below, valued_same, passes_same, scalar_mirrors, element_mirrors, front_mirrors}
 use Rattle.src_procs.proofs.Entering.{NewNumbers, entered, labels_long, names_match}
 
@@ -103,21 +103,21 @@ single_follow {size} {places} {run} decls x f = record {
 }
 
 joined_runs : (decls : List Decl) (a b : plain.Block) (before : Left)
-    → run_of_block decls (joined a b) before ≡ in_turn (run_of_block decls a) (run_of_block decls b) before
+    → run_of_block decls (blocks_joined a b) before ≡ in_turn (run_of_block decls a) (run_of_block decls b) before
 joined_runs decls plain.Nothing b before = refl
 joined_runs decls (plain.Then s rest) b before = by (run_of decls s before) (joined_runs decls rest b)
   where
     by : (r : Option Left)
-        → ((after : Left) → run_of_block decls (joined rest b) after
+        → ((after : Left) → run_of_block decls (blocks_joined rest b) after
         ≡ in_turn (run_of_block decls rest) (run_of_block decls b) after)
-        → option_and_then (run_of_block decls (joined rest b)) r
+        → option_and_then (run_of_block decls (blocks_joined rest b)) r
         ≡ option_and_then (run_of_block decls b) (option_and_then (run_of_block decls rest) r)
     by None same = refl
     by (Some after) same = same after
 
 joined_follow : {size : Sizes} {places : List ℕ} {run : Execution} (decls : List Decl) (a b : plain.Block)
     → Follows size places run (in_turn (run_of_block decls a) (run_of_block decls b))
-    → Follows size places run (run_of_block decls (joined a b))
+    → Follows size places run (run_of_block decls (blocks_joined a b))
 joined_follow {size} {places} {run} decls a b f = record {
   alike = λ s t turns m.
       subst (λ r. Alike size places (run (left s turns)) r) (sym (joined_runs decls a b (left t turns)))

@@ -20,7 +20,7 @@ use Rattle.src_procs.specs.InlineFaults.{parameter_name}
 use Rattle.src_procs.specs.declared.trees.Param.{Param}
 use Rattle.src_procs.specs.Seen.{parameter_of}
 use Rattle.src_procs.specs.Views.{trees_seen}
-use Rattle.src_procs.specs.Inlined.{Renaming, Inlined, Inlines, assigned, both, inlined, inlined_all, inlined_call, inlines_of, joined, new_name, no_name, renamed}
+use Rattle.src_procs.specs.Inlined.{Renaming, Inlined, Inlines, assigned, both, inlined, inlined_all, inlined_call, inlines_of, blocks_joined, new_name, no_name, renamed}
 use Rattle.src_procs.specs.Measured.{scalars}
 use Rattle.src_procs.specs.Pruned.{SameCode}
 use Rattle.src_procs.specs.Trees.{Statement, Call, Nothing, Then, Parameter, OfValue, OfVariable, Procedure}
@@ -172,7 +172,7 @@ no_labels (OfVariable name ∷ ps) (e ∷ es) none = no_labels ps es none
 abbrev no_code : Inlined
 no_code = record { block = plain.Nothing; labels = [] }
 
-joined_nothing : (b : plain.Block) → joined b plain.Nothing ≡ b
+joined_nothing : (b : plain.Block) → blocks_joined b plain.Nothing ≡ b
 joined_nothing plain.Nothing = refl
 joined_nothing (plain.Then s rest) = ap (plain.Then s) (joined_nothing rest)
 

@@ -7,14 +7,14 @@ use Rattle.src_tree.specs.Trees as plain
 use Rattle.src_tree.specs.Trees.{Tree, Test}
 use Rattle.src_procs.specs.Trees.{Statement, SetVariable, SetElement, Choice, Loop, Call, Block, Nothing, Then, Procedure}
 use Rattle.src_procs.specs.Frames.{naming_all, new_values, new_labels}
-use Rattle.src_procs.specs.Inlined.{Renaming, renamed, renamed_test, Inlined, joined, both, inlined, inlined_all, inlines_of, inlined_call, assigned, new_name, no_name}
+use Rattle.src_procs.specs.Inlined.{Renaming, renamed, renamed_test, Inlined, blocks_joined, both, inlined, inlined_all, inlines_of, inlined_call, assigned, new_name, no_name}
 use Rattle.src_procs.specs.Expanding.{Scope, Held, Found, found, statements_of, put, opened, closed_choice, end_choice, end_loop, with_made, expanded_one, expanded, returned, begun, with_scope, Pending, finished}
 
 pub block_again : (b : plain.Block) → plain.block_of (statements_of b) ≡ b
 block_again plain.Nothing = refl
 block_again (plain.Then s rest) = ap (plain.Then s) (block_again rest)
 
-joined_statements : (a b : plain.Block) → statements_of (joined a b) ≡ statements_of a ++ statements_of b
+joined_statements : (a b : plain.Block) → statements_of (blocks_joined a b) ≡ statements_of a ++ statements_of b
 joined_statements plain.Nothing b = refl
 joined_statements (plain.Then s rest) b = ap (λ ss. s ∷ ss) (joined_statements rest b)
 
@@ -42,7 +42,7 @@ made_both : (x : Held) (one : Inlined) (two : ℕ → Inlined)
 made_both x one two =
     let size : length x.labels + length one.labels ≡ length (x.labels ++ one.labels) =
     sym (length-append x.labels one.labels) in
-    ap (λ n. held x.scopes (put (statements_of (joined one.block (two n).block)) x.open_blocks)
+    ap (λ n. held x.scopes (put (statements_of (blocks_joined one.block (two n).block)) x.open_blocks)
     (x.labels ++ (one.labels ++ (two n).labels))) size
     ∙ held_same x.scopes _ _ _ _
     (ap (λ ss. put ss x.open_blocks) (joined_statements one.block (two (length (x.labels ++ one.labels))).block)

@@ -7,19 +7,19 @@ use Rattle.gr_word.specs.Fitting.{FitsWants}
 use Rattle.src_tree.specs.declared.trees.Decl.{Decl}
 use Rattle.src_tree.specs.Limits.{words_of}
 use Rattle.src_tree.specs.Meaning.{Store}
-use Rattle.flow_types.specs.Wants.{wants_of}
+use Rattle.flow_types.specs.Wants.{declared_wants}
 use Rattle.src_procs.specs.Trees.{File}
 use Rattle.src_procs.specs.Inlined.{added, inlined_body, inlined_file}
 use Rattle.src_procs.specs.Promise.{HasNewWords}
 use Rattle.src_procs.proofs.NewNames.{added_long}
 
-fits_long : (ds : List Decl) (store : Store) → FitsWants (wants_of ds) store → length store ≡ length ds
+fits_long : (ds : List Decl) (store : Store) → FitsWants (declared_wants ds) store → length store ≡ length ds
 fits_long [] [] h = refl
 fits_long [] (w ∷ ws) h = absurd h
 fits_long (d ∷ ds) [] h = absurd h
 fits_long (d ∷ ds) (w ∷ ws) h = let r = fits_long ds ws h.2 in omega (arith, r)
 
-fits_at : (ds : List Decl) (store : Store) → FitsWants (wants_of ds) store → (k : ℕ) (d : Decl) → k < length ds
+fits_at : (ds : List Decl) (store : Store) → FitsWants (declared_wants ds) store → (k : ℕ) (d : Decl) → k < length ds
     → length (get_or store k []) ≡ words_of (get_or ds k d)
 fits_at [] store h k d lt = absurd (omega (arith, lt))
 fits_at (x ∷ ds) [] h k d lt = absurd h
@@ -43,7 +43,8 @@ added_at ds labels k d from below =
     ∙ (ap words_of (get_or-append-add ds (added 0 labels) (k - length ds) d)
     ∙ added_scalar 0 labels (k - length ds) d (omega (arith, all, long, from, below)))
 
-pub room_for : (f : File) (store : Store) → FitsWants (wants_of (inlined_file f).decls) store → HasNewWords f store
+pub room_for : (f : File) (store : Store) → FitsWants (declared_wants (inlined_file f).decls) store
+    → HasNewWords f store
 room_for f store h = record {
   long = fits_long (inlined_file f).decls store h;
   scalars = λ k from below.

@@ -89,15 +89,15 @@ abbrev pub is_bare : Tree → Bool
 is_bare (Variable x) = true
 is_bare _ = false
 
-abbrev pub is_array : Parameter → Bool
-is_array (OfValue label name) = false
-is_array (OfVariable name) = true
+abbrev pub names_variable : Parameter → Bool
+names_variable (OfValue label name) = false
+names_variable (OfVariable name) = true
 
 -- an array's argument is no bare name
 abbrev pub lacks_name : List Parameter → List Tree → Bool
 lacks_name [] es = false
 lacks_name (p ∷ ps) [] = false
-lacks_name (p ∷ ps) (e ∷ es) = (is_array p && not (is_bare e)) || lacks_name ps es
+lacks_name (p ∷ ps) (e ∷ es) = (names_variable p && not (is_bare e)) || lacks_name ps es
 
 -- what is wrong with the arguments of call n
 abbrev pub arguments_fault : ℕ → List Tree → List Parameter → Option InlineError

@@ -24,8 +24,8 @@ fn is_bare(e: &Expr) -> bool
     }
 }
 
-fn is_array(param: &Param) -> bool
-    ensures { result ≡ spec.is_array (parameter_of param.now) }
+fn names_variable(param: &Param) -> bool
+    ensures { result ≡ spec.names_variable (parameter_of param.now) }
 {
     match param {
         Param::Scalar(_, _) => false,
@@ -34,9 +34,9 @@ fn is_array(param: &Param) -> bool
 }
 
 fn lacks(param: &Param, argument: &Expr) -> bool
-    ensures { result ≡ (spec.is_array (parameter_of param.now) && not (spec.is_bare (expr_tree argument.now))) }
+    ensures { result ≡ (spec.names_variable (parameter_of param.now) && not (spec.is_bare (expr_tree argument.now))) }
 {
-    is_array(param) && !is_bare(argument)
+    names_variable(param) && !is_bare(argument)
 }
 
 // Whether an array's argument is no bare name.

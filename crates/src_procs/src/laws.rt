@@ -1,5 +1,5 @@
 ghost use Rattle.std.specs.Prelude.{◌≤◌, ◌^◌, length};
-ghost use Rattle.flow_types.specs.Wants.{wants_of};
+ghost use Rattle.flow_types.specs.Wants.{declared_wants};
 ghost use Rattle.gr_word.specs.Fitting.{FitsWants};
 ghost use Rattle.src_tree.specs.Meaning.{Store};
 ghost use Rattle.src_procs.specs.Trees.{File};
@@ -19,5 +19,5 @@ pub fn inlined_size()
 
 /// A law: inputs that fit the variables of a file's program give it room for what the file means.
 pub fn room_for_inputs()
-    ensures { (f : File) (store : Store) → FitsWants (wants_of (inlined_file f).decls) store → HasNewWords f store }
+    ensures { (f : File) (store : Store) → FitsWants (declared_wants (inlined_file f).decls) store → HasNewWords f store }
 {}

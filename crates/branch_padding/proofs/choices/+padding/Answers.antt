@@ -71,9 +71,9 @@ put_choice-set_branch-requires-clause-room t c =
 
 -- the jump behind it, and the branch set
 one_more : (t : ℕ) (c : put_choice-After-set_branch t)
-    → length c.set_branch.new.out.code.items ≡ length c.put_untaken.new.out.code.items + 1
+    → length c.set_branch.new.self.code.items ≡ length c.put_untaken.new.out.code.items + 1
 one_more t c =
-    set-behind c.put-2.new.self.code.items c.set_branch.new.out.code.items _ _ c.set_branch.ensures.code
+    set-behind c.put-2.new.self.code.items c.set_branch.new.self.code.items _ _ c.set_branch.ensures.code
     ∙ one-behind c.put_untaken.new.out c.put-2.new.self Nop c.in_ok-put-2.ensures.appended
 
 pub put_choice-put_taken-requires : goal.put_choice-put_taken-requires
@@ -96,7 +96,7 @@ put_choice-set_jump-requires-clause-room t c =
       left t at.In_ok-put_untaken,
       one_more t at.After-set_branch,
       taken-behind c.args.emitter.now c.requires.few c.arm_mode.result (block_of_all c.args.first.now)
-          (block_of_all c.args.second.now) c.pair_count.result c.set_branch.new.out c.put_taken.new.out
+          (block_of_all c.args.second.now) c.pair_count.result c.set_branch.new.self c.put_taken.new.out
           c.in_ok-put_taken.ensures.emitted,
     )
 
@@ -111,7 +111,7 @@ put_choice-returns t c =
           c.next_place-branch.result
           c.next_place-jump.result c.args.out.now c.put_guard.new.out c.put.new.self c.put_untaken.new.out
           c.put-2.new.self
-          c.set_branch.new.out c.put_taken.new.out c.set_jump.new.out c.pair_count.ensures
+          c.set_branch.new.self c.put_taken.new.out c.set_jump.new.self c.pair_count.ensures
           c.next_place-branch.ensures
           c.next_place-jump.ensures c.in_ok-put_guard.ensures.emitted c.in_ok-put.ensures.appended
           (subst (λ m. Appended c.put.new.self c.put_untaken.new.out
@@ -119,7 +119,7 @@ put_choice-returns t c =
           (padded_codes f modes.Mirrored first))) no_notes)
           c.arm_mode.ensures c.in_ok-put_untaken.ensures.emitted)
           c.in_ok-put-2.ensures.appended c.set_branch.ensures.code c.set_branch.ensures.notes
-          (subst (λ m. Appended c.set_branch.new.out c.put_taken.new.out
+          (subst (λ m. Appended c.set_branch.new.self c.put_taken.new.out
           (second_padded f.profile.taken (taken_arm c.pair_count.result (padded_codes f m first)
           (padded_codes f modes.Mirrored second))) no_notes)
           c.arm_mode.ensures c.in_ok-put_taken.ensures.emitted)
@@ -132,10 +132,10 @@ put_choice-returns t c =
           let to_jump = grows_thrice c.args.out.now c.put_guard.new.out c.put.new.self c.put_untaken.new.out
           c.put_guard.ensures.grows c.put.ensures.grows c.put_untaken.ensures.grows in
           let set_one = branch-grows c.args.out.now c.put_guard.new.out c.put_untaken.new.out c.put-2.new.self
-          c.set_branch.new.out c.next_place-branch.result _ c.put_guard.ensures.grows to_jump c.put-2.ensures.grows
+          c.set_branch.new.self c.next_place-branch.result _ c.put_guard.ensures.grows to_jump c.put-2.ensures.grows
           c.next_place-branch.ensures c.set_branch.ensures.code c.set_branch.ensures.notes in
-          set-grows c.args.out.now c.put_taken.new.out c.set_jump.new.out c.next_place-jump.result _
-          (grows_then c.args.out.now c.set_branch.new.out c.put_taken.new.out set_one c.put_taken.ensures.grows)
+          set-grows c.args.out.now c.put_taken.new.out c.set_jump.new.self c.next_place-jump.result _
+          (grows_then c.args.out.now c.set_branch.new.self c.put_taken.new.out set_one c.put_taken.ensures.grows)
           (omega (arith, c.next_place-jump.ensures, grows-longer c.args.out.now c.put_untaken.new.out to_jump))
           c.set_jump.ensures.code c.set_jump.ensures.notes;
     }
@@ -145,9 +145,9 @@ put_choice-returns-in_err-put_taken-clause-grows t c =
     let to_jump = grows_thrice c.args.out.now c.put_guard.new.out c.put.new.self c.put_untaken.new.out
     c.put_guard.ensures.grows c.put.ensures.grows c.put_untaken.ensures.grows in
     let set_one = branch-grows c.args.out.now c.put_guard.new.out c.put_untaken.new.out c.put-2.new.self
-    c.set_branch.new.out c.next_place-branch.result _ c.put_guard.ensures.grows to_jump c.put-2.ensures.grows
+    c.set_branch.new.self c.next_place-branch.result _ c.put_guard.ensures.grows to_jump c.put-2.ensures.grows
     c.next_place-branch.ensures c.set_branch.ensures.code c.set_branch.ensures.notes in
-    grows_then c.args.out.now c.set_branch.new.out c.put_taken.new.out set_one c.put_taken.ensures.grows
+    grows_then c.args.out.now c.set_branch.new.self c.put_taken.new.out set_one c.put_taken.ensures.grows
 
 pub put_row-loop-i-init : goal.put_row-loop-i-init
 put_row-loop-i-init t c = record {

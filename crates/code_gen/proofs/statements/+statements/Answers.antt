@@ -121,15 +121,16 @@ left t c =
     (block_of_all c.args.second.now) c.requires.public c.put_block.new.out c.in_ok-put_guard.ensures.emitted
     c.in_ok-put.ensures.appended c.in_ok-noted.ensures.short
 
-pub put_choice-set_branch-requires-clause-room : goal.put_choice-set_branch-requires-clause-room
-put_choice-set_branch-requires-clause-room t c =
-    let h = left t (goal.at.put_choice-set_branch-requires-clause-room t c).In_ok-noted in
+pub put_choice-set_branch_unless-requires-clause-room : goal.put_choice-set_branch_unless-requires-clause-room
+put_choice-set_branch_unless-requires-clause-room t c =
+    let h = left t (goal.at.put_choice-set_branch_unless-requires-clause-room t c).In_ok-noted in
     omega (arith, h, c.requires.room)
 
 pub put_choice-put_head_note_unless-requires : goal.put_choice-put_head_note_unless-requires
 put_choice-put_head_note_unless-requires t c =
     let h = left t (goal.at.put_choice-put_head_note_unless-requires t c).In_ok-noted in
-    let set = set-behind c.put_block.new.out.code.items c.set_branch.new.out.code.items _ _ c.set_branch.ensures.code in
+    let set = set-behind c.put_block.new.out.code.items c.set_branch_unless.new.out.code.items _ _
+        c.set_branch_unless.ensures.code in
     record { room = omega (arith, h, set, c.requires.room) }
 
 pub put_choice-returns-then-is_empty-clause-emitted : goal.put_choice-returns-then-is_empty-clause-emitted
@@ -151,20 +152,22 @@ put_choice-returns-then-is_empty-clause-emitted t c =
     (subst (λ b. ClosesChoice f test.cmp c.next_place-branch.result c.in_ok-noted.noted b c.put_block.new.out
     c.put_head_note_unless.new.out)
     (sym none)
-    (closes-bare f test.cmp c.next_place-branch.result c.in_ok-noted.noted c.put_block.new.out c.set_branch.new.out
-    c.put_head_note_unless.new.out c.set_branch.ensures.code c.set_branch.ensures.notes more)))
+    (closes-bare f test.cmp c.next_place-branch.result c.in_ok-noted.noted c.put_block.new.out
+        c.set_branch_unless.new.out
+    c.put_head_note_unless.new.out c.set_branch_unless.ensures.code c.set_branch_unless.ensures.notes more)))
     c.put_head_note_unless.ensures.appended
 
 pub put_choice-returns-then-is_empty-clause-short : goal.put_choice-returns-then-is_empty-clause-short
 put_choice-returns-then-is_empty-clause-short t c =
     let f = c.args.emitter.now in
     let h = left t (goal.at.put_choice-returns-then-is_empty-clause-short t c).In_ok-noted in
-    let set = set-behind c.put_block.new.out.code.items c.set_branch.new.out.code.items _ _ c.set_branch.ensures.code in
+    let set = set-behind c.put_block.new.out.code.items c.set_branch_unless.new.out.code.items _ _
+        c.set_branch_unless.ensures.code in
     on_ok_weaker c.put_head_note_unless.result
     (unless-short f c.in_ok-noted.noted
     (length c.args.out.now.code.items + 120 * statement_weight (context_of f.decls) Public
     (choice_of c.args.guard.now c.args.first.now c.args.second.now))
-    c.set_branch.new.out c.put_head_note_unless.new.out (omega (arith, h, set)))
+    c.set_branch_unless.new.out c.put_head_note_unless.new.out (omega (arith, h, set)))
     c.put_head_note_unless.ensures.appended
 
 pub put_choice-next_place-jump-requires : goal.put_choice-next_place-jump-requires
@@ -172,9 +175,9 @@ put_choice-next_place-jump-requires t c =
     let h = left t (goal.at.put_choice-next_place-jump-requires t c).In_ok-noted in
     omega (arith, h, c.requires.room)
 
-pub put_choice-set_branch-requires-2-clause-room : goal.put_choice-set_branch-requires-2-clause-room
-put_choice-set_branch-requires-2-clause-room t c =
-    let h = left t (goal.at.put_choice-set_branch-requires-2-clause-room t c).In_ok-noted in
+pub put_choice-set_branch_unless-requires-2-clause-room : goal.put_choice-set_branch_unless-requires-2-clause-room
+put_choice-set_branch_unless-requires-2-clause-room t c =
+    let h = left t (goal.at.put_choice-set_branch_unless-requires-2-clause-room t c).In_ok-noted in
     let jump = appended_length c.put_block.new.out c.put-2.new.self _ no_notes c.in_ok-put-2.ensures.appended in
     omega (arith, h, jump, c.requires.room)
 
@@ -183,7 +186,8 @@ put_choice-put_head_note-requires t c =
     let h = left t (goal.at.put_choice-put_head_note-requires t c).In_ok-noted in
     let jump = appended_length c.put_block.new.out c.put-2.new.self _ no_notes c.in_ok-put-2.ensures.appended in
     let set =
-    set-behind c.put-2.new.self.code.items c.set_branch-2.new.out.code.items _ _ c.set_branch-2.ensures.code in
+    set-behind c.put-2.new.self.code.items c.set_branch_unless-2.new.out.code.items _ _
+        c.set_branch_unless-2.ensures.code in
     record { room = omega (arith, h, jump, set, c.requires.room) }
 
 -- and so much the note of the second
@@ -193,9 +197,9 @@ left_second : (t : ℕ) (c : put_choice-In_ok-put_head_note t)
     (99 + 120 * block_weight (context_of c.args.emitter.now.decls) Public (block_of_all c.args.second.now))
 left_second t c =
     behind-head c.args.emitter.now (test_of c.args.guard.now) (block_of_all c.args.first.now)
-    (block_of_all c.args.second.now) c.requires.public c.put_block.new.out c.set_branch-2.new.out _ _
+    (block_of_all c.args.second.now) c.requires.public c.put_block.new.out c.set_branch_unless-2.new.out _ _
     c.in_ok-put_guard.ensures.emitted c.in_ok-put.ensures.appended c.in_ok-noted.ensures.short
-    c.in_ok-put-2.ensures.appended c.set_branch-2.ensures.code c.in_ok-put_head_note.ensures.appended
+    c.in_ok-put-2.ensures.appended c.set_branch_unless-2.ensures.code c.in_ok-put_head_note.ensures.appended
 
 pub put_choice-put_block-requires-2 : goal.put_choice-put_block-requires-2
 put_choice-put_block-requires-2 t c =
@@ -220,7 +224,7 @@ put_choice-set_jump-requires-clause-room t c =
 pub put_choice-put_head_note_unless-requires-2 : goal.put_choice-put_head_note_unless-requires-2
 put_choice-put_head_note_unless-requires-2 t c =
     let h = left_second t (goal.at.put_choice-put_head_note_unless-requires-2 t c).In_ok-put_head_note in
-    let last = set-behind c.put_block-2.new.out.code.items c.set_jump.new.out.code.items _ _ c.set_jump.ensures.code in
+    let last = set-behind c.put_block-2.new.out.code.items c.set_jump.new.self.code.items _ _ c.set_jump.ensures.code in
     record { room = omega (arith, h, c.in_ok-noted_at_end.ensures.short, last, c.requires.room) }
 
 pub put_choice-returns-clause-emitted : goal.put_choice-returns-clause-emitted
@@ -247,10 +251,10 @@ put_choice-returns-clause-emitted t c =
     (closes-any f test.cmp c.next_place-branch.result true c.in_ok-noted.noted b c.put_block.new.out
     c.put_head_note_unless-2.new.out code
     (closes-second f test.cmp c.next_place-branch.result c.next_place-jump.result c.in_ok-noted_at_end.noted_at_end b _
-    c.put_block.new.out c.put-2.new.self c.set_branch-2.new.out c.put_head_note.new.out c.put_block-2.new.out
-    c.set_jump.new.out
+    c.put_block.new.out c.put-2.new.self c.set_branch_unless-2.new.out c.put_head_note.new.out c.put_block-2.new.out
+    c.set_jump.new.self
     c.put_head_note_unless-2.new.out before c.next_place-jump.ensures c.in_ok-noted_at_end.ensures.noted code
-    c.in_ok-put-2.ensures.appended c.set_branch-2.ensures.code c.set_branch-2.ensures.notes
+    c.in_ok-put-2.ensures.appended c.set_branch_unless-2.ensures.code c.set_branch_unless-2.ensures.notes
     c.in_ok-put_head_note.ensures.appended
     c.in_ok-noted_at_end.ensures.emitted c.set_jump.ensures.code c.set_jump.ensures.notes more)))
     c.put_head_note_unless-2.ensures.appended
@@ -259,12 +263,12 @@ pub put_choice-returns-clause-short : goal.put_choice-returns-clause-short
 put_choice-returns-clause-short t c =
     let f = c.args.emitter.now in
     let h = left_second t (goal.at.put_choice-returns-clause-short t c).In_ok-put_head_note in
-    let last = set-behind c.put_block-2.new.out.code.items c.set_jump.new.out.code.items _ _ c.set_jump.ensures.code in
+    let last = set-behind c.put_block-2.new.out.code.items c.set_jump.new.self.code.items _ _ c.set_jump.ensures.code in
     on_ok_weaker c.put_head_note_unless-2.result
     (unless-short f c.in_ok-noted_at_end.noted_at_end
     (length c.args.out.now.code.items + 120 * statement_weight (context_of f.decls) Public
     (choice_of c.args.guard.now c.args.first.now c.args.second.now))
-    c.set_jump.new.out c.put_head_note_unless-2.new.out
+    c.set_jump.new.self c.put_head_note_unless-2.new.out
     (omega (arith, h, c.in_ok-noted_at_end.ensures.short, last)))
     c.put_head_note_unless-2.ensures.appended
 

@@ -13,7 +13,7 @@ long : (c : In_ok-put_guard) → length c.put_guard.new.out.code.items ≡ lengt
     + length (guard_code c.args.emitter.now mode.Public 0 (test_of c.args.guard.now))
 long c =
     closing-length c.args.emitter.now
-    (test_of c.args.guard.now) c.args.out.now c.set_jump.new.out c.put_head_note_unless.new.out
+    (test_of c.args.guard.now) c.args.out.now c.set_jump.new.self c.put_head_note_unless.new.out
     c.put_guard.new.out c.args.start _ _ c.set_jump.ensures.code c.in_ok-put_head_note_unless.ensures.appended
     c.in_ok-put_guard.ensures.emitted
 

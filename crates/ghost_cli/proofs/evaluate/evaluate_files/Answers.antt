@@ -1,6 +1,6 @@
 use Rattle.std.proofs.Common.{◌∙◌, subst}
 use Rattle.src_tree.specs.Trees.{source_of}
-use Rattle.flow_types.specs.Wants.{wants_of}
+use Rattle.flow_types.specs.Wants.{declared_wants}
 use Rattle.ghost_cli.specs.Steps.{with_variables}
 use Rattle.ghost_cli.specs.declared.evaluate.Left.TheVariants.{Done}
 use Rattle.ghost_cli.specs.Evaluated.{LeavesText}
@@ -13,7 +13,7 @@ pub returns-in-Err : goal.returns-in-Err
 returns-in-Err g c =
     stopped-said (g.F.Shelf.seen c.args.shelf.now) (g.F.Shelf.seen c.find_source.new.shelf)
     (g.O.Sink.seen c.args.out.now) (g.O.Sink.seen c.say.new.out) _ _ _
-    (c.in-Err.ensures.stopped (λ p. with_variables (wants_of p.decls) c.args.asked.input.now
+    (c.in-Err.ensures.stopped (λ p. with_variables (declared_wants p.decls) c.args.asked.input.now
     (evaluates_on c.args.asked.output.now c.args.asked.turns p))) c.say.ensures
 
 pub returns-in_default : goal.returns-in_default

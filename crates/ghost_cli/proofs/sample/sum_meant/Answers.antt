@@ -1,13 +1,13 @@
 use Rattle.std.proofs.Common.{ℤ, List, sym, ap, ◌∙◌, subst}
 use Rattle.gr_word.specs.Fitting.{FitsWants}
-use Rattle.flow_types.specs.Wants.{wants_of}
+use Rattle.flow_types.specs.Wants.{declared_wants}
 use Rattle.ghost_cli.specs.Histogram.{sample_inputs}
 use Rattle.ghost_cli.proofs.SampleInputs.{sample-fit}
 use Rattle.ghost_cli.proofs.sample.sum_meant.Goals as goal
 
 pub eval-requires : goal.eval-requires
 eval-requires c =
-    let wants = wants_of c.args.program.now.decls.items in
+    let wants = declared_wants c.args.program.now.decls.items in
     subst (λ (i : List (List ℤ)). FitsWants wants i)
     (sym (c.in_ok-inputs.ensures ∙ ap sample_inputs (c.deref.ensures.value ∙ c.in_ok-wants.ensures.wants)))
     (sample-fit wants)

@@ -13,7 +13,8 @@ returns-in-Ok-inline-clause-found c = record {
 
 pub returns-in-Ok-clause-refused : goal.returns-in-Ok-clause-refused
 returns-in-Ok-clause-refused c =
-    call-first c.args.tokens.now (file_of c.in-Ok.file) c.in-Err-inline.fault c.call_fault.result c.call_fault.ensures
+    call-first c.args.tokens.now (file_of c.in-Ok.file) c.in-Err-inline.fault c.shown_call_fault.result
+    c.shown_call_fault.ensures
     c.in-Ok.ensures.parsed c.in-Err-inline.ensures.refused
 
 pub returns-clause-refused : goal.returns-clause-refused

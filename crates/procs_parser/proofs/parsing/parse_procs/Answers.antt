@@ -2,9 +2,9 @@ use Rattle.std.proofs.Common.{◌≡◌, arith, sym, ap, ◌∙◌, Some, None}
 use Rattle.std.specs.Prelude.{option_map}
 use Rattle.src_parser.specs.Grammar.{limits}
 use Rattle.src_parser.specs.Tokenwise.{Goes, Wrong, TooMuch}
-use Rattle.procs_parser.specs.FileTurns.{taken, program_of}
+use Rattle.procs_parser.specs.FileAdvances.{taken, program_of}
 use Rattle.src_procs.specs.Seen.{file_of}
-use Rattle.procs_parser.specs.StatesSeen.{turn_of, state_of}
+use Rattle.procs_parser.specs.StatesSeen.{advance_of, state_of}
 use Rattle.src_parser.proofs.Tokenwise.{goes_at, unexpected_at, too_deep_at, cut_short_at, sentence_at}
 use Rattle.procs_parser.proofs.FileLaws.{file_laws}
 use Rattle.procs_parser.proofs.PlainNames.{file_plain}
@@ -14,14 +14,14 @@ use Rattle.procs_parser.proofs.parsing.parse_procs.Goals.{in-Goes, in-Opens}
 pub returns-in-Wrong-clause-refused : goal.returns-in-Wrong-clause-refused
 returns-in-Wrong-clause-refused c =
     let h : taken limits (state_of c.loop-token.state) c.token-item.result.kind ≡ Wrong =
-    sym c.in_ok-take.ensures ∙ ap (λ t. turn_of t (state_of c.take.new.state)) c.in-Wrong.is in
+    sym c.in_ok-take.ensures ∙ ap (λ t. advance_of t (state_of c.take.new.state)) c.in-Wrong.is in
     unexpected_at file_laws c.args.tokens.now c.loop-token.token-index c.token-item.result (state_of c.loop-token.state)
     (omega arith) c.token-item.is c.loop-token.invariant h
 
 pub returns-in-TooMuch-clause-refused : goal.returns-in-TooMuch-clause-refused
 returns-in-TooMuch-clause-refused c =
     let h : taken limits (state_of c.loop-token.state) c.token-item.result.kind ≡ TooMuch =
-    sym c.in_ok-take.ensures ∙ ap (λ t. turn_of t (state_of c.take.new.state)) c.in-TooMuch.is in
+    sym c.in_ok-take.ensures ∙ ap (λ t. advance_of t (state_of c.take.new.state)) c.in-TooMuch.is in
     too_deep_at file_laws c.args.tokens.now c.loop-token.token-index c.token-item.result (state_of c.loop-token.state)
     (omega arith) c.token-item.is c.loop-token.invariant h
 
@@ -34,11 +34,11 @@ loop-token-preserved c =
     elim c.match-branch-2.branch [
       | in-Goes w ↦ goes
           (sym c.in_ok-take.ensures
-          ∙ (ap (λ t. turn_of t (state_of c.take.new.state)) w.in-Goes.is
+          ∙ (ap (λ t. advance_of t (state_of c.take.new.state)) w.in-Goes.is
           ∙ ap (λ s. Goes (state_of s)) (sym w.state-is)))
       | in-Opens w ↦ goes
           (sym c.in_ok-take.ensures
-          ∙ (ap (λ t. turn_of t (state_of c.take.new.state)) w.in-Opens.is
+          ∙ (ap (λ t. advance_of t (state_of c.take.new.state)) w.in-Opens.is
           ∙ ap (λ s. Goes (state_of s)) (sym (w.state-is ∙ w.put.ensures))))
     ]
 

@@ -2,7 +2,7 @@ use Rattle.std.proofs.Common.{subst, sym, ◌∙◌, IsTrue, arith}
 use Rattle.gr_word.specs.Names.{is_name}
 use Rattle.run_data.specs.OutputMembers.{HaveNames}
 use Rattle.run_data.proofs.Shown.{names-insert_entry, fitting_length, member_put}
-use Rattle.run_data.proofs.outputs.in_order.Goals as goal
+use Rattle.run_data.proofs.outputs.ordered_members.Goals as goal
 
 pub words-requires : goal.words-requires
 words-requires c = omega (arith, fitting_length c.args.wants.now c.args.values.now c.requires)

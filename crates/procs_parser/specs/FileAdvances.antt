@@ -10,10 +10,10 @@ use Rattle.src_procs.specs.Trees.{Statement, SetVariable, SetElement, Choice, Lo
 use Rattle.src_procs.specs.Inlined.{is_hidden}
 use Rattle.src_procs.specs.Seen.{block_of}
 use Rattle.src_parser.specs.Grammar.{Limits}
-use Rattle.src_parser.specs.Headings.{Heading, Labelled, HeadingState, Begun, Declared, declared, heading_turned}
+use Rattle.src_parser.specs.Headings.{Heading, Labelled, HeadingState, Begun, Declared, declared, heading_advanced}
 use Rattle.src_parser.specs.Operands.{Reading, At, Wanted, TokenStep, reads, whole, used_of}
-use Rattle.src_parser.specs.Parts.{Form, ForChoice, ForLoop, Part, Guarding, VariableSet, ElementSet, GuardRead, PartState, Still, Done, after_step, targeting, part_turned}
-use Rattle.src_parser.specs.Tokenwise.{Turn, Goes, Wrong, mapped, with_braces}
+use Rattle.src_parser.specs.Parts.{Form, ForChoice, ForLoop, Part, Guarding, VariableSet, ElementSet, GuardRead, PartState, Still, Done, after_step, targeting, part_advanced}
+use Rattle.src_parser.specs.Tokenwise.{Advance, Goes, Wrong, mapped, with_braces}
 use Rattle.procs_parser.specs.FileGrammar.{proc_word}
 
 -- a block that is open, with its guard, the statements before its statement, and the first block of its choice
@@ -54,7 +54,7 @@ pub data HeadPhase : Type 0 where
 -- what stands before statements: the declarations, the procedures, and the procedure that they are in
 pub data Front : Type 0 where
   Outside : (decls : List Decl) (procedures : List Procedure) → Front
-  Within : (decls : List Decl) (procedures : List Procedure) (name : List ℕ) (parameters : List Parameter)
+  InProcedure : (decls : List Decl) (procedures : List Procedure) (name : List ℕ) (parameters : List Parameter)
       (locals : List Decl) → Front
 
 -- between declarations, in one, in a procedure's head or locals, or among statements
@@ -67,16 +67,16 @@ pub data ParserState : Type 0 where
 -- how many braces are open where statements are in no block
 abbrev pub front_depth : Front → ℕ
 front_depth (Outside decls procedures) = 0
-front_depth (Within decls procedures name parameters locals) = 1
+front_depth (InProcedure decls procedures name parameters locals) = 1
 
 -- how many braces are open
 abbrev pub depth_of : Front → List Outer → ℕ
 depth_of front outer = front_depth front + length outer
 
 -- a closing brace
-abbrev pub leaving : Front → List Outer → List Statement → Turn ParserState
+abbrev pub leaving : Front → List Outer → List Statement → Advance ParserState
 leaving (Outside decls procedures) [] here = Wrong
-leaving (Within decls procedures name parameters locals) [] here =
+leaving (InProcedure decls procedures name parameters locals) [] here =
     Goes
     (Doing
     (Outside decls
@@ -102,14 +102,14 @@ begins kind.While = BeginsGuard ForLoop
 begins kind.RBrace = EndsBlock
 begins _ = BeginsNothing
 
-abbrev pub begun : Front → List Outer → List Statement → Beginning → Turn ParserState
+abbrev pub begun : Front → List Outer → List Statement → Beginning → Advance ParserState
 begun front outer here (BeginsName name) = Goes (Doing front outer here (Named name))
 begun front outer here (BeginsGuard form) = Goes (Doing front outer here (InPart (Guarding form)))
 begun front outer here EndsBlock = leaving front outer here
 begun front outer here BeginsNothing = Wrong
 
 -- a token between statements
-abbrev pub between_statements : Front → List Outer → List Statement → TokenKind → Turn ParserState
+abbrev pub between_statements : Front → List Outer → List Statement → TokenKind → Advance ParserState
 between_statements front outer here k = begun front outer here (begins k)
 
 -- the statements once a choice has no second block
@@ -117,12 +117,12 @@ abbrev pub chosen : List Statement → Test → List Statement → List Statemen
 chosen here test first = here ++ Choice test (block_of first) Nothing ∷ []
 
 -- a token behind the first block of a choice
-abbrev pub elsing : Front → List Outer → List Statement → Test → List Statement → TokenKind → Turn ParserState
+abbrev pub elsing : Front → List Outer → List Statement → Test → List Statement → TokenKind → Advance ParserState
 elsing front outer here test first kind.Else = Goes (Doing front outer here (Otherwise test first))
 elsing front outer here test first k = between_statements front outer (chosen here test first) k
 
 -- a procedure begins behind the name `proc`, where no statement stands before
-abbrev pub opening : Front → List Outer → List Statement → Bool → List ℕ → Turn ParserState
+abbrev pub opening : Front → List Outer → List Statement → Bool → List ℕ → Advance ParserState
 opening (Outside decls procedures) [] [] true name = Goes (Naming decls procedures name Opening)
 opening front outer here b name = Wrong
 
@@ -136,13 +136,13 @@ with_part front outer here (Done (ElementSet name index value)) =
 with_part front outer here (Done (GuardRead form test)) = Doing front outer here (Guarded form test)
 
 -- a token behind a name
-abbrev pub behind_name : Front → List Outer → List Statement → List ℕ → TokenKind → Turn ParserState
+abbrev pub behind_name : Front → List Outer → List Statement → List ℕ → TokenKind → Advance ParserState
 behind_name front outer here name kind.LParen = Goes (Doing front outer here (Calling name))
 behind_name front outer here name (kind.Word other) = opening front outer here (bytes_eq name proc_word) other
 behind_name front outer here name k = mapped (with_part front outer here) (targeting name k)
 
 -- a token behind the brackets of a call
-abbrev pub calling_ends : Front → List Outer → List Statement → List ℕ → List Tree → TokenKind → Turn ParserState
+abbrev pub calling_ends : Front → List Outer → List Statement → List ℕ → List Tree → TokenKind → Advance ParserState
 calling_ends front outer here name es kind.Semi = Goes (Doing front outer (here ++ Call name es ∷ []) Ready)
 calling_ends front outer here name es _ = Wrong
 
@@ -151,20 +151,20 @@ abbrev pub block_opened : Form → Test → List Statement → Outer
 block_opened ForChoice test here = InFirst test here
 block_opened ForLoop test here = InLoop test here
 
-abbrev pub entering : Limits → Front → List Outer → List Statement → Form → Test → TokenKind → Turn ParserState
+abbrev pub entering : Limits → Front → List Outer → List Statement → Form → Test → TokenKind → Advance ParserState
 entering most front outer here form test kind.LBrace =
     with_braces (nat_lt (depth_of front outer) most.braces) (Doing front (block_opened form test here ∷ outer) [] Ready)
 entering most front outer here form test _ = Wrong
 
 abbrev pub otherwise : Limits → Front → List Outer → List Statement → Test → List Statement → TokenKind
-    → Turn ParserState
+    → Advance ParserState
 otherwise most front outer here test first kind.LBrace =
     with_braces (nat_lt (depth_of front outer) most.braces) (Doing front (InSecond test first here ∷ outer) [] Ready)
 otherwise most front outer here test first _ = Wrong
 
 -- a token behind an argument of a call
 abbrev pub behind_argument : Front → List Outer → List Statement → List ℕ → List Tree → Tree → ℕ → TokenKind
-    → Turn ParserState
+    → Advance ParserState
 behind_argument front outer here name before tree used kind.Semi =
     Goes (Doing front outer here (Argument name (before ++ tree ∷ []) (At [] 0 used Wanted)))
 behind_argument front outer here name before tree used kind.RParen =
@@ -172,38 +172,38 @@ behind_argument front outer here name before tree used kind.RParen =
 behind_argument front outer here name before tree used _ = Wrong
 
 abbrev pub argument_ends : Front → List Outer → List Statement → List ℕ → List Tree → Option Tree → ℕ → TokenKind
-    → Turn ParserState
+    → Advance ParserState
 argument_ends front outer here name before None used k = Wrong
 argument_ends front outer here name before (Some tree) used k =
     behind_argument front outer here name before tree used k
 
 -- a token where an argument is read
 abbrev pub in_argument : Front → List Outer → List Statement → List ℕ → List Tree → TokenKind → TokenStep
-    → Turn ParserState
+    → Advance ParserState
 in_argument front outer here name before k s =
     after_step (λ x. Doing front outer here (Argument name before x))
     (λ x. argument_ends front outer here name before (whole x) (used_of x) k) s
 
 -- the first token of a call's arguments
-abbrev pub calling : Limits → Front → List Outer → List Statement → List ℕ → TokenKind → Turn ParserState
+abbrev pub calling : Limits → Front → List Outer → List Statement → List ℕ → TokenKind → Advance ParserState
 calling most front outer here name kind.RParen = Goes (Doing front outer here (Called name []))
 calling most front outer here name k =
     in_argument front outer here name [] k (reads most (At [] 0 0 Wanted) k)
 
 -- a token of a statement
-abbrev pub does : Limits → Front → List Outer → List Statement → Phase → TokenKind → Turn ParserState
+abbrev pub does : Limits → Front → List Outer → List Statement → Phase → TokenKind → Advance ParserState
 does most front outer here Ready k = between_statements front outer here k
 does most front outer here (MayElse test first) k = elsing front outer here test first k
 does most front outer here (Named name) k = behind_name front outer here name k
 does most front outer here (Calling name) k = calling most front outer here name k
 does most front outer here (Called name es) k = calling_ends front outer here name es k
 does most front outer here (Argument name before x) k = in_argument front outer here name before k (reads most x k)
-does most front outer here (InPart part) k = mapped (with_part front outer here) (part_turned most part k)
+does most front outer here (InPart part) k = mapped (with_part front outer here) (part_advanced most part k)
 does most front outer here (Guarded form test) k = entering most front outer here form test k
 does most front outer here (Otherwise test first) k = otherwise most front outer here test first k
 
 -- a token between declarations, or the first of the statements
-abbrev pub between : List Decl → TokenKind → Turn ParserState
+abbrev pub between : List Decl → TokenKind → Advance ParserState
 between decls kind.Public = Goes (Declaring decls (Labelled Public))
 between decls kind.Secret = Goes (Declaring decls (Labelled Secret))
 between decls k = between_statements (Outside decls []) [] [] k
@@ -214,14 +214,14 @@ with_heading decls (Begun heading) = Declaring decls heading
 with_heading decls (Declared decl) = Between (decls ++ decl ∷ [])
 
 -- the first token of a parameter
-abbrev pub parameter_begins : List Decl → List Procedure → List ℕ → List Parameter → TokenKind → Turn ParserState
+abbrev pub parameter_begins : List Decl → List Procedure → List ℕ → List Parameter → TokenKind → Advance ParserState
 parameter_begins decls procedures name ps kind.Public = Goes (Naming decls procedures name (ScalarLabelled ps Public))
 parameter_begins decls procedures name ps kind.Secret = Goes (Naming decls procedures name (ScalarLabelled ps Secret))
 parameter_begins decls procedures name ps kind.Int = Goes (Naming decls procedures name (ArrayTyped ps))
 parameter_begins decls procedures name ps _ = Wrong
 
 -- a token of a procedure's head, or of its locals
-abbrev pub names_next : Limits → List Decl → List Procedure → List ℕ → HeadPhase → TokenKind → Turn ParserState
+abbrev pub names_next : Limits → List Decl → List Procedure → List ℕ → HeadPhase → TokenKind → Advance ParserState
 names_next most decls procedures name Opening kind.LParen = Goes (Naming decls procedures name NoneYet)
 names_next most decls procedures name Opening _ = Wrong
 names_next most decls procedures name NoneYet kind.RParen = Goes (Naming decls procedures name (AllRead []))
@@ -253,7 +253,7 @@ names_next most decls procedures name (LocalFresh ps ls) kind.Public =
 names_next most decls procedures name (LocalFresh ps ls) kind.Secret =
     Goes (Naming decls procedures name (LocalLabelled ps ls Secret))
 names_next most decls procedures name (LocalFresh ps ls) k =
-    between_statements (Within decls procedures name ps ls) [] [] k
+    between_statements (InProcedure decls procedures name ps ls) [] [] k
 names_next most decls procedures name (LocalLabelled ps ls label) kind.Int =
     Goes (Naming decls procedures name (LocalTyped ps ls label))
 names_next most decls procedures name (LocalLabelled ps ls label) _ = Wrong
@@ -265,11 +265,11 @@ names_next most decls procedures name (LocalTitled ps ls label x) kind.Semi =
 names_next most decls procedures name (LocalTitled ps ls label x) _ = Wrong
 
 -- a token, where each name is shown
-abbrev pub turned : Limits → ParserState → TokenKind → Turn ParserState
-turned most (Between decls) k = between decls k
-turned most (Declaring decls heading) k = mapped (with_heading decls) (heading_turned heading k)
-turned most (Naming decls procedures name phase) k = names_next most decls procedures name phase k
-turned most (Doing front outer here mode) k = does most front outer here mode k
+abbrev pub advanced : Limits → ParserState → TokenKind → Advance ParserState
+advanced most (Between decls) k = between decls k
+advanced most (Declaring decls heading) k = mapped (with_heading decls) (heading_advanced heading k)
+advanced most (Naming decls procedures name phase) k = names_next most decls procedures name phase k
+advanced most (Doing front outer here mode) k = does most front outer here mode k
 
 -- whether a token is a name that begins with `__`
 abbrev pub is_hidden_token : TokenKind → Bool
@@ -277,8 +277,8 @@ is_hidden_token (kind.Word name) = is_hidden name
 is_hidden_token k = false
 
 -- a token
-abbrev pub taken : Limits → ParserState → TokenKind → Turn ParserState
-taken most state k = if is_hidden_token k then Wrong else turned most state k
+abbrev pub taken : Limits → ParserState → TokenKind → Advance ParserState
+taken most state k = if is_hidden_token k then Wrong else advanced most state k
 
 -- the file, where its statements are in no block and in no procedure
 abbrev pub file_at : Front → List Outer → List Statement → Option File
@@ -302,7 +302,7 @@ head_depth (LocalTitled ps ls label name) = 1
 head_depth _ = 0
 
 -- how many braces are open
-abbrev pub count_of : ParserState → ℕ
-count_of (Naming decls procedures name phase) = head_depth phase
-count_of (Doing front outer here mode) = depth_of front outer
-count_of _ = 0
+abbrev pub open_braces : ParserState → ℕ
+open_braces (Naming decls procedures name phase) = head_depth phase
+open_braces (Doing front outer here mode) = depth_of front outer
+open_braces _ = 0

@@ -2,7 +2,7 @@ use Rattle.std.proofs.Common.{◌≡◌, drop}
 use Rattle.serde_json.specs.Data.{no_members}
 use Rattle.run_data.specs.OutputText.{members_with}
 use Rattle.run_data.specs.OutputMembers.{members_seen, HaveNames}
-use Rattle.run_data.proofs.outputs.in_order.Given as goal
+use Rattle.run_data.proofs.outputs.ordered_members.Given as goal
 
 abbrev pub invariant-loop-i : goal.invariant-loop-i
 invariant-loop-i l = record {

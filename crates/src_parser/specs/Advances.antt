@@ -6,9 +6,9 @@ use Rattle.src_lexer.specs.declared.tokens.TokenKind.TheVariants as kind
 use Rattle.src_tree.specs.declared.trees.Decl.{Decl}
 use Rattle.src_tree.specs.Trees.{Test, Statement, SetVariable, SetElement, Choice, Loop, Nothing, block_of, Source}
 use Rattle.src_parser.specs.Grammar.{Limits}
-use Rattle.src_parser.specs.Headings.{Heading, Labelled, HeadingState, Begun, Declared, heading_turned}
-use Rattle.src_parser.specs.Parts.{Form, ForChoice, ForLoop, Part, Target, Guarding, VariableSet, ElementSet, GuardRead, PartState, Still, Done, part_turned}
-use Rattle.src_parser.specs.Tokenwise.{Turn, Goes, Wrong, mapped, with_braces}
+use Rattle.src_parser.specs.Headings.{Heading, Labelled, HeadingState, Begun, Declared, heading_advanced}
+use Rattle.src_parser.specs.Parts.{Form, ForChoice, ForLoop, Part, Target, Guarding, VariableSet, ElementSet, GuardRead, PartState, Still, Done, part_advanced}
+use Rattle.src_parser.specs.Tokenwise.{Advance, Goes, Wrong, mapped, with_braces}
 
 -- a block that is open, with its guard, the statements before its statement, and the first block of its choice
 pub data Outer : Type 0 where
@@ -31,7 +31,7 @@ pub data ParserState : Type 0 where
   Doing : (decls : List Decl) (outer : List Outer) (here : List Statement) (mode : Phase) → ParserState
 
 -- a closing brace
-abbrev pub leaving : List Decl → List Outer → List Statement → Turn ParserState
+abbrev pub leaving : List Decl → List Outer → List Statement → Advance ParserState
 leaving decls [] here = Wrong
 leaving decls (InFirst test before ∷ outer) here = Goes (Doing decls outer before (MayElse test here))
 leaving decls (InSecond test first before ∷ outer) here =
@@ -40,7 +40,7 @@ leaving decls (InLoop test before ∷ outer) here =
     Goes (Doing decls outer (before ++ Loop test (block_of here) ∷ []) Ready)
 
 -- a token between statements
-abbrev pub between_statements : List Decl → List Outer → List Statement → TokenKind → Turn ParserState
+abbrev pub between_statements : List Decl → List Outer → List Statement → TokenKind → Advance ParserState
 between_statements decls outer here (kind.Word name) = Goes (Doing decls outer here (InPart (Target name)))
 between_statements decls outer here kind.If = Goes (Doing decls outer here (InPart (Guarding ForChoice)))
 between_statements decls outer here kind.While = Goes (Doing decls outer here (InPart (Guarding ForLoop)))
@@ -52,7 +52,7 @@ abbrev pub chosen : List Statement → Test → List Statement → List Statemen
 chosen here test first = here ++ Choice test (block_of first) Nothing ∷ []
 
 -- a token behind the first block of a choice
-abbrev pub elsing : List Decl → List Outer → List Statement → Test → List Statement → TokenKind → Turn ParserState
+abbrev pub elsing : List Decl → List Outer → List Statement → Test → List Statement → TokenKind → Advance ParserState
 elsing decls outer here test first kind.Else = Goes (Doing decls outer here (Otherwise test first))
 elsing decls outer here test first k = between_statements decls outer (chosen here test first) k
 
@@ -70,27 +70,27 @@ abbrev pub block_opened : Form → Test → List Statement → Outer
 block_opened ForChoice test here = InFirst test here
 block_opened ForLoop test here = InLoop test here
 
-abbrev pub entering : Limits → List Decl → List Outer → List Statement → Form → Test → TokenKind → Turn ParserState
+abbrev pub entering : Limits → List Decl → List Outer → List Statement → Form → Test → TokenKind → Advance ParserState
 entering most decls outer here form test kind.LBrace =
     with_braces (nat_lt (length outer) most.braces) (Doing decls (block_opened form test here ∷ outer) [] Ready)
 entering most decls outer here form test _ = Wrong
 
 abbrev pub otherwise : Limits → List Decl → List Outer → List Statement → Test → List Statement → TokenKind
-    → Turn ParserState
+    → Advance ParserState
 otherwise most decls outer here test first kind.LBrace =
     with_braces (nat_lt (length outer) most.braces) (Doing decls (InSecond test first here ∷ outer) [] Ready)
 otherwise most decls outer here test first _ = Wrong
 
 -- a token of a statement
-abbrev pub does : Limits → List Decl → List Outer → List Statement → Phase → TokenKind → Turn ParserState
+abbrev pub does : Limits → List Decl → List Outer → List Statement → Phase → TokenKind → Advance ParserState
 does most decls outer here Ready k = between_statements decls outer here k
 does most decls outer here (MayElse test first) k = elsing decls outer here test first k
-does most decls outer here (InPart part) k = mapped (with_part decls outer here) (part_turned most part k)
+does most decls outer here (InPart part) k = mapped (with_part decls outer here) (part_advanced most part k)
 does most decls outer here (Guarded form test) k = entering most decls outer here form test k
 does most decls outer here (Otherwise test first) k = otherwise most decls outer here test first k
 
 -- a token between declarations, or the first of the statements
-abbrev pub between : List Decl → TokenKind → Turn ParserState
+abbrev pub between : List Decl → TokenKind → Advance ParserState
 between decls kind.Public = Goes (Declaring decls (Labelled Public))
 between decls kind.Secret = Goes (Declaring decls (Labelled Secret))
 between decls k = between_statements decls [] [] k
@@ -101,10 +101,10 @@ with_heading decls (Begun heading) = Declaring decls heading
 with_heading decls (Declared decl) = Between (decls ++ decl ∷ [])
 
 -- a token
-abbrev pub turned : Limits → ParserState → TokenKind → Turn ParserState
-turned most (Between decls) k = between decls k
-turned most (Declaring decls heading) k = mapped (with_heading decls) (heading_turned heading k)
-turned most (Doing decls outer here mode) k = does most decls outer here mode k
+abbrev pub advanced : Limits → ParserState → TokenKind → Advance ParserState
+advanced most (Between decls) k = between decls k
+advanced most (Declaring decls heading) k = mapped (with_heading decls) (heading_advanced heading k)
+advanced most (Doing decls outer here mode) k = does most decls outer here mode k
 
 -- the program that was read, where it is whole
 abbrev pub program_of : ParserState → Option Source
@@ -115,6 +115,6 @@ program_of (Doing decls [] here (MayElse test first)) =
 program_of _ = None
 
 -- how many braces are open
-abbrev pub count_of : ParserState → ℕ
-count_of (Doing decls outer here mode) = length outer
-count_of _ = 0
+abbrev pub open_braces : ParserState → ℕ
+open_braces (Doing decls outer here mode) = length outer
+open_braces _ = 0
