@@ -177,7 +177,7 @@ turns_push class size ds places d q h is long t =
     let number =
     ap (in_turn size t (words_of d) (is_same ObliviousArray (class d)))
     (h.oblivious ∙ (let e : class_count class ObliviousArray ds
-        ≡ 0 + class_count class ObliviousArray ds = omega arith in e)) in
+    ≡ 0 + class_count class ObliviousArray ds = omega arith in e)) in
     let two = turn_push class size t 0 ds d in
     omega (arith, one, new, number, two, h.turns t)
 

@@ -41,7 +41,7 @@ module _ (all : ℕ) (bytes : List ℕ) where
   unfolding field_at
   field_there n place high le small =
       rw (number_there n place le, is_within-Within 0 high (little_number n (drop place bytes)) (omega arith, small))
-          refl
+      refl
 
   kind_there : (kind : Kind) → 1 ≤ length bytes → kind_named (little_number 1 (drop 0 bytes)) ≡ Some kind
       → kind_at all (drop 0 bytes) ≡ kinded kind (drop 1 bytes)

@@ -100,7 +100,7 @@ module _ (w : ℕ) (banks : List BankSpec) (all : ℕ) (before : List Symbol) (m
 
   of_block : (bank : ℕ) → bank ≤ length banks - 1
       → IsReader (field_at 4 all (is_within 0 (blocks_in banks bank - 1))) (number 4)
-          (Within 0 (blocks_in banks bank - 1))
+      (Within 0 (blocks_in banks bank - 1))
   of_block bank le = range 4 all 0 (blocks_in banks bank - 1) (omega (arith, has_blocks bank le))
 
   of_word : (bank block : ℕ) → IsReader (field_at 2 all (is_within (first_free_word w before bank block) (w - 1)))

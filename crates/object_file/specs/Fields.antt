@@ -174,5 +174,5 @@ object_fields = do
   notes ← list_fields 4 (is_within 0 most_notes) (note_fields (length banks))
   code ←
       list_fields 4 (is_within (max 1 (next_place notes)) most_instructions)
-          (λ before. instruction_fields (length banks))
+      (λ before. instruction_fields (length banks))
   NoField (record { profile = profile; banks = banks; symbols = symbols; notes = notes; code = code })

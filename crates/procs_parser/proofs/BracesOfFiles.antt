@@ -83,7 +83,7 @@ entering_counted : (most : Limits) (front : Front) (outer : List Outer) (here : 
     (open_braces next)
 entering_counted most front outer here form test kind.LBrace next e =
     braces_counted open_braces most.braces (depth_of front outer)
-        (nat_lt (depth_of front outer) most.braces) _ next refl
+    (nat_lt (depth_of front outer) most.braces) _ next refl
     (omega arith) e
 entering_counted most front outer here form test _ next e = absurd (cc)
 
@@ -93,7 +93,7 @@ otherwise_counted : (most : Limits) (front : Front) (outer : List Outer) (here :
     → Counted k most.braces (depth_of front outer) (open_braces next)
 otherwise_counted most front outer here test first kind.LBrace next e =
     braces_counted open_braces most.braces (depth_of front outer)
-        (nat_lt (depth_of front outer) most.braces) _ next refl
+    (nat_lt (depth_of front outer) most.braces) _ next refl
     (omega arith) e
 otherwise_counted most front outer here test first _ next e = absurd (cc)
 

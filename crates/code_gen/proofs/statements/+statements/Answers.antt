@@ -130,7 +130,7 @@ pub put_choice-put_head_note_unless-requires : goal.put_choice-put_head_note_unl
 put_choice-put_head_note_unless-requires t c =
     let h = left t (goal.at.put_choice-put_head_note_unless-requires t c).In_ok-noted in
     let set = set-behind c.put_block.new.out.code.items c.set_branch_unless.new.out.code.items _ _
-        c.set_branch_unless.ensures.code in
+    c.set_branch_unless.ensures.code in
     record { room = omega (arith, h, set, c.requires.room) }
 
 pub put_choice-returns-then-is_empty-clause-emitted : goal.put_choice-returns-then-is_empty-clause-emitted
@@ -153,7 +153,7 @@ put_choice-returns-then-is_empty-clause-emitted t c =
     c.put_head_note_unless.new.out)
     (sym none)
     (closes-bare f test.cmp c.next_place-branch.result c.in_ok-noted.noted c.put_block.new.out
-        c.set_branch_unless.new.out
+    c.set_branch_unless.new.out
     c.put_head_note_unless.new.out c.set_branch_unless.ensures.code c.set_branch_unless.ensures.notes more)))
     c.put_head_note_unless.ensures.appended
 
@@ -162,7 +162,7 @@ put_choice-returns-then-is_empty-clause-short t c =
     let f = c.args.emitter.now in
     let h = left t (goal.at.put_choice-returns-then-is_empty-clause-short t c).In_ok-noted in
     let set = set-behind c.put_block.new.out.code.items c.set_branch_unless.new.out.code.items _ _
-        c.set_branch_unless.ensures.code in
+    c.set_branch_unless.ensures.code in
     on_ok_weaker c.put_head_note_unless.result
     (unless-short f c.in_ok-noted.noted
     (length c.args.out.now.code.items + 120 * statement_weight (context_of f.decls) Public
@@ -187,7 +187,7 @@ put_choice-put_head_note-requires t c =
     let jump = appended_length c.put_block.new.out c.put-2.new.self _ no_notes c.in_ok-put-2.ensures.appended in
     let set =
     set-behind c.put-2.new.self.code.items c.set_branch_unless-2.new.out.code.items _ _
-        c.set_branch_unless-2.ensures.code in
+    c.set_branch_unless-2.ensures.code in
     record { room = omega (arith, h, jump, set, c.requires.room) }
 
 -- and so much the note of the second
