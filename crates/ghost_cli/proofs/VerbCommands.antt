@@ -1,21 +1,24 @@
 -- The commands of the verbs, by their names, options and flags.
 use Rattle.std.proofs.Common.{inl, inr, refl, [], ◌∷◌}
 use Rattle.std.specs.Prelude.{codes}
-use Rattle.ghost_cli.specs.Check.{check_app}
-use Rattle.ghost_cli.specs.Trace.{trace_app}
-use Rattle.ghost_cli.specs.Run.{run_app}
-use Rattle.ghost_cli.specs.Assemble.{assemble_app}
-use Rattle.ghost_cli.specs.Disassemble.{disassemble_app}
-use Rattle.ghost_cli.specs.Evaluate.{evaluate_app}
-use Rattle.ghost_cli.specs.Compile.{compile_app}
-use Rattle.ghost_cli.specs.Sample.{sample_app}
-use Rattle.ghost_cli.specs.Infer.{infer_app}
+use Rattle.ghost_cli.specs.Check.{check_row}
+use Rattle.ghost_cli.specs.Trace.{trace_row}
+use Rattle.ghost_cli.specs.Run.{run_row}
+use Rattle.ghost_cli.specs.Assemble.{assemble_row}
+use Rattle.ghost_cli.specs.Disassemble.{disassemble_row}
+use Rattle.ghost_cli.specs.Evaluate.{evaluate_row}
+use Rattle.ghost_cli.specs.Compile.{compile_row}
+use Rattle.ghost_cli.specs.Sample.{sample_row}
+use Rattle.ghost_cli.specs.Infer.{infer_row}
+use Rattle.ghost_cli.specs.VerbRows.{VerbRow, command_of}
 use Rattle.ghost_cli.proofs.WordLooks.{lacks-test}
 use Rattle.ghost_cli.proofs.WordsAsked.{IsVerb}
 
-pub check-verb : IsVerb check_app [] []
-    (codes "OBJ" ∷ []) (codes "check")
-unfolding check_app
+-- a row's command is one of its names, options and flags
+abbrev pub IsVerbRow : VerbRow → Type 0
+IsVerbRow row = IsVerb (command_of row) row.options row.flags row.places row.name
+
+pub check-verb : IsVerbRow check_row
 check-verb = record {
   command = record {
     rules = (
@@ -39,9 +42,7 @@ check-verb = record {
   checks = λ rows. refl;
 }
 
-pub trace-verb : IsVerb trace_app (codes "cycles" ∷ codes "seed" ∷ []) (codes "paths" ∷ codes "recursive" ∷ [])
-    (codes "OBJ" ∷ codes "INPUT" ∷ []) (codes "trace")
-unfolding trace_app
+pub trace-verb : IsVerbRow trace_row
 trace-verb = record {
   command = record {
     rules = (
@@ -92,9 +93,7 @@ trace-verb = record {
   checks = λ rows. refl;
 }
 
-pub run-verb : IsVerb run_app (codes "cycles" ∷ codes "seed" ∷ []) (codes "recursive" ∷ [])
-    (codes "OBJ" ∷ codes "INPUT" ∷ codes "OUT" ∷ []) (codes "run")
-unfolding run_app
+pub run-verb : IsVerbRow run_row
 run-verb = record {
   command = record {
     rules = (
@@ -142,9 +141,7 @@ run-verb = record {
   checks = λ rows. refl;
 }
 
-pub assemble-verb : IsVerb assemble_app [] []
-    (codes "TEXT" ∷ codes "OUT" ∷ []) (codes "asm")
-unfolding assemble_app
+pub assemble-verb : IsVerbRow assemble_row
 assemble-verb = record {
   command = record {
     rules = (
@@ -171,9 +168,7 @@ assemble-verb = record {
   checks = λ rows. refl;
 }
 
-pub disassemble-verb : IsVerb disassemble_app [] []
-    (codes "OBJ" ∷ codes "OUT" ∷ []) (codes "dis")
-unfolding disassemble_app
+pub disassemble-verb : IsVerbRow disassemble_row
 disassemble-verb = record {
   command = record {
     rules = (
@@ -200,9 +195,7 @@ disassemble-verb = record {
   checks = λ rows. refl;
 }
 
-pub evaluate-verb : IsVerb evaluate_app (codes "turns" ∷ []) (codes "procs" ∷ [])
-    (codes "SRC" ∷ codes "INPUT" ∷ codes "OUT" ∷ []) (codes "eval")
-unfolding evaluate_app
+pub evaluate-verb : IsVerbRow evaluate_row
 evaluate-verb = record {
   command = record {
     rules = (
@@ -244,9 +237,7 @@ evaluate-verb = record {
   checks = λ rows. refl;
 }
 
-pub compile-verb : IsVerb compile_app (codes "block-log" ∷ codes "window" ∷ []) (codes "procs" ∷ [])
-    (codes "SRC" ∷ codes "OUT" ∷ []) (codes "compile")
-unfolding compile_app
+pub compile-verb : IsVerbRow compile_row
 compile-verb = record {
   command = record {
     rules = (
@@ -291,9 +282,7 @@ compile-verb = record {
   checks = λ rows. refl;
 }
 
-pub sample-verb : IsVerb sample_app (codes "seed" ∷ []) []
-    (codes "N" ∷ codes "OUT" ∷ []) (codes "sample")
-unfolding sample_app
+pub sample-verb : IsVerbRow sample_row
 sample-verb = record {
   command = record {
     rules = (
@@ -326,9 +315,7 @@ sample-verb = record {
   checks = λ rows. refl;
 }
 
-pub infer-verb : IsVerb infer_app [] []
-    (codes "OBJ" ∷ codes "OUT" ∷ []) (codes "infer")
-unfolding infer_app
+pub infer-verb : IsVerbRow infer_row
 infer-verb = record {
   command = record {
     rules = (
