@@ -112,10 +112,10 @@ bus_row = record {
   asks = bus_asks;
 }
 
-abbrev pub bus_app : App
+unfoldable pub bus_app : App
 bus_app = command_of bus_row
 
-abbrev pub bus_of : List Text → Option Work
+unfoldable pub bus_of : List Text → Option Work
 bus_of words = asked_by bus_app bus_asks words
 
 -- what is said where the plan takes no object as core k

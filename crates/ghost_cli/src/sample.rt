@@ -131,7 +131,7 @@ pub struct ReadySample {
 }
 
 /// The cycle at which a run halted, and how many accesses it made.
-#[derive(Clone, Copy, Debug)]
+#[derive(Clone, Copy)]
 pub struct CountedRun {
     cycles: u32,
     counts: CountWatch,

@@ -1,4 +1,4 @@
-use Rattle.std.proofs.Common.{◌≡◌, Option, Some, ap, refl, sym, ◌∙◌}
+use Rattle.std.proofs.Common.{ap, refl}
 use Rattle.std.specs.Prelude.{option_and_then}
 use Rattle.clap.specs.Words.{found_of, rows_of}
 use Rattle.ghost_cli.specs.Options.{texts}
