@@ -7,7 +7,7 @@ use Rattle.clap.specs.Walk.{Row, Text, first_of}
 use Rattle.clap.specs.Simple.{App}
 use Rattle.ghost_cli.specs.Assemble.{assemble_app, assemble_asks, assemble_of, assemble_work}
 use Rattle.ghost_cli.specs.Check.{check_app, check_asks, check_of, check_work}
-use Rattle.ghost_cli.specs.CommandLines.{AreTexts, Part, has_flag, names_in, value_in}
+use Rattle.ghost_cli.specs.CommandLines.{AreTexts, IsAmong, Part, has_flag, names_in, value_in}
 use Rattle.ghost_cli.specs.Compile.{compile_app, compile_asks, compile_named, compile_of, compile_work}
 use Rattle.ghost_cli.specs.Disassemble.{disassemble_app, disassemble_asks, disassemble_of, disassemble_work}
 use Rattle.ghost_cli.specs.Evaluate.{evaluate_app, evaluate_asks, evaluate_named, evaluate_of, evaluate_work}
@@ -16,23 +16,18 @@ use Rattle.ghost_cli.specs.Options.{asked_by, block_log_given, items_given, numb
 use Rattle.ghost_cli.specs.Run.{run_app, run_asks, run_named, run_of, run_work}
 use Rattle.ghost_cli.specs.Sample.{sample_app, sample_asks, sample_named, sample_of, sample_work}
 use Rattle.ghost_cli.specs.Trace.{trace_app, trace_asks, trace_named, trace_of, trace_work}
+use Rattle.ghost_cli.specs.Verbs.{work_of}
 use Rattle.ghost_cli.specs.Windows.{window_given, windowed_profile}
-use Rattle.ghost_cli.specs.WordsAsk.{AskExactly, AsksByOne, AsksByTwo, AsksToCompile, AsksToEvaluate, AsksToRun, AsksToSample, AsksToTrace, Says, WordsAsk, run_options}
+use Rattle.ghost_cli.specs.WordsAsk.{AskExactly, AsksByOne, AsksByTwo, AsksToCompile, AsksToEvaluate, AsksToRun, AsksToSample, AsksToTrace, Says, WordsAsk, run_options, verbs}
 use Rattle.ghost_cli.specs.Work.{Work}
+use Rattle.ghost_cli.proofs.BusWords.{bus-words}
 use Rattle.ghost_cli.proofs.VerbCommands.{assemble-verb, check-verb, compile-verb, disassemble-verb, evaluate-verb, infer-verb, run-verb, sample-verb, trace-verb}
-use Rattle.ghost_cli.proofs.WordsAsked.{IsVerb, SameLength, SaysAll, asked-says, flag-said, name-said, rows_behind, says-asked, value-said}
+use Rattle.ghost_cli.proofs.WordsAsked.{IsVerb, SameLength, SaysAll, asked-says, flag-said, name-said, rows_behind, says-asked, two-given, value-said}
 use Rattle.ghost_cli.proofs.WordsFound.{name_at}
 use Rattle.ghost_cli.proofs.WordsRead.{same-text}
+use Rattle.ghost_cli.proofs.WordsUsed.{false-or, text-is}
 
 -- ---- what is given
-
-two-given : {A B C : Type 0} (f : A → B → C) (c : C) (a : Option A) (b : Option B)
-    → option_and_then (λ x. option_map (f x) b) a ≡ Some c
-    → (x : A) × (y : B) × (a ≡ Some x) × (b ≡ Some y) × (c ≡ f x y)
-two-given {C = C} f c None b e = absurd (let g : ◌≡◌ {A = Option C} None (Some c) = e in cc)
-two-given {C = C} f c (Some x) None e = absurd (let g : ◌≡◌ {A = Option C} None (Some c) = e in cc)
-two-given {C = C} f c (Some x) (Some y) e =
-    (x, y, refl, refl, (let g : ◌≡◌ {A = Option C} (Some (f x y)) (Some c) = e in cc))
 
 one-given : {A C : Type 0} (f : A → C) (c : C) (a : Option A) → option_map f a ≡ Some c
     → (x : A) × (a ≡ Some x) × (c ≡ f x)
@@ -525,6 +520,25 @@ sample-words words work texts = (
       ∙ ap Some (sym asks.is)),
 )
 
+-- a word that is no verb
+no-verb : (first : Text) (words : List Text) → (IsAmong verbs first → ⊥) → work_of (first ∷ words) ≡ None
+no-verb first words none =
+    rw (
+      unlike (codes "check") (λ is. none (inl is)),
+      unlike (codes "trace") (λ is. none (inr (inl is))),
+      unlike (codes "run") (λ is. none (inr (inr (inl is)))),
+      unlike (codes "asm") (λ is. none (inr (inr (inr (inl is))))),
+      unlike (codes "dis") (λ is. none (inr (inr (inr (inr (inl is)))))),
+      unlike (codes "eval") (λ is. none (inr (inr (inr (inr (inr (inl is))))))),
+      unlike (codes "compile") (λ is. none (inr (inr (inr (inr (inr (inr (inl is)))))))),
+      unlike (codes "sample") (λ is. none (inr (inr (inr (inr (inr (inr (inr (inl is))))))))),
+      unlike (codes "bus") (λ is. none (inr (inr (inr (inr (inr (inr (inr (inr (inl is)))))))))),
+      unlike (codes "infer") (λ is. none (inr (inr (inr (inr (inr (inr (inr (inr (inr (inl is))))))))))),
+    ) refl
+  where
+    unlike : (verb : Text) → (first ≡ verb → ⊥) → bytes_eq first verb ≡ false
+    unlike verb other = false-or (bytes_eq first verb) (λ is. other (text-is first verb is))
+
 pub words-ask : WordsAsk
 words-ask = record {
   check = check-words;
@@ -535,6 +549,8 @@ words-ask = record {
   evaluate = evaluate-words;
   compile = compile-words;
   sample = sample-words;
+  bus = bus-words;
   infer = infer-words;
   no_words = refl;
+  no_verb = no-verb;
 }
