@@ -48,6 +48,13 @@ pub mod WordsUsed
 pub mod WordsFound
 pub mod WordCommands
 pub mod WordsAsked
+pub mod BusWalks
+pub mod BusRead
+pub mod BusRefused
+pub mod BusUsed
+pub mod BusTogether
+pub mod BusTaken
+pub mod BusWords
 pub mod VerbRows
 pub mod VerbCommands
 pub mod VerbWords

@@ -16,24 +16,18 @@ use Rattle.ghost_cli.specs.Run.{run_named, run_row, run_work}
 use Rattle.ghost_cli.specs.Sample.{sample_named, sample_row, sample_work}
 use Rattle.ghost_cli.specs.Trace.{trace_named, trace_row, trace_work}
 use Rattle.ghost_cli.specs.VerbRows.{VerbRow, command_of, row_of_two}
-use Rattle.ghost_cli.specs.Verbs.{asked_for, verb_named}
+use Rattle.ghost_cli.specs.Verbs.{asked_for, verb_named, work_of}
 use Rattle.ghost_cli.specs.Windows.{window_given, windowed_profile}
-use Rattle.ghost_cli.specs.WordsAsk.{AskExactly, AsksByOne, AsksByTwo, AsksToCompile, AsksToEvaluate, AsksToRun, AsksToSample, AsksToTrace, Says, WordsAsk}
+use Rattle.ghost_cli.specs.WordsAsk.{AskExactly, AsksByOne, AsksByTwo, AsksToCompile, AsksToEvaluate, AsksToRun, AsksToSample, AsksToTrace, Says, WordsAsk, verbs}
 use Rattle.ghost_cli.specs.Work.{Work}
+use Rattle.ghost_cli.proofs.BusWords.{bus-words}
 use Rattle.ghost_cli.proofs.VerbCommands.{IsVerbRow, assemble-verb, check-verb, compile-verb, disassemble-verb, evaluate-verb, infer-verb, run-verb, sample-verb, trace-verb}
-use Rattle.ghost_cli.proofs.WordsAsked.{SameLength, SaysAll, asked-says, flag-said, name-said, rows_behind, says-asked, value-said}
+use Rattle.ghost_cli.proofs.WordsAsked.{SameLength, SaysAll, asked-says, flag-said, name-said, rows_behind, says-asked, two-given, value-said}
 use Rattle.ghost_cli.proofs.WordsFound.{name_at}
 use Rattle.ghost_cli.proofs.WordsRead.{same-text}
+use Rattle.ghost_cli.proofs.WordsUsed.{false-or, text-is}
 
 -- ---- what is given
-
-two-given : {A B C : Type 0} (f : A → B → C) (c : C) (a : Option A) (b : Option B)
-    → option_and_then (λ x. option_map (f x) b) a ≡ Some c
-    → (x : A) × (y : B) × (a ≡ Some x) × (b ≡ Some y) × (c ≡ f x y)
-two-given {C = C} f c None b e = absurd (let g : ◌≡◌ {A = Option C} None (Some c) = e in cc)
-two-given {C = C} f c (Some x) None e = absurd (let g : ◌≡◌ {A = Option C} None (Some c) = e in cc)
-two-given {C = C} f c (Some x) (Some y) e =
-    (x, y, refl, refl, (let g : ◌≡◌ {A = Option C} (Some (f x y)) (Some c) = e in cc))
 
 one-given : {A C : Type 0} (f : A → C) (c : C) (a : Option A) → option_map f a ≡ Some c
     → (x : A) × (a ≡ Some x) × (c ≡ f x)
@@ -436,6 +430,26 @@ sample-words words work texts = (
       ∙ ap Some (sym asks.is)),
 )
 
+-- a word that is no verb
+no-verb : (first : Text) (words : List Text) → (IsAmong verbs first → ⊥) → work_of (first ∷ words) ≡ None
+unfolding verb_named
+no-verb first words none =
+    rw (
+      unlike (codes "check") (λ is. none (inl is)),
+      unlike (codes "trace") (λ is. none (inr (inl is))),
+      unlike (codes "run") (λ is. none (inr (inr (inl is)))),
+      unlike (codes "asm") (λ is. none (inr (inr (inr (inl is))))),
+      unlike (codes "dis") (λ is. none (inr (inr (inr (inr (inl is)))))),
+      unlike (codes "eval") (λ is. none (inr (inr (inr (inr (inr (inl is))))))),
+      unlike (codes "compile") (λ is. none (inr (inr (inr (inr (inr (inr (inl is)))))))),
+      unlike (codes "sample") (λ is. none (inr (inr (inr (inr (inr (inr (inr (inl is))))))))),
+      unlike (codes "bus") (λ is. none (inr (inr (inr (inr (inr (inr (inr (inr (inl is)))))))))),
+      unlike (codes "infer") (λ is. none (inr (inr (inr (inr (inr (inr (inr (inr (inr (inl is))))))))))),
+    ) refl
+  where
+    unlike : (verb : Text) → (first ≡ verb → ⊥) → bytes_eq verb first ≡ false
+    unlike verb other = false-or (bytes_eq verb first) (λ is. other (sym (text-is verb first is)))
+
 pub words-ask : WordsAsk
 words-ask = record {
   check = check-words;
@@ -446,6 +460,8 @@ words-ask = record {
   evaluate = evaluate-words;
   compile = compile-words;
   sample = sample-words;
+  bus = bus-words;
   infer = infer-words;
   no_words = refl;
+  no_verb = no-verb;
 }

@@ -1,7 +1,8 @@
 -- The work that is asked by the words of a verb's command, by the parts that they say.
 use Rattle.std.proofs.Common.{◌≡◌, inl, inr, ⊎_elim, ◌∙◌, refl, sym, ap, Bool, true, false, cond, not, ◌||◌, List, [], ◌∷◌, Option, Some, None, true≢false}
-use Rattle.std.specs.Prelude.{is_some}
+use Rattle.std.specs.Prelude.{is_some, option_and_then}
 use Rattle.std.specs.List.{list_any}
+use Rattle.std.specs.Option.{option_map}
 use Rattle.std.specs.Str.{bytes_eq}
 use Rattle.clap.specs.Kinds.{Kinds}
 use Rattle.clap.specs.Takes.{is_given}
@@ -123,6 +124,21 @@ none-missing ids rows all = ap (λ (b : Bool). cond b (kind.MissingRequiredArgum
     at [] all = refl
     at (id ∷ ids) all = λ i. not (all id (inl refl) i) || at ids (λ x later. all x (inr later)) i
 
+-- ---- what is given
+
+pub two-given : {A B C : Type 0} (f : A → B → C) (c : C) (a : Option A) (b : Option B)
+    → option_and_then (λ x. option_map (f x) b) a ≡ Some c
+    → (x : A) × (y : B) × (a ≡ Some x) × (b ≡ Some y) × (c ≡ f x y)
+two-given {C = C} f c None b e = absurd (let g : ◌≡◌ {A = Option C} None (Some c) = e in cc)
+two-given {C = C} f c (Some x) None e = absurd (let g : ◌≡◌ {A = Option C} None (Some c) = e in cc)
+two-given {C = C} f c (Some x) (Some y) e =
+    (x, y, refl, refl, (let g : ◌≡◌ {A = Option C} (Some (f x y)) (Some c) = e in cc))
+
+pub asked-parts : (kinds : Kinds) (asked : Option Work) (work : Work) → cond (none_wrong kinds) asked None ≡ Some work
+    → (kinds ≡ []) × (asked ≡ Some work)
+asked-parts [] asked work e = (refl, e)
+asked-parts (k ∷ kinds) asked work e = absurd (let f : ◌≡◌ {A = Option Work} None (Some work) = e in cc)
+
 -- ---- a verb's command
 
 module _ (app : App) (options flags ids : List Text) where
@@ -188,11 +204,6 @@ module _ (app : App) (options flags ids : List Text) where
         found-flag shape options flags ids is.command words parts says.line (names-fit parts ids says.names) x among
 
     module _ (asks : List Row → Option Work) where
-      asked-parts : (kinds : Kinds) (asked : Option Work) (work : Work)
-          → cond (none_wrong kinds) asked None ≡ Some work → (kinds ≡ []) × (asked ≡ Some work)
-      asked-parts [] asked work e = (refl, e)
-      asked-parts (k ∷ kinds) asked work e = absurd (let f : ◌≡◌ {A = Option Work} None (Some work) = e in cc)
-
       pub asked-says : (words : List Text) (work : Work) → AreTexts words
           → asked_by app asks (verb ∷ words) ≡ Some work
           → (parts : List Part) × SaysAll words parts × (asks (rows_behind parts) ≡ Some work)

@@ -81,7 +81,7 @@ flag-default f rows = by (has_row f rows) refl
         (subst (λ (l : List Row). FlagDefault f rows l)
         (sym (at-missing f (more_values DefaultValue (codes "false" ∷ [])) (default_row f ∷ []) rows is)) (Grows is))
 
-no-default-kept : (a : Rule) (rows : List Row) → a.defaults ≡ [] → with_default rows a ≡ rows
+pub no-default-kept : (a : Rule) (rows : List Row) → a.defaults ≡ [] → with_default rows a ≡ rows
 no-default-kept a rows none =
     ap (λ (d : List Text). cond (has_row a.id rows) rows (default_rows a.id (reading_by a) d rows)) none
     ∙ same (has_row a.id rows)
@@ -142,7 +142,7 @@ flags-kept flags x (a ∷ rules) have rows =
 
 -- ---- rows of parts
 
-first-row : (x id value : Text) (how : Reading) (rows : List Row)
+pub first-row : (x id value : Text) (how : Reading) (rows : List Row)
     → first_of x (row_with id how (value ∷ []) ∷ rows) ≡ cond (bytes_eq id x) (Some value) (first_of x rows)
 first-row x id value how rows = by (bytes_eq id x)
   where

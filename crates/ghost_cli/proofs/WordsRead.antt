@@ -109,7 +109,7 @@ module _ (s : Shape) where
   pending-rows rows id values skip rule is = ap (λ (o : Option Rule). used_by_id o values rows) is
 
   -- a use that is pending
-  to-pending : (w : Walk) (words : List Text) (rule : Rule) (id : Text) (values : List Text) (rows : List Row) (skip :
+  pub to-pending : (w : Walk) (words : List Text) (rule : Rule) (id : Text) (values : List Text) (rows : List Row) (skip :
       ℕ)
       (us : List Use) → w.held ≡ hold s rows (Some (id, values)) skip → arg_by_id s.rules id ≡ Some rule
       → Walks w words us
@@ -159,7 +159,7 @@ module _ (s : Shape) where
   or-swap a b c = ap (λ (k : Kinds). or_else k c) (or-nil (or_else a b)) ∙ or-assoc a b c
 
   -- an option or flag that is whole, and what follows
-  by-use : (h : Held) (p : ℕ) (word : Text) (words : List Text) (rule : Rule) (values : List Text) (us : List Use)
+  pub by-use : (h : Held) (p : ℕ) (word : Text) (words : List Text) (rule : Rule) (values : List Text) (us : List Use)
       → Leads s (at s h idle p false) word (or_else (react_fault s.rules again rule values h) [])
       (at s (reacted s.rules rule values h) idle p false)
       → Walks (at s (reacted s.rules rule values h) idle p false) words us
@@ -178,7 +178,7 @@ module _ (s : Shape) where
       }
 
   -- an option with its value in the next word
-  by-apart : (h : Held) (p : ℕ) (word id value : Text) (words : List Text) (us : List Use)
+  pub by-apart : (h : Held) (p : ℕ) (word id value : Text) (words : List Text) (us : List Use)
       → bytes_eq word (45 ∷ 45 ∷ []) ≡ false → long_of word ≡ Some (id, None) → Known id → IsPlain value
       → Walks (at s (hold s (settled s.rules h).rows (Some (id, value ∷ [])) h.skip) idle p false) words us
       → Walks (at s h idle p false) (word ∷ value ∷ words) (use_of (option_rule id) (value ∷ []) ∷ us)
@@ -203,7 +203,7 @@ module _ (s : Shape) where
       }
 
   -- a long option isn't `--`
-  long-isn't-dashes : (word : Text) (pair : Text × Option Text) → long_of word ≡ Some pair
+  pub long-isn't-dashes : (word : Text) (pair : Text × Option Text) → long_of word ≡ Some pair
       → bytes_eq word (45 ∷ 45 ∷ []) ≡ false
   long-isn't-dashes word pair long = by (bytes_eq word (45 ∷ 45 ∷ [])) refl
     where
@@ -217,7 +217,7 @@ module _ (s : Shape) where
           absurd (let f : ◌≡◌ {A = Option (Text × Option Text)} None (Some pair) =
           sym none ∙ ap long_of (sym is) ∙ long in cc)
 
-  alone : (name : Text) → Lacks 61 name → (x : ℕ) × (xs : Text) × (name ≡ x ∷ xs)
+  pub alone : (name : Text) → Lacks 61 name → (x : ℕ) × (xs : Text) × (name ≡ x ∷ xs)
       → long_of (codes "--" ++ name) ≡ Some (name, None)
   alone name lacks some =
       subst (λ (n : Text). long_of (codes "--" ++ n) ≡ Some (n, None)) (sym some.2)

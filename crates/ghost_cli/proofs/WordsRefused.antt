@@ -47,14 +47,14 @@ module _ (s : Shape) where
   value-fault : (name : Text) (rows : List Row) → IsFault (use_fault again (option_rule name) [] rows)
   value-fault name rows = a-fault _ refl
 
-  unknown-long : (value : Option Text) (h : Held) → IsFault (long_fault s.rules again None value h)
+  pub unknown-long : (value : Option Text) (h : Held) → IsFault (long_fault s.rules again None value h)
   unknown-long value h = a-fault _ refl
 
-  help-long : (value : Option Text) (h : Held) → IsFault (long_fault s.rules again (Some built_help) value h)
+  pub help-long : (value : Option Text) (h : Held) → IsFault (long_fault s.rules again (Some built_help) value h)
   help-long (Some value) h = a-fault _ refl
   help-long None h = help-fault h
 
-  flag-value : (name value : Text) (h : Held)
+  pub flag-value : (name value : Text) (h : Held)
       → IsFault (long_fault s.rules again (Some (flag_rule name)) (Some value) h)
   flag-value name value h = a-fault _ refl
 
@@ -77,19 +77,19 @@ module _ (s : Shape) where
 
   -- ---- the turn of one word
 
-  first-turn : (w : Walk) (word : Text) (words : List Text) → wrong s w (word ∷ words) ≡ []
+  pub first-turn : (w : Walk) (word : Text) (words : List Text) → wrong s w (word ∷ words) ≡ []
       → turn_fault s [] w word ≡ []
   unfolding walk_fault
   first-turn w word words none =
       (both-none (turn_fault s [] w word) _
       (both-none (walk_fault s [] w (word ∷ words)) (settling s (last s w (word ∷ words)).held) none).0).0
 
-  later : (w next : Walk) (word : Text) (words : List Text) (faults : Kinds) → Leads s w word faults next
+  pub later : (w next : Walk) (word : Text) (words : List Text) (faults : Kinds) → Leads s w word faults next
       → wrong s w (word ∷ words) ≡ [] → wrong s next words ≡ []
   later w next word words faults leads none =
       (both-none faults (wrong s next words) (sym (led-wrong s w next word words faults leads) ∙ none)).1
 
-  flag-idle : (h : Held) (p : ℕ) (word : Text) → bytes_eq word (45 ∷ 45 ∷ []) ≡ false
+  pub flag-idle : (h : Held) (p : ℕ) (word : Text) → bytes_eq word (45 ∷ 45 ∷ []) ≡ false
       → turn_fault s [] (at s h idle p false) word ≡ [] → flag_word_fault s.rules again (long_of word) word h ≡ []
   unfolding clap_on_literals
   flag-idle h p word dashes none =
@@ -97,7 +97,7 @@ module _ (s : Shape) where
       (both-none (other_fault s None word h) (step_fault s p (word_met s.rules [] false idle p word h).0
       (word_met s.rules [] false idle p word h).1) none).0
 
-  flag-waits : (h : Held) (name : Text) (p : ℕ) (word : Text) → bytes_eq word (45 ∷ 45 ∷ []) ≡ false
+  pub flag-waits : (h : Held) (name : Text) (p : ℕ) (word : Text) → bytes_eq word (45 ∷ 45 ∷ []) ≡ false
       → turn_fault s [] (at s h (option name) p false) word ≡ []
       → flag_word_fault s.rules again (long_of word) word h ≡ []
   unfolding clap_on_literals
@@ -106,7 +106,7 @@ module _ (s : Shape) where
       (both-none (other_fault s None word h) (step_fault s p (word_met s.rules [] false (option name) p word h).0
       (word_met s.rules [] false (option name) p word h).1) none).0
 
-  long-part : (word : Text) (h : Held) (name : Text) (value : Option Text) → long_of word ≡ Some (name, value)
+  pub long-part : (word : Text) (h : Held) (name : Text) (value : Option Text) → long_of word ≡ Some (name, value)
       → flag_word_fault s.rules again (long_of word) word h ≡ []
       → long_fault s.rules again (arg_by_long s.rules name) value h ≡ []
   long-part word h name value long none =
@@ -133,7 +133,7 @@ module _ (s : Shape) where
   settles-waits h name p word id is =
       rw is (settles-first s (is_pending (name_rule id p) h.pending) [] (settling s h))
 
-  dashed-waits : (h : Held) (name : Text) (p : ℕ)
+  pub dashed-waits : (h : Held) (name : Text) (p : ℕ)
       → Leads s (at s h (option name) p false) (45 ∷ 45 ∷ []) [] (at s h (option name) p true)
   unfolding clap_on_literals
   dashed-waits h name p = record { turn = refl; goes = refl }
@@ -171,7 +171,7 @@ module _ (s : Shape) where
       pub plain : IsPlain value
       pub said : Said rest ids
 
-    refused-short : {X : Type 0} (x : ℕ) (xs : Text) (rows : List Row) (pending : Option (Text × List Text))
+    pub refused-short : {X : Type 0} (x : ℕ) (xs : Text) (rows : List Row) (pending : Option (Text × List Text))
         → IsUtf8 (45 ∷ x ∷ xs) → x ≢ 45
         → flag_word_fault s.rules again (long_of (45 ∷ x ∷ xs)) (45 ∷ x ∷ xs) (hold s rows pending 0) ≡ [] → X
     refused-short x xs rows pending text other none =
@@ -192,7 +192,7 @@ module _ (s : Shape) where
         fit-behind words (names_held s h id word) (min (p + 1) usize_max) ids places.2
         (later _ _ word words _ (behind s h p word id places.0) none)
 
-    waits-fault : (rows : List Row) (name : Text) → Known s name
+    pub waits-fault : (rows : List Row) (name : Text) → Known s name
         → IsFault (settling s (hold s rows (Some (name, [])) 0))
     waits-fault rows name known =
         fault-as _ _ (pending-wrong s rows name [] 0 (option_rule name) known.id) (value-fault name rows)
@@ -211,7 +211,7 @@ module _ (s : Shape) where
         ∙ first-turn (at s (hold s rows (Some (name, [])) 0) (option name) p true) word words none))
 
     -- a long option where a value is awaited
-    long-waits : (rows : List Row) (name other : Text) (value : Option Text) → Known s name
+    pub long-waits : (rows : List Row) (name other : Text) (value : Option Text) → Known s name
         → IsFault (long_fault s.rules again (arg_by_long s.rules other) value (hold s rows (Some (name, [])) 0))
     long-waits rows name other value known =
         let h = hold s rows (Some (name, [])) 0 in

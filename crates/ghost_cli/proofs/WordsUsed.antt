@@ -42,7 +42,7 @@ row_with id how values = record {
   reading = how;
 }
 
-fresh-values : (id : Text) (how : Reading) (values : List Text) (rows : List Row) → has_row id rows ≡ false
+pub fresh-values : (id : Text) (how : Reading) (values : List Text) (rows : List Row) → has_row id rows ≡ false
     → with_values id how CommandLine values (without id rows) ≡ rows ++ row_with id how values ∷ []
 fresh-values id how values rows none =
     ap (with_values id how CommandLine values) (at-missing id (λ r. []) [] rows none ∙ append-nil rows)
@@ -68,7 +68,7 @@ AllFresh rows [] = Unit {0}
 AllFresh rows (r ∷ more) = (has_row r.id rows ≡ false) × AllFresh (rows ++ r ∷ []) more
 
 module _ (s : Shape) (plain : s.args_override_self ≡ false) where
-  repeat-fresh : (id : Text) (rows : List Row) → repeat_fault s.args_override_self id rows ≡ []
+  pub repeat-fresh : (id : Text) (rows : List Row) → repeat_fault s.args_override_self id rows ≡ []
       → has_row id rows ≡ false
   repeat-fresh id rows none = by (has_row id rows) refl
     where
@@ -85,7 +85,7 @@ module _ (s : Shape) (plain : s.args_override_self ≡ false) where
           absurd (true≢false (sym (ap is_none none) ∙ (λ i. is_none (cond (e i && not (plain i)) (kind.ArgumentConflict
           ∷ []) []))))
 
-  fresh-repeat : (id : Text) (rows : List Row) → has_row id rows ≡ false
+  pub fresh-repeat : (id : Text) (rows : List Row) → has_row id rows ≡ false
       → repeat_fault s.args_override_self id rows ≡ []
   fresh-repeat id rows none =
       ap (λ (b : Bool). cond (b && not s.args_override_self) (kind.ArgumentConflict ∷ []) []) none
@@ -186,7 +186,7 @@ module _ (s : Shape) (plain : s.args_override_self ≡ false) where
 pub text-is : (a b : Text) → bytes_eq a b ≡ true → a ≡ b
 text-is a b e = (bytes_eq-Decides a b).0 e
 
-has-more : (x : Text) (rows : List Row) (r : Row) → has_row x (rows ++ r ∷ []) ≡ (has_row x rows || bytes_eq r.id x)
+pub has-more : (x : Text) (rows : List Row) (r : Row) → has_row x (rows ++ r ∷ []) ≡ (has_row x rows || bytes_eq r.id x)
 has-more x [] r = or-none (bytes_eq r.id x)
   where
     or-none : (b : Bool) → (b || false) ≡ b
@@ -230,7 +230,7 @@ pub false-or : (a : Bool) → (a ≡ true → ⊥) → a ≡ false
 false-or true e = absurd (e refl)
 false-or false e = refl
 
-or-true : (b : Bool) → (b || true) ≡ true
+pub or-true : (b : Bool) → (b || true) ≡ true
 or-true true = refl
 or-true false = refl
 

@@ -73,3 +73,11 @@ AreOnce before [] = Unit {0}
 AreOnce before (AName name ∷ parts) = AreOnce before parts
 AreOnce before (AnOption option value ∷ parts) = (IsAmong before option → ⊥) × AreOnce (option ∷ before) parts
 AreOnce before (AFlag flag ∷ parts) = (IsAmong before flag → ⊥) × AreOnce (flag ∷ before) parts
+
+-- these names stand together: before the first and behind the last stand options and flags, and none between two of them
+pub record StandTogether (names : List Text) (parts : List Part) : Type 0 where
+  pub before : List Part
+  pub after : List Part
+  pub are : parts ≡ before ++ (map AName names ++ after)
+  pub none_before : names_in before ≡ []
+  pub none_after : names_in after ≡ []

@@ -3,8 +3,9 @@
 use Rattle.std.specs.Prelude.{◌≡◌, ◌↔◌, ℕ, List, [], ◌∷◌, codes, Some, None}
 use Rattle.ghost_cli.specs.declared.windows.Window.{Window}
 use Rattle.ghost_cli.specs.Assemble.{assemble_work}
+use Rattle.ghost_cli.specs.Bus.{Pair, bus_work, pairs_of}
 use Rattle.ghost_cli.specs.Check.{check_work}
-use Rattle.ghost_cli.specs.CommandLines.{AreOnce, AreTexts, IsLine, Part, Text, has_flag, names_in, value_in}
+use Rattle.ghost_cli.specs.CommandLines.{AreOnce, AreTexts, IsAmong, IsLine, Part, StandTogether, Text, has_flag, names_in, value_in}
 use Rattle.ghost_cli.specs.Compile.{compile_work}
 use Rattle.ghost_cli.specs.Disassemble.{disassemble_work}
 use Rattle.ghost_cli.specs.Evaluate.{evaluate_work}
@@ -97,12 +98,33 @@ pub record AsksToSample (words : List Text) (work : Work) : Type 0 where
   pub seed_is : seed_given (value_in (codes "seed") parts) ≡ Some seed
   pub is : work ≡ sample_work items output
 
+-- its names stand together, and are one pair or more
+pub record AsksForBus (words : List Text) (work : Work) : Type 0 where
+  pub names : List Text
+  pub parts : List Part
+  pub first : Pair
+  pub more : List Pair
+  pub cycles : ℕ
+  pub seed : ℕ
+  pub says : Says run_options [] words names parts
+  pub together : StandTogether names parts
+  pub pairs_are : pairs_of names ≡ Some (first ∷ more)
+  pub cycles_given : number_given (value_in (codes "cycles") parts) ≡ Some cycles
+  pub seed_is : seed_given (value_in (codes "seed") parts) ≡ Some seed
+  pub is : work ≡ bus_work (first ∷ more) cycles
+
 -- behind a verb words ask for a work exactly where they say so
 abbrev pub AskExactly : Text → (List Text → Work → Type 0) → Type 0
 AskExactly verb Asks =
     (words : List Text) (work : Work) → AreTexts words → (work_of (verb ∷ words) ≡ Some work) ↔ Asks words work
 
--- so it is for all verbs but `bus`; no words, and words whose first is no verb, ask for none
+-- the verbs
+abbrev pub verbs : List Text
+verbs =
+    codes "check" ∷ codes "trace" ∷ codes "run" ∷ codes "asm" ∷ codes "dis" ∷ codes "eval" ∷ codes "compile"
+    ∷ codes "sample" ∷ codes "bus" ∷ codes "infer" ∷ []
+
+-- so it is for all verbs; no words, and words whose first is no verb, ask for none
 pub record WordsAsk : Type 0 where
   pub check : AskExactly (codes "check") (AsksByOne check_work)
   pub trace : AskExactly (codes "trace") AsksToTrace
@@ -112,5 +134,7 @@ pub record WordsAsk : Type 0 where
   pub evaluate : AskExactly (codes "eval") AsksToEvaluate
   pub compile : AskExactly (codes "compile") AsksToCompile
   pub sample : AskExactly (codes "sample") AsksToSample
+  pub bus : AskExactly (codes "bus") AsksForBus
   pub infer : AskExactly (codes "infer") (AsksByTwo infer_work)
   pub no_words : work_of [] ≡ None
+  pub no_verb : (first : Text) (words : List Text) → (IsAmong verbs first → ⊥) → work_of (first ∷ words) ≡ None

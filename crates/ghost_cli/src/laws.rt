@@ -70,9 +70,10 @@ pub fn promises_follow()
     ensures { PromisesFollow }
 {}
 
-/// Does nothing; its clause is a law: the words behind each verb but `bus` ask for a work exactly where they say it: its
-/// names in their places, and its options and flags in any order, each once at most, with values in their ranges. An
-/// option's value stands behind `=` or in the next word, and behind `--` all words are names.
+/// Does nothing; its clause is a law: the words behind each verb ask for a work exactly where they say it: its names in
+/// their places, for `bus` together and in pairs, and its options and flags in any order, each once at most, with values
+/// in their ranges. An option's value stands behind `=` or in the next word, and behind `--` all words are names. No
+/// words, and words whose first is no verb, ask for none.
 pub fn words_ask()
     ensures { WordsAsk }
 {}
