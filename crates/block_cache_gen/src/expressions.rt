@@ -20,7 +20,6 @@ use src_tree::Expr;
 /// Appends what leaves the value of an expression in register `to`. The mask says which registers may be secret in its
 /// notes. The only error is want of memory.
 #[cycle(expressions)]
-#[tactic(auto, using(crate::proofs::Emitting::grows_same, crate::proofs::Emitting::grows_then))]
 pub(crate) fn put_expr<'a>(
     emitter: &Emitter<'a>,
     out: &mut CodeBuf,
@@ -68,7 +67,6 @@ pub(crate) fn put_expr<'a>(
 /// Appends what leaves the number of the word of an array that an index names in register `to`, and its block in the
 /// array's slot. The only error is want of memory.
 #[cycle(expressions)]
-#[tactic(auto, using(crate::proofs::Emitting::grows_same, crate::proofs::Emitting::grows_then))]
 pub(crate) fn put_access<'a>(
     emitter: &Emitter<'a>,
     out: &mut CodeBuf,

@@ -94,7 +94,7 @@ fn read_files<'a, F: Shelf>(
     let mut files = Vec::new(alloc);
     'reading: for (place, name) in call.placed().iter().enumerate() {
         if let Some(kind) = call.kind_at(place) {
-            match shelf.read(*name, kind.most_bytes().saturating_add(1)) {
+            match shelf.read(*name, kind.most_bytes() + 1) {
                 Ok(bytes) => {
                     let name = *name;
                     let Ok(()) = files.push(File { name, kind, bytes }) else {

@@ -1,6 +1,6 @@
 //! Why an assembly text spells no object.
 
-use crate::texts::{Source, line_of, line_start, piece, spot_at};
+use crate::texts::{Source, is_word_of, length_up_to, line_of, line_start, piece, spot_at};
 use crate::words::Words;
 use lt_assembler::{AsmError, assemble};
 use std::alloc::Global;
@@ -13,31 +13,36 @@ pub(crate) fn explain_assembly(alloc: Global, name: &str, text: &[u8], out: &mut
     if text.len() > TEXT_BYTES {
         return;
     }
-    let (number, what, hint) = match assemble(alloc, text) {
-        Ok(_) => return,
-        Err(AsmError::BadLine(number)) => (
+    if let Some(fault) = assemble(alloc, text).err() {
+        explain_fault(Source { name, text }, fault, out);
+    }
+}
+
+fn explain_fault(source: Source<'_>, fault: AsmError, out: &mut Words) {
+    let (number, what, hint) = match fault {
+        AsmError::BadLine(number) => (
             number,
             "the line has none of the forms that may stand here",
             None,
         ),
-        Err(AsmError::BadNumber(number)) => (
+        AsmError::BadNumber(number) => (
             number,
             "a number of the line isn't written so, is out of its range, or names what isn't there",
             None,
         ),
-        Err(AsmError::UnknownName(number)) => (
+        AsmError::UnknownName(number) => (
             number,
             "the line uses a label that stands nowhere",
             Some(
                 "Put a line with the label and a colon before the instruction that the line should lead to.",
             ),
         ),
-        Err(AsmError::TwiceNamed(number)) => (
+        AsmError::TwiceNamed(number) => (
             number,
             "the line repeats the name of a symbol or of a label",
             Some("Give one of them another name."),
         ),
-        Err(AsmError::OverLimit(number)) => (
+        AsmError::OverLimit(number) => (
             number,
             "the line passes a limit",
             Some(
@@ -45,9 +50,9 @@ pub(crate) fn explain_assembly(alloc: Global, name: &str, text: &[u8], out: &mut
                 instructions may stand, and one note before an instruction.",
             ),
         ),
-        Err(AsmError::Memory) => return out.starve(),
+        AsmError::Memory => return out.starve(),
     };
-    explain_line(Source { name, text }, number as usize, what, hint, out)
+    explain_line(source, number as usize, what, hint, out)
 }
 
 fn explain_line(
@@ -91,11 +96,7 @@ fn of_foreign(bytes: &[u8]) -> (&'static str, &'static str) {
 }
 
 fn first_word(words: &[u8]) -> &[u8] {
-    let len = words
-        .iter()
-        .take_while(|byte| !matches!(**byte, b' ' | b'\t' | b';'))
-        .count();
-    piece(words, 0, len)
+    piece(words, 0, length_up_to(words, b" \t;"))
 }
 
 /// The first words of lines, and the form of such a line.
@@ -157,17 +158,16 @@ const FORMS: &[(&str, &str)] = &[
 
 // The form of the line that begins with a word, within the text or behind it.
 fn form_of(word: &[u8], is_within: bool) -> &'static str {
-    let row = FORMS
-        .iter()
-        .find(|row| row.0.split(" ").any(|name| name.as_bytes() == word));
-    match row {
-        Some(row) => row.1,
-        None => if is_within {
-            "A line is `.object`, `.bank`, `.symbol`, `.note`, a label as `next:`, or an instruction: nop halt li ldb stb \
-            idb ldw stw jmp br add sub mul div rem remu and or xor shl shr."
-        } else {
-            "The text ends too soon: it has a first line `.object`, at least two banks and an instruction, and an \
-            instruction behind each note."
-        },
+    for (words, form) in FORMS {
+        if is_word_of(words, word) {
+            return form;
+        }
+    }
+    if is_within {
+        "A line is `.object`, `.bank`, `.symbol`, `.note`, a label as `next:`, or an instruction: nop halt li ldb stb idb \
+        ldw stw jmp br add sub mul div rem remu and or xor shl shr."
+    } else {
+        "The text ends too soon: it has a first line `.object`, at least two banks and an instruction, and an \
+        instruction behind each note."
     }
 }

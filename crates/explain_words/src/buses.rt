@@ -17,14 +17,20 @@ struct Reach {
     up_to: u64,
 }
 
+fn period_of(object: &Object) -> u64 {
+    u64::from(object.profile().period)
+}
+
 fn reach_of(object: &Object) -> Reach {
     let profile = object.profile();
-    let latencies = object.banks().iter().map(|bank| bank.latency);
-    let longest = u64::from(latencies.max().unwrap_or(0));
+    let mut longest = 0u32;
+    for bank in object.banks() {
+        longest = longest.max(bank.latency);
+    }
     Reach {
         from: u64::from(profile.opens),
         up_to: u64::from(profile.closes)
-            .saturating_add(longest)
+            .saturating_add(u64::from(longest))
             .saturating_sub(1),
     }
 }
@@ -49,11 +55,12 @@ struct Lack {
 }
 
 fn lack_of(cores: &[Core<'_>], number: usize, core: &Core<'_>) -> Option<Lack> {
-    let period = u64::from(core.object.profile().period);
+    let period = period_of(&core.object);
     let ours = reach_of(&core.object);
-    let first = cores
-        .first()
-        .map_or(period, |other| u64::from(other.object.profile().period));
+    let first = match cores.first() {
+        Some(other) => period_of(&other.object),
+        None => period,
+    };
     if period == 1 {
         return Some(Lack {
             words: "its memory is always open\nGive it a window: by `compile --window P:O:C`, or `.object 2`.\n",

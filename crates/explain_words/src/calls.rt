@@ -1,6 +1,6 @@
 //! A call of the program that met a fault: which of its files are read again, and what is said of each.
 
-ghost use Rattle.std.specs.Prelude.{IfOk, IfSome, All};
+ghost use Rattle.std.specs.Prelude.{◌≤◌, IfOk, IfSome, All};
 ghost use Rattle.gr_word.specs.Fitting.{AreVariables};
 ghost use Rattle.explain_words.specs.Plain.{IsPlain};
 
@@ -10,6 +10,7 @@ use crate::inputs::{explain_inputs, variables_of_object, variables_of_source};
 use crate::objects::{explain_file, object_in};
 use crate::refusals::{explain_inference, explain_refusal};
 use crate::sources::{Room, explain_source};
+use crate::texts::is_word_of;
 use crate::usage::{Sorted, explain_usage};
 use crate::words::Words;
 use gr_base::Memory;
@@ -40,8 +41,10 @@ impl Kind {
         }
     }
 
-    /// The most bytes of a file that is right.
-    pub fn most_bytes(self) -> usize {
+    /// The most bytes of a file that is right: 64 MiB at most, so that one byte more is a number too.
+    pub fn most_bytes(self) -> usize
+        ensures { result ≤ 67108864 }
+    {
         match self {
             Kind::Object => 33_554_432,
             Kind::Source => 1_048_576,
@@ -94,7 +97,7 @@ impl<'a, 'b> Call<'a, 'b> {
     /// What the file in a place is to be, if its fault may be there.
     pub fn kind_at(&self, place: usize) -> Option<Kind> {
         let mut places = self.usage.split(" ").skip(1);
-        let repeats = self.usage.split(" ").any(|word| word == "..");
+        let repeats = is_word_of(self.usage, b"..");
         let kind = Kind::named(places.nth(if repeats { place % 2 } else { place })?)?;
         let is_read = match self.status {
             "6" | "7" | "13" => matches!(kind, Kind::Object),
@@ -122,11 +125,10 @@ impl<'a, 'b> Call<'a, 'b> {
         if self.verb() != "compile" {
             return Room::Unasked;
         }
-        let log = self
-            .sorted
-            .value("--block-log")
-            .and_then(|text| text.parse::<u8>().ok());
-        Room::Blocks(log.unwrap_or(USUAL_BLOCK_LOG))
+        Room::Blocks(match self.sorted.value("--block-log") {
+            Some(log) => log.parse::<u8>().unwrap_or(USUAL_BLOCK_LOG),
+            None => USUAL_BLOCK_LOG,
+        })
     }
 
     /// What the fault means, by the files that were read again: nothing where nothing can be said. The text is ASCII, and

@@ -1,5 +1,7 @@
 //! Which field of an object file stands at a byte.
 
+use crate::texts::piece;
+
 /// A field: what it is called, and what is allowed in it.
 #[derive(Clone, Copy)]
 pub(crate) struct Field {
@@ -11,10 +13,11 @@ pub(crate) struct Field {
 
 // A number of the file, its lowest byte first; what isn't there is 0.
 fn number_at(bytes: &[u8], at: usize, size: usize) -> usize {
-    bytes.iter().skip(at).take(size.min(4)).rev().fold(
-        0usize,
-        |sum, byte| sum.wrapping_mul(256).wrapping_add(*byte as usize),
-    )
+    let mut number = 0usize;
+    for byte in piece(bytes, at, size.min(4)).iter().rev() {
+        number = number.wrapping_mul(256).wrapping_add(*byte as usize);
+    }
+    number
 }
 
 fn field_of(name: &'static str, allowed: &'static str, number: Option<usize>) -> Field {

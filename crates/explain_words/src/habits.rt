@@ -1,5 +1,6 @@
 //! The habits of C that this language doesn't know, as one table.
 
+use crate::texts::is_word_of;
 use crate::tokens::Tokens;
 use crate::wanted::Wanted;
 
@@ -213,7 +214,7 @@ const HABITS: &[Habit] = &[
 ];
 
 fn is_among(words: &str, token: &[u8]) -> bool {
-    words.is_empty() || words.split(" ").any(|word| word.as_bytes() == token)
+    words.is_empty() || is_word_of(words, token)
 }
 
 fn fits(habit: &Habit, tokens: Tokens<'_>, at: usize, wanted: &Wanted) -> bool {
@@ -222,7 +223,7 @@ fn fits(habit: &Habit, tokens: Tokens<'_>, at: usize, wanted: &Wanted) -> bool {
         && is_among(before, tokens.before(at))
         && is_among(here, tokens.word(at))
         && is_among(behind, tokens.word(at.saturating_add(1)))
-        && (wants.is_empty() || wants.split(" ").all(|name| wanted.has(name.as_bytes())))
+        && (wants.is_empty() || wanted.has_each(wants))
 }
 
 /// How what is meant is said here, if a habit is known that leads to a token that isn't wanted there.

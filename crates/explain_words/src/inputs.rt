@@ -78,26 +78,30 @@ pub(crate) fn explain_inputs(
     if text.len() > INPUT_BYTES {
         return;
     }
-    let source = Source { name, text };
-    let given = Given { source, wants };
-    match read_inputs(alloc, wants, text) {
-        Ok(_) => {}
-        Err(InputError::Memory) => out.starve(),
-        Err(InputError::BadJson) => given.no_json(alloc, out),
-        Err(InputError::NotAnObject) => source.put(
-            0,
-            "the inputs are no JSON object",
-            "Inputs are one object, with a member for each variable: `{\"n\":3,\"a\":[1,2,3]}`.",
-            out,
-        ),
-        Err(InputError::UnknownName(name)) => given.unknown(name.text(), out),
-        Err(InputError::WrongShape(name)) => given.misfit(alloc, name.text(), out),
-        Err(InputError::WrongLength(name)) => given.misfit(alloc, name.text(), out),
-        Err(InputError::NotAWord(name)) => given.misfit(alloc, name.text(), out),
+    if let Some(fault) = read_inputs(alloc, wants, text).err() {
+        let source = Source { name, text };
+        Given { source, wants }.explain(alloc, &fault, out);
     }
 }
 
 impl Given<'_> {
+    fn explain(&self, alloc: Global, fault: &InputError, out: &mut Words) {
+        match fault {
+            InputError::Memory => out.starve(),
+            InputError::BadJson => self.no_json(alloc, out),
+            InputError::NotAnObject => self.source.put(
+                0,
+                "the inputs are no JSON object",
+                "Inputs are one object, with a member for each variable: `{\"n\":3,\"a\":[1,2,3]}`.",
+                out,
+            ),
+            InputError::UnknownName(name) => self.unknown(name.text(), out),
+            InputError::WrongShape(name) => self.misfit(alloc, name.text(), out),
+            InputError::WrongLength(name) => self.misfit(alloc, name.text(), out),
+            InputError::NotAWord(name) => self.misfit(alloc, name.text(), out),
+        }
+    }
+
     // Where the member of a name begins; the text's first byte where the name is written with escapes.
     fn member(&self, name: &str) -> usize {
         member_at(self.source.text, name.as_bytes()).unwrap_or(0)
@@ -133,25 +137,33 @@ impl Given<'_> {
 
     // A member whose value isn't what its variable wants.
     fn misfit(&self, alloc: Global, name: &str, out: &mut Words) {
-        let Ok(whole) = Value::from_slice(alloc, self.source.text) else {
-            return out.starve();
-        };
-        let want = self
-            .wants
-            .iter()
-            .find(|want| want.name.bytes() == name.as_bytes());
-        if let (Some(want), Some(value)) = (want, whole.get(name)) {
-            self.unfitting(want, name, value, out);
+        match Value::from_slice(alloc, self.source.text) {
+            Ok(whole) => if let Some(value) = whole.get(name) {
+                self.unfitting(name, value, out);
+            },
+            Err(_) => out.starve(),
         }
     }
 
-    fn unfitting(&self, want: &Want, name: &str, value: &Value, out: &mut Words) {
+    fn unfitting(&self, name: &str, value: &Value, out: &mut Words) {
+        for want in self.wants {
+            if want.name.bytes() == name.as_bytes() {
+                return self.put_misfit(want, name, value, out);
+            }
+        }
+    }
+
+    fn put_misfit(&self, want: &Want, name: &str, value: &Value, out: &mut Words) {
         let text = self.source.text;
         let member = self.member(name);
         let faulty = faulty_item(want, value);
-        let at = faulty
-            .and_then(|number| item_at(text, member, number))
-            .unwrap_or(member);
+        let (at, shown) = match faulty {
+            Some(number) => (
+                item_at(text, member, number).unwrap_or(member),
+                value.get(number).unwrap_or(value),
+            ),
+            None => (member, value),
+        };
         let spot = spot_at(text, at);
         out.put_place(self.source.name, spot);
         out.quote(name.as_bytes());
@@ -160,10 +172,7 @@ impl Given<'_> {
             None => put_want(want, out),
         }
         out.say(", and this is ");
-        put_kind(
-            faulty.and_then(|number| value.get(number)).unwrap_or(value),
-            out,
-        );
+        put_kind(shown, out);
         out.put_line(text, spot);
         out.line("A word is a decimal integer from -9223372036854775808 to 9223372036854775807.");
     }

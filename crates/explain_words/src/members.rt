@@ -39,14 +39,23 @@ fn is_member(text: &[u8], at: usize, name: &[u8]) -> bool {
         return false;
     }
     match piece(text, start.saturating_add(name.len()), text.len()) {
-        [b'"', rest @ ..] => {
-            let mark = rest
-                .iter()
-                .find(|byte| !matches!(**byte, b' ' | b'\t' | b'\n' | b'\r'));
-            mark.copied() == Some(b':')
-        }
+        [b'"', rest @ ..] => begins_value(rest),
         _ => false,
     }
+}
+
+fn is_white(byte: u8) -> bool {
+    matches!(byte, b' ' | b'\t' | b'\n' | b'\r')
+}
+
+// Whether a colon stands there, behind white space.
+fn begins_value(text: &[u8]) -> bool {
+    for byte in text {
+        if !is_white(*byte) {
+            return *byte == b':';
+        }
+    }
+    false
 }
 
 /// The byte at which the member of a name begins whose value counts: the last of that name, in the outermost object, where
@@ -77,8 +86,7 @@ pub(crate) fn item_at(text: &[u8], member: usize, number: usize) -> Option<usize
     let mut passed = 0usize;
     let mut begins = false;
     for (ahead, byte) in text.iter().skip(member).enumerate() {
-        let is_white = matches!(*byte, b' ' | b'\t' | b'\n' | b'\r');
-        if begins && !is_white {
+        if begins && !is_white(*byte) {
             return Some(member.saturating_add(ahead));
         }
         let was = walk.depth;

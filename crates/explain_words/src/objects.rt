@@ -25,10 +25,14 @@ pub(crate) fn explain_file(alloc: Global, name: &str, bytes: &[u8], out: &mut Wo
     if bytes.len() > OBJECT_BYTES {
         return;
     }
-    let Err(fault) = decode(alloc, bytes) else {
-        return;
-    };
-    out.quote(name.as_bytes());
+    if let Some(fault) = decode(alloc, bytes).err() {
+        out.quote(name.as_bytes());
+        put_fault(bytes, fault, out);
+    }
+}
+
+// Where the fault is, and what it means.
+fn put_fault(bytes: &[u8], fault: DecodeError, out: &mut Words) {
     match fault {
         DecodeError::BadMagic => {
             out.line(":byte 0: the file doesn't begin with GRLT, as an object file does");

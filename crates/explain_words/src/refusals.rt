@@ -43,56 +43,42 @@ pub(crate) fn explain_refusal(alloc: Global, name: &str, bytes: &[u8], out: &mut
     let Some(object) = object_in(alloc, bytes) else {
         return;
     };
-    match check(alloc, object) {
-        Ok(_) => {}
-        Err(CheckError::Memory { .. }) => out.starve(),
-        Err(CheckError::Refused { pc, reason, object }) => {
-            let Ok(listing) = disassemble(alloc, &object) else {
-                return out.starve();
-            };
-            let refused = Refused {
-                name,
-                object: &object,
-                listing: &listing,
-            };
-            refused.put_refusal(alloc, pc as usize, reason, out)
-        }
+    if let Some(fault) = check(alloc, object).err() {
+        explain_check(alloc, name, &fault, out);
+    }
+}
+
+fn explain_check(alloc: Global, name: &str, fault: &CheckError, out: &mut Words) {
+    match fault {
+        CheckError::Refused { pc, reason, object } => match disassemble(alloc, object) {
+            Ok(listing) => {
+                let listing = listing.as_slice();
+                let refused = Refused {
+                    name,
+                    object,
+                    listing,
+                };
+                refused.put_refusal(alloc, *pc as usize, *reason, out)
+            }
+            Err(_) => out.starve(),
+        },
+        CheckError::Memory { .. } => out.starve(),
     }
 }
 
 /// Explains why an object gets no notes.
 pub(crate) fn explain_inference(alloc: Global, name: &str, bytes: &[u8], out: &mut Words) {
-    let Some(object) = object_in(alloc, bytes) else {
-        return;
-    };
-    let Ok(listing) = disassemble(alloc, &object) else {
-        return out.starve();
-    };
-    let refused = Refused {
-        name,
-        object: &object,
-        listing: &listing,
-    };
-    match infer(alloc, &object) {
-        Ok(_) => {}
-        Err(InferError::Memory) => out.starve(),
-        Err(InferError::Dead(place)) => {
-            refused.put_head(place as usize, out);
-            out.line(
-                "No steps lead to this place.\nTake the dead code out, or lead a jump or branch to it.",
-            )
-        }
-        Err(InferError::TooMany(count)) => {
-            out.quote(name.as_bytes());
-            out.fill(
-                ": the least notes are {}, and an object has room for 262144\n",
-                &[u64::from(count)],
-            )
-        }
-        Err(InferError::Refused { pc, reason }) => {
-            refused.put_head(pc as usize, out);
-            out.line("With the least notes, so with any, the object is refused here.");
-            out.line(of_reason(reason))
+    if let Some(object) = object_in(alloc, bytes) {
+        match disassemble(alloc, &object) {
+            Ok(listing) => {
+                let refused = Refused {
+                    name,
+                    object: &object,
+                    listing: listing.as_slice(),
+                };
+                refused.explain_notes(alloc, out)
+            }
+            Err(_) => out.starve(),
         }
     }
 }
@@ -105,6 +91,37 @@ fn place_in(object: &Object, place: usize) -> usize
 }
 
 impl Refused<'_> {
+    fn explain_notes(&self, alloc: Global, out: &mut Words) {
+        if let Some(fault) = infer(alloc, self.object).err() {
+            self.put_lack(fault, out);
+        }
+    }
+
+    // Why there are no notes.
+    fn put_lack(&self, fault: InferError, out: &mut Words) {
+        match fault {
+            InferError::Memory => out.starve(),
+            InferError::Dead(place) => {
+                self.put_head(place as usize, out);
+                out.line(
+                    "No steps lead to this place.\nTake the dead code out, or lead a jump or branch to it.",
+                )
+            }
+            InferError::TooMany(count) => {
+                out.quote(self.name.as_bytes());
+                out.fill(
+                    ": the least notes are {}, and an object has room for 262144\n",
+                    &[u64::from(count)],
+                )
+            }
+            InferError::Refused { pc, reason } => {
+                self.put_head(pc as usize, out);
+                out.line("With the least notes, so with any, the object is refused here.");
+                out.line(of_reason(reason))
+            }
+        }
+    }
+
     // The name of the file, the place, and the instruction there as `dis` writes it.
     fn put_head(&self, place: usize, out: &mut Words) {
         let place = place_in(self.object, place);
@@ -116,10 +133,15 @@ impl Refused<'_> {
 
     /// Adds the instruction of a place.
     pub(crate) fn put_instruction(&self, place: usize, out: &mut Words) {
-        let lines = self.listing.split(|byte| *byte == b'\n');
-        let mut instructions = lines.filter(|line| !line.starts_with(b"."));
-        if let Some(line) = instructions.nth(place) {
-            out.quote(line);
+        let mut left = place;
+        for line in self.listing.split(|byte| *byte == b'\n') {
+            if line.starts_with(b".") {
+                continue;
+            }
+            if left == 0 {
+                return out.quote(line);
+            }
+            left -= 1;
         }
     }
 
@@ -143,9 +165,11 @@ impl Refused<'_> {
     fn put_symbol(&self, out: &mut Words) {
         out.quote(self.name.as_bytes());
         out.say(": .symbol ");
-        let mut symbols = self.object.symbols().iter();
-        if let Some(symbol) = symbols.find(|it| it.bank == 0 && it.label == Label::Secret) {
-            out.quote(symbol.name.bytes());
+        for symbol in self.object.symbols() {
+            if symbol.bank == 0 && symbol.label == Label::Secret {
+                out.quote(symbol.name.bytes());
+                break;
+            }
         }
         out.say("\n");
     }
@@ -247,6 +271,16 @@ fn led_from(
 // What is known at a place of the code that the check comes to, before the note there.
 fn standing_at(alloc: Global, object: &Object, place: usize) -> Result<Standing, Memory> {
     let mut shared = RegionValues::new();
+    standing_behind(alloc, object, &mut shared, place)
+}
+
+// The same, where values are shared from one region to the next.
+fn standing_behind(
+    alloc: Global,
+    object: &Object,
+    shared: &mut RegionValues,
+    place: usize,
+) -> Result<Standing, Memory> {
     let mut known = NOTHING_KNOWN;
     let mut join = 0usize;
     for at in 0..object.code().len() {
@@ -257,7 +291,7 @@ fn standing_at(alloc: Global, object: &Object, place: usize) -> Result<Standing,
             break;
         }
         known = note_at(object, at).unwrap_or(known);
-        match led_from(alloc, object, &mut shared, &known, at)? {
+        match led_from(alloc, object, shared, &known, at)? {
             Led::On => step(&mut known, object.code()[at]),
             Led::Joins(behind, after) => {
                 join = behind;

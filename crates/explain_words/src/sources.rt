@@ -1,5 +1,7 @@
 //! Why a source is refused.
 
+ghost use Rattle.src_procs.specs.Promise.{ArePlain};
+
 use crate::habits::said_here;
 use crate::sentences::of_byte;
 use crate::texts::{Source, piece, spot_at};
@@ -7,12 +9,12 @@ use crate::tokens::{SOURCE_BYTES, Tokens, tokens_of};
 use crate::wanted::Wanted;
 use crate::words::Words;
 use bank_alloc::{PlaceError, banks};
-use flow_types::{Typed, type_program};
+use flow_types::{TypeError, Typed, type_program};
 use gr_word::Label;
 use procs_parser::parse_procs;
 use src_lexer::{LexError, Token, lex};
 use src_parser::{ParseError, parse};
-use src_procs::{InlineError, inline};
+use src_procs::{InlineError, ProcFile, inline};
 use src_tree::{Program, print};
 use std::alloc::Global;
 
@@ -38,20 +40,22 @@ pub(crate) fn explain_source(
     match lex(alloc, text) {
         Err(fault) => explain_piece(Source { name, text }, fault, out),
         Ok(all) => {
-            let tokens = Tokens {
-                name,
-                text,
-                all: &all,
-            };
+            let all = all.as_slice();
+            let tokens = Tokens { name, text, all };
             if has_procs {
                 explain_procedures(alloc, tokens, room, out)
             } else {
-                match parse(alloc, &all) {
-                    Ok(program) => explain_program(alloc, tokens, program, room, out),
-                    Err(fault) => explain_tokens(alloc, tokens, false, fault, out),
-                }
+                explain_plain(alloc, tokens, room, out)
             }
         }
+    }
+}
+
+// A file without procedures.
+fn explain_plain(alloc: Global, tokens: Tokens<'_>, room: Room, out: &mut Words) {
+    match parse(alloc, tokens.all) {
+        Ok(program) => explain_program(alloc, tokens, program, room, out),
+        Err(fault) => explain_tokens(alloc, tokens, false, fault, out),
     }
 }
 
@@ -121,18 +125,12 @@ fn explain_unwanted(
     out: &mut Words,
 ) {
     let front = piece(tokens.text, 0, start as usize);
-    let Ok(mut before) = tokens_of(alloc, front) else {
-        return out.starve();
-    };
-    let Ok(wanted) = Wanted::behind(alloc, &mut before, start, has_procs) else {
-        return out.starve();
-    };
-    match said_here(tokens, at, &wanted) {
-        Some(sentence) => {
-            out.say(sentence);
-            out.line("");
-        }
-        None => wanted.put(out),
+    match Wanted::behind(alloc, front, start, has_procs) {
+        Ok(wanted) => match said_here(tokens, at, &wanted) {
+            Some(sentence) => out.line(sentence),
+            None => wanted.put(out),
+        },
+        Err(_) => out.starve(),
     }
 }
 
@@ -153,10 +151,16 @@ fn explain_program(
 fn explain_procedures(alloc: Global, tokens: Tokens<'_>, room: Room, out: &mut Words) {
     match parse_procs(alloc, tokens.all) {
         Err(fault) => explain_tokens(alloc, tokens, true, fault, out),
-        Ok(file) => match inline(alloc, &file) {
-            Err(fault) => explain_inlining(tokens, fault, out),
-            Ok(program) => explain_inlined(alloc, tokens.name, program, room, out),
-        },
+        Ok(file) => explain_calls(alloc, tokens, &file, room, out),
+    }
+}
+
+fn explain_calls(alloc: Global, tokens: Tokens<'_>, file: &ProcFile, room: Room, out: &mut Words)
+    requires { ArePlain file.now.decls.items }
+{
+    match inline(alloc, file) {
+        Ok(program) => explain_inlined(alloc, tokens.name, program, room, out),
+        Err(fault) => explain_inlining(tokens, fault, out),
     }
 }
 
@@ -200,24 +204,25 @@ fn explain_inlining(tokens: Tokens<'_>, fault: InlineError, out: &mut Words) {
 
 // The program without calls: what is wrong in it is shown in its own text, since no place of the file stands for it.
 fn explain_inlined(alloc: Global, name: &str, program: Program, room: Room, out: &mut Words) {
-    let Ok(text) = print(alloc, &program) else {
-        return out.starve();
-    };
-    let Ok(all) = tokens_of(alloc, &text) else {
-        return;
-    };
-    match type_program(alloc, program) {
-        Ok(typed) => explain_room(alloc, name, &typed, room, out),
-        Err(fault) => {
-            out.quote(name.as_bytes());
-            out.line(": in the program without calls");
-            let tokens = Tokens {
-                name: "without calls",
-                text: &text,
-                all: &all,
-            };
-            tokens.explain_typing(fault, out)
-        }
+    match print(alloc, &program) {
+        Ok(text) => match type_program(alloc, program) {
+            Ok(typed) => explain_room(alloc, name, &typed, room, out),
+            Err(fault) => explain_printed(alloc, name, &text, fault, out),
+        },
+        Err(_) => out.starve(),
+    }
+}
+
+fn explain_printed(alloc: Global, name: &str, text: &[u8], fault: TypeError, out: &mut Words) {
+    if let Ok(all) = tokens_of(alloc, text) {
+        out.quote(name.as_bytes());
+        out.line(": in the program without calls");
+        let tokens = Tokens {
+            name: "without calls",
+            text,
+            all: all.as_slice(),
+        };
+        tokens.explain_typing(fault, out)
     }
 }
 
@@ -228,27 +233,29 @@ fn explain_room(alloc: Global, name: &str, typed: &Typed, room: Room, out: &mut 
     if w < 3 || 9 < w {
         return;
     }
-    let words = 1u64 << w;
-    let (what, bank) = match banks(alloc, typed.program(), w) {
-        Ok(_) => return,
-        Err(PlaceError::Memory) => return out.starve(),
-        Err(PlaceError::TooManyScalars(Label::Public)) => (
+    if let Some(lack) = banks(alloc, typed.program(), w).err() {
+        put_lack(name, lack, 1u64 << w, out);
+    }
+}
+
+// Says what has no room in blocks of so many words.
+fn put_lack(name: &str, lack: PlaceError, words: u64, out: &mut Words) {
+    let (what, numbers) = match lack {
+        PlaceError::TooManyScalars(Label::Public) => (
             ": the public scalars are more than the {} words of their block\nPut some into an array",
-            None,
+            [words, 0],
         ),
-        Err(PlaceError::TooManyScalars(Label::Secret)) => (
+        PlaceError::TooManyScalars(Label::Secret) => (
             ": the secret scalars are more than the {} words of their block\nPut some into an array",
-            None,
+            [words, 0],
         ),
-        Err(PlaceError::BankFull(bank)) => (
+        PlaceError::BankFull(bank) => (
             ": the arrays of bank {} need more blocks of {} words than the bank may have\nMake them shorter",
-            Some(bank),
+            [u64::from(bank), words],
         ),
+        PlaceError::Memory => return out.starve(),
     };
     out.quote(name.as_bytes());
-    match bank {
-        Some(bank) => out.fill(what, &[u64::from(bank), words]),
-        None => out.fill(what, &[words]),
-    }
+    out.fill(what, &numbers);
     out.line(", or ask for greater blocks by --block-log.");
 }

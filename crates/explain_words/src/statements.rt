@@ -20,14 +20,14 @@ impl Declared {
 impl Tokens<'_> {
     // The declaration that begins at a token of a program.
     fn declared_at(&self, at: usize) -> Option<Declared> {
-        let label = self.word(at);
-        if !matches!(label, b"public" | b"secret") {
+        let is_secret = self.is(at, "secret");
+        if !is_secret && !self.is(at, "public") {
             return None;
         }
         Some(Declared {
             name: at.saturating_add(2),
-            is_secret: matches!(label, b"secret"),
-            is_array: matches!(self.word(at.saturating_add(3)), b"["),
+            is_secret,
+            is_array: self.is(at.saturating_add(3), "["),
         })
     }
 
@@ -53,14 +53,26 @@ impl Tokens<'_> {
         None
     }
 
+    /// Whether the name at a token is declared, as a secret or not.
+    pub(crate) fn has_label(&self, name: usize, is_secret: bool) -> bool {
+        match self.declaration_of(name) {
+            Some(declared) => declared.is_secret == is_secret,
+            None => false,
+        }
+    }
+
+    /// The name of the declaration of a number, and how many tokens there are where there is no such declaration.
+    pub(crate) fn declared_name(&self, number: u64) -> usize {
+        match self.declaration(number) {
+            Some(declared) => declared.name,
+            None => self.all.len(),
+        }
+    }
+
     // Whether a statement begins at a token of a program. Typing counts statements from 0, in the order of their first
     // tokens.
     fn begins_statement(&self, at: usize) -> bool {
-        match self.word(at) {
-            b"if" => true,
-            b"while" => true,
-            _ => self.is_name(at) && self.is_head(at),
-        }
+        self.is(at, "if") || self.is(at, "while") || (self.is_name(at) && self.is_head(at))
     }
 
     /// The first token of the statement of a number, and how many there are where there is no such statement.
@@ -80,7 +92,7 @@ impl Tokens<'_> {
     /// The end of a statement's own expressions: the semicolon of an assignment, or the brace behind a guard.
     pub(crate) fn own_end(&self, first: usize) -> usize {
         for at in first..self.all.len().max(first) {
-            if matches!(self.word(at), b";" | b"{") {
+            if self.is(at, ";") || self.is(at, "{") {
                 return at;
             }
         }
@@ -91,10 +103,10 @@ impl Tokens<'_> {
     pub(crate) fn bracket_end(&self, open: usize, end: usize) -> usize {
         let mut depth = 0usize;
         for at in open..end.max(open) {
-            match self.word(at) {
-                b"[" => depth = depth.saturating_add(1),
-                b"]" => depth = depth.saturating_sub(1),
-                _ => {}
+            if self.is(at, "[") {
+                depth = depth.saturating_add(1);
+            } else if self.is(at, "]") {
+                depth = depth.saturating_sub(1);
             }
             if depth == 0 {
                 return at;
@@ -106,11 +118,7 @@ impl Tokens<'_> {
     /// The first secret name from a token to an end.
     pub(crate) fn secret_name(&self, from: usize, end: usize) -> Option<usize> {
         for at in from..end.max(from) {
-            if self.is_name(at)
-                && self
-                    .declaration_of(at)
-                    .is_some_and(|declared| declared.is_secret)
-            {
+            if self.is_name(at) && self.has_label(at, true) {
                 return Some(at);
             }
         }
@@ -134,11 +142,11 @@ impl Tokens<'_> {
 
     // Whether a token is a name with a bracket behind it, at the head of a statement or behind `proc`.
     fn names_one(&self, at: usize, is_procedure: bool) -> bool {
-        if !self.is_name(at) || !matches!(self.word(at.saturating_add(1)), b"(") {
+        if !self.is_name(at) || !self.is(at.saturating_add(1), "(") {
             return false;
         }
         if is_procedure {
-            return matches!(self.before(at), b"proc");
+            return self.before(at) == b"proc".as_slice();
         }
         self.is_head(at)
     }

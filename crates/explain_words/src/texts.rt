@@ -31,19 +31,30 @@ pub(crate) fn spot_at(text: &[u8], at: usize) -> Spot
 {
     let at = at.min(text.len());
     let (front, back) = text.split_at(at);
-    let before = front
-        .iter()
-        .rev()
-        .take_while(|byte| **byte != b'\n')
-        .count();
-    let behind = back.iter().take_while(|byte| **byte != b'\n').count();
-    let lines = front.iter().filter(|byte| **byte == b'\n').count();
+    let mut line = 1usize;
+    let mut start = 0usize;
+    for (place, byte) in front.iter().enumerate() {
+        if *byte == b'\n' {
+            line = line.saturating_add(1);
+            start = place.saturating_add(1);
+        }
+    }
     Spot {
         at,
-        line: lines.saturating_add(1),
-        start: at.saturating_sub(before),
-        end: at.saturating_add(behind).min(text.len()),
+        line,
+        start: start.min(at),
+        end: at.saturating_add(length_up_to(back, b"\n")).min(text.len()),
     }
+}
+
+/// How many bytes stand before the first that is one of some marks.
+pub(crate) fn length_up_to(text: &[u8], marks: &[u8]) -> usize {
+    for (at, byte) in text.iter().enumerate() {
+        if marks.contains(byte) {
+            return at;
+        }
+    }
+    text.len()
 }
 
 /// The byte at which a line begins, by its number from 1, and the text's end where there is no such line.
@@ -66,6 +77,16 @@ pub(crate) fn line_start(text: &[u8], number: usize) -> usize
 pub(crate) fn piece(text: &[u8], start: usize, len: usize) -> &[u8] {
     let (_, rest) = text.split_at(start.min(text.len()));
     rest.split_at(len.min(rest.len())).0
+}
+
+/// Whether a word is one of some, with a space between them.
+pub(crate) fn is_word_of(words: &str, word: &[u8]) -> bool {
+    for own in words.split(" ") {
+        if own.as_bytes() == word {
+            return true;
+        }
+    }
+    false
 }
 
 /// The line of a place.

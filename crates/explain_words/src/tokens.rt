@@ -34,6 +34,11 @@ impl<'a> Tokens<'a> {
         }
     }
 
+    /// Whether a token is this word or sign.
+    pub(crate) fn is(&self, at: usize, word: &str) -> bool {
+        self.word(at) == word.as_bytes()
+    }
+
     /// The text of the token before, and nothing where there is none.
     pub(crate) fn before(&self, at: usize) -> &'a [u8] {
         match at.checked_sub(1) {
@@ -76,9 +81,11 @@ impl<'a> Tokens<'a> {
 
     /// The number of the token that starts at a byte, or how many there are.
     pub(crate) fn at_byte(&self, start: u32) -> usize {
-        self.all
-            .iter()
-            .take_while(|token| token.start < start)
-            .count()
+        for (number, token) in self.all.iter().enumerate() {
+            if start <= token.start {
+                return number;
+            }
+        }
+        self.all.len()
     }
 }

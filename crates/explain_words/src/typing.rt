@@ -45,9 +45,7 @@ impl Tokens<'_> {
 
     // A declaration of a name that is declared before it.
     fn twice(&self, number: u64, out: &mut Words) {
-        let at = self
-            .declaration(number)
-            .map_or(self.all.len(), |declared| declared.name);
+        let at = self.declared_name(number);
         self.put(at, " is declared twice", out);
         if let Some(earlier) = self.declaration_of(at) {
             let line = spot_at(self.text, self.start(earlier.name)).line;
@@ -69,7 +67,7 @@ impl Tokens<'_> {
     }
 
     fn is_misnamed(&self, at: usize, out: &mut Words) -> bool {
-        let has_index = matches!(self.word(at.saturating_add(1)), b"[");
+        let has_index = self.is(at.saturating_add(1), "[");
         let Some(declared) = self.declaration_of(at) else {
             self.undeclared(at, if has_index { "[32];`" } else { ";`" }, out);
             return true;
@@ -139,12 +137,7 @@ impl Tokens<'_> {
     // The first secret name in the index behind a public array.
     fn secret_index(&self, at: usize, end: usize) -> Option<usize> {
         let open = at.saturating_add(1);
-        let is_public = self.is_name(at)
-            && matches!(self.word(open), b"[")
-            && self
-                .declaration_of(at)
-                .is_some_and(|declared| !declared.is_secret);
-        if !is_public {
+        if !self.is_name(at) || !self.is(open, "[") || !self.has_label(at, false) {
             return None;
         }
         self.secret_name(open, self.bracket_end(open, end))
@@ -196,9 +189,6 @@ impl Tokens<'_> {
     }
 
     fn put_declaration(&self, number: u64, what: &str, out: &mut Words) {
-        let at = self
-            .declaration(number)
-            .map_or(self.all.len(), |declared| declared.name);
-        self.put(at, what, out);
+        self.put(self.declared_name(number), what, out);
     }
 }

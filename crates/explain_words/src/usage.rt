@@ -52,13 +52,20 @@ pub(crate) struct Sorted<'a> {
 impl<'a> Sorted<'a> {
     /// Sorts the words behind the verb by the verb's line.
     pub(crate) fn of(alloc: Global, usage: &str, words: &[&'a str]) -> Result<Sorted<'a>, Memory> {
-        let mut placed = Vec::new(alloc);
-        let mut options = Vec::new(alloc);
+        let mut sorted = Sorted {
+            placed: Vec::new(alloc),
+            options: Vec::new(alloc),
+        };
+        sorted.sort(usage, words)?;
+        Ok(sorted)
+    }
+
+    fn sort(&mut self, usage: &str, words: &[&'a str]) -> Result<(), Memory> {
         let mut waits: Option<&'a str> = None;
         let mut all_placed = false;
         for word in words.iter().skip(1) {
             if let Some(name) = waits {
-                options.push((name, Some(*word)))?;
+                self.options.push((name, Some(*word)))?;
                 waits = None;
                 continue;
             }
@@ -67,31 +74,33 @@ impl<'a> Sorted<'a> {
                 continue;
             }
             match if all_placed { None } else { option_in(word) } {
-                None => placed.push(*word)?,
-                Some((name, Some(value))) => options.push((name, Some(value)))?,
+                None => self.placed.push(*word)?,
+                Some((name, Some(value))) => self.options.push((name, Some(value)))?,
                 Some((name, None)) => match taken_by(usage, name) {
                     Taken::With(_) => waits = Some(name),
-                    _ => options.push((name, None))?,
+                    _ => self.options.push((name, None))?,
                 },
             }
         }
         if let Some(name) = waits {
-            options.push((name, None))?;
+            self.options.push((name, None))?;
         }
-        Ok(Sorted { placed, options })
+        Ok(())
     }
 
     /// Whether an option is given.
     pub(crate) fn has(&self, name: &str) -> bool {
-        self.options.iter().any(|option| option.0 == name)
+        is_given(self.options.as_slice(), name)
     }
 
     /// The value of an option.
     pub(crate) fn value(&self, name: &str) -> Option<&'a str> {
-        self.options
-            .iter()
-            .find(|option| option.0 == name)
-            .and_then(|option| option.1)
+        for (option, value) in &self.options {
+            if *option == name {
+                return *value;
+            }
+        }
+        None
     }
 }
 
@@ -114,6 +123,16 @@ pub(crate) fn explain_usage(usage: &str, words: &[&str], sorted: &Sorted<'_>, ou
     out.line(usage)
 }
 
+// Whether an option is one of some.
+fn is_given(options: &[(&str, Option<&str>)], name: &str) -> bool {
+    for (option, _) in options {
+        if *option == name {
+            return true;
+        }
+    }
+    false
+}
+
 // A word of the call, and what is wrong with it.
 fn put_word(word: &str, what: &str, out: &mut Words) {
     out.quote(word.as_bytes());
@@ -124,8 +143,8 @@ fn put_word(word: &str, what: &str, out: &mut Words) {
 fn put_option(usage: &str, sorted: &Sorted<'_>, out: &mut Words) -> bool {
     for (number, option) in sorted.options.iter().enumerate() {
         let (name, value) = *option;
-        let mut earlier = sorted.options.iter().take(number);
-        if earlier.any(|other| other.0 == name) {
+        let earlier = sorted.options.get(..number).unwrap_or(&[]);
+        if is_given(earlier, name) {
             put_word(name, " stands twice", out);
             return true;
         }
@@ -159,36 +178,43 @@ fn range_of(kind: &str) -> Option<(u64, u64)> {
     }
 }
 
-// A number of decimal digits alone.
+// A number of decimal digits alone: a sign, which may stand before a number elsewhere, is none.
 fn number_in(text: &str) -> Option<u64> {
-    if text.as_bytes().iter().all(|byte| byte.is_ascii_digit()) {
-        text.parse::<u64>().ok()
-    } else {
-        None
+    if text.starts_with("+") {
+        return None;
+    }
+    text.parse::<u64>().ok()
+}
+
+// Three numbers with a colon between: the period, and where the window opens and closes.
+fn window_in(text: &str) -> Option<(u64, u64, u64)> {
+    let mut numbers = text.split(":");
+    let period = number_in(numbers.next()?)?;
+    let opens = number_in(numbers.next()?)?;
+    let closes = number_in(numbers.next()?)?;
+    match numbers.next() {
+        Some(_) => None,
+        None => Some((period, opens, closes)),
     }
 }
 
 fn is_window(text: &str) -> bool {
-    let mut numbers = text.split(":").map(|number| number_in(number));
-    let (period, opens, closes) = (numbers.next(), numbers.next(), numbers.next());
-    match (
-        period.flatten(),
-        opens.flatten(),
-        closes.flatten(),
-        numbers.next(),
-    ) {
-        (Some(period), Some(opens), Some(closes), None) => {
+    match window_in(text) {
+        Some((period, opens, closes)) => {
             2 <= period && period <= 1_000_000 && opens < closes && closes <= period
         }
-        _ => false,
+        None => false,
     }
 }
 
 // Whether a value is one that a word of the verb's line stands for.
 fn is_value(kind: &str, value: &str) -> bool {
-    match range_of(kind) {
-        Some((least, most)) => number_in(value).is_some_and(|it| least <= it && it <= most),
-        None => kind != "P:O:C" || is_window(value),
+    let Some((least, most)) = range_of(kind) else {
+        return kind != "P:O:C" || is_window(value);
+    };
+    match number_in(value) {
+        Some(number) => least <= number && number <= most,
+        None => false,
     }
 }
 

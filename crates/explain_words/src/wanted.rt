@@ -3,7 +3,7 @@ use crate::tokens::tokens_of;
 use crate::words::Words;
 use gr_base::Memory;
 use procs_parser::parse_procs;
-use src_lexer::Token;
+use src_lexer::{Token, TokenKind};
 use src_parser::{ParseError, parse};
 use std::alloc::Global;
 
@@ -32,50 +32,95 @@ fn may_stand(alloc: Global, tokens: &[Token], has_procs: bool, last: u32) -> Res
     }
 }
 
+// Whether a token of this kind may stand behind the tokens, which are left as they were.
+fn is_wanted(
+    alloc: Global,
+    tokens: &mut Vec<Token>,
+    kind: TokenKind,
+    last: u32,
+    has_procs: bool,
+) -> Result<bool, Memory> {
+    tokens.push(Token {
+        kind,
+        start: last,
+        len: 1,
+    })?;
+    let stands = may_stand(alloc, tokens.as_slice(), has_procs, last);
+    let _ = tokens.pop();
+    stands
+}
+
 impl Wanted {
-    /// What could stand behind some tokens, each tried in turn. The tokens are kept.
+    /// What could stand behind a front of a source, each candidate tried in turn as a token that starts at a byte.
     pub(crate) fn behind(
+        alloc: Global,
+        front: &[u8],
+        last: u32,
+        has_procs: bool,
+    ) -> Result<Wanted, Memory> {
+        let mut tokens = tokens_of(alloc, front)?;
+        let mut wanted = Wanted {
+            names: Vec::new(alloc),
+        };
+        wanted.gather(alloc, &mut tokens, last, has_procs)?;
+        Ok(wanted)
+    }
+
+    // Adds the candidates that could stand behind the tokens, which are left as they were.
+    fn gather(
+        &mut self,
         alloc: Global,
         tokens: &mut Vec<Token>,
         last: u32,
         has_procs: bool,
-    ) -> Result<Wanted, Memory> {
-        let mut names = Vec::new(alloc);
+    ) -> Result<(), Memory> {
         for candidate in tokens_of(alloc, CANDIDATES)? {
-            tokens.push(Token {
-                kind: candidate.kind,
-                start: last,
-                len: 1,
-            })?;
-            if may_stand(alloc, tokens.as_slice(), has_procs, last)? {
-                names.push(piece(CANDIDATES, candidate.start as usize, candidate.len as usize))?;
+            let name = piece(CANDIDATES, candidate.start as usize, candidate.len as usize);
+            if is_wanted(alloc, tokens, candidate.kind, last, has_procs)? {
+                self.names.push(name)?;
             }
-            let _ = tokens.pop();
         }
-        Ok(Wanted { names })
+        Ok(())
     }
 
     /// Whether a piece could have stood there.
     pub(crate) fn has(&self, piece: &[u8]) -> bool {
-        self.names.iter().any(|name| *name == piece)
+        for name in &self.names {
+            if *name == piece {
+                return true;
+            }
+        }
+        false
+    }
+
+    /// Whether each of some pieces could have stood there, with a space between them.
+    pub(crate) fn has_each(&self, pieces: &str) -> bool {
+        for piece in pieces.split(" ") {
+            if !self.has(piece.as_bytes()) {
+                return false;
+            }
+        }
+        true
     }
 
     /// Adds what could have stood there.
     pub(crate) fn put(&self, out: &mut Words) {
         let has_operators = self.has(b"*");
         let count = self.names.len().saturating_sub(usize::from(has_operators));
-        let names = self
-            .names
-            .iter()
-            .filter(|name| !has_operators || **name != b"-".as_slice());
-        for (number, name) in names.enumerate() {
-            if number == 0 {
-                out.say("Here could stand ");
-            } else if number.saturating_add(1) == count {
-                out.say(" or ");
-            } else {
-                out.say(", ");
+        let mut number = 0usize;
+        for name in &self.names {
+            // The sign `-` is one of the operators.
+            if has_operators && *name == b"-".as_slice() {
+                continue;
             }
+            number = number.saturating_add(1);
+            out.say(if number == 1 {
+                "Here could stand "
+            } else if number == count {
+                " or "
+            } else {
+                ", "
+            });
             put_name(name, out);
         }
         out.say(".\n");

@@ -60,7 +60,9 @@ impl Words {
     /// Adds a text with the numbers, in order, each in the place of a `{}`.
     pub(crate) fn fill(&mut self, text: &str, numbers: &[u64]) {
         for (number, piece) in text.split("{}").enumerate() {
-            if let Some(value) = number.checked_sub(1).and_then(|before| numbers.get(before)) {
+            if number > 0
+                && let Some(value) = numbers.get(number - 1)
+            {
                 let mut digits = Buffer::new();
                 self.say(digits.format(*value));
             }
@@ -79,7 +81,7 @@ impl Words {
     }
 
     /// The text: nothing in it acts on a terminal. A byte that isn't printed ASCII is shown as a question mark.
-    pub(crate) fn finish(self, alloc: Global) -> Result<Vec<u8>, Memory>
+    pub(crate) fn finish(&self, alloc: Global) -> Result<Vec<u8>, Memory>
         ensures plain { IfOk result (λ text. All IsPlain text.items) }
     {
         if self.lacks_memory {

@@ -1,7 +1,6 @@
 -- From what is said to why: the exits of a verb.
 use Rattle.std.proofs.Common.{◌≡◌, ◌⊎◌, inl, inr, ℕ, ℤ, Bool, true, false, List, [], ◌∷◌, length, map, Option, Some, None, is_some, refl, sym, ap, ◌∙◌, subst, arith}
-use Rattle.std.specs.Prelude.{codes}
-use Rattle.std.specs.Str.{bytes_eq}
+use Rattle.std.specs.Prelude.{option_and_then}
 use Rattle.std.specs.Borrow.{Bor}
 use Rattle.std.specs.Option.{option_map}
 use Rattle.lt_isa.specs.Object.{Parts}
@@ -26,7 +25,7 @@ use Rattle.ghost_cli.specs.Steps.{with_accepted, with_inputs}
 use Rattle.ghost_cli.specs.Options.{texts}
 use Rattle.ghost_cli.specs.Trace.{trace_work, traces_on, shows_on}
 use Rattle.ghost_cli.specs.Run.{run_work, runs_on, on_halt}
-use Rattle.ghost_cli.specs.Verbs.{work_of, asked_of}
+use Rattle.ghost_cli.specs.Verbs.{work_of}
 use Rattle.ghost_cli.specs.Watched.{PutsTrace, kept}
 use Rattle.ghost_cli.specs.Progress.{HasLeft, Stops, WritesOut}
 use Rattle.ghost_cli.proofs.Promised.{same-only}
@@ -86,6 +85,22 @@ pub asked-done : {X : Type 0} (f : X → Work) (found : Option X) (x : X) (asked
     → Explains before after status asked
 asked-done f found x asked before after status is works done =
     subst (Explains before after status) (ap (option_map f) (sym is) ∙ works) done
+
+-- the work that was asked for by what was found was done
+pub told-done : {X : Type 0} (f : X → Option Work) (found : Option X) (x : X) (asked : Option Work)
+    (before after : Outside) (status : ℕ) → found ≡ Some x → option_and_then f found ≡ asked
+    → Explains before after status (f x) → Explains before after status asked
+told-done f found x asked before after status is asks done =
+    subst (Explains before after status) (ap (option_and_then f) (sym is) ∙ asks) done
+
+-- nothing was found, which asks for no work, and that was said
+pub untold-said : {X : Type 0} (f : X → Option Work) (found : Option X) (asked : Option Work) (shelf : ShelfSeen)
+    (before after : SinkSeen) (status : ℕ) → found ≡ None → option_and_then f found ≡ asked
+    → PutsSaid before after usage status ⊎ PutsSaid before after no_memory status
+    → Explains (outside shelf before) (outside shelf after) status asked
+untold-said f found asked shelf before after status is asks put =
+    subst (Explains (outside shelf before) (outside shelf after) status) (ap (option_and_then f) (sym is) ∙ asks)
+    (no-work-said shelf before after status put)
 
 -- words that aren't found ask for no work, which was said
 pub unasked-said : {X : Type 0} (f : X → Work) (found : Option X) (asked : Option Work) (shelf : ShelfSeen)
@@ -179,17 +194,7 @@ spent-stops shelf now object input output cycles o inputs leads same none =
     (leads-on shelf (run_work object input output cycles) (WhenItHalts o inputs cycles)
     (on_halt o inputs output cycles) None leads none) same
 
--- a verb that isn't in the list, and no words at all
+-- no words at all
 pub no-words : (words : List (Bor (List ℕ))) → length words ≡ 0 → ◌≡◌ {A = Option Work} None (work_of (texts words))
 no-words [] none = refl
 no-words (word ∷ words) none = absurd (omega (arith, none))
-
--- a word that is no verb asks for no work
-pub other-verb : (verb : List ℕ) (words : List (List ℕ)) → bytes_eq verb (codes "check") ≡ false
-    → bytes_eq verb (codes "trace") ≡ false → bytes_eq verb (codes "run") ≡ false
-    → bytes_eq verb (codes "asm") ≡ false → bytes_eq verb (codes "dis") ≡ false → bytes_eq verb (codes "eval") ≡ false
-    → bytes_eq verb (codes "compile") ≡ false → bytes_eq verb (codes "sample") ≡ false
-    → bytes_eq verb (codes "bus") ≡ false → bytes_eq verb (codes "infer") ≡ false
-    → ◌≡◌ {A = Option Work} None (asked_of verb words)
-other-verb verb words check trace run asm dis eval compile sample bus infer =
-    rw (check, trace, run, asm, dis, eval, compile, sample, bus, infer) refl

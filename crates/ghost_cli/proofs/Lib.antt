@@ -48,6 +48,7 @@ pub mod WordsUsed
 pub mod WordsFound
 pub mod WordCommands
 pub mod WordsAsked
+pub mod VerbRows
 pub mod VerbCommands
 pub mod VerbWords
 pub mod SourceAnswers

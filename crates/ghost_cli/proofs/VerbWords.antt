@@ -4,23 +4,24 @@ use Rattle.std.specs.Prelude.{codes, option_and_then}
 use Rattle.std.specs.Option.{option_map}
 use Rattle.std.specs.Str.{bytes_eq}
 use Rattle.clap.specs.Walk.{Row, Text, first_of}
-use Rattle.clap.specs.Simple.{App}
-use Rattle.ghost_cli.specs.Assemble.{assemble_app, assemble_asks, assemble_of, assemble_work}
-use Rattle.ghost_cli.specs.Check.{check_app, check_asks, check_of, check_work}
-use Rattle.ghost_cli.specs.CommandLines.{AreTexts, Part, has_flag, names_in, value_in}
-use Rattle.ghost_cli.specs.Compile.{compile_app, compile_asks, compile_named, compile_of, compile_work}
-use Rattle.ghost_cli.specs.Disassemble.{disassemble_app, disassemble_asks, disassemble_of, disassemble_work}
-use Rattle.ghost_cli.specs.Evaluate.{evaluate_app, evaluate_asks, evaluate_named, evaluate_of, evaluate_work}
-use Rattle.ghost_cli.specs.Infer.{infer_app, infer_asks, infer_of, infer_work}
-use Rattle.ghost_cli.specs.Options.{asked_by, block_log_given, items_given, number_given, seed_given}
-use Rattle.ghost_cli.specs.Run.{run_app, run_asks, run_named, run_of, run_work}
-use Rattle.ghost_cli.specs.Sample.{sample_app, sample_asks, sample_named, sample_of, sample_work}
-use Rattle.ghost_cli.specs.Trace.{trace_app, trace_asks, trace_named, trace_of, trace_work}
+use Rattle.ghost_cli.specs.Assemble.{assemble_work}
+use Rattle.ghost_cli.specs.Check.{check_row, check_work}
+use Rattle.ghost_cli.specs.CommandLines.{AreTexts, IsAmong, Part, has_flag, names_in, value_in}
+use Rattle.ghost_cli.specs.Compile.{compile_named, compile_row, compile_work}
+use Rattle.ghost_cli.specs.Disassemble.{disassemble_work}
+use Rattle.ghost_cli.specs.Evaluate.{evaluate_named, evaluate_row, evaluate_work}
+use Rattle.ghost_cli.specs.Infer.{infer_work}
+use Rattle.ghost_cli.specs.Options.{asked_by, block_log_given, flag_given, items_given, number_given, seed_given, two_named}
+use Rattle.ghost_cli.specs.Run.{run_named, run_row, run_work}
+use Rattle.ghost_cli.specs.Sample.{sample_named, sample_row, sample_work}
+use Rattle.ghost_cli.specs.Trace.{trace_named, trace_row, trace_work}
+use Rattle.ghost_cli.specs.VerbRows.{VerbRow, command_of, row_of_two}
+use Rattle.ghost_cli.specs.Verbs.{asked_for, verb_named}
 use Rattle.ghost_cli.specs.Windows.{window_given, windowed_profile}
-use Rattle.ghost_cli.specs.WordsAsk.{AskExactly, AsksByOne, AsksByTwo, AsksToCompile, AsksToEvaluate, AsksToRun, AsksToSample, AsksToTrace, Says, WordsAsk, run_options}
+use Rattle.ghost_cli.specs.WordsAsk.{AskExactly, AsksByOne, AsksByTwo, AsksToCompile, AsksToEvaluate, AsksToRun, AsksToSample, AsksToTrace, Says, WordsAsk}
 use Rattle.ghost_cli.specs.Work.{Work}
-use Rattle.ghost_cli.proofs.VerbCommands.{assemble-verb, check-verb, compile-verb, disassemble-verb, evaluate-verb, infer-verb, run-verb, sample-verb, trace-verb}
-use Rattle.ghost_cli.proofs.WordsAsked.{IsVerb, SameLength, SaysAll, asked-says, flag-said, name-said, rows_behind, says-asked, value-said}
+use Rattle.ghost_cli.proofs.VerbCommands.{IsVerbRow, assemble-verb, check-verb, compile-verb, disassemble-verb, evaluate-verb, infer-verb, run-verb, sample-verb, trace-verb}
+use Rattle.ghost_cli.proofs.WordsAsked.{SameLength, SaysAll, asked-says, flag-said, name-said, rows_behind, says-asked, value-said}
 use Rattle.ghost_cli.proofs.WordsFound.{name_at}
 use Rattle.ghost_cli.proofs.WordsRead.{same-text}
 
@@ -61,174 +62,171 @@ three-names (t ∷ u ∷ []) a b c same = absurd same
 three-names (t ∷ u ∷ v ∷ []) a b c same = (t, u, v, refl)
 three-names (t ∷ u ∷ v ∷ w ∷ names) a b c same = absurd same
 
-module _ (app : App) (options flags ids : List Text) where
-  -- words that say names say all
-  says-all : (words names : List Text) (parts : List Part) → Says options flags words names parts → SameLength names ids
-      → SaysAll app options flags ids words parts
-  says-all words names parts says same = record {
-    line = says.line;
-    once = says.once;
-    names = subst (λ (l : List Text). SameLength l ids) (sym says.are) same;
-  }
-
-  all-says : (words names : List Text) (parts : List Part) → SaysAll app options flags ids words parts
-      → names_in parts ≡ names → Says options flags words names parts
-  all-says words names parts says are = record { line = says.line; once = says.once; are = are }
-
--- ---- verbs without options
-
-check-asks : (words : List Text) (parts : List Part) (t : Text)
-    → SaysAll check_app [] [] (codes "OBJ" ∷ []) words parts → names_in parts ≡ t ∷ []
-    → check_asks (rows_behind check_app [] [] (codes "OBJ" ∷ []) parts) ≡ Some (check_work t)
-check-asks words parts t says are =
-    ap (option_map check_work)
-    (name-said check_app [] [] (codes "OBJ" ∷ []) (codes "check") check-verb words parts says (codes "OBJ") (inl refl)
-    ∙ ap (name_at (codes "OBJ") (codes "OBJ" ∷ [])) are)
+-- ---- by a row
 
 some-work : (a b : Work) → ◌≡◌ {A = Option Work} (Some a) (Some b) → b ≡ a
 some-work a b e = cc
 
+module _ (row : VerbRow) where
+  -- what words ask for behind the row's verb, and what is found where they say these parts
+  abbrev asked_behind : List Text → Option Work
+  asked_behind words = asked_by (command_of row) row.asks (row.name ∷ words)
+
+  abbrev found_by : List Part → List Row
+  found_by parts = rows_behind (command_of row) row.options row.flags row.places parts
+
+  -- words that say all that the row wants
+  abbrev SaysRow : List Text → List Part → Type 0
+  SaysRow words parts = SaysAll (command_of row) row.options row.flags row.places words parts
+
+  -- words that say names say all
+  says-all : (words names : List Text) (parts : List Part) → Says row.options row.flags words names parts
+      → SameLength names row.places → SaysRow words parts
+  says-all words names parts says same = record {
+    line = says.line;
+    once = says.once;
+    names = subst (λ (l : List Text). SameLength l row.places) (sym says.are) same;
+  }
+
+  all-says : (words names : List Text) (parts : List Part) → SaysRow words parts → names_in parts ≡ names
+      → Says row.options row.flags words names parts
+  all-says words names parts says are = record { line = says.line; once = says.once; are = are }
+
+  module _ (is : IsVerbRow row) where
+    asked-row : (words : List Text) (work : Work) → AreTexts words → asked_behind words ≡ Some work
+        → (parts : List Part) × SaysRow words parts × (row.asks (found_by parts) ≡ Some work)
+    asked-row words work texts asked =
+        asked-says (command_of row) row.options row.flags row.places row.name is row.asks words work texts asked
+
+    row-asked : (words : List Text) (parts : List Part) → SaysRow words parts
+        → asked_behind words ≡ row.asks (found_by parts)
+    row-asked words parts says =
+        says-asked (command_of row) row.options row.flags row.places row.name is row.asks words parts says
+
+    module _ (words : List Text) (parts : List Part) (says : SaysRow words parts) where
+      name-of : (names : List Text) → names_in parts ≡ names → (x : Text) → IsAmong row.places x
+          → first_of x (found_by parts) ≡ name_at x row.places names
+      name-of names are x among =
+          name-said (command_of row) row.options row.flags row.places row.name is words parts says x among
+          ∙ ap (name_at x row.places) are
+
+      value-of : (x : Text) → IsAmong row.options x → first_of x (found_by parts) ≡ value_in x parts
+      value-of x among =
+          value-said (command_of row) row.options row.flags row.places row.name is words parts says x among
+
+      flag-of : (x : Text) → IsAmong row.flags x → flag_given (first_of x (found_by parts)) ≡ has_flag x parts
+      flag-of x among =
+          flag-said (command_of row) row.options row.flags row.places row.name is words parts says x among
+
+-- ---- verbs without options
+
+check-asks : (words : List Text) (parts : List Part) (t : Text) → SaysRow check_row words parts
+    → names_in parts ≡ t ∷ [] → check_row.asks (found_by check_row parts) ≡ Some (check_work t)
+check-asks words parts t says are =
+    ap (option_map check_work) (name-of check_row check-verb words parts says (t ∷ []) are (codes "OBJ") (inl refl))
+
 check-words : AskExactly (codes "check") (AsksByOne check_work)
-unfolding check_of
+unfolding verb_named asked_for
 check-words words work texts = (
   (λ asked.
-      let found = asked-says check_app [] [] (codes "OBJ" ∷ []) (codes "check") check-verb check_asks words work texts
-      asked in
+      let found = asked-row check_row check-verb words work texts asked in
       let one = one-name (names_in found.0) (codes "OBJ") found.1.names in
       record {
         name = one.0;
         parts = found.0;
-        says = all-says check_app [] [] (codes "OBJ" ∷ []) words (one.0 ∷ []) found.0 found.1 one.1;
+        says = all-says check_row words (one.0 ∷ []) found.0 found.1 one.1;
         is = some-work (check_work one.0) work (sym (check-asks words found.0 one.0 found.1 one.1) ∙ found.2);
       }),
   (λ asks.
-      let says = says-all check_app [] [] (codes "OBJ" ∷ []) words (asks.name ∷ []) asks.parts asks.says tt in
-      says-asked check_app [] [] (codes "OBJ" ∷ []) (codes "check") check-verb check_asks words asks.parts says
-      ∙ check-asks words asks.parts asks.name says asks.says.are ∙ ap Some (sym asks.is)),
+      let says = says-all check_row words (asks.name ∷ []) asks.parts asks.says tt in
+      row-asked check_row check-verb words asks.parts says ∙ check-asks words asks.parts asks.name says asks.says.are
+      ∙ ap Some (sym asks.is)),
 )
 
 -- two names
-module _ (app : App) (verb a b : Text) (differ : bytes_eq a b ≡ false) (is : IsVerb app [] [] (a ∷ b ∷ []) verb)
-    (work_on : Text → Text → Work) where
-  two-asks : List Row → Option Work
-  two-asks rows = option_and_then (λ t. option_map (work_on t) (first_of b rows)) (first_of a rows)
+module _ (verb a b : Text) (differ : bytes_eq a b ≡ false) (work_on : Text → Text → Work)
+    (is : IsVerbRow (row_of_two verb a b work_on)) where
+  abbrev of_two : VerbRow
+  of_two = row_of_two verb a b work_on
 
-  asks-two : (words : List Text) (parts : List Part) (t u : Text) → SaysAll app [] [] (a ∷ b ∷ []) words parts
-      → names_in parts ≡ t ∷ u ∷ []
-      → option_and_then (λ n. option_map (work_on n) (first_of b (rows_behind app [] [] (a ∷ b ∷ []) parts)))
-      (first_of a (rows_behind app [] [] (a ∷ b ∷ []) parts)) ≡ Some (work_on t u)
+  asks-two : (words : List Text) (parts : List Part) (t u : Text) → SaysRow of_two words parts
+      → names_in parts ≡ t ∷ u ∷ [] → of_two.asks (found_by of_two parts) ≡ Some (work_on t u)
   asks-two words parts t u says are =
-      let first : first_of a (rows_behind app [] [] (a ∷ b ∷ []) parts) ≡ Some t =
-      name-said app [] [] (a ∷ b ∷ []) verb is words parts says a (inl refl) ∙ ap (name_at a (a ∷ b ∷ [])) are
-      ∙ ap (λ (e : Bool). cond e (Some t) (name_at a (b ∷ []) (u ∷ []))) (same-text a) in
-      let second : first_of b (rows_behind app [] [] (a ∷ b ∷ []) parts) ≡ Some u =
-      name-said app [] [] (a ∷ b ∷ []) verb is words parts says b (inr (inl refl)) ∙ ap (name_at b (a ∷ b ∷ [])) are
-      ∙ ap (λ (e : Bool). cond e (Some t) (name_at b (b ∷ []) (u ∷ []))) differ
+      let name = name-of of_two is words parts says (t ∷ u ∷ []) are in
+      let first : first_of a (found_by of_two parts) ≡ Some t =
+      name a (inl refl) ∙ ap (λ (e : Bool). cond e (Some t) (name_at a (b ∷ []) (u ∷ []))) (same-text a) in
+      let second : first_of b (found_by of_two parts) ≡ Some u =
+      name b (inr (inl refl)) ∙ ap (λ (e : Bool). cond e (Some t) (name_at b (b ∷ []) (u ∷ []))) differ
       ∙ ap (λ (e : Bool). cond e (Some u) None) (same-text b) in
-      λ k. option_and_then (λ n. option_map (work_on n) (second k)) (first k)
+      λ k. two_named work_on (first k) (second k)
 
-  two-asked : (asks : List Row → Option Work)
-      → ((rows : List Row) → asks rows ≡ option_and_then (λ t. option_map (work_on t) (first_of b rows)) (first_of a
-      rows))
-      → (words : List Text) (work : Work) → AreTexts words → asked_by app asks (verb ∷ words) ≡ Some work
+  two-asked : (words : List Text) (work : Work) → AreTexts words → asked_behind of_two words ≡ Some work
       → AsksByTwo work_on words work
-  two-asked asks so words work texts asked =
-      let found = asked-says app [] [] (a ∷ b ∷ []) verb is asks words work texts asked in
+  two-asked words work texts asked =
+      let found = asked-row of_two is words work texts asked in
       let two = two-names (names_in found.0) a b found.1.names in
       record {
         first = two.0;
         second = two.1;
         parts = found.0;
-        says = all-says app [] [] (a ∷ b ∷ []) words (two.0 ∷ two.1 ∷ []) found.0 found.1 two.2;
+        says = all-says of_two words (two.0 ∷ two.1 ∷ []) found.0 found.1 two.2;
         is = some-work (work_on two.0 two.1) work
-            (sym (asks-two words found.0 two.0 two.1 found.1 two.2)
-            ∙ sym (so (rows_behind app [] [] (a ∷ b ∷ []) found.0)) ∙ found.2);
+            (sym (asks-two words found.0 two.0 two.1 found.1 two.2) ∙ found.2);
       }
 
-  asked-two : (asks : List Row → Option Work)
-      → ((rows : List Row) → asks rows ≡ option_and_then (λ t. option_map (work_on t) (first_of b rows)) (first_of a
-      rows))
-      → (words : List Text) (work : Work) → AsksByTwo work_on words work
-      → asked_by app asks (verb ∷ words) ≡ Some work
-  asked-two asks so words work by =
-      let says = says-all app [] [] (a ∷ b ∷ []) words (by.first ∷ by.second ∷ []) by.parts by.says tt in
-      says-asked app [] [] (a ∷ b ∷ []) verb is asks words by.parts says
-      ∙ so (rows_behind app [] [] (a ∷ b ∷ []) by.parts)
-      ∙ asks-two words by.parts by.first by.second says by.says.are ∙ ap Some (sym by.is)
+  asked-two : (words : List Text) (work : Work) → AsksByTwo work_on words work → asked_behind of_two words ≡ Some work
+  asked-two words work by =
+      let says = says-all of_two words (by.first ∷ by.second ∷ []) by.parts by.says tt in
+      row-asked of_two is words by.parts says ∙ asks-two words by.parts by.first by.second says by.says.are
+      ∙ ap Some (sym by.is)
 
 assemble-words : AskExactly (codes "asm") (AsksByTwo assemble_work)
-unfolding assemble_of
+unfolding verb_named asked_for
 assemble-words words work texts = (
-  two-asked assemble_app (codes "asm") (codes "TEXT") (codes "OUT") refl assemble-verb assemble_work assemble_asks
-      (λ rows. refl) words work texts,
-  asked-two assemble_app (codes "asm") (codes "TEXT") (codes "OUT") refl assemble-verb assemble_work assemble_asks
-      (λ rows. refl) words work,
+  two-asked (codes "asm") (codes "TEXT") (codes "OUT") refl assemble_work assemble-verb words work texts,
+  asked-two (codes "asm") (codes "TEXT") (codes "OUT") refl assemble_work assemble-verb words work,
 )
 
 disassemble-words : AskExactly (codes "dis") (AsksByTwo disassemble_work)
-unfolding disassemble_of
+unfolding verb_named asked_for
 disassemble-words words work texts = (
-  two-asked disassemble_app (codes "dis") (codes "OBJ") (codes "OUT") refl disassemble-verb disassemble_work
-      disassemble_asks (λ rows. refl) words work texts,
-  asked-two disassemble_app (codes "dis") (codes "OBJ") (codes "OUT") refl disassemble-verb disassemble_work
-      disassemble_asks (λ rows. refl) words work,
+  two-asked (codes "dis") (codes "OBJ") (codes "OUT") refl disassemble_work disassemble-verb words work texts,
+  asked-two (codes "dis") (codes "OBJ") (codes "OUT") refl disassemble_work disassemble-verb words work,
 )
 
 infer-words : AskExactly (codes "infer") (AsksByTwo infer_work)
-unfolding infer_of
+unfolding verb_named asked_for
 infer-words words work texts = (
-  two-asked infer_app (codes "infer") (codes "OBJ") (codes "OUT") refl infer-verb infer_work infer_asks
-      (λ rows. refl) words work texts,
-  asked-two infer_app (codes "infer") (codes "OBJ") (codes "OUT") refl infer-verb infer_work infer_asks
-      (λ rows. refl) words work,
+  two-asked (codes "infer") (codes "OBJ") (codes "OUT") refl infer_work infer-verb words work texts,
+  asked-two (codes "infer") (codes "OBJ") (codes "OUT") refl infer_work infer-verb words work,
 )
 
 -- ---- `trace`
 
-abbrev trace_flags : List Text
-trace_flags = codes "paths" ∷ codes "recursive" ∷ []
-
-abbrev run_names : List Text
-run_names = codes "OBJ" ∷ codes "INPUT" ∷ []
-
-trace-asks : (words : List Text) (parts : List Part) (t u : Text)
-    → SaysAll trace_app run_options trace_flags run_names words parts → names_in parts ≡ t ∷ u ∷ []
-    → trace_asks (rows_behind trace_app run_options trace_flags run_names parts)
+trace-asks : (words : List Text) (parts : List Part) (t u : Text) → SaysRow trace_row words parts
+    → names_in parts ≡ t ∷ u ∷ [] → trace_row.asks (found_by trace_row parts)
     ≡ option_and_then (λ n. option_map (λ s.
     trace_work t u n s (has_flag (codes "paths") parts) (has_flag (codes "recursive") parts))
     (seed_given (value_in (codes "seed") parts))) (number_given (value_in (codes "cycles") parts))
 trace-asks words parts t u says are =
-    let rows = rows_behind trace_app run_options trace_flags run_names parts in
-    let verb = codes "trace" in
-    let first : first_of (codes "OBJ") rows ≡ Some t =
-    name-said trace_app run_options trace_flags run_names verb trace-verb words parts says (codes "OBJ") (inl refl)
-    ∙ ap (name_at (codes "OBJ") run_names) are in
-    let second : first_of (codes "INPUT") rows ≡ Some u =
-    name-said trace_app run_options trace_flags run_names verb trace-verb words parts says (codes "INPUT")
-    (inr (inl refl)) ∙ ap (name_at (codes "INPUT") run_names) are in
-    let cycles =
-    value-said trace_app run_options trace_flags run_names verb trace-verb words parts says (codes "cycles") (inl refl)
-    in
-    let seed =
-    value-said trace_app run_options trace_flags run_names verb trace-verb words parts says (codes "seed")
-    (inr (inl refl)) in
-    let paths =
-    flag-said trace_app run_options trace_flags run_names verb trace-verb words parts says (codes "paths") (inl refl) in
-    let recursive =
-    flag-said trace_app run_options trace_flags run_names verb trace-verb words parts says (codes "recursive")
-    (inr (inl refl)) in
+    let rows = found_by trace_row parts in
+    let name = name-of trace_row trace-verb words parts says (t ∷ u ∷ []) are in
+    let first : first_of (codes "OBJ") rows ≡ Some t = name (codes "OBJ") (inl refl) in
+    let second : first_of (codes "INPUT") rows ≡ Some u = name (codes "INPUT") (inr (inl refl)) in
+    let cycles = value-of trace_row trace-verb words parts says (codes "cycles") (inl refl) in
+    let seed = value-of trace_row trace-verb words parts says (codes "seed") (inr (inl refl)) in
+    let paths = flag-of trace_row trace-verb words parts says (codes "paths") (inl refl) in
+    let recursive = flag-of trace_row trace-verb words parts says (codes "recursive") (inr (inl refl)) in
     (λ k. trace_named (first k) (second k) (cycles k) (seed k) (first_of (codes "paths") rows)
     (first_of (codes "recursive") rows))
     ∙ (λ k. option_and_then (λ n. option_map (λ s. trace_work t u n s (paths k) (recursive k))
     (seed_given (value_in (codes "seed") parts))) (number_given (value_in (codes "cycles") parts)))
 
 trace-words : AskExactly (codes "trace") AsksToTrace
-unfolding trace_of
+unfolding verb_named asked_for
 trace-words words work texts = (
   (λ asked.
-      let found =
-      asked-says trace_app run_options trace_flags run_names (codes "trace") trace-verb trace_asks words work texts
-      asked in
+      let found = asked-row trace_row trace-verb words work texts asked in
       let two = two-names (names_in found.0) (codes "OBJ") (codes "INPUT") found.1.names in
       let given =
       two-given (λ n s. trace_work two.0 two.1 n s (has_flag (codes "paths") found.0) (has_flag (codes "recursive")
@@ -241,16 +239,14 @@ trace-words words work texts = (
         parts = found.0;
         cycles = given.0;
         seed = given.1;
-        says = all-says trace_app run_options trace_flags run_names words (two.0 ∷ two.1 ∷ []) found.0 found.1 two.2;
+        says = all-says trace_row words (two.0 ∷ two.1 ∷ []) found.0 found.1 two.2;
         cycles_given = given.2;
         seed_is = given.3;
         is = given.4;
       }),
   (λ asks.
-      let says =
-      says-all trace_app run_options trace_flags run_names words (asks.object ∷ asks.input ∷ []) asks.parts asks.says tt
-      in
-      says-asked trace_app run_options trace_flags run_names (codes "trace") trace-verb trace_asks words asks.parts says
+      let says = says-all trace_row words (asks.object ∷ asks.input ∷ []) asks.parts asks.says tt in
+      row-asked trace_row trace-verb words asks.parts says
       ∙ trace-asks words asks.parts asks.object asks.input says asks.says.are
       ∙ (λ k. option_and_then (λ n. option_map (λ s. trace_work asks.object asks.input n s
       (has_flag (codes "paths") asks.parts) (has_flag (codes "recursive") asks.parts)) (asks.seed_is k))
@@ -259,42 +255,25 @@ trace-words words work texts = (
 
 -- ---- `run`
 
-abbrev run_flags : List Text
-run_flags = codes "recursive" ∷ []
-
-abbrev run_places : List Text
-run_places = codes "OBJ" ∷ codes "INPUT" ∷ codes "OUT" ∷ []
-
-run-asks : (words : List Text) (parts : List Part) (t u v : Text)
-    → SaysAll run_app run_options run_flags run_places words parts → names_in parts ≡ t ∷ u ∷ v ∷ []
-    → run_asks (rows_behind run_app run_options run_flags run_places parts)
+run-asks : (words : List Text) (parts : List Part) (t u v : Text) → SaysRow run_row words parts
+    → names_in parts ≡ t ∷ u ∷ v ∷ [] → run_row.asks (found_by run_row parts)
     ≡ option_and_then (λ n. option_map (λ s. run_work t u v n) (seed_given (value_in (codes "seed") parts)))
     (number_given (value_in (codes "cycles") parts))
 run-asks words parts t u v says are =
-    let rows = rows_behind run_app run_options run_flags run_places parts in
-    let verb = codes "run" in
-    let first : first_of (codes "OBJ") rows ≡ Some t =
-    name-said run_app run_options run_flags run_places verb run-verb words parts says (codes "OBJ") (inl refl)
-    ∙ ap (name_at (codes "OBJ") run_places) are in
-    let second : first_of (codes "INPUT") rows ≡ Some u =
-    name-said run_app run_options run_flags run_places verb run-verb words parts says (codes "INPUT") (inr (inl refl))
-    ∙ ap (name_at (codes "INPUT") run_places) are in
-    let third : first_of (codes "OUT") rows ≡ Some v =
-    name-said run_app run_options run_flags run_places verb run-verb words parts says (codes "OUT")
-    (inr (inr (inl refl))) ∙ ap (name_at (codes "OUT") run_places) are in
-    let cycles =
-    value-said run_app run_options run_flags run_places verb run-verb words parts says (codes "cycles") (inl refl) in
-    let seed =
-    value-said run_app run_options run_flags run_places verb run-verb words parts says (codes "seed") (inr (inl refl))
-    in
+    let rows = found_by run_row parts in
+    let name = name-of run_row run-verb words parts says (t ∷ u ∷ v ∷ []) are in
+    let first : first_of (codes "OBJ") rows ≡ Some t = name (codes "OBJ") (inl refl) in
+    let second : first_of (codes "INPUT") rows ≡ Some u = name (codes "INPUT") (inr (inl refl)) in
+    let third : first_of (codes "OUT") rows ≡ Some v = name (codes "OUT") (inr (inr (inl refl))) in
+    let cycles = value-of run_row run-verb words parts says (codes "cycles") (inl refl) in
+    let seed = value-of run_row run-verb words parts says (codes "seed") (inr (inl refl)) in
     λ k. run_named (first k) (second k) (third k) (cycles k) (seed k)
 
 run-words : AskExactly (codes "run") AsksToRun
-unfolding run_of
+unfolding verb_named asked_for
 run-words words work texts = (
   (λ asked.
-      let found =
-      asked-says run_app run_options run_flags run_places (codes "run") run-verb run_asks words work texts asked in
+      let found = asked-row run_row run-verb words work texts asked in
       let names = three-names (names_in found.0) (codes "OBJ") (codes "INPUT") (codes "OUT") found.1.names in
       let given =
       two-given (λ n s. run_work names.0 names.1 names.2 n) work (number_given (value_in (codes "cycles") found.0))
@@ -307,18 +286,15 @@ run-words words work texts = (
         parts = found.0;
         cycles = given.0;
         seed = given.1;
-        says = all-says run_app run_options run_flags run_places words (names.0 ∷ names.1 ∷ names.2 ∷ []) found.0
-            found.1
-            names.3;
+        says = all-says run_row words (names.0 ∷ names.1 ∷ names.2 ∷ []) found.0 found.1 names.3;
         cycles_given = given.2;
         seed_is = given.3;
         is = given.4;
       }),
   (λ asks.
       let says =
-      says-all run_app run_options run_flags run_places words (asks.object ∷ asks.input ∷ asks.output ∷ []) asks.parts
-      asks.says tt in
-      says-asked run_app run_options run_flags run_places (codes "run") run-verb run_asks words asks.parts says
+      says-all run_row words (asks.object ∷ asks.input ∷ asks.output ∷ []) asks.parts asks.says tt in
+      row-asked run_row run-verb words asks.parts says
       ∙ run-asks words asks.parts asks.object asks.input asks.output says asks.says.are
       ∙ (λ k. option_and_then (λ n. option_map (λ s. run_work asks.object asks.input asks.output n) (asks.seed_is k))
       (asks.cycles_given k)) ∙ ap Some (sym asks.is)),
@@ -326,49 +302,26 @@ run-words words work texts = (
 
 -- ---- `eval`
 
-abbrev turns_option : List Text
-turns_option = codes "turns" ∷ []
-
-abbrev procs_flag : List Text
-procs_flag = codes "procs" ∷ []
-
-abbrev source_places : List Text
-source_places = codes "SRC" ∷ codes "INPUT" ∷ codes "OUT" ∷ []
-
-evaluate-asks : (words : List Text) (parts : List Part) (t u v : Text)
-    → SaysAll evaluate_app turns_option procs_flag source_places words parts → names_in parts ≡ t ∷ u ∷ v ∷ []
-    → evaluate_asks (rows_behind evaluate_app turns_option procs_flag source_places parts)
+evaluate-asks : (words : List Text) (parts : List Part) (t u v : Text) → SaysRow evaluate_row words parts
+    → names_in parts ≡ t ∷ u ∷ v ∷ [] → evaluate_row.asks (found_by evaluate_row parts)
     ≡ option_map (λ n. evaluate_work t u v n (has_flag (codes "procs") parts))
     (number_given (value_in (codes "turns") parts))
 evaluate-asks words parts t u v says are =
-    let rows = rows_behind evaluate_app turns_option procs_flag source_places parts in
-    let verb = codes "eval" in
-    let first : first_of (codes "SRC") rows ≡ Some t =
-    name-said evaluate_app turns_option procs_flag source_places verb evaluate-verb words parts says (codes "SRC")
-    (inl refl) ∙ ap (name_at (codes "SRC") source_places) are in
-    let second : first_of (codes "INPUT") rows ≡ Some u =
-    name-said evaluate_app turns_option procs_flag source_places verb evaluate-verb words parts says (codes "INPUT")
-    (inr (inl refl)) ∙ ap (name_at (codes "INPUT") source_places) are in
-    let third : first_of (codes "OUT") rows ≡ Some v =
-    name-said evaluate_app turns_option procs_flag source_places verb evaluate-verb words parts says (codes "OUT")
-    (inr (inr (inl refl))) ∙ ap (name_at (codes "OUT") source_places) are in
-    let turns =
-    value-said evaluate_app turns_option procs_flag source_places verb evaluate-verb words parts says (codes "turns")
-    (inl refl) in
-    let procs =
-    flag-said evaluate_app turns_option procs_flag source_places verb evaluate-verb words parts says (codes "procs")
-    (inl refl) in
+    let rows = found_by evaluate_row parts in
+    let name = name-of evaluate_row evaluate-verb words parts says (t ∷ u ∷ v ∷ []) are in
+    let first : first_of (codes "SRC") rows ≡ Some t = name (codes "SRC") (inl refl) in
+    let second : first_of (codes "INPUT") rows ≡ Some u = name (codes "INPUT") (inr (inl refl)) in
+    let third : first_of (codes "OUT") rows ≡ Some v = name (codes "OUT") (inr (inr (inl refl))) in
+    let turns = value-of evaluate_row evaluate-verb words parts says (codes "turns") (inl refl) in
+    let procs = flag-of evaluate_row evaluate-verb words parts says (codes "procs") (inl refl) in
     (λ k. evaluate_named (first k) (second k) (third k) (turns k) (first_of (codes "procs") rows))
     ∙ (λ k. option_map (λ n. evaluate_work t u v n (procs k)) (number_given (value_in (codes "turns") parts)))
 
 evaluate-words : AskExactly (codes "eval") AsksToEvaluate
-unfolding evaluate_of
+unfolding verb_named asked_for
 evaluate-words words work texts = (
   (λ asked.
-      let found =
-      asked-says evaluate_app turns_option procs_flag source_places (codes "eval") evaluate-verb evaluate_asks words
-      work
-      texts asked in
+      let found = asked-row evaluate_row evaluate-verb words work texts asked in
       let names = three-names (names_in found.0) (codes "SRC") (codes "INPUT") (codes "OUT") found.1.names in
       let given =
       one-given (λ n. evaluate_work names.0 names.1 names.2 n (has_flag (codes "procs") found.0)) work
@@ -380,18 +333,14 @@ evaluate-words words work texts = (
         output = names.2;
         parts = found.0;
         turns = given.0;
-        says = all-says evaluate_app turns_option procs_flag source_places words (names.0 ∷ names.1 ∷ names.2 ∷ [])
-            found.0
-            found.1 names.3;
+        says = all-says evaluate_row words (names.0 ∷ names.1 ∷ names.2 ∷ []) found.0 found.1 names.3;
         turns_given = given.1;
         is = given.2;
       }),
   (λ asks.
       let says =
-      says-all evaluate_app turns_option procs_flag source_places words (asks.source ∷ asks.input ∷ asks.output ∷ [])
-      asks.parts asks.says tt in
-      says-asked evaluate_app turns_option procs_flag source_places (codes "eval") evaluate-verb evaluate_asks words
-      asks.parts says
+      says-all evaluate_row words (asks.source ∷ asks.input ∷ asks.output ∷ []) asks.parts asks.says tt in
+      row-asked evaluate_row evaluate-verb words asks.parts says
       ∙ evaluate-asks words asks.parts asks.source asks.input asks.output says asks.says.are
       ∙ (λ k. option_map (λ n. evaluate_work asks.source asks.input asks.output n (has_flag (codes "procs") asks.parts))
       (asks.turns_given k)) ∙ ap Some (sym asks.is)),
@@ -399,47 +348,28 @@ evaluate-words words work texts = (
 
 -- ---- `compile`
 
-abbrev compile_options : List Text
-compile_options = codes "block-log" ∷ codes "window" ∷ []
-
-abbrev compile_places : List Text
-compile_places = codes "SRC" ∷ codes "OUT" ∷ []
-
-compile-asks : (words : List Text) (parts : List Part) (t u : Text)
-    → SaysAll compile_app compile_options procs_flag compile_places words parts → names_in parts ≡ t ∷ u ∷ []
-    → compile_asks (rows_behind compile_app compile_options procs_flag compile_places parts)
+compile-asks : (words : List Text) (parts : List Part) (t u : Text) → SaysRow compile_row words parts
+    → names_in parts ≡ t ∷ u ∷ [] → compile_row.asks (found_by compile_row parts)
     ≡ option_and_then (λ w. option_map (λ at.
     compile_work t u (windowed_profile w at) (has_flag (codes "procs") parts))
     (window_given (value_in (codes "window") parts))) (block_log_given (value_in (codes "block-log") parts))
 compile-asks words parts t u says are =
-    let rows = rows_behind compile_app compile_options procs_flag compile_places parts in
-    let verb = codes "compile" in
-    let first : first_of (codes "SRC") rows ≡ Some t =
-    name-said compile_app compile_options procs_flag compile_places verb compile-verb words parts says (codes "SRC")
-    (inl refl) ∙ ap (name_at (codes "SRC") compile_places) are in
-    let second : first_of (codes "OUT") rows ≡ Some u =
-    name-said compile_app compile_options procs_flag compile_places verb compile-verb words parts says (codes "OUT")
-    (inr (inl refl)) ∙ ap (name_at (codes "OUT") compile_places) are in
-    let block_log =
-    value-said compile_app compile_options procs_flag compile_places verb compile-verb words parts says
-    (codes "block-log") (inl refl) in
-    let window =
-    value-said compile_app compile_options procs_flag compile_places verb compile-verb words parts says
-    (codes "window") (inr (inl refl)) in
-    let procs =
-    flag-said compile_app compile_options procs_flag compile_places verb compile-verb words parts says
-    (codes "procs") (inl refl) in
+    let rows = found_by compile_row parts in
+    let name = name-of compile_row compile-verb words parts says (t ∷ u ∷ []) are in
+    let first : first_of (codes "SRC") rows ≡ Some t = name (codes "SRC") (inl refl) in
+    let second : first_of (codes "OUT") rows ≡ Some u = name (codes "OUT") (inr (inl refl)) in
+    let block_log = value-of compile_row compile-verb words parts says (codes "block-log") (inl refl) in
+    let window = value-of compile_row compile-verb words parts says (codes "window") (inr (inl refl)) in
+    let procs = flag-of compile_row compile-verb words parts says (codes "procs") (inl refl) in
     (λ k. compile_named (first k) (second k) (block_log k) (window k) (first_of (codes "procs") rows))
     ∙ (λ k. option_and_then (λ w. option_map (λ at. compile_work t u (windowed_profile w at) (procs k))
     (window_given (value_in (codes "window") parts))) (block_log_given (value_in (codes "block-log") parts)))
 
 compile-words : AskExactly (codes "compile") AsksToCompile
-unfolding compile_of
+unfolding verb_named asked_for
 compile-words words work texts = (
   (λ asked.
-      let found =
-      asked-says compile_app compile_options procs_flag compile_places (codes "compile") compile-verb compile_asks words
-      work texts asked in
+      let found = asked-row compile_row compile-verb words work texts asked in
       let two = two-names (names_in found.0) (codes "SRC") (codes "OUT") found.1.names in
       let given =
       two-given (λ w at. compile_work two.0 two.1 (windowed_profile w at) (has_flag (codes "procs") found.0)) work
@@ -451,18 +381,14 @@ compile-words words work texts = (
         parts = found.0;
         block_log = given.0;
         window = given.1;
-        says = all-says compile_app compile_options procs_flag compile_places words (two.0 ∷ two.1 ∷ []) found.0 found.1
-            two.2;
+        says = all-says compile_row words (two.0 ∷ two.1 ∷ []) found.0 found.1 two.2;
         block_log_is = given.2;
         window_is = given.3;
         is = given.4;
       }),
   (λ asks.
-      let says =
-      says-all compile_app compile_options procs_flag compile_places words (asks.source ∷ asks.output ∷ []) asks.parts
-      asks.says tt in
-      says-asked compile_app compile_options procs_flag compile_places (codes "compile") compile-verb compile_asks words
-      asks.parts says
+      let says = says-all compile_row words (asks.source ∷ asks.output ∷ []) asks.parts asks.says tt in
+      row-asked compile_row compile-verb words asks.parts says
       ∙ compile-asks words asks.parts asks.source asks.output says asks.says.are
       ∙ (λ k. option_and_then (λ w. option_map (λ at. compile_work asks.source asks.output (windowed_profile w at)
       (has_flag (codes "procs") asks.parts)) (asks.window_is k)) (asks.block_log_is k)) ∙ ap Some (sym asks.is)),
@@ -470,37 +396,23 @@ compile-words words work texts = (
 
 -- ---- `sample`
 
-abbrev seed_option : List Text
-seed_option = codes "seed" ∷ []
-
-abbrev sample_places : List Text
-sample_places = codes "N" ∷ codes "OUT" ∷ []
-
-sample-asks : (words : List Text) (parts : List Part) (t u : Text)
-    → SaysAll sample_app seed_option [] sample_places words parts → names_in parts ≡ t ∷ u ∷ []
-    → sample_asks (rows_behind sample_app seed_option [] sample_places parts)
+sample-asks : (words : List Text) (parts : List Part) (t u : Text) → SaysRow sample_row words parts
+    → names_in parts ≡ t ∷ u ∷ [] → sample_row.asks (found_by sample_row parts)
     ≡ option_and_then (λ n. option_map (λ s. sample_work n u) (seed_given (value_in (codes "seed") parts)))
     (items_given t)
 sample-asks words parts t u says are =
-    let rows = rows_behind sample_app seed_option [] sample_places parts in
-    let verb = codes "sample" in
-    let first : first_of (codes "N") rows ≡ Some t =
-    name-said sample_app seed_option [] sample_places verb sample-verb words parts says (codes "N") (inl refl)
-    ∙ ap (name_at (codes "N") sample_places) are in
-    let second : first_of (codes "OUT") rows ≡ Some u =
-    name-said sample_app seed_option [] sample_places verb sample-verb words parts says (codes "OUT") (inr (inl refl))
-    ∙ ap (name_at (codes "OUT") sample_places) are in
-    let seed =
-    value-said sample_app seed_option [] sample_places verb sample-verb words parts says (codes "seed") (inl refl) in
+    let rows = found_by sample_row parts in
+    let name = name-of sample_row sample-verb words parts says (t ∷ u ∷ []) are in
+    let first : first_of (codes "N") rows ≡ Some t = name (codes "N") (inl refl) in
+    let second : first_of (codes "OUT") rows ≡ Some u = name (codes "OUT") (inr (inl refl)) in
+    let seed = value-of sample_row sample-verb words parts says (codes "seed") (inl refl) in
     λ k. sample_named (first k) (second k) (seed k)
 
 sample-words : AskExactly (codes "sample") AsksToSample
-unfolding sample_of
+unfolding verb_named asked_for
 sample-words words work texts = (
   (λ asked.
-      let found =
-      asked-says sample_app seed_option [] sample_places (codes "sample") sample-verb sample_asks words work texts asked
-      in
+      let found = asked-row sample_row sample-verb words work texts asked in
       let two = two-names (names_in found.0) (codes "N") (codes "OUT") found.1.names in
       let given =
       two-given (λ n s. sample_work n two.1) work (items_given two.0) (seed_given (value_in (codes "seed") found.0))
@@ -511,15 +423,14 @@ sample-words words work texts = (
         parts = found.0;
         items = given.0;
         seed = given.1;
-        says = all-says sample_app seed_option [] sample_places words (two.0 ∷ two.1 ∷ []) found.0 found.1 two.2;
+        says = all-says sample_row words (two.0 ∷ two.1 ∷ []) found.0 found.1 two.2;
         items_are = given.2;
         seed_is = given.3;
         is = given.4;
       }),
   (λ asks.
-      let says =
-      says-all sample_app seed_option [] sample_places words (asks.number ∷ asks.output ∷ []) asks.parts asks.says tt in
-      says-asked sample_app seed_option [] sample_places (codes "sample") sample-verb sample_asks words asks.parts says
+      let says = says-all sample_row words (asks.number ∷ asks.output ∷ []) asks.parts asks.says tt in
+      row-asked sample_row sample-verb words asks.parts says
       ∙ sample-asks words asks.parts asks.number asks.output says asks.says.are
       ∙ (λ k. option_and_then (λ n. option_map (λ s. sample_work n asks.output) (asks.seed_is k)) (asks.items_are k))
       ∙ ap Some (sym asks.is)),

@@ -155,7 +155,7 @@ abbrev pub AllApart : List Text → List Text → Type 0
 AllApart [] ids = Unit {0}
 AllApart (x ∷ xs) ids = DifferFrom x ids × AllApart xs ids
 
-apart-of : (xs ids : List Text) (x : Text) → AllApart xs ids → IsAmong xs x → DifferFrom x ids
+pub apart-of : (xs ids : List Text) (x : Text) → AllApart xs ids → IsAmong xs x → DifferFrom x ids
 apart-of [] ids x apart among = absurd among
 apart-of (y ∷ ys) ids x apart among = ⊎_elim
     (λ (is : x ≡ y). subst (λ (t : Text). DifferFrom t ids) (sym is) apart.0)

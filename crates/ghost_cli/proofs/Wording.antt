@@ -1,14 +1,13 @@
 -- From the words to the work that they ask for.
-use Rattle.std.proofs.Common.{◌≡◌, ◌≢◌, inl, inr, ℕ, ◌<◌, ◌≤◌, ◌^◌, Bool, true, false, ◌&&◌, cond, List, [], ◌∷◌, drop, Option, Some, None, refl, sym, ap, ap₂, ◌∙◌, subst, arith, nat_le, ◌==◌}
+use Rattle.std.proofs.Common.{◌≡◌, ◌≢◌, inl, inr, ℕ, ◌<◌, ◌≤◌, ◌^◌, Bool, true, false, ◌&&◌, cond, List, [], ◌∷◌, drop, Option, Some, None, refl, sym, ap, ◌∙◌, subst, arith, nat_le, ◌==◌}
+use Rattle.std.specs.Prelude.{option_and_then}
 use Rattle.std.specs.Str.Parse.{IsNumeral, without_leading_plus, digits_value}
 use Rattle.std.specs.Char.{is_ascii_digit}
 use Rattle.std.proofs.lemmas.Bool.{leb-true, ne_eqb}
 use Rattle.gr_base.specs.Numerals.{are_digits}
 use Rattle.gr_base.proofs.Digits.{AllDigits-test}
 use Rattle.clap.proofs.WalkLemmas.{both}
-use Rattle.clap.specs.Words.{AddsArg, App, HasKind, Kinds, Row, Rule, Text, app_of, found_of, kind_of, matches_of, rows_of, rule_of, with_rule}
-use Rattle.clap.specs.declared.builder.arg.Arg.{Arg}
-use Rattle.clap.specs.declared.builder.command.Command.{Command}
+use Rattle.clap.specs.Words.{App, HasKind, Kinds, Row, Text, found_of, kind_of, matches_of, rows_of}
 use Rattle.clap.specs.declared.error.Error.{Error}
 use Rattle.clap.specs.declared.error.kind.ErrorKind.TheVariants as kind
 use Rattle.clap.specs.declared.parser.matches.ArgMatches.{ArgMatches}
@@ -21,22 +20,13 @@ pub refused-wrong : (kinds : Kinds) (error : Error)
 refused-wrong [] error has other = absurd (elim has [ inl memory ↦ other memory | inr among ↦ among ])
 refused-wrong (k ∷ kinds) error has other = refl
 
--- what is asked where the command takes the words, and where it doesn't
-pub asked-found : (app named : App) (asks : List Row → Option Work) (words : List Text) (found : Option ArgMatches)
-    (m : ArgMatches) → named ≡ app → found ≡ Some m → IsFound named words found
-    → asks (rows_of (found_of m)) ≡ asked_by app asks words
+-- what is asked for is what is asked by what was found
+pub asked-found : (app : App) (asks : List Row → Option Work) (words : List Text) (found : Option ArgMatches)
+    → IsFound app words found → option_and_then (λ m. asks (rows_of (found_of m))) found ≡ asked_by app asks words
 unfolding asked_by
-asked-found app named asks words found m is some e =
-    let so : IsFound app words (Some m) =
-    subst (λ a. IsFound a words (Some m)) is (subst (IsFound named words) some e) in
-    ap asks so.1 ∙ ap (λ b. cond b (asks (matches_of app words)) None) (sym so.0)
-
-pub asked-missing : (app named : App) (asks : List Row → Option Work) (words : List Text) (found : Option ArgMatches)
-    → named ≡ app → found ≡ None → IsFound named words found → ◌≡◌ {A = Option Work} None (asked_by app asks words)
-unfolding asked_by
-asked-missing app named asks words found is none e =
-    ap (λ b. cond b (asks (matches_of app words)) None)
-    (sym (subst (λ a. IsFound a words None) is (subst (IsFound named words) none e)))
+asked-found app asks words None is = ap (λ b. cond b (asks (matches_of app words)) None) (sym is)
+asked-found app asks words (Some m) is =
+    ap asks is.1 ∙ ap (λ b. cond b (asks (matches_of app words)) None) (sym is.0)
 
 -- ---- numbers
 
@@ -70,10 +60,3 @@ number-none least most bits wide (c ∷ cs) digits unread = go (nat_le (digits_v
         gone (is_option_number (c ∷ cs)) (nat_le least (digits_value 10 (c ∷ cs)))
         (nat_le (digits_value 10 (c ∷ cs)) most)
         (digits_value 10 (c ∷ cs)) is
-
--- ---- the commands
-
--- one argument more
-pub one-more : (old new : Command) (a : Arg) (app : App) (r : Rule)
-    → app_of old ≡ app → rule_of a ≡ r → a.global ≡ false → AddsArg old a new → app_of new ≡ with_rule app r
-one-more old new a app r is rule local adds = adds.shape local ∙ ap₂ with_rule is rule

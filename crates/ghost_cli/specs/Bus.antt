@@ -2,7 +2,7 @@
 -- file, each pair a core of one bus.
 use Rattle.std.specs.Prelude.{ℕ, ◌+◌, ℤ, Bool, true, false, List, [], ◌∷◌, ◌++◌, codes, length, nat_lt, if◌then◌else◌, Option, Some, None, option_and_then}
 use Rattle.std.specs.Option.{option_map}
-use Rattle.clap.specs.Words.{App, Row, Rule, Text, all_of, first_of, new_app, new_rule, with_rule}
+use Rattle.clap.specs.Words.{App, Row, Text, all_of, first_of}
 use Rattle.lt_isa.specs.Object.{Parts}
 use Rattle.bus_arbiter.specs.Refusals.{refusal}
 use Rattle.bus_arbiter.specs.Shares.{share_of}
@@ -15,19 +15,9 @@ use Rattle.ghost_cli.specs.Showing.{bus_seen, nothing_seen}
 use Rattle.ghost_cli.specs.Texts.{Said, comes_to, no_memory}
 use Rattle.ghost_cli.specs.Work.{Work, Asks, Ends}
 use Rattle.ghost_cli.specs.Steps.{with_accepted, with_inputs}
-use Rattle.ghost_cli.specs.Options.{option, asked_by, number_given, seed_given}
-
--- 2 to 16 words that must stand in their places
-abbrev pub names : Text → Rule
-names name = record (new_rule name) {
-  required = true;
-  range = Some (record { start_inclusive = 2; end_inclusive = 16 });
-}
-
-unfoldable pub bus_app : App
-bus_app =
-    with_rule (with_rule (with_rule (new_app (codes "bus")) (names (codes "NAMES"))) (option (codes "cycles")))
-    (option (codes "seed"))
+use Rattle.ghost_cli.specs.Options.{asked_by, number_given, seed_given}
+use Rattle.ghost_cli.specs.declared.verbs.Argument.TheVariants.{Words}
+use Rattle.ghost_cli.specs.VerbRows.{VerbRow, command_of}
 
 -- a pair of names, of an object file and of an input file
 pub record Pair : Type 0 where
@@ -110,6 +100,19 @@ bus_named names cycles seed =
 abbrev pub bus_asks : List Row → Option Work
 bus_asks rows =
     bus_named (all_of (codes "NAMES") rows) (first_of (codes "cycles") rows) (first_of (codes "seed") rows)
+
+abbrev pub bus_row : VerbRow
+bus_row = record {
+  name = codes "bus";
+  place = Words;
+  places = codes "NAMES" ∷ [];
+  options = codes "cycles" ∷ codes "seed" ∷ [];
+  flags = [];
+  asks = bus_asks;
+}
+
+unfoldable pub bus_app : App
+bus_app = command_of bus_row
 
 unfoldable pub bus_of : List Text → Option Work
 bus_of words = asked_by bus_app bus_asks words

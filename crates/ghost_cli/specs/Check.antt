@@ -1,21 +1,23 @@
 -- The verb `check OBJ`.
-use Rattle.std.specs.Prelude.{ℕ, List, codes, Option}
+use Rattle.std.specs.Prelude.{ℕ, List, [], ◌∷◌, codes}
 use Rattle.std.specs.Option.{option_map}
-use Rattle.clap.specs.Words.{App, Row, Text, first_of, new_app, with_rule}
+use Rattle.clap.specs.Words.{first_of}
 use Rattle.ghost_cli.specs.declared.replies.Verdict.TheVariants.{Accepted}
 use Rattle.ghost_cli.specs.Showing.{nothing_seen}
 use Rattle.ghost_cli.specs.Work.{Work, Ends}
 use Rattle.ghost_cli.specs.Steps.{with_accepted}
-use Rattle.ghost_cli.specs.Options.{word, asked_by}
-
-unfoldable pub check_app : App
-check_app = with_rule (new_app (codes "check")) (word (codes "OBJ"))
+use Rattle.ghost_cli.specs.declared.verbs.Argument.TheVariants.{Word}
+use Rattle.ghost_cli.specs.VerbRows.{VerbRow}
 
 abbrev pub check_work : List ℕ → Work
 check_work object = with_accepted object (λ o. Ends nothing_seen Accepted)
 
-abbrev pub check_asks : List Row → Option Work
-check_asks rows = option_map check_work (first_of (codes "OBJ") rows)
-
-unfoldable pub check_of : List Text → Option Work
-check_of words = asked_by check_app check_asks words
+abbrev pub check_row : VerbRow
+check_row = record {
+  name = codes "check";
+  place = Word;
+  places = codes "OBJ" ∷ [];
+  options = [];
+  flags = [];
+  asks = λ rows. option_map check_work (first_of (codes "OBJ") rows);
+}

@@ -1,7 +1,7 @@
 -- The verb `compile SRC OUT [--block-log w] [--window P:O:C] [--procs]`.
-use Rattle.std.specs.Prelude.{ℕ, Bool, List, codes, Option, option_and_then, Result, Ok, Err}
+use Rattle.std.specs.Prelude.{ℕ, Bool, List, [], ◌∷◌, codes, Option, option_and_then, Result, Ok, Err}
 use Rattle.std.specs.Option.{option_map}
-use Rattle.clap.specs.Words.{App, Row, Text, first_of, new_app, with_rule}
+use Rattle.clap.specs.Words.{first_of}
 use Rattle.src_tree.specs.Trees.{Source}
 use Rattle.ghost_cli.specs.declared.source_faults.SourceFault.{SourceFault}
 use Rattle.ghost_cli.specs.declared.replies.Verdict.TheVariants.{BadSource}
@@ -12,14 +12,9 @@ use Rattle.ghost_cli.specs.Work.{Work, Ends, Writes, Asks}
 use Rattle.ghost_cli.specs.Steps.{with_source}
 use Rattle.ghost_cli.specs.Windows.{window_given, windowed_profile}
 use Rattle.lt_isa.specs.declared.profiles.Profile.{Profile}
-use Rattle.ghost_cli.specs.Options.{word, option, flag, asked_by, block_log_given, flag_given}
-
-unfoldable pub compile_app : App
-compile_app =
-    with_rule
-    (with_rule
-    (with_rule (with_rule (with_rule (new_app (codes "compile")) (word (codes "SRC"))) (word (codes "OUT")))
-    (option (codes "block-log"))) (option (codes "window"))) (flag (codes "procs"))
+use Rattle.ghost_cli.specs.Options.{block_log_given, flag_given}
+use Rattle.ghost_cli.specs.declared.verbs.Argument.TheVariants.{Word}
+use Rattle.ghost_cli.specs.VerbRows.{VerbRow}
 
 -- the object file is written, where there is room for the program's variables
 abbrev pub on_compiled : List ℕ → Result (List ℕ) SourceFault → Work
@@ -40,10 +35,14 @@ compile_named source output block_log window procs =
     option_map (λ at. compile_work s out (windowed_profile w at) (flag_given procs)) (window_given window))
     (block_log_given block_log)) output) source
 
-abbrev pub compile_asks : List Row → Option Work
-compile_asks rows =
-    compile_named (first_of (codes "SRC") rows) (first_of (codes "OUT") rows) (first_of (codes "block-log") rows)
-    (first_of (codes "window") rows) (first_of (codes "procs") rows)
-
-unfoldable pub compile_of : List Text → Option Work
-compile_of words = asked_by compile_app compile_asks words
+abbrev pub compile_row : VerbRow
+compile_row = record {
+  name = codes "compile";
+  place = Word;
+  places = codes "SRC" ∷ codes "OUT" ∷ [];
+  options = codes "block-log" ∷ codes "window" ∷ [];
+  flags = codes "procs" ∷ [];
+  asks = λ rows.
+      compile_named (first_of (codes "SRC") rows) (first_of (codes "OUT") rows) (first_of (codes "block-log") rows)
+      (first_of (codes "window") rows) (first_of (codes "procs") rows);
+}

@@ -1,7 +1,7 @@
 -- The verb `eval SRC INPUT OUT [--turns n] [--procs]`.
-use Rattle.std.specs.Prelude.{ℕ, ℤ, Bool, List, codes, Option, Some, None, option_and_then}
+use Rattle.std.specs.Prelude.{ℕ, ℤ, Bool, List, [], ◌∷◌, codes, Option, Some, None, option_and_then}
 use Rattle.std.specs.Option.{option_map}
-use Rattle.clap.specs.Words.{App, Row, Text, first_of, new_app, with_rule}
+use Rattle.clap.specs.Words.{first_of}
 use Rattle.run_data.specs.OutputText.{output_of}
 use Rattle.src_tree.specs.Trees.{Source}
 use Rattle.flow_types.specs.Wants.{declared_wants}
@@ -11,13 +11,9 @@ use Rattle.ghost_cli.specs.Questions.{WhatIsLeft}
 use Rattle.ghost_cli.specs.Showing.{nothing_seen}
 use Rattle.ghost_cli.specs.Work.{Work, Ends, Writes, Asks}
 use Rattle.ghost_cli.specs.Steps.{with_source, with_variables}
-use Rattle.ghost_cli.specs.Options.{word, option, flag, asked_by, flag_given, number_given}
-
-unfoldable pub evaluate_app : App
-evaluate_app =
-    with_rule
-    (with_rule (with_rule (with_rule (with_rule (new_app (codes "eval")) (word (codes "SRC"))) (word (codes "INPUT")))
-    (word (codes "OUT"))) (option (codes "turns"))) (flag (codes "procs"))
+use Rattle.ghost_cli.specs.Options.{flag_given, number_given}
+use Rattle.ghost_cli.specs.declared.verbs.Argument.TheVariants.{Word}
+use Rattle.ghost_cli.specs.VerbRows.{VerbRow}
 
 -- the values that a program leaves are written, where its loops took no more than so many turns
 abbrev pub on_left : Source → List ℕ → ℕ → Option (List (List ℤ)) → Work
@@ -38,10 +34,14 @@ evaluate_named source input output turns procs =
     option_and_then (λ s. option_and_then (λ i. option_and_then
     (λ out. option_map (λ n. evaluate_work s i out n (flag_given procs)) (number_given turns)) output) input) source
 
-abbrev pub evaluate_asks : List Row → Option Work
-evaluate_asks rows =
-    evaluate_named (first_of (codes "SRC") rows) (first_of (codes "INPUT") rows) (first_of (codes "OUT") rows)
-    (first_of (codes "turns") rows) (first_of (codes "procs") rows)
-
-unfoldable pub evaluate_of : List Text → Option Work
-evaluate_of words = asked_by evaluate_app evaluate_asks words
+abbrev pub evaluate_row : VerbRow
+evaluate_row = record {
+  name = codes "eval";
+  place = Word;
+  places = codes "SRC" ∷ codes "INPUT" ∷ codes "OUT" ∷ [];
+  options = codes "turns" ∷ [];
+  flags = codes "procs" ∷ [];
+  asks = λ rows.
+      evaluate_named (first_of (codes "SRC") rows) (first_of (codes "INPUT") rows) (first_of (codes "OUT") rows)
+      (first_of (codes "turns") rows) (first_of (codes "procs") rows);
+}

@@ -1,28 +1,17 @@
 -- The words behind a verb, as `clap` states them for the verb's command, and the numbers among them.
-use Rattle.std.specs.Prelude.{◌≡◌, ℕ, Bool, true, false, ◌&&◌, nat_lt, nat_le, List, [], ◌∷◌, codes, length, map, Option, Some, None, if◌then◌else◌}
+use Rattle.std.specs.Prelude.{◌≡◌, ℕ, Bool, true, false, ◌&&◌, nat_lt, nat_le, List, [], ◌∷◌, codes, length, map, Option, Some, None, option_and_then, if◌then◌else◌}
 use Rattle.std.specs.Borrow.{Bor}
+use Rattle.std.specs.Option.{option_map}
 use Rattle.std.specs.Str.{bytes_eq}
 use Rattle.std.specs.Str.Parse.{digits_value}
 use Rattle.gr_base.specs.Numerals.{are_digits}
-use Rattle.clap.specs.Words.{App, Row, Rule, Text, fault_of, found_of, matches_of, new_rule, rows_of}
-use Rattle.clap.specs.declared.builder.action.ArgAction.TheVariants.{SetTrue}
+use Rattle.clap.specs.Words.{App, Row, Text, fault_of, found_of, matches_of, rows_of}
 use Rattle.clap.specs.declared.parser.matches.ArgMatches.{ArgMatches}
 use Rattle.ghost_cli.specs.Work.{Work}
 
 -- the words of the command line as texts
 abbrev pub texts : List (Bor (List ℕ)) → List (List ℕ)
 texts words = map (λ word. word.now) words
-
--- a word that must stand in its place, and an option with a value
-abbrev pub word : Text → Rule
-word name = record (new_rule name) { required = true }
-
-abbrev pub option : Text → Rule
-option name = record (new_rule name) { long = Some name }
-
--- an option without a value
-abbrev pub flag : Text → Rule
-flag name = record (new_rule name) { long = Some name; action = Some SetTrue }
 
 -- what a command asks for where it takes the words, the verb first
 abbrev pub none_wrong : {X : Type 0} → List X → Bool
@@ -36,6 +25,10 @@ asked_by app asks words = if none_wrong (fault_of app words) then asks (matches_
 abbrev pub IsFound : App → List Text → Option ArgMatches → Type 0
 IsFound app words None = none_wrong (fault_of app words) ≡ false
 IsFound app words (Some m) = (none_wrong (fault_of app words) ≡ true) × (rows_of (found_of m) ≡ matches_of app words)
+
+-- the work on two names
+abbrev pub two_named : (List ℕ → List ℕ → Work) → Option (List ℕ) → Option (List ℕ) → Option Work
+two_named work_on first second = option_and_then (λ name. option_map (work_on name) second) first
 
 -- a number: one to 20 decimal digits, leading zeros allowed
 abbrev pub is_option_number : List ℕ → Bool

@@ -1,7 +1,7 @@
 -- The verb `run OBJ INPUT OUT [--cycles n] [--seed s] [--recursive]`.
-use Rattle.std.specs.Prelude.{ℕ, ℤ, List, codes, Option, Some, None, option_and_then}
+use Rattle.std.specs.Prelude.{ℕ, ℤ, List, [], ◌∷◌, codes, Option, Some, None, option_and_then}
 use Rattle.std.specs.Option.{option_map}
-use Rattle.clap.specs.Words.{App, Row, Text, first_of, new_app, with_rule}
+use Rattle.clap.specs.Words.{first_of}
 use Rattle.lt_isa.specs.Object.{Parts}
 use Rattle.ghost_cli.specs.declared.replies.Verdict.TheVariants.{Spent}
 use Rattle.ghost_cli.specs.declared.replies.Done.TheVariants.{Halted}
@@ -10,14 +10,9 @@ use Rattle.ghost_cli.specs.Runs.{run_outputs}
 use Rattle.ghost_cli.specs.Showing.{nothing_seen}
 use Rattle.ghost_cli.specs.Work.{Work, Ends, Writes, Asks}
 use Rattle.ghost_cli.specs.Steps.{with_accepted, with_inputs}
-use Rattle.ghost_cli.specs.Options.{word, option, flag, asked_by, number_given, seed_given}
-
-unfoldable pub run_app : App
-run_app =
-    with_rule
-    (with_rule
-    (with_rule (with_rule (with_rule (with_rule (new_app (codes "run")) (word (codes "OBJ"))) (word (codes "INPUT")))
-    (word (codes "OUT"))) (option (codes "cycles"))) (option (codes "seed"))) (flag (codes "recursive"))
+use Rattle.ghost_cli.specs.Options.{number_given, seed_given}
+use Rattle.ghost_cli.specs.declared.verbs.Argument.TheVariants.{Word}
+use Rattle.ghost_cli.specs.VerbRows.{VerbRow}
 
 -- the outputs are written where the run halted
 abbrev pub on_halt : Parts → List (List ℤ) → List ℕ → ℕ → Option ℕ → Work
@@ -39,10 +34,14 @@ run_named object input output cycles seed =
     (λ out. option_and_then (λ n. option_map (λ s. run_work o i out n) (seed_given seed)) (number_given cycles)) output)
     input) object
 
-abbrev pub run_asks : List Row → Option Work
-run_asks rows =
-    run_named (first_of (codes "OBJ") rows) (first_of (codes "INPUT") rows) (first_of (codes "OUT") rows)
-    (first_of (codes "cycles") rows) (first_of (codes "seed") rows)
-
-unfoldable pub run_of : List Text → Option Work
-run_of words = asked_by run_app run_asks words
+abbrev pub run_row : VerbRow
+run_row = record {
+  name = codes "run";
+  place = Word;
+  places = codes "OBJ" ∷ codes "INPUT" ∷ codes "OUT" ∷ [];
+  options = codes "cycles" ∷ codes "seed" ∷ [];
+  flags = codes "recursive" ∷ [];
+  asks = λ rows.
+      run_named (first_of (codes "OBJ") rows) (first_of (codes "INPUT") rows) (first_of (codes "OUT") rows)
+      (first_of (codes "cycles") rows) (first_of (codes "seed") rows);
+}

@@ -1,7 +1,7 @@
 -- The verb `sample N OUT [--seed s]`.
-use Rattle.std.specs.Prelude.{ℕ, List, codes, Option, Some, None, option_and_then}
+use Rattle.std.specs.Prelude.{ℕ, List, [], ◌∷◌, codes, Option, Some, None, option_and_then}
 use Rattle.std.specs.Option.{option_map}
-use Rattle.clap.specs.Words.{App, Row, Text, first_of, new_app, with_rule}
+use Rattle.clap.specs.Words.{first_of}
 use Rattle.lt_isa.specs.Start.{wants_of}
 use Rattle.ghost_cli.specs.declared.replies.Verdict.TheVariants.{Spent}
 use Rattle.ghost_cli.specs.declared.replies.Done.TheVariants.{Sampled}
@@ -9,12 +9,9 @@ use Rattle.ghost_cli.specs.Histogram.{Made, sample_cycles, sample_inputs, figure
 use Rattle.ghost_cli.specs.Questions.{WhatIsMade, WhenItHalts}
 use Rattle.ghost_cli.specs.Showing.{nothing_seen}
 use Rattle.ghost_cli.specs.Work.{Work, Ends, Writes, Asks}
-use Rattle.ghost_cli.specs.Options.{word, option, asked_by, items_given, seed_given}
-
-unfoldable pub sample_app : App
-sample_app =
-    with_rule (with_rule (with_rule (new_app (codes "sample")) (word (codes "N"))) (word (codes "OUT")))
-    (option (codes "seed"))
+use Rattle.ghost_cli.specs.Options.{items_given, seed_given}
+use Rattle.ghost_cli.specs.declared.verbs.Argument.TheVariants.{Word}
+use Rattle.ghost_cli.specs.VerbRows.{VerbRow}
 
 -- the object file is written where the run halted
 abbrev pub on_sampled : ℕ → List ℕ → Made → Option ℕ → Work
@@ -37,8 +34,13 @@ sample_named items output seed =
     (λ out. option_and_then (λ n. option_map (λ s. sample_work n out) (seed_given seed)) (items_given text)) output)
     items
 
-abbrev pub sample_asks : List Row → Option Work
-sample_asks rows = sample_named (first_of (codes "N") rows) (first_of (codes "OUT") rows) (first_of (codes "seed") rows)
-
-unfoldable pub sample_of : List Text → Option Work
-sample_of words = asked_by sample_app sample_asks words
+abbrev pub sample_row : VerbRow
+sample_row = record {
+  name = codes "sample";
+  place = Word;
+  places = codes "N" ∷ codes "OUT" ∷ [];
+  options = codes "seed" ∷ [];
+  flags = [];
+  asks = λ rows.
+      sample_named (first_of (codes "N") rows) (first_of (codes "OUT") rows) (first_of (codes "seed") rows);
+}

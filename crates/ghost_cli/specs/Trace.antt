@@ -1,7 +1,7 @@
 -- The verb `trace OBJ INPUT [--cycles n] [--seed s] [--paths] [--recursive]`.
-use Rattle.std.specs.Prelude.{ℕ, ℤ, Bool, true, false, List, codes, Option, is_some, option_and_then}
+use Rattle.std.specs.Prelude.{ℕ, ℤ, Bool, true, false, List, [], ◌∷◌, codes, Option, is_some, option_and_then}
 use Rattle.std.specs.Option.{option_map}
-use Rattle.clap.specs.Words.{App, Row, Text, first_of, new_app, with_rule}
+use Rattle.clap.specs.Words.{first_of}
 use Rattle.lt_isa.specs.Object.{Parts}
 use Rattle.lt_isa.specs.Start.{trace}
 use Rattle.ghost_cli.specs.declared.replies.Verdict.TheVariants.{Traced}
@@ -9,14 +9,9 @@ use Rattle.ghost_cli.specs.Questions.{WhatIsShown, WhenItHalts}
 use Rattle.ghost_cli.specs.Showing.{events_alone}
 use Rattle.ghost_cli.specs.Work.{Work, Ends, Asks}
 use Rattle.ghost_cli.specs.Steps.{with_accepted, with_inputs}
-use Rattle.ghost_cli.specs.Options.{word, option, flag, asked_by, flag_given, number_given, seed_given}
-
-unfoldable pub trace_app : App
-trace_app =
-    with_rule
-    (with_rule
-    (with_rule (with_rule (with_rule (with_rule (new_app (codes "trace")) (word (codes "OBJ"))) (word (codes "INPUT")))
-    (option (codes "cycles"))) (option (codes "seed"))) (flag (codes "paths"))) (flag (codes "recursive"))
+use Rattle.ghost_cli.specs.Options.{flag_given, number_given, seed_given}
+use Rattle.ghost_cli.specs.declared.verbs.Argument.TheVariants.{Word}
+use Rattle.ghost_cli.specs.VerbRows.{VerbRow}
 
 -- The lines of a run around its last line, without paths or with them. Only with them does it matter what the seed is,
 -- and whether the banks are recursive.
@@ -43,10 +38,14 @@ trace_named object input cycles seed paths recursive =
     (λ n. option_map (λ s. trace_work o i n s (flag_given paths) (flag_given recursive)) (seed_given seed))
     (number_given cycles)) input) object
 
-abbrev pub trace_asks : List Row → Option Work
-trace_asks rows =
-    trace_named (first_of (codes "OBJ") rows) (first_of (codes "INPUT") rows) (first_of (codes "cycles") rows)
-    (first_of (codes "seed") rows) (first_of (codes "paths") rows) (first_of (codes "recursive") rows)
-
-unfoldable pub trace_of : List Text → Option Work
-trace_of words = asked_by trace_app trace_asks words
+abbrev pub trace_row : VerbRow
+trace_row = record {
+  name = codes "trace";
+  place = Word;
+  places = codes "OBJ" ∷ codes "INPUT" ∷ [];
+  options = codes "cycles" ∷ codes "seed" ∷ [];
+  flags = codes "paths" ∷ codes "recursive" ∷ [];
+  asks = λ rows.
+      trace_named (first_of (codes "OBJ") rows) (first_of (codes "INPUT") rows) (first_of (codes "cycles") rows)
+      (first_of (codes "seed") rows) (first_of (codes "paths") rows) (first_of (codes "recursive") rows);
+}

@@ -1,11 +1,11 @@
 ghost use Rattle.std.specs.Prelude.{◌≡◌, ◌<◌, ◌≤◌, ◌+◌, ◌⊎◌, [], IfErr, IfOk, IfSome, IsTrue, OnErr, OnOk, Some, false, length, map};
 ghost use Rattle.std.specs.Option.{option_map};
-ghost use Rattle.clap.specs.Words.{app_of, rule_of};
+ghost use Rattle.clap.specs.Words.{found_of, rows_of};
 ghost use Rattle.bus_arbiter.specs.Cores.{traces_to};
 ghost use Rattle.bus_arbiter.specs.Laws.{traces_on};
 ghost use Rattle.bus_arbiter.specs.Shares.{share_of};
 ghost use Rattle.bus_arbiter.specs.Turns.{AllLeft};
-ghost use Rattle.ghost_cli.specs.Bus.{Read, bus_app, bus_named, bus_named_on, bus_of, bus_said, bus_work, names, none_read, pairs_of, with_core, with_cores};
+ghost use Rattle.ghost_cli.specs.Bus.{Read, bus_named, bus_named_on, bus_row, bus_said, bus_work, none_read, pairs_of, with_core, with_cores};
 ghost use Rattle.ghost_cli.specs.Options.{texts};
 ghost use Rattle.ghost_cli.specs.Outside.{Explains, PutsSaid, outside};
 ghost use Rattle.ghost_cli.specs.Progress.{HasLeft, Stops};
@@ -15,12 +15,13 @@ ghost use Rattle.ghost_cli.specs.Work.{Work};
 
 use crate::bus_run::put_bus;
 use crate::oblivious::{SeededOram, load_seeded};
-use crate::options::{matches_in, number_given, option, seed_given, value, values};
+use crate::options::{number_given, seed_given, value, values};
 use crate::putting::{say, say_no_memory};
 use crate::reading::{find_accepted, find_inputs};
 use crate::replies::{Reply, Verdict};
+use crate::verbs::{Argument, VerbWords};
 use bus_arbiter::{Bus, BusError, Plan};
-use clap::{Arg, Command};
+use clap::ArgMatches;
 use gr_base::Memory;
 use gr_outside::{Shelf, Sink};
 use gr_word::Inputs;
@@ -28,8 +29,17 @@ use lt_checker::Accepted;
 use std::alloc::Global;
 use std::marker::Model;
 
+/// The words that the verb takes.
+pub const WORDS: VerbWords<'static> = VerbWords {
+    name: "bus",
+    place: Argument::Words,
+    places: &["NAMES"],
+    options: &["cycles", "seed"],
+    flags: &[],
+};
+
 /// A pair of names, of an object file and of an input file.
-#[derive(Debug, Drop)]
+#[derive(Drop)]
 pub struct NamePair<'a> {
     object: &'a str,
     input: &'a str,
@@ -44,7 +54,7 @@ impl<'a> Model for NamePair<'a> {
 }
 
 /// The names of the pairs of a bus, its number of cycles, and the seed of its random words.
-#[derive(Debug, Drop)]
+#[derive(Drop)]
 pub struct BusWords<'a> {
     pairs: Vec<NamePair<'a>>,
     cycles: u32,
@@ -53,52 +63,26 @@ pub struct BusWords<'a> {
 
 /// The verb `bus OBJ INPUT [OBJ INPUT ..] [--cycles n] [--seed s]`: runs each pair's object on its inputs as a core of
 /// one bus, and puts the lines of all transfers and of how each core ended.
-pub fn bus<F: Shelf, O: Sink>(alloc: Global, words: &[&str], shelf: &mut F, out: &mut O) -> u8
+pub fn bus<F: Shelf, O: Sink>(
+    alloc: Global,
+    matches: &ArgMatches<'_>,
+    shelf: &mut F,
+    out: &mut O,
+) -> u8
     ensures { Explains (outside (F.seen shelf.old) (O.seen out.old))
-        (outside (F.seen shelf.new) (O.seen out.new)) result (bus_of (texts words.now)) }
+        (outside (F.seen shelf.new) (O.seen out.new)) result (bus_row.asks (rows_of (found_of matches.now))) }
 {
-    match words_of(alloc, words) {
+    let asked = words_in(
+        alloc,
+        values(matches, "NAMES"),
+        value(matches, "cycles"),
+        value(matches, "seed"),
+    );
+    match asked {
         Ok(Some(asked)) => bus_files(alloc, asked, shelf, out),
         Ok(None) => say(alloc, &Reply::Usage, out),
         Err(_) => say_no_memory(out),
     }
-}
-
-/// The words that the verb takes.
-fn command<'a>(alloc: Global) -> Result<Command<'a>, Memory>
-    ensures { IfOk result (λ c. app_of c ≡ bus_app) }
-{
-    let command = Command::new(alloc, "bus")
-        .arg(pair_names(alloc, "NAMES"))?
-        .arg(option(alloc, "cycles"))?
-        .arg(option(alloc, "seed"))?;
-    Ok(command)
-}
-
-/// The names of one to eight pairs.
-fn pair_names<'a>(alloc: Global, name: &'a str) -> Arg<'a>
-    ensures rule { rule_of result ≡ names name.now }
-    ensures local { result.global ≡ false }
-{
-    Arg::new(alloc, name).required(true).num_args(2..=16)
-}
-
-fn words_of<'a>(alloc: Global, words: &'a [&'a str]) -> Result<Option<BusWords<'a>>, Memory>
-    ensures works { IfOk result
-        (λ asked. option_map (λ a. bus_work a.pairs.items a.cycles) asked ≡ bus_of (texts words.now)) }
-    ensures some_cycle { IfOk result (λ asked. IfSome asked (λ a. 1 ≤ a.cycles)) }
-    ensures most { IfOk result (λ asked. IfSome asked (λ a. length a.pairs.items ≤ 8)) }
-{
-    let Some(matches) = matches_in(command(alloc)?, words)? else {
-        return Ok(None);
-    };
-    let asked = words_in(
-        alloc,
-        values(&matches, "NAMES"),
-        value(&matches, "cycles"),
-        value(&matches, "seed"),
-    )?;
-    Ok(asked)
 }
 
 fn words_in<'a>(

@@ -3,34 +3,42 @@ ghost use Rattle.std.specs.Option.{option_map};
 ghost use Rattle.lt_isa.specs.Ranges.{IsInRange, ProfileFits};
 ghost use Rattle.object_file.specs.Spelling.{spelling};
 ghost use Rattle.src_tree.specs.Trees.{source_of};
-ghost use Rattle.clap.specs.Words.{app_of};
-ghost use Rattle.ghost_cli.specs.Compile.{compile_app, compile_named, compile_of, compile_work, on_compiled};
+ghost use Rattle.clap.specs.Words.{found_of, rows_of};
+ghost use Rattle.ghost_cli.specs.Compile.{compile_named, compile_row, compile_work, on_compiled};
 ghost use Rattle.ghost_cli.specs.Compiled.{IsCompiledTo, room_fault};
-ghost use Rattle.ghost_cli.specs.Options.{texts};
 ghost use Rattle.ghost_cli.specs.Outside.{Explains, outside};
 ghost use Rattle.ghost_cli.specs.Progress.{EndsWorkWith, SaysSource};
 ghost use Rattle.ghost_cli.specs.Questions.{WhichCompiled};
 ghost use Rattle.ghost_cli.specs.Texts.{said};
 
-use crate::options::{block_log_given, flag, flag_given, matches_in, option, value, word};
-use crate::putting::{say, say_no_memory};
+use crate::options::{block_log_given, flag_given, value};
+use crate::putting::say;
 use crate::replies::{Done, Reply, Verdict};
 use crate::source_faults::room_fault;
 use crate::sources::find_source;
+use crate::verbs::{Argument, VerbWords};
 use crate::windows::{window_given, windowed};
 use crate::writing::write_and_say;
-use clap::Command;
+use clap::ArgMatches;
 use code_gen::CompileError;
 use flow_types::Typed;
-use gr_base::Memory;
 use gr_outside::{Shelf, Sink};
 use lt_isa::{Latencies, Object, Profile};
 use object_file::encode;
 use std::alloc::Global;
 
+/// The words that the verb takes.
+pub const WORDS: VerbWords<'static> = VerbWords {
+    name: "compile",
+    place: Argument::Word,
+    places: &["SRC", "OUT"],
+    options: &["block-log", "window"],
+    flags: &["procs"],
+};
+
 /// The names of the file that is read and of the one that is written, the profile of the machine, and whether the file
 /// is read with procedures.
-#[derive(Clone, Copy, Debug)]
+#[derive(Clone, Copy)]
 pub struct CompileWords<'a> {
     source: &'a str,
     output: &'a str,
@@ -40,46 +48,26 @@ pub struct CompileWords<'a> {
 
 /// The verb `compile SRC OUT [--block-log w] [--window P:O:C] [--procs]`: writes the object file of the program that a
 /// source text spells.
-pub fn compile<F: Shelf, O: Sink>(alloc: Global, words: &[&str], shelf: &mut F, out: &mut O) -> u8
+pub fn compile<F: Shelf, O: Sink>(
+    alloc: Global,
+    matches: &ArgMatches<'_>,
+    shelf: &mut F,
+    out: &mut O,
+) -> u8
     ensures { Explains (outside (F.seen shelf.old) (O.seen out.old))
-        (outside (F.seen shelf.new) (O.seen out.new)) result (compile_of (texts words.now)) }
+        (outside (F.seen shelf.new) (O.seen out.new)) result (compile_row.asks (rows_of (found_of matches.now))) }
 {
-    match words_of(alloc, words) {
-        Ok(Some(asked)) => compile_file(alloc, asked, shelf, out),
-        Ok(None) => say(alloc, &Reply::Usage, out),
-        Err(_) => say_no_memory(out),
+    let asked = words_in(
+        value(matches, "SRC"),
+        value(matches, "OUT"),
+        value(matches, "block-log"),
+        value(matches, "window"),
+        value(matches, "procs"),
+    );
+    match asked {
+        Some(asked) => compile_file(alloc, asked, shelf, out),
+        None => say(alloc, &Reply::Usage, out),
     }
-}
-
-/// The words that the verb takes.
-fn command<'a>(alloc: Global) -> Result<Command<'a>, Memory>
-    ensures { IfOk result (λ c. app_of c ≡ compile_app) }
-{
-    let command = Command::new(alloc, "compile")
-        .arg(word(alloc, "SRC"))?
-        .arg(word(alloc, "OUT"))?
-        .arg(option(alloc, "block-log"))?
-        .arg(option(alloc, "window"))?
-        .arg(flag(alloc, "procs"))?;
-    Ok(command)
-}
-
-fn words_of<'a>(alloc: Global, words: &'a [&'a str]) -> Result<Option<CompileWords<'a>>, Memory>
-    ensures asked { IfOk result (λ asked.
-        option_map (λ a. compile_work a.source.now a.output.now a.profile a.procs) asked
-        ≡ compile_of (texts words.now)) }
-    ensures within { IfOk result (λ asked. IfSome asked (λ a. ProfileFits a.profile)) }
-{
-    let Some(matches) = matches_in(command(alloc)?, words)? else {
-        return Ok(None);
-    };
-    Ok(words_in(
-        value(&matches, "SRC"),
-        value(&matches, "OUT"),
-        value(&matches, "block-log"),
-        value(&matches, "window"),
-        value(&matches, "procs"),
-    ))
 }
 
 fn words_in<'a>(

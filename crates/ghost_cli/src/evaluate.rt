@@ -3,19 +3,19 @@ ghost use Rattle.std.specs.Option.{option_map};
 ghost use Rattle.gr_word.specs.Fitting.{FitsWants};
 ghost use Rattle.src_tree.specs.Trees.{source_of};
 ghost use Rattle.flow_types.specs.Wants.{declared_wants};
-ghost use Rattle.clap.specs.Words.{app_of};
-ghost use Rattle.ghost_cli.specs.Evaluate.{evaluate_app, evaluate_named, evaluate_of, evaluate_work};
+ghost use Rattle.clap.specs.Words.{found_of, rows_of};
+ghost use Rattle.ghost_cli.specs.Evaluate.{evaluate_named, evaluate_row, evaluate_work};
 ghost use Rattle.ghost_cli.specs.Evaluated.{LeavesText};
-ghost use Rattle.ghost_cli.specs.Options.{texts};
 ghost use Rattle.ghost_cli.specs.Outside.{Explains, outside};
 
-use crate::options::{flag, flag_given, matches_in, number_given, option, value, word};
+use crate::options::{flag_given, number_given, value};
 use crate::putting::{say, say_no_memory};
 use crate::reading::find_variables;
 use crate::replies::{Done, Reply, Verdict};
 use crate::sources::find_source;
+use crate::verbs::{Argument, VerbWords};
 use crate::writing::write_and_say;
-use clap::Command;
+use clap::ArgMatches;
 use flow_types::Typed;
 use gr_base::Memory;
 use gr_outside::{Shelf, Sink};
@@ -24,8 +24,17 @@ use run_data::output_text;
 use source_meaning::{Outcome, eval};
 use std::alloc::Global;
 
+/// The words that the verb takes.
+pub const WORDS: VerbWords<'static> = VerbWords {
+    name: "eval",
+    place: Argument::Word,
+    places: &["SRC", "INPUT", "OUT"],
+    options: &["turns"],
+    flags: &["procs"],
+};
+
 /// The names of the files of an evaluation, its number of turns, and whether the program is read with procedures.
-#[derive(Clone, Copy, Debug)]
+#[derive(Clone, Copy)]
 pub struct EvaluateWords<'a> {
     source: &'a str,
     input: &'a str,
@@ -36,45 +45,26 @@ pub struct EvaluateWords<'a> {
 
 /// The verb `eval SRC INPUT OUT [--turns n] [--procs]`: evaluates a program on inputs, and writes the values that it
 /// leaves.
-pub fn evaluate<F: Shelf, O: Sink>(alloc: Global, words: &[&str], shelf: &mut F, out: &mut O) -> u8
+pub fn evaluate<F: Shelf, O: Sink>(
+    alloc: Global,
+    matches: &ArgMatches<'_>,
+    shelf: &mut F,
+    out: &mut O,
+) -> u8
     ensures { Explains (outside (F.seen shelf.old) (O.seen out.old))
-        (outside (F.seen shelf.new) (O.seen out.new)) result (evaluate_of (texts words.now)) }
+        (outside (F.seen shelf.new) (O.seen out.new)) result (evaluate_row.asks (rows_of (found_of matches.now))) }
 {
-    match words_of(alloc, words) {
-        Ok(Some(asked)) => evaluate_files(alloc, asked, shelf, out),
-        Ok(None) => say(alloc, &Reply::Usage, out),
-        Err(_) => say_no_memory(out),
+    let asked = words_in(
+        value(matches, "SRC"),
+        value(matches, "INPUT"),
+        value(matches, "OUT"),
+        value(matches, "turns"),
+        value(matches, "procs"),
+    );
+    match asked {
+        Some(asked) => evaluate_files(alloc, asked, shelf, out),
+        None => say(alloc, &Reply::Usage, out),
     }
-}
-
-/// The words that the verb takes.
-fn command<'a>(alloc: Global) -> Result<Command<'a>, Memory>
-    ensures { IfOk result (λ c. app_of c ≡ evaluate_app) }
-{
-    let command = Command::new(alloc, "eval")
-        .arg(word(alloc, "SRC"))?
-        .arg(word(alloc, "INPUT"))?
-        .arg(word(alloc, "OUT"))?
-        .arg(option(alloc, "turns"))?
-        .arg(flag(alloc, "procs"))?;
-    Ok(command)
-}
-
-fn words_of<'a>(alloc: Global, words: &'a [&'a str]) -> Result<Option<EvaluateWords<'a>>, Memory>
-    ensures { IfOk result (λ asked.
-        option_map (λ a. evaluate_work a.source.now a.input.now a.output.now a.turns a.procs) asked
-        ≡ evaluate_of (texts words.now)) }
-{
-    let Some(matches) = matches_in(command(alloc)?, words)? else {
-        return Ok(None);
-    };
-    Ok(words_in(
-        value(&matches, "SRC"),
-        value(&matches, "INPUT"),
-        value(&matches, "OUT"),
-        value(&matches, "turns"),
-        value(&matches, "procs"),
-    ))
 }
 
 fn words_in<'a>(

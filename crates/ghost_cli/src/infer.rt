@@ -1,88 +1,62 @@
 ghost use Rattle.std.specs.Prelude.{◌≡◌, IfErr, IfOk, List, ℕ, Some, length};
-ghost use Rattle.std.specs.Option.{option_map};
-ghost use Rattle.clap.specs.Words.{app_of};
+ghost use Rattle.clap.specs.Words.{found_of, rows_of};
 ghost use Rattle.lt_isa.specs.Ranges.{IsInRange};
 ghost use Rattle.note_infer.specs.Inferred.{IsInferred};
-ghost use Rattle.ghost_cli.specs.Infer.{infer_app, infer_named, infer_of, infer_work, on_inferred};
-ghost use Rattle.ghost_cli.specs.Options.{texts};
+ghost use Rattle.ghost_cli.specs.Infer.{infer_row, infer_work, on_inferred};
 ghost use Rattle.ghost_cli.specs.Outside.{Explains, outside};
 ghost use Rattle.ghost_cli.specs.Progress.{EndsWorkWith, SaysNotes};
 ghost use Rattle.ghost_cli.specs.Questions.{WhatIsInferred};
 ghost use Rattle.ghost_cli.specs.Texts.{said};
 
-use crate::options::{matches_in, value, word};
+use crate::options::{TwoNames, two_names, value};
 use crate::putting::{say, say_no_memory};
 use crate::reading::find_object;
 use crate::replies::{Done, Reply, Verdict};
+use crate::verbs::{Argument, VerbWords};
 use crate::writing::write_and_say;
-use clap::Command;
-use gr_base::Memory;
+use clap::ArgMatches;
 use gr_outside::{Shelf, Sink};
 use lt_isa::Object;
 use note_infer::InferError;
 use object_file::encode;
 use std::alloc::Global;
 
-/// The name of the file that is read, and of the one that is written.
-#[derive(Clone, Copy, Debug)]
-pub struct InferWords<'a> {
-    object: &'a str,
-    output: &'a str,
-}
+/// The words that the verb takes.
+pub const WORDS: VerbWords<'static> = VerbWords {
+    name: "infer",
+    place: Argument::Word,
+    places: &["OBJ", "OUT"],
+    options: &[],
+    flags: &[],
+};
 
 /// The verb `infer OBJ OUT`: writes the object file of an object with its least notes in place of its own.
-pub fn infer<F: Shelf, O: Sink>(alloc: Global, words: &[&str], shelf: &mut F, out: &mut O) -> u8
+pub fn infer<F: Shelf, O: Sink>(
+    alloc: Global,
+    matches: &ArgMatches<'_>,
+    shelf: &mut F,
+    out: &mut O,
+) -> u8
     ensures { Explains (outside (F.seen shelf.old) (O.seen out.old))
-        (outside (F.seen shelf.new) (O.seen out.new)) result (infer_of (texts words.now)) }
+        (outside (F.seen shelf.new) (O.seen out.new)) result (infer_row.asks (rows_of (found_of matches.now))) }
 {
-    match words_of(alloc, words) {
-        Ok(Some(asked)) => infer_file(alloc, asked, shelf, out),
-        Ok(None) => say(alloc, &Reply::Usage, out),
-        Err(_) => say_no_memory(out),
+    match two_names(value(matches, "OBJ"), value(matches, "OUT")) {
+        Some(asked) => infer_file(alloc, asked, shelf, out),
+        None => say(alloc, &Reply::Usage, out),
     }
-}
-
-/// The words that the verb takes.
-fn command<'a>(alloc: Global) -> Result<Command<'a>, Memory>
-    ensures { IfOk result (λ c. app_of c ≡ infer_app) }
-{
-    let command = Command::new(alloc, "infer")
-        .arg(word(alloc, "OBJ"))?
-        .arg(word(alloc, "OUT"))?;
-    Ok(command)
-}
-
-fn words_of<'a>(alloc: Global, words: &'a [&'a str]) -> Result<Option<InferWords<'a>>, Memory>
-    ensures { IfOk result
-        (λ asked. option_map (λ a. infer_work a.object.now a.output.now) asked ≡ infer_of (texts words.now)) }
-{
-    let Some(matches) = matches_in(command(alloc)?, words)? else {
-        return Ok(None);
-    };
-    Ok(words_in(value(&matches, "OBJ"), value(&matches, "OUT")))
-}
-
-fn words_in<'a>(object: Option<&'a str>, output: Option<&'a str>) -> Option<InferWords<'a>>
-    ensures { option_map (λ a. infer_work a.object.now a.output.now) result
-        ≡ infer_named (option_map (λ t. t.now) object.entry) (option_map (λ t. t.now) output.entry) }
-{
-    Some(InferWords {
-        object: object?,
-        output: output?,
-    })
 }
 
 fn infer_file<F: Shelf, O: Sink>(
     alloc: Global,
-    asked: InferWords<'_>,
+    asked: TwoNames<'_>,
     shelf: &mut F,
     out: &mut O,
 ) -> u8
     ensures { Explains (outside (F.seen shelf.old) (O.seen out.old))
         (outside (F.seen shelf.new) (O.seen out.new)) result
-        (Some (infer_work asked.entry.object.now asked.entry.output.now)) }
+        (Some (infer_work asked.entry.read.now asked.entry.written.now)) }
 {
-    let object = match find_object(alloc, asked.object, shelf) {
+    let object = match find_object(alloc, asked.read, shelf) {
         Ok(object) => object,
         Err(reply) => return say(alloc, &reply, out),
     };
@@ -94,7 +68,7 @@ fn infer_file<F: Shelf, O: Sink>(
     match encode(alloc, &found) {
         Ok(bytes) => write_and_say(
             alloc,
-            asked.output,
+            asked.written,
             &bytes,
             Done::Inferred(count),
             shelf,

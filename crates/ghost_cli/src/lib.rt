@@ -4,10 +4,11 @@
 //! sink and answers the exit status. Its contract says which answer comes, and why.
 //!
 //! The work of a verb is a tree of steps: read a file, ask a question of what was read, write a file, end. What every
-//! call promises is proved once, for all trees. To add a verb, say its words and its tree in a file of its own in
-//! `specs/`, do it in a file of its own in `src/`, show in `proofs/` that the one comes to the other, and add it to the
-//! list in `specs/Verbs.antt` and `src/top.rt`. A new question is added to `specs/Questions.antt`, a new line to
-//! `src/replies.rt` with `specs/Texts.antt`. No other verb's files change.
+//! call promises is proved once, for all trees. To add a verb, say its row and its tree in a file of its own in
+//! `specs/`, say the row's words and do the work in a file of its own in `src/`, show in `proofs/` that the one comes to
+//! the other, and add it to the tables in `specs/Verbs.antt`, `src/verbs.rt` and `src/top.rt`, and to
+//! `proofs/VerbRows.antt`. A new question is added to `specs/Questions.antt`, a new line to `src/replies.rt` with
+//! `specs/Texts.antt`. No other verb's files change.
 #![tactic(auto)]
 
 mod assemble;
@@ -36,6 +37,7 @@ mod sources;
 pub mod top;
 pub mod trace;
 pub mod trace_watch;
+pub mod verbs;
 pub mod windows;
 mod writing;
 

@@ -1,11 +1,12 @@
-ghost use Rattle.std.specs.Prelude.{◌≡◌, ◌↔◌, ◌≤◌, IfOk, IfSome, IsTrue, false, true};
-ghost use Rattle.clap.specs.Words.{all_of, app_of, first_of, found_of, is_simple, is_simple_and_free, kind_of, rows_of, rule_of};
+ghost use Rattle.std.specs.Prelude.{◌≡◌, ◌↔◌, ◌≤◌, IfOk, IfSome, IsTrue, List, ℕ, true};
+ghost use Rattle.clap.specs.Words.{all_of, app_of, first_of, found_of, is_simple, is_simple_and_free, kind_of, rows_of};
 ghost use Rattle.gr_base.specs.Lists.{Within};
-ghost use Rattle.ghost_cli.specs.Options.{IsFound, block_log_given, flag, flag_given, items_given, number_given, option_within, option, seed_given, texts, word};
+ghost use Rattle.ghost_cli.specs.Options.{IsFound, block_log_given, flag_given, items_given, number_given, option_within, seed_given, texts, two_named};
+ghost use Rattle.ghost_cli.specs.Work.{Work};
 ghost use Rattle.std.specs.Option.{option_map};
 
 use clap::error::ErrorKind;
-use clap::{Arg, ArgAction, ArgMatches, Command, Error};
+use clap::{ArgMatches, Command, Error};
 use gr_base::Memory;
 use gr_base::numerals::are_digits;
 use std::alloc::Global;
@@ -21,30 +22,6 @@ const MOST_ITEMS: u64 = 65_536;
 
 /// The most digits that a number has.
 const MOST_DIGITS: usize = 20;
-
-/// A word that must stand in its place.
-pub fn word<'a>(alloc: Global, name: &'a str) -> Arg<'a>
-    ensures rule { rule_of result ≡ word name.now }
-    ensures local { result.global ≡ false }
-{
-    Arg::new(alloc, name).required(true)
-}
-
-/// An option with a value.
-pub fn option<'a>(alloc: Global, name: &'a str) -> Arg<'a>
-    ensures rule { rule_of result ≡ option name.now }
-    ensures local { result.global ≡ false }
-{
-    Arg::new(alloc, name).long(name)
-}
-
-/// An option without a value.
-pub fn flag<'a>(alloc: Global, name: &'a str) -> Arg<'a>
-    ensures rule { rule_of result ≡ flag name.now }
-    ensures local { result.global ≡ false }
-{
-    Arg::new(alloc, name).long(name).action(ArgAction::SetTrue)
-}
 
 /// Whether a flag is given.
 pub fn flag_given(option: Option<&str>) -> bool
@@ -94,6 +71,24 @@ fn wants_memory(error: &Error) -> bool
     ensures { IsTrue result ↔ (kind_of error.now ≡ ErrorKind.OutOfMemory) }
 {
     error.kind() == ErrorKind::OutOfMemory
+}
+
+/// The name of the file that is read, and of the one that is written.
+#[derive(Clone, Copy)]
+pub struct TwoNames<'a> {
+    pub read: &'a str,
+    pub written: &'a str,
+}
+
+/// Two names, where both are there.
+pub fn two_names<'a>(read: Option<&'a str>, written: Option<&'a str>) -> Option<TwoNames<'a>>
+    ensures { (work_on : List ℕ → List ℕ → Work) → option_map (λ a. work_on a.read.now a.written.now) result
+        ≡ two_named work_on (option_map (λ t. t.now) read.entry) (option_map (λ t. t.now) written.entry) }
+{
+    Some(TwoNames {
+        read: read?,
+        written: written?,
+    })
 }
 
 /// The number of cycles, or of turns, that the option gives: 1,000,000,000 where it isn't there, and none where its

@@ -15,7 +15,7 @@ use std::fmt;
 use std::marker::Model;
 
 /// A text as JSON writes it, within quotation marks and without control characters.
-#[derive(Debug, Drop)]
+#[derive(Drop)]
 pub struct JsonText {
     text: String,
 }
@@ -47,7 +47,7 @@ impl JsonText {
 }
 
 /// Why a file gives no inputs: its first fault. A name stands as JSON text.
-#[derive(Debug, Drop)]
+#[derive(Drop)]
 pub enum InputFault {
     /// The bytes aren't the text of one JSON value.
     Json,
@@ -64,7 +64,7 @@ pub enum InputFault {
 }
 
 /// What a verb's own work comes to, where it writes no file.
-#[derive(Debug, Drop)]
+#[derive(Drop)]
 pub enum Verdict {
     /// The object was accepted.
     Accepted,
@@ -91,7 +91,7 @@ pub enum Verdict {
 }
 
 /// What was done where a verb wrote its file.
-#[derive(Debug, Drop)]
+#[derive(Drop)]
 pub enum Done {
     /// The run halted at this cycle.
     Halted(u32),
@@ -111,7 +111,7 @@ pub enum Done {
 
 /// The figures of a sample: the number of its items; the cycle at which its run halted; how many accesses the run made
 /// to plain memory, to encrypted memory and to oblivious bank 2; and the sum of the counts.
-#[derive(Clone, Copy, Debug)]
+#[derive(Clone, Copy)]
 pub struct Figures {
     pub items: u32,
     pub cycles: u32,
@@ -122,7 +122,7 @@ pub struct Figures {
 }
 
 /// What a call of the program comes to. Its status and its last line stand here, and nothing else spells a line.
-#[derive(Debug, Drop)]
+#[derive(Drop)]
 pub enum Reply<'a> {
     /// The words ask for no work.
     Usage,

@@ -4,19 +4,19 @@ ghost use Rattle.lt_isa.specs.Outputs.{outputs};
 ghost use Rattle.lt_isa.specs.Ranges.{IsInRange};
 ghost use Rattle.lt_isa.specs.Start.{FitsObject, wants_of};
 ghost use Rattle.run_data.specs.OutputText.{output_of};
-ghost use Rattle.clap.specs.Words.{app_of};
-ghost use Rattle.ghost_cli.specs.Options.{texts};
+ghost use Rattle.clap.specs.Words.{found_of, rows_of};
 ghost use Rattle.ghost_cli.specs.Outside.{Explains, outside};
 ghost use Rattle.ghost_cli.specs.Ran.{RanTo};
-ghost use Rattle.ghost_cli.specs.Run.{run_app, run_named, run_of, run_work};
+ghost use Rattle.ghost_cli.specs.Run.{run_named, run_row, run_work};
 
 use crate::oblivious::{Seeded, SeededOram, SeededRecursive, load_seeded};
-use crate::options::{flag, flag_given, matches_in, number_given, option, seed_given, value, word};
+use crate::options::{flag_given, number_given, seed_given, value};
 use crate::putting::{say, say_no_memory};
 use crate::reading::{find_accepted, find_inputs};
 use crate::replies::{Done, Reply, Verdict};
+use crate::verbs::{Argument, VerbWords};
 use crate::writing::write_and_say;
-use clap::Command;
+use clap::ArgMatches;
 use gr_base::Memory;
 use gr_outside::{Shelf, Sink};
 use gr_word::Inputs;
@@ -25,9 +25,18 @@ use processor::{Bank, End, Machine, NoWatch};
 use run_data::output_text;
 use std::alloc::Global;
 
+/// The words that the verb takes.
+pub const WORDS: VerbWords<'static> = VerbWords {
+    name: "run",
+    place: Argument::Word,
+    places: &["OBJ", "INPUT", "OUT"],
+    options: &["cycles", "seed"],
+    flags: &["recursive"],
+};
+
 /// The names of the files of a run, its number of cycles, the seed of its random words, and whether its banks are
 /// recursive.
-#[derive(Clone, Copy, Debug)]
+#[derive(Clone, Copy)]
 pub struct RunWords<'a> {
     object: &'a str,
     input: &'a str,
@@ -39,47 +48,27 @@ pub struct RunWords<'a> {
 
 /// The verb `run OBJ INPUT OUT [--cycles n] [--seed s] [--recursive]`: runs an object on inputs, and writes its
 /// outputs.
-pub fn run<F: Shelf, O: Sink>(alloc: Global, words: &[&str], shelf: &mut F, out: &mut O) -> u8
+pub fn run<F: Shelf, O: Sink>(
+    alloc: Global,
+    matches: &ArgMatches<'_>,
+    shelf: &mut F,
+    out: &mut O,
+) -> u8
     ensures { Explains (outside (F.seen shelf.old) (O.seen out.old))
-        (outside (F.seen shelf.new) (O.seen out.new)) result (run_of (texts words.now)) }
+        (outside (F.seen shelf.new) (O.seen out.new)) result (run_row.asks (rows_of (found_of matches.now))) }
 {
-    match words_of(alloc, words) {
-        Ok(Some(asked)) => run_files(alloc, asked, shelf, out),
-        Ok(None) => say(alloc, &Reply::Usage, out),
-        Err(_) => say_no_memory(out),
+    let asked = words_in(
+        value(matches, "OBJ"),
+        value(matches, "INPUT"),
+        value(matches, "OUT"),
+        value(matches, "cycles"),
+        value(matches, "seed"),
+        value(matches, "recursive"),
+    );
+    match asked {
+        Some(asked) => run_files(alloc, asked, shelf, out),
+        None => say(alloc, &Reply::Usage, out),
     }
-}
-
-/// The words that the verb takes.
-fn command<'a>(alloc: Global) -> Result<Command<'a>, Memory>
-    ensures { IfOk result (λ c. app_of c ≡ run_app) }
-{
-    let command = Command::new(alloc, "run")
-        .arg(word(alloc, "OBJ"))?
-        .arg(word(alloc, "INPUT"))?
-        .arg(word(alloc, "OUT"))?
-        .arg(option(alloc, "cycles"))?
-        .arg(option(alloc, "seed"))?
-        .arg(flag(alloc, "recursive"))?;
-    Ok(command)
-}
-
-fn words_of<'a>(alloc: Global, words: &'a [&'a str]) -> Result<Option<RunWords<'a>>, Memory>
-    ensures works { IfOk result (λ asked.
-        option_map (λ a. run_work a.object.now a.input.now a.output.now a.cycles) asked ≡ run_of (texts words.now)) }
-    ensures some_cycle { IfOk result (λ asked. IfSome asked (λ a. 1 ≤ a.cycles)) }
-{
-    let Some(matches) = matches_in(command(alloc)?, words)? else {
-        return Ok(None);
-    };
-    Ok(words_in(
-        value(&matches, "OBJ"),
-        value(&matches, "INPUT"),
-        value(&matches, "OUT"),
-        value(&matches, "cycles"),
-        value(&matches, "seed"),
-        value(&matches, "recursive"),
-    ))
 }
 
 fn words_in<'a>(

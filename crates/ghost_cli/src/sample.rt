@@ -4,11 +4,10 @@ ghost use Rattle.gr_base.specs.Lists.{Within};
 ghost use Rattle.lt_isa.specs.Ranges.{IsInRange};
 ghost use Rattle.src_tree.specs.Meaning.{Store, meaning};
 ghost use Rattle.src_tree.specs.Trees.{source_of};
-ghost use Rattle.clap.specs.Words.{app_of};
+ghost use Rattle.clap.specs.Words.{found_of, rows_of};
 ghost use Rattle.ghost_cli.specs.Histogram.{sample_cycles, sample_store, sum_left};
-ghost use Rattle.ghost_cli.specs.Options.{texts};
 ghost use Rattle.ghost_cli.specs.Outside.{Explains, outside};
-ghost use Rattle.ghost_cli.specs.Sample.{sample_app, sample_named, sample_of, sample_work};
+ghost use Rattle.ghost_cli.specs.Sample.{sample_named, sample_row, sample_work};
 ghost use Rattle.ghost_cli.specs.Sampled.{SampleCameTo, SampleIsReady, RanCounted};
 ghost use Rattle.ghost_cli.specs.SampleTree.{sample_program};
 ghost use Rattle.ghost_cli.specs.Texts.{no_memory, said};
@@ -19,13 +18,14 @@ use crate::histogram::{
     SAMPLE_BLOCK_LOG, SAMPLE_CYCLES, sample_inputs, sample_program, sum_of_counts,
 };
 use crate::oblivious::{SeededOram, load_seeded};
-use crate::options::{items_given, matches_in, option, seed_given, value, word};
-use crate::putting::{say, say_no_memory};
+use crate::options::{items_given, seed_given, value};
+use crate::putting::say;
 use crate::reading::checked;
 use crate::replies::{Done, Figures, Reply, Verdict};
+use crate::verbs::{Argument, VerbWords};
 use crate::windows::{ALWAYS_OPEN, windowed};
 use crate::writing::write_and_say;
-use clap::Command;
+use clap::ArgMatches;
 use flow_types::Typed;
 use gr_base::Memory;
 use gr_outside::{Shelf, Sink};
@@ -35,8 +35,17 @@ use processor::End;
 use source_meaning::{Outcome, eval};
 use std::alloc::Global;
 
+/// The words that the verb takes.
+pub const WORDS: VerbWords<'static> = VerbWords {
+    name: "sample",
+    place: Argument::Word,
+    places: &["N", "OUT"],
+    options: &["seed"],
+    flags: &[],
+};
+
 /// The number of items of a sample, the name of the file that is written, and the seed of the run's random words.
-#[derive(Clone, Copy, Debug)]
+#[derive(Clone, Copy)]
 pub struct SampleWords<'a> {
     items: u32,
     output: &'a str,
@@ -45,41 +54,24 @@ pub struct SampleWords<'a> {
 
 /// The verb `sample N OUT [--seed s]`: compiles, checks and runs a program that counts remainders among N numbers,
 /// writes its object file, and puts how many accesses the run made.
-pub fn sample<F: Shelf, O: Sink>(alloc: Global, words: &[&str], shelf: &mut F, out: &mut O) -> u8
+pub fn sample<F: Shelf, O: Sink>(
+    alloc: Global,
+    matches: &ArgMatches<'_>,
+    shelf: &mut F,
+    out: &mut O,
+) -> u8
     ensures { Explains (outside (F.seen shelf.old) (O.seen out.old))
-        (outside (F.seen shelf.new) (O.seen out.new)) result (sample_of (texts words.now)) }
+        (outside (F.seen shelf.new) (O.seen out.new)) result (sample_row.asks (rows_of (found_of matches.now))) }
 {
-    match words_of(alloc, words) {
-        Ok(Some(asked)) => sample_file(alloc, asked, shelf, out),
-        Ok(None) => say(alloc, &Reply::Usage, out),
-        Err(_) => say_no_memory(out),
+    let asked = words_in(
+        value(matches, "N"),
+        value(matches, "OUT"),
+        value(matches, "seed"),
+    );
+    match asked {
+        Some(asked) => sample_file(alloc, asked, shelf, out),
+        None => say(alloc, &Reply::Usage, out),
     }
-}
-
-/// The words that the verb takes.
-fn command<'a>(alloc: Global) -> Result<Command<'a>, Memory>
-    ensures { IfOk result (λ c. app_of c ≡ sample_app) }
-{
-    let command = Command::new(alloc, "sample")
-        .arg(word(alloc, "N"))?
-        .arg(word(alloc, "OUT"))?
-        .arg(option(alloc, "seed"))?;
-    Ok(command)
-}
-
-fn words_of<'a>(alloc: Global, words: &'a [&'a str]) -> Result<Option<SampleWords<'a>>, Memory>
-    ensures asked { IfOk result
-        (λ asked. option_map (λ a. sample_work a.items a.output.now) asked ≡ sample_of (texts words.now)) }
-    ensures within { IfOk result (λ asked. IfSome asked (λ a. Within 1 65536 a.items)) }
-{
-    let Some(matches) = matches_in(command(alloc)?, words)? else {
-        return Ok(None);
-    };
-    Ok(words_in(
-        value(&matches, "N"),
-        value(&matches, "OUT"),
-        value(&matches, "seed"),
-    ))
 }
 
 fn words_in<'a>(
@@ -139,7 +131,7 @@ pub struct ReadySample {
 }
 
 /// The cycle at which a run halted, and how many accesses it made.
-#[derive(Clone, Copy, Debug)]
+#[derive(Clone, Copy)]
 pub struct CountedRun {
     cycles: u32,
     counts: CountWatch,

@@ -18,7 +18,7 @@ use std::fmt;
 /// `Undeclared` on that of a statement, all counted from 0. A limit has the number that `flow_types` tells of it; the
 /// lack of room names a label or a bank. The last six are faults of a file that is read with procedures; their numbers
 /// are those that `src_procs` tells, of a procedure or of a call.
-#[derive(Clone, Copy, Debug)]
+#[derive(Clone, Copy)]
 pub enum SourceFault {
     /// The byte begins no token.
     Byte(u32),

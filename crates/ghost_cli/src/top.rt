@@ -1,7 +1,8 @@
 ghost use Rattle.ghost_cli.specs.Options.{texts};
 ghost use Rattle.ghost_cli.specs.Outside.{Explains, outside};
 ghost use Rattle.ghost_cli.specs.Promises.{Promises};
-ghost use Rattle.ghost_cli.specs.Verbs.{asked_of, work_of};
+ghost use Rattle.ghost_cli.specs.Verbs.{asked_of, row_of, work_of};
+ghost use Rattle.clap.specs.Words.{found_of, rows_of};
 
 use crate::assemble::assemble;
 use crate::bus::bus;
@@ -10,11 +11,13 @@ use crate::compile::compile;
 use crate::disassemble::disassemble;
 use crate::evaluate::evaluate;
 use crate::infer::infer;
-use crate::putting::{NOT_PUT, say};
+use crate::putting::{NOT_PUT, say, say_no_memory};
 use crate::replies::Reply;
 use crate::run::run;
 use crate::sample::sample;
 use crate::trace::trace;
+use crate::verbs::{Verb, matches_of, verb_named};
+use clap::ArgMatches;
 use gr_outside::{Shelf, Sink};
 use std::alloc::Global;
 
@@ -58,47 +61,48 @@ fn explained<F: Shelf, O: Sink>(alloc: Global, words: &[&str], shelf: &mut F, ou
     perform(alloc, words[0], words, shelf, out)
 }
 
-/// Does the work of a verb: the list that a new verb is added to.
+/// Does what the words ask for, by the verb of this name.
 fn perform<F: Shelf, O: Sink>(
     alloc: Global,
-    verb: &str,
+    name: &str,
     words: &[&str],
     shelf: &mut F,
     out: &mut O,
 ) -> u8
     ensures { Explains (outside (F.seen shelf.old) (O.seen out.old))
-        (outside (F.seen shelf.new) (O.seen out.new)) result
-        (asked_of verb.now (texts words.now)) }
+        (outside (F.seen shelf.new) (O.seen out.new)) result (asked_of name.now (texts words.now)) }
 {
-    if verb == "check" {
-        return check(alloc, words, shelf, out);
+    let Some(verb) = verb_named(name) else {
+        return say(alloc, &Reply::Usage, out);
+    };
+    match matches_of(alloc, verb, words) {
+        Ok(Some(matches)) => work(alloc, verb, &matches, shelf, out),
+        Ok(None) => say(alloc, &Reply::Usage, out),
+        Err(_) => say_no_memory(out),
     }
-    if verb == "trace" {
-        return trace(alloc, words, shelf, out);
+}
+
+/// Does the work of a verb on what was found in the words: the list that a new verb is added to.
+fn work<F: Shelf, O: Sink>(
+    alloc: Global,
+    verb: Verb,
+    matches: &ArgMatches<'_>,
+    shelf: &mut F,
+    out: &mut O,
+) -> u8
+    ensures { Explains (outside (F.seen shelf.old) (O.seen out.old))
+        (outside (F.seen shelf.new) (O.seen out.new)) result ((row_of verb).asks (rows_of (found_of matches.now))) }
+{
+    match verb {
+        Verb::Check => check(alloc, matches, shelf, out),
+        Verb::Trace => trace(alloc, matches, shelf, out),
+        Verb::Run => run(alloc, matches, shelf, out),
+        Verb::Assemble => assemble(alloc, matches, shelf, out),
+        Verb::Disassemble => disassemble(alloc, matches, shelf, out),
+        Verb::Evaluate => evaluate(alloc, matches, shelf, out),
+        Verb::Compile => compile(alloc, matches, shelf, out),
+        Verb::Sample => sample(alloc, matches, shelf, out),
+        Verb::Bus => bus(alloc, matches, shelf, out),
+        Verb::Infer => infer(alloc, matches, shelf, out),
     }
-    if verb == "run" {
-        return run(alloc, words, shelf, out);
-    }
-    if verb == "asm" {
-        return assemble(alloc, words, shelf, out);
-    }
-    if verb == "dis" {
-        return disassemble(alloc, words, shelf, out);
-    }
-    if verb == "eval" {
-        return evaluate(alloc, words, shelf, out);
-    }
-    if verb == "compile" {
-        return compile(alloc, words, shelf, out);
-    }
-    if verb == "sample" {
-        return sample(alloc, words, shelf, out);
-    }
-    if verb == "bus" {
-        return bus(alloc, words, shelf, out);
-    }
-    if verb == "infer" {
-        return infer(alloc, words, shelf, out);
-    }
-    say(alloc, &Reply::Usage, out)
 }

@@ -1,11 +1,10 @@
-ghost use Rattle.std.specs.Prelude.{◌≡◌, ◌≢◌, ◌≤◌, [], length, IfOk, IfSome, IsTrue, Some, false, true};
+ghost use Rattle.std.specs.Prelude.{◌≡◌, ◌≢◌, ◌≤◌, [], length, IfSome, IsTrue, Some, false, true};
 ghost use Rattle.std.specs.Option.{option_map};
-ghost use Rattle.clap.specs.Words.{app_of};
+ghost use Rattle.clap.specs.Words.{found_of, rows_of};
 ghost use Rattle.banks.specs.Accesses.{accesses_from};
-ghost use Rattle.ghost_cli.specs.Options.{texts};
 ghost use Rattle.ghost_cli.specs.Outside.{Explains, outside};
 ghost use Rattle.ghost_cli.specs.Texts.{comes_to};
-ghost use Rattle.ghost_cli.specs.Trace.{trace_app, trace_named, trace_of, trace_work};
+ghost use Rattle.ghost_cli.specs.Trace.{trace_named, trace_row, trace_work};
 ghost use Rattle.ghost_cli.specs.Levels.{AreBehind, MayRun, PutsLast};
 ghost use Rattle.ghost_cli.specs.Watched.{HoldsLines, PutsShown, PutsTrace, kept};
 ghost use Rattle.ghost_cli.specs.TracedInTrees.{TracesOrStarves};
@@ -20,22 +19,31 @@ ghost use Rattle.ghost_cli.specs.declared.replies.Verdict.TheVariants.{Traced};
 
 use crate::levels::put_levels;
 use crate::oblivious::{SeededOram, SeededRecursive, load_seeded};
-use crate::options::{flag, flag_given, matches_in, number_given, option, seed_given, value, word};
+use crate::options::{flag_given, number_given, seed_given, value};
 use crate::putting::{NOT_PUT, line_of, put_text, say, say_no_memory};
 use crate::reading::{find_accepted, find_inputs};
 use crate::replies::{Reply, Verdict};
 use crate::trace_watch::TraceWatch;
-use clap::Command;
-use gr_base::Memory;
+use crate::verbs::{Argument, VerbWords};
+use clap::ArgMatches;
 use gr_outside::{Shelf, Sink};
 use gr_word::Inputs;
 use lt_checker::Accepted;
 use processor::{Bank, End, Machine};
 use std::alloc::Global;
 
+/// The words that the verb takes.
+pub const WORDS: VerbWords<'static> = VerbWords {
+    name: "trace",
+    place: Argument::Word,
+    places: &["OBJ", "INPUT"],
+    options: &["cycles", "seed"],
+    flags: &["paths", "recursive"],
+};
+
 /// The names of the files of a trace, its number of cycles, the seed of its random words, whether paths are put, and
 /// whether its banks are recursive.
-#[derive(Clone, Copy, Debug)]
+#[derive(Clone, Copy)]
 pub struct TraceWords<'a> {
     object: &'a str,
     input: &'a str,
@@ -47,48 +55,27 @@ pub struct TraceWords<'a> {
 
 /// The verb `trace OBJ INPUT [--cycles n] [--seed s] [--paths] [--recursive]`: runs an object on inputs, and puts the
 /// lines of its trace.
-pub fn trace<F: Shelf, O: Sink>(alloc: Global, words: &[&str], shelf: &mut F, out: &mut O) -> u8
+pub fn trace<F: Shelf, O: Sink>(
+    alloc: Global,
+    matches: &ArgMatches<'_>,
+    shelf: &mut F,
+    out: &mut O,
+) -> u8
     ensures { Explains (outside (F.seen shelf.old) (O.seen out.old))
-        (outside (F.seen shelf.new) (O.seen out.new)) result (trace_of (texts words.now)) }
+        (outside (F.seen shelf.new) (O.seen out.new)) result (trace_row.asks (rows_of (found_of matches.now))) }
 {
-    match words_of(alloc, words) {
-        Ok(Some(asked)) => trace_files(alloc, asked, shelf, out),
-        Ok(None) => say(alloc, &Reply::Usage, out),
-        Err(_) => say_no_memory(out),
+    let asked = words_in(
+        value(matches, "OBJ"),
+        value(matches, "INPUT"),
+        value(matches, "cycles"),
+        value(matches, "seed"),
+        value(matches, "paths"),
+        value(matches, "recursive"),
+    );
+    match asked {
+        Some(asked) => trace_files(alloc, asked, shelf, out),
+        None => say(alloc, &Reply::Usage, out),
     }
-}
-
-/// The words that the verb takes.
-fn command<'a>(alloc: Global) -> Result<Command<'a>, Memory>
-    ensures { IfOk result (λ c. app_of c ≡ trace_app) }
-{
-    let command = Command::new(alloc, "trace")
-        .arg(word(alloc, "OBJ"))?
-        .arg(word(alloc, "INPUT"))?
-        .arg(option(alloc, "cycles"))?
-        .arg(option(alloc, "seed"))?
-        .arg(flag(alloc, "paths"))?
-        .arg(flag(alloc, "recursive"))?;
-    Ok(command)
-}
-
-fn words_of<'a>(alloc: Global, words: &'a [&'a str]) -> Result<Option<TraceWords<'a>>, Memory>
-    ensures works { IfOk result
-        (λ asked. option_map (λ a. trace_work a.object.now a.input.now a.cycles a.seed a.paths a.recursive) asked
-        ≡ trace_of (texts words.now)) }
-    ensures some_cycle { IfOk result (λ asked. IfSome asked (λ a. 1 ≤ a.cycles)) }
-{
-    let Some(matches) = matches_in(command(alloc)?, words)? else {
-        return Ok(None);
-    };
-    Ok(words_in(
-        value(&matches, "OBJ"),
-        value(&matches, "INPUT"),
-        value(&matches, "cycles"),
-        value(&matches, "seed"),
-        value(&matches, "paths"),
-        value(&matches, "recursive"),
-    ))
 }
 
 fn words_in<'a>(

@@ -9,7 +9,7 @@ use crate::options::number_within;
 use lt_isa::Profile;
 
 /// A window: the cycles of a period, the one from which on accesses may start, and the one from which on none may.
-#[derive(Clone, Copy, Debug)]
+#[derive(Clone, Copy)]
 pub struct Window {
     pub(crate) period: u32,
     pub(crate) opens: u32,

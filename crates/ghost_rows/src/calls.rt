@@ -1,10 +1,10 @@
 ghost use Rattle.std.specs.Prelude.{IfOk, IsTrue};
 ghost use Rattle.gr_outside.specs.Files.{are_distinct};
 
-use crate::contents::{Store, Trouble};
+use crate::contents::{Named, Store, Trouble};
 use ghost_cli::ghostrider;
 use gr_outside::{File, MemShelf, MemSink, Shelf, Sink, SureShelf, SureSink, names_are_distinct};
-use std::alloc::Global;
+use std::alloc::{AllocError, Global};
 
 /// What the next call of the program meets: the calls of the shelf and the puts that fail, or none ever.
 #[derive(Drop)]
@@ -43,16 +43,21 @@ fn files_of(alloc: Global, store: &Store) -> Result<Vec<File>, Trouble>
     ensures { IfOk result (λ files. IsTrue (are_distinct files.items)) }
 {
     let mut files = Vec::new(alloc);
-    for item in store.items.iter() {
-        let name = Vec::from_slice(alloc, item.name.as_bytes())?;
-        let bytes = Vec::from_slice(alloc, item.bytes.as_slice())?;
-        files.push(File { name, bytes })?;
+    for item in &store.items {
+        let file = file_of(alloc, item)?;
+        files.push(file)?;
     }
     if names_are_distinct(&files) {
         return Ok(files);
     }
     let words = String::from_str(alloc, "two files have one name")?;
     Err(Trouble::Wrong(words))
+}
+
+fn file_of(alloc: Global, item: &Named) -> Result<File, AllocError> {
+    let name = Vec::from_slice(alloc, item.name.as_bytes())?;
+    let bytes = Vec::from_slice(alloc, item.bytes.as_slice())?;
+    Ok(File { name, bytes })
 }
 
 // the file of a name as the shelf has it now, where it does
@@ -63,7 +68,10 @@ fn copy_file(
     files: &mut Store,
 ) -> Result<(), Trouble> {
     match shelf.file(name) {
-        Some(bytes) => files.put(alloc, name, Vec::from_slice(alloc, bytes)?),
+        Some(bytes) => {
+            let bytes = Vec::from_slice(alloc, bytes)?;
+            files.put(alloc, name, bytes)
+        }
         None => Ok(()),
     }
 }
@@ -86,18 +94,34 @@ fn call_mem(
     before: &Store,
     outside: &Outside,
 ) -> Result<Done, Trouble> {
-    let calls = Vec::from_slice(alloc, outside.calls.as_slice())?;
-    let puts = Vec::from_slice(alloc, outside.puts.as_slice())?;
-    let mut shelf = MemShelf::new(alloc, files_of(alloc, before)?, calls);
-    let Ok(mut sink) = MemSink::new(alloc, puts, 65_536) else {
-        return Err(Trouble::Memory);
-    };
+    let mut shelf = shelf_of(alloc, before, outside.calls.as_slice())?;
+    let mut sink = sink_of(alloc, outside.puts.as_slice())?;
     let status = status_of(alloc, words, &mut shelf, &mut sink);
+    let files = left(alloc, &shelf, words, before)?;
+    done_of(alloc, status, sink.held(), files)
+}
+
+// what a call came to, with this text
+fn done_of(alloc: Global, status: u8, text: &[u8], files: Store) -> Result<Done, Trouble> {
     Ok(Done {
         status,
-        text: Vec::from_slice(alloc, sink.held())?,
-        files: left(alloc, &shelf, words, before)?,
+        text: Vec::from_slice(alloc, text)?,
+        files,
     })
+}
+
+// a shelf with the files, of whose calls these fail
+fn shelf_of(alloc: Global, store: &Store, failing: &[u32]) -> Result<MemShelf, Trouble> {
+    let calls = Vec::from_slice(alloc, failing)?;
+    Ok(MemShelf::new(alloc, files_of(alloc, store)?, calls))
+}
+
+// a sink of whose puts these fail
+fn sink_of(alloc: Global, failing: &[u32]) -> Result<MemSink, Trouble> {
+    match MemSink::new(alloc, Vec::from_slice(alloc, failing)?, 65_536) {
+        Ok(sink) => Ok(sink),
+        Err(_) => Err(Trouble::Memory),
+    }
 }
 
 // the files that a call over a sure shelf left, read back from it
@@ -122,16 +146,13 @@ fn left_sure(
 }
 
 fn call_sure(alloc: Global, words: &[&str], before: &Store) -> Result<Done, Trouble> {
-    let mut shelf = SureShelf::new(alloc, files_of(alloc, before)?);
     let Ok(mut sink) = SureSink::with_room(alloc, 65_536) else {
         return Err(Trouble::Memory);
     };
+    let mut shelf = SureShelf::new(alloc, files_of(alloc, before)?);
     let status = status_of(alloc, words, &mut shelf, &mut sink);
-    Ok(Done {
-        status,
-        text: Vec::from_slice(alloc, sink.held())?,
-        files: left_sure(alloc, &mut shelf, words, before)?,
-    })
+    let files = left_sure(alloc, &mut shelf, words, before)?;
+    done_of(alloc, status, sink.held(), files)
 }
 
 /// Calls the program over these files.

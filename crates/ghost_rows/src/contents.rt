@@ -47,20 +47,17 @@ impl Store {
     }
 
     pub(crate) fn get(&self, name: &str) -> Option<&[u8]> {
-        self.items
-            .iter()
-            .find(|item| item.name.as_str() == name)
-            .map(|item| item.bytes.as_slice())
+        for item in &self.items {
+            if item.name.as_str() == name {
+                return Some(item.bytes.as_slice());
+            }
+        }
+        None
     }
 
     /// Puts bytes under a name, in place of what stood there.
     pub(crate) fn put(&mut self, alloc: Global, name: &str, bytes: Vec<u8>) -> Result<(), Trouble> {
-        for item in self.items.iter_mut() {
-            if item.name.as_str() == name {
-                item.bytes = bytes;
-                return Ok(());
-            }
-        }
+        self.remove(name);
         let name = String::from_str(alloc, name)?;
         self.items.push(Named { name, bytes })?;
         Ok(())
@@ -79,6 +76,16 @@ pub(crate) fn number_of(alloc: Global, token: Option<&Token>) -> Result<usize, T
         return Ok(number);
     }
     wrong(alloc, "a number is wanted")
+}
+
+/// Numbers of decimal digits.
+pub(crate) fn numbers_of(alloc: Global, tokens: &[Token]) -> Result<Vec<usize>, Trouble> {
+    let mut numbers = Vec::new(alloc);
+    for token in tokens {
+        let number = number_of(alloc, Some(token))?;
+        numbers.push(number)?;
+    }
+    Ok(numbers)
 }
 
 // the bounds of a part of a text of so many bytes, as `2..8`, `2..` or `..8`
@@ -173,6 +180,23 @@ pub(crate) fn join(alloc: Global, store: &Store, pieces: &[Token]) -> Result<Vec
         times = 1;
     }
     Ok(bytes)
+}
+
+/// A text with these bytes over those from a place on, as many as they are.
+pub(crate) fn patched(
+    alloc: Global,
+    old: &[u8],
+    place: usize,
+    bytes: &[u8],
+) -> Result<Vec<u8>, Trouble> {
+    let end = place.saturating_add(bytes.len());
+    let (Some(front), Some(behind)) = (old.get(..place), old.get(end..)) else {
+        return wrong(alloc, "the text ends before");
+    };
+    let mut new = Vec::from_slice(alloc, front)?;
+    new.extend_from_slice(bytes)?;
+    new.extend_from_slice(behind)?;
+    Ok(new)
 }
 
 /// The text of pieces, which has to be UTF-8.

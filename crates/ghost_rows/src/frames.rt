@@ -1,6 +1,6 @@
 use crate::contents::{Trouble, wrong};
 use crate::script::{Directive, Script};
-use crate::tokens::Token;
+use crate::tokens::{Token, copied_row};
 use std::alloc::{AllocError, Global};
 
 /// A part of a script that is played once for each row, with the row's values under these names.
@@ -23,6 +23,34 @@ pub(crate) struct Defined {
     pub names: Vec<String>,
 }
 
+impl Defined {
+    /// The directives from `first` up to `end`, under a name, with these parameters.
+    pub(crate) fn new(
+        alloc: Global,
+        name: &str,
+        first: usize,
+        end: usize,
+        params: &[Token],
+    ) -> Result<Defined, AllocError> {
+        let names = names_of(alloc, params)?;
+        Ok(Defined {
+            name: String::from_str(alloc, name)?,
+            first,
+            end,
+            names,
+        })
+    }
+
+    /// The body, to be played once with these values.
+    pub(crate) fn frame(&self, alloc: Global, values: &[Token]) -> Result<Frame, AllocError> {
+        let mut rows = Vec::new(alloc);
+        let row = copied_row(alloc, values)?;
+        rows.push(row)?;
+        let names = copied_names(alloc, &self.names)?;
+        Ok(Frame::new(self.first, self.end, names, rows))
+    }
+}
+
 impl Frame {
     /// The directives from `first` up to `end`, played for each row.
     pub(crate) fn new(
@@ -40,6 +68,13 @@ impl Frame {
             rows,
             row: 0,
         }
+    }
+
+    /// All of a script with so many directives, played once.
+    pub(crate) fn whole(alloc: Global, end: usize) -> Result<Frame, AllocError> {
+        let mut rows = Vec::new(alloc);
+        rows.push(Vec::new(alloc))?;
+        Ok(Frame::new(0, end, Vec::new(alloc), rows))
     }
 
     /// The place of the next directive, or none where all rows are played.
@@ -63,8 +98,12 @@ impl Frame {
 
     /// The value of a name in the row that is played.
     pub(crate) fn value(&self, name: &str) -> Option<&Token> {
-        let place = self.names.iter().position(|own| own.as_str() == name)?;
-        self.rows.get(self.row)?.get(place)
+        for (own, value) in self.names.iter().zip(self.rows.get(self.row)?.iter()) {
+            if own.as_str() == name {
+                return Some(value);
+            }
+        }
+        None
     }
 }
 
@@ -89,9 +128,19 @@ pub(crate) fn end_of(script: &Script, first: usize) -> usize {
 pub(crate) fn names_of(alloc: Global, tokens: &[Token]) -> Result<Vec<String>, AllocError> {
     let mut names = Vec::new(alloc);
     for token in tokens {
-        names.push(String::from_str(alloc, token.word())?)?;
+        let name = String::from_str(alloc, token.word())?;
+        names.push(name)?;
     }
     Ok(names)
+}
+
+fn copied_names(alloc: Global, names: &[String]) -> Result<Vec<String>, AllocError> {
+    let mut copies = Vec::new(alloc);
+    for name in names {
+        let copy = String::from_str(alloc, name.as_str())?;
+        copies.push(copy)?;
+    }
+    Ok(copies)
 }
 
 // the numbers that a row `a..b` stands for
@@ -105,20 +154,26 @@ fn range_of(row: &[Token]) -> Option<(usize, usize)> {
     }
 }
 
-/// The rows of a directive; a row `a..b` stands for all numbers from a to b.
-pub(crate) fn rows_of(alloc: Global, directive: &Directive) -> Result<Vec<Vec<Token>>, Trouble> {
+/// The rows of a directive, with the values of the names in them.
+pub(crate) fn filled_rows(
+    alloc: Global,
+    frames: &[Frame],
+    directive: &Directive,
+) -> Result<Vec<Vec<Token>>, Trouble> {
+    let rows = rows_of(alloc, directive)?;
+    let mut filled = Vec::new(alloc);
+    for row in &rows {
+        let row = substitute(alloc, frames, row)?;
+        filled.push(row)?;
+    }
+    Ok(filled)
+}
+
+// the rows of a directive; a row `a..b` stands for all numbers from a to b
+fn rows_of(alloc: Global, directive: &Directive) -> Result<Vec<Vec<Token>>, Trouble> {
     let mut rows = Vec::new(alloc);
-    for row in directive.rows.iter() {
-        match range_of(row.as_slice()) {
-            Some((from, to)) => {
-                for number in from..=to {
-                    let mut one = Vec::new(alloc);
-                    one.push(Token::Word(format!(in alloc; "{number}")?))?;
-                    rows.push(one)?;
-                }
-            }
-            None => rows.push(copy_row(alloc, row.as_slice())?)?,
-        }
+    for row in &directive.rows {
+        add_row(alloc, &mut rows, row)?;
     }
     if rows.is_empty() {
         return wrong(alloc, "each has no rows");
@@ -126,12 +181,27 @@ pub(crate) fn rows_of(alloc: Global, directive: &Directive) -> Result<Vec<Vec<To
     Ok(rows)
 }
 
-pub(crate) fn copy_row(alloc: Global, row: &[Token]) -> Result<Vec<Token>, AllocError> {
-    let mut tokens = Vec::new(alloc);
-    for token in row {
-        tokens.push(token.copied(alloc)?)?;
+// appends a row, or those that it stands for
+fn add_row(alloc: Global, rows: &mut Vec<Vec<Token>>, row: &[Token]) -> Result<(), AllocError> {
+    match range_of(row) {
+        Some((from, to)) => {
+            for number in from..=to {
+                let row = number_row(alloc, number)?;
+                rows.push(row)?;
+            }
+        }
+        None => {
+            let row = copied_row(alloc, row)?;
+            rows.push(row)?;
+        }
     }
-    Ok(tokens)
+    Ok(())
+}
+
+fn number_row(alloc: Global, number: usize) -> Result<Vec<Token>, AllocError> {
+    let mut row = Vec::new(alloc);
+    row.push(Token::Word(format!(in alloc; "{number}")?))?;
+    Ok(row)
 }
 
 // the value of a name, in the innermost part that has it
@@ -146,9 +216,12 @@ fn value_of<'a>(frames: &'a [Frame], name: &str) -> Option<&'a Token> {
 
 // how many bytes of a name a word begins with
 fn name_length(word: &str) -> usize {
-    word.bytes()
-        .take_while(|byte| byte.is_ascii_lowercase() || *byte == b'_')
-        .count()
+    for (at, byte) in word.as_bytes().iter().enumerate() {
+        if !byte.is_ascii_lowercase() && *byte != b'_' {
+            return at;
+        }
+    }
+    word.len()
 }
 
 // a word with the values of the names in it
@@ -157,17 +230,42 @@ fn filled(alloc: Global, frames: &[Frame], word: &str) -> Result<Token, Trouble>
     for (at, part) in word.split("$").enumerate() {
         if at == 0 {
             text.push_str(part)?;
-            continue;
+        } else {
+            add_filled(alloc, frames, &mut text, part)?;
         }
-        let length = name_length(part);
-        let name = part.get(..length).unwrap_or("");
-        match value_of(frames, name) {
-            Some(Token::Word(value)) => text.push_str(value.as_str())?,
-            _ => return wrong(alloc, "a name has no word as its value here"),
-        }
-        text.push_str(part.get(length..).unwrap_or(""))?;
     }
     Ok(Token::Word(text))
+}
+
+// appends the value of the name that a part begins with, and the rest of the part
+fn add_filled(
+    alloc: Global,
+    frames: &[Frame],
+    text: &mut String,
+    part: &str,
+) -> Result<(), Trouble> {
+    let length = name_length(part);
+    let name = part.get(..length).unwrap_or("");
+    match value_of(frames, name) {
+        Some(Token::Word(value)) => text.push_str(value.as_str())?,
+        _ => return wrong(alloc, "a name has no word as its value here"),
+    }
+    text.push_str(part.get(length..).unwrap_or(""))?;
+    Ok(())
+}
+
+// a token with the values of the names in it
+fn substituted(alloc: Global, frames: &[Frame], token: &Token) -> Result<Token, Trouble> {
+    let word = token.word();
+    if let Some(name) = word.strip_prefix("$")
+        && let Some(value) = value_of(frames, name)
+    {
+        return Ok(value.copied(alloc)?);
+    }
+    if word.contains("$") {
+        return filled(alloc, frames, word);
+    }
+    Ok(token.copied(alloc)?)
 }
 
 /// The tokens with the values of the names in them.
@@ -178,15 +276,7 @@ pub(crate) fn substitute(
 ) -> Result<Vec<Token>, Trouble> {
     let mut values = Vec::new(alloc);
     for token in tokens {
-        let word = token.word();
-        let whole = word
-            .strip_prefix("$")
-            .and_then(|name| value_of(frames, name));
-        let value = match whole {
-            Some(value) => value.copied(alloc)?,
-            None if word.contains("$") => filled(alloc, frames, word)?,
-            None => token.copied(alloc)?,
-        };
+        let value = substituted(alloc, frames, token)?;
         values.push(value)?;
     }
     Ok(values)

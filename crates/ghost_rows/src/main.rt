@@ -29,15 +29,20 @@ fn play_file(rt: &HostRuntime, name: &str, tally: Tally) -> io::Result<Tally> {
     let alloc = rt.alloc();
     let text = fs::read_to_string(rt, name)?;
     let script = Script::read(alloc, text.as_str())?;
-    let mut player = Player::new(alloc);
-    player.play(rt, &script)?;
-    println!(rt;
-        "{name}: {} passed, {} failed",
-        player.passed, player.failed
-    )?;
+    let Tally { passed, failed } = play_script(rt, &script)?;
+    println!(rt; "{name}: {passed} passed, {failed} failed")?;
     Ok(Tally {
-        passed: tally.passed.saturating_add(player.passed),
-        failed: tally.failed.saturating_add(player.failed),
+        passed: tally.passed.saturating_add(passed),
+        failed: tally.failed.saturating_add(failed),
+    })
+}
+
+fn play_script(rt: &HostRuntime, script: &Script) -> io::Result<Tally> {
+    let mut player = Player::new(rt.alloc());
+    player.play(rt, script)?;
+    Ok(Tally {
+        passed: player.passed,
+        failed: player.failed,
     })
 }
 

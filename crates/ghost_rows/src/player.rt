@@ -1,11 +1,11 @@
 use crate::calls::{Done, Outside, call};
 use crate::checks::{are_levels, followed, is_front, lines_with, text_of, without};
-use crate::contents::{Store, Trouble, join, join_text, number_of, wrong};
-use crate::frames::{Defined, Frame, copy_row, end_of, names_of, rows_of, substitute};
+use crate::contents::{Store, Trouble, join, join_text, number_of, numbers_of, patched, wrong};
+use crate::frames::{Defined, Frame, end_of, filled_rows, names_of, substitute};
 use crate::script::{Directive, Script};
 use crate::tokens::Token;
-use std::alloc::Global;
-use std::io;
+use std::alloc::{AllocError, Global};
+use std::{io, slice};
 
 /// Plays the cases of a file, one directive after the other.
 #[derive(Drop)]
@@ -29,9 +29,33 @@ pub(crate) struct Player {
 fn told(step: Result<(), Trouble>) -> io::Result<Option<String>> {
     match step {
         Ok(()) => Ok(None),
-        Err(Trouble::Wrong(why)) => Ok(Some(why)),
-        Err(Trouble::Memory) => Err(io::Error::from(io::ErrorKind::OutOfMemory)),
+        Err(trouble) => in_words(trouble),
     }
+}
+
+fn in_words(trouble: Trouble) -> io::Result<Option<String>> {
+    match trouble {
+        Trouble::Wrong(why) => Ok(Some(why)),
+        Trouble::Memory => Err(io::Error::from(io::ErrorKind::OutOfMemory)),
+    }
+}
+
+/// Puts a value where another stood. What stood there is dropped in this function alone: what dropping may meet is
+/// proved in line, at each place that is assigned to.
+fn put<T: Drop>(place: &mut T, value: T) {
+    *place = value;
+}
+
+// the title of a case
+fn title_of(alloc: Global, directive: &Directive) -> Result<String, AllocError> {
+    let mut title = String::new(alloc);
+    for (at, token) in directive.tokens.iter().enumerate().skip(1) {
+        if at > 1 {
+            title.push_str(" ")?;
+        }
+        title.push_str(token.text())?;
+    }
+    Ok(title)
 }
 
 impl Player {
@@ -55,11 +79,8 @@ impl Player {
 
     /// Plays a whole file, and prints a line for each of its cases.
     pub(crate) fn play(&mut self, rt: &HostRuntime, script: &Script) -> io::Result<()> {
-        let mut rows = Vec::new(self.alloc);
-        rows.push(Vec::new(self.alloc))?;
-        let end = script.directives.len();
-        self.frames
-            .push(Frame::new(0, end, Vec::new(self.alloc), rows))?;
+        let frame = Frame::whole(self.alloc, script.directives.len())?;
+        self.frames.push(frame)?;
         for _ in 0..u64::MAX {
             let Some(at) = self.next() else {
                 break;
@@ -131,16 +152,10 @@ impl Player {
 
     fn begin(&mut self, rt: &HostRuntime, directive: &Directive) -> io::Result<()> {
         self.close(rt)?;
-        let mut title = String::new(self.alloc);
-        for (at, token) in directive.tokens.iter().enumerate().skip(1) {
-            if at > 1 {
-                title.push_str(" ")?;
-            }
-            title.push_str(str::from_utf8(token.bytes()).unwrap_or(""))?;
-        }
-        self.title = Some(title);
-        self.files = Store::new(self.alloc);
-        self.outside = Outside::new(self.alloc);
+        let title = title_of(self.alloc, directive)?;
+        put(&mut self.title, Some(title));
+        put(&mut self.files, Store::new(self.alloc));
+        put(&mut self.outside, Outside::new(self.alloc));
         Ok(())
     }
 
@@ -175,11 +190,8 @@ impl Player {
         let first = at.saturating_add(1);
         let end = end_of(script, first);
         self.pass_body(end);
+        let rows = filled_rows(self.alloc, &self.frames, directive)?;
         let names = names_of(self.alloc, directive.tokens.get(1..).unwrap_or(&[]))?;
-        let mut rows = Vec::new(self.alloc);
-        for row in rows_of(self.alloc, directive)? {
-            rows.push(substitute(self.alloc, &self.frames, &row)?)?;
-        }
         self.frames.push(Frame::new(first, end, names, rows))?;
         Ok(())
     }
@@ -191,36 +203,31 @@ impl Player {
         let Some(name) = directive.tokens.get(1) else {
             return wrong(self.alloc, "define wants a name");
         };
-        let name = String::from_str(self.alloc, name.word())?;
-        let names = names_of(self.alloc, directive.tokens.get(2..).unwrap_or(&[]))?;
-        self.defined.push(Defined {
-            name,
-            first,
-            end,
-            names,
-        })?;
+        let params = directive.tokens.get(2..).unwrap_or(&[]);
+        let body = Defined::new(self.alloc, name.word(), first, end, params)?;
+        self.defined.push(body)?;
         Ok(())
     }
 
     fn perform_defined(&mut self, directive: &Directive) -> Result<(), Trouble> {
         let tokens = substitute(self.alloc, &self.frames, &directive.tokens)?;
-        let wanted = tokens.get(1).map_or("", |token| token.word());
-        let found = self
-            .defined
-            .iter()
-            .find(|body| body.name.as_str() == wanted);
-        let Some(body) = found else {
-            return wrong(self.alloc, "no body has this name");
-        };
-        let mut names = Vec::new(self.alloc);
-        for name in body.names.iter() {
-            names.push(String::from_str(self.alloc, name.as_str())?)?;
-        }
-        let mut rows = Vec::new(self.alloc);
-        rows.push(copy_row(self.alloc, tokens.get(2..).unwrap_or(&[]))?)?;
-        self.frames
-            .push(Frame::new(body.first, body.end, names, rows))?;
+        let frame = self.frame_of(&tokens)?;
+        self.frames.push(frame)?;
         Ok(())
+    }
+
+    // the body that tokens name, to be played with their values
+    fn frame_of(&self, tokens: &[Token]) -> Result<Frame, Trouble> {
+        let name = match tokens.get(1) {
+            Some(token) => token.word(),
+            None => "",
+        };
+        for body in &self.defined {
+            if body.name.as_str() == name {
+                return Ok(body.frame(self.alloc, tokens.get(2..).unwrap_or(&[]))?);
+            }
+        }
+        wrong(self.alloc, "no body has this name")
     }
 
     // a step of a case
@@ -237,10 +244,10 @@ impl Player {
     }
 
     // the name that a step begins with
-    fn name_in(&self, tokens: &[Token]) -> Result<String, Trouble> {
+    fn name_in<'t>(&self, tokens: &'t [Token]) -> Result<&'t str, Trouble> {
         match tokens.first() {
             Some(token) => match str::from_utf8(token.bytes()) {
-                Ok(name) => Ok(String::from_str(self.alloc, name)?),
+                Ok(name) => Ok(name),
                 Err(_) => wrong(self.alloc, "a name is text"),
             },
             None => wrong(self.alloc, "a name is wanted"),
@@ -261,31 +268,31 @@ impl Player {
         match verb {
             "set" => {
                 let bytes = self.pieces_in(tokens, 1)?;
-                self.texts.put(self.alloc, name.as_str(), bytes)
+                self.texts.put(self.alloc, name, bytes)
             }
             "file" => {
                 let bytes = self.pieces_in(tokens, 1)?;
-                self.files.put(self.alloc, name.as_str(), bytes)
+                self.files.put(self.alloc, name, bytes)
             }
             "gone" => {
-                self.files.remove(name.as_str());
+                self.files.remove(name);
                 Ok(())
             }
             "keep" => {
                 let bytes = Vec::from_slice(self.alloc, &self.text)?;
-                self.texts.put(self.alloc, name.as_str(), bytes)
+                self.texts.put(self.alloc, name, bytes)
             }
-            "patch" => self.patch(name.as_str(), tokens),
-            "fail" => self.choose_failures(name.as_str(), tokens),
-            "take" => self.take(name.as_str(), tokens),
-            _ => self.leave_out(name.as_str(), tokens),
+            "patch" => self.patch(name, tokens),
+            "fail" => self.choose_failures(name, tokens),
+            "take" => self.take(name, tokens),
+            _ => self.leave_out(name, tokens),
         }
     }
 
-    // a set text, copied
-    fn text_named(&self, name: &str) -> Result<Vec<u8>, Trouble> {
+    // a set text
+    fn text_named(&self, name: &str) -> Result<&[u8], Trouble> {
         match self.texts.get(name) {
-            Some(bytes) => Ok(Vec::from_slice(self.alloc, bytes)?),
+            Some(bytes) => Ok(bytes),
             None => wrong(self.alloc, "no text is set under this name"),
         }
     }
@@ -293,14 +300,7 @@ impl Player {
     fn patch(&mut self, name: &str, tokens: &[Token]) -> Result<(), Trouble> {
         let place = number_of(self.alloc, tokens.get(1))?;
         let bytes = self.pieces_in(tokens, 2)?;
-        let old = self.text_named(name)?;
-        let end = place.saturating_add(bytes.len());
-        let (Some(front), Some(behind)) = (old.get(..place), old.get(end..)) else {
-            return wrong(self.alloc, "the text ends before");
-        };
-        let mut new = Vec::from_slice(self.alloc, front)?;
-        new.extend_from_slice(&bytes)?;
-        new.extend_from_slice(behind)?;
+        let new = patched(self.alloc, self.text_named(name)?, place, &bytes)?;
         self.texts.put(self.alloc, name, new)
     }
 
@@ -322,22 +322,22 @@ impl Player {
     // sets a text to the bytes of a file
     fn take(&mut self, name: &str, tokens: &[Token]) -> Result<(), Trouble> {
         let file = self.name_in(tokens.get(1..).unwrap_or(&[]))?;
-        let Some(bytes) = self.files.get(file.as_str()) else {
+        let Some(bytes) = self.files.get(file) else {
             return wrong(self.alloc, "there is no such file to take");
         };
         let bytes = Vec::from_slice(self.alloc, bytes)?;
-        self.changed.retain(|changed| *changed != file);
+        self.tell(file);
         self.texts.put(self.alloc, name, bytes)
     }
 
+    // that a file has changed was told of
+    fn tell(&mut self, file: &str) {
+        self.changed.retain(|changed| changed.as_str() != file);
+    }
+
     fn leave_out(&mut self, name: &str, tokens: &[Token]) -> Result<(), Trouble> {
-        let mut pieces = Vec::new(self.alloc);
-        for token in tokens.get(1..).unwrap_or(&[]) {
-            let text = str::from_utf8(token.bytes()).unwrap_or("");
-            pieces.push(String::from_str(self.alloc, text)?)?;
-        }
-        let old = self.text_named(name)?;
-        let rest = without(self.alloc, text_of(self.alloc, &old)?, &pieces)?;
+        let old = text_of(self.alloc, self.text_named(name)?)?;
+        let rest = without(self.alloc, old, tokens.get(1..).unwrap_or(&[]))?;
         self.texts.put(self.alloc, name, rest.into_bytes())
     }
 
@@ -356,37 +356,44 @@ impl Player {
 
     fn call(&mut self, tokens: &[Token]) -> Result<(), Trouble> {
         self.nothing_changed()?;
-        let mut words = Vec::new(self.alloc);
-        for token in tokens {
-            words.push(self.word_of(token)?)?;
-        }
-        let Done {
-            status,
-            text,
-            files,
-        } = call(self.alloc, &words, &self.files, &self.outside)?;
-        for item in files.items.iter() {
-            if self.files.get(item.name.as_str()) != Some(item.bytes.as_slice()) {
-                self.changed
-                    .push(String::from_str(self.alloc, item.name.as_str())?)?;
-            }
-        }
-        self.status = status;
-        self.text = text;
-        self.files = files;
-        self.outside = Outside::new(self.alloc);
+        let words = self.words_of(tokens)?;
+        let done = call(self.alloc, &words, &self.files, &self.outside)?;
+        self.note_changes(&done.files)?;
+        self.hold(done);
         Ok(())
     }
 
-    // a word of a call, which may be a piece
-    fn word_of(&self, token: &Token) -> Result<String, Trouble> {
-        let mut one = Vec::new(self.alloc);
-        one.push(token.copied(self.alloc)?)?;
-        join_text(self.alloc, &self.texts, &one)
+    // the words of a call, each of which may be a piece
+    fn words_of(&self, tokens: &[Token]) -> Result<Vec<String>, Trouble> {
+        let mut words = Vec::new(self.alloc);
+        for token in tokens {
+            let word = join_text(self.alloc, &self.texts, slice::from_ref(token))?;
+            words.push(word)?;
+        }
+        Ok(words)
+    }
+
+    // notes the files that a call changed or made
+    fn note_changes(&mut self, files: &Store) -> Result<(), AllocError> {
+        for item in &files.items {
+            if self.files.get(item.name.as_str()) != Some(item.bytes.as_slice()) {
+                let name = String::from_str(self.alloc, item.name.as_str())?;
+                self.changed.push(name)?;
+            }
+        }
+        Ok(())
+    }
+
+    // holds what a call came to; the next one fails nowhere unless the case says so
+    fn hold(&mut self, done: Done) {
+        self.status = done.status;
+        put(&mut self.text, done.text);
+        put(&mut self.files, done.files);
+        put(&mut self.outside, Outside::new(self.alloc));
     }
 
     // what came, in words
-    fn came<T>(&self) -> Result<T, Trouble> {
+    fn came(&self) -> Result<(), Trouble> {
         let length = self.text.len();
         let text = str::from_utf8(self.text.get(..length.min(300)).unwrap_or(&[])).unwrap_or("?");
         let status = self.status;
@@ -397,33 +404,48 @@ impl Player {
 
     fn judge(&self, verb: &str, tokens: &[Token]) -> Result<(), Trouble> {
         let holds = match verb {
-            "says" => {
-                let status = number_of(self.alloc, tokens.first())?;
-                let wanted = self.pieces_in(tokens, 1)?;
-                usize::from(self.status) == status && self.text == wanted
-            }
+            "says" => self.says(tokens)?,
             "status" => usize::from(self.status) == number_of(self.alloc, tokens.first())?,
-            "starts" => self.text.starts_with(&self.pieces_in(tokens, 0)?),
-            "ends" => self.text.ends_with(&self.pieces_in(tokens, 0)?),
-            _ => {
-                let count = number_of(self.alloc, tokens.first())?;
-                let pieces = tokens.get(1..).unwrap_or(&[]);
-                let piece = join_text(self.alloc, &self.texts, pieces)?;
-                lines_with(text_of(self.alloc, &self.text)?, piece.as_str()) == count
-            }
+            "holds" => self.holds(tokens)?,
+            _ => self.begins_or_ends(verb, tokens)?,
         };
         if holds { Ok(()) } else { self.came() }
+    }
+
+    // N PIECES
+    fn says(&self, tokens: &[Token]) -> Result<bool, Trouble> {
+        let status = number_of(self.alloc, tokens.first())?;
+        let wanted = self.pieces_in(tokens, 1)?;
+        Ok(usize::from(self.status) == status && self.text == wanted)
+    }
+
+    // N PIECES
+    fn holds(&self, tokens: &[Token]) -> Result<bool, Trouble> {
+        let count = number_of(self.alloc, tokens.first())?;
+        let piece = join_text(self.alloc, &self.texts, tokens.get(1..).unwrap_or(&[]))?;
+        let text = text_of(self.alloc, &self.text)?;
+        Ok(lines_with(text, piece.as_str()) == count)
+    }
+
+    // PIECES
+    fn begins_or_ends(&self, verb: &str, tokens: &[Token]) -> Result<bool, Trouble> {
+        let wanted = self.pieces_in(tokens, 0)?;
+        Ok(if verb == "starts" {
+            self.text.starts_with(&wanted)
+        } else {
+            self.text.ends_with(&wanted)
+        })
     }
 
     fn judge_file(&mut self, verb: &str, tokens: &[Token]) -> Result<(), Trouble> {
         let name = self.name_in(tokens)?;
         let wanted = self.pieces_in(tokens, 1)?;
-        let holds = match self.files.get(name.as_str()) {
+        let holds = match self.files.get(name) {
             Some(bytes) => verb == "wrote" && bytes == wanted.as_slice(),
             None => verb == "unwritten",
         };
         if holds {
-            self.changed.retain(|changed| *changed != name);
+            self.tell(name);
             return Ok(());
         }
         wrong(
@@ -436,20 +458,23 @@ impl Player {
         let holds = match verb {
             "followed" => self.are_followed(tokens)?,
             "levels" => self.tells_levels(tokens)?,
-            _ => {
-                let own = self.text_named(self.name_in(tokens)?.as_str())?;
-                let other = self.pieces_in(tokens, 1)?;
-                match verb {
-                    "same" => own == other,
-                    "differ" => own != other,
-                    _ => is_front(&own, &other),
-                }
-            }
+            _ => self.compares(verb, tokens)?,
         };
         if holds {
             return Ok(());
         }
         wrong(self.alloc, "the texts don't compare so")
+    }
+
+    // NAME PIECES
+    fn compares(&self, verb: &str, tokens: &[Token]) -> Result<bool, Trouble> {
+        let own = self.text_named(self.name_in(tokens)?)?;
+        let other = self.pieces_in(tokens, 1)?;
+        Ok(match verb {
+            "same" => own == other.as_slice(),
+            "differ" => own != other.as_slice(),
+            _ => is_front(own, &other),
+        })
     }
 
     // N NAME O2 P2 LEAVES..
@@ -459,12 +484,8 @@ impl Player {
         let (Some(bank), Some(shown)) = (tokens.get(2), tokens.get(3)) else {
             return wrong(self.alloc, "followed N NAME O2 P2 LEAVES..");
         };
-        let mut bounds = Vec::new(self.alloc);
-        for token in tokens.get(4..).unwrap_or(&[]) {
-            bounds.push(number_of(self.alloc, Some(token))?)?;
-        }
-        let bytes = self.text_named(name.as_str())?;
-        let text = text_of(self.alloc, &bytes)?;
+        let bounds = numbers_of(self.alloc, tokens.get(4..).unwrap_or(&[]))?;
+        let text = text_of(self.alloc, self.text_named(name)?)?;
         Ok(followed(text, bank.word(), shown.word(), &bounds) == count)
     }
 
@@ -476,8 +497,7 @@ impl Player {
         };
         let count = number_of(self.alloc, tokens.get(2))?;
         let most = number_of(self.alloc, tokens.get(3))?;
-        let bytes = self.text_named(name.as_str())?;
-        let text = text_of(self.alloc, &bytes)?;
+        let text = text_of(self.alloc, self.text_named(name)?)?;
         Ok(are_levels(text, bank.word(), count, most))
     }
 }

@@ -73,15 +73,14 @@ fn add(directive: &mut Directive, token: Token) -> Result<(), Unread> {
 // a line that goes on with a directive: a line of a text, a row, or more pieces
 fn go_on(alloc: Global, directive: &mut Directive, line: &str) -> Result<(), Unread> {
     if line == "|" {
-        directive
-            .tokens
-            .push(Token::Text(Vec::from_slice(alloc, b"\n")?))?;
+        let text = line_text(alloc, "")?;
+        directive.tokens.push(text)?;
     } else if let Some(text) = line.strip_prefix("| ") {
-        let mut bytes = Vec::from_slice(alloc, text.as_bytes())?;
-        bytes.push(b'\n')?;
-        directive.tokens.push(Token::Text(bytes))?;
+        let text = line_text(alloc, text)?;
+        directive.tokens.push(text)?;
     } else if let Some(row) = line.strip_prefix(": ") {
-        directive.rows.push(tokens_of(alloc, row)?)?;
+        let row = tokens_of(alloc, row)?;
+        directive.rows.push(row)?;
     } else {
         for token in tokens_of(alloc, line)? {
             add(directive, token)?;
@@ -90,31 +89,50 @@ fn go_on(alloc: Global, directive: &mut Directive, line: &str) -> Result<(), Unr
     Ok(())
 }
 
+// a text with a line feed behind it
+fn line_text(alloc: Global, text: &str) -> Result<Token, AllocError> {
+    let mut bytes = Vec::from_slice(alloc, text.as_bytes())?;
+    bytes.push(b'\n')?;
+    Ok(Token::Text(bytes))
+}
+
 impl Script {
     /// Reads a file of cases. It stops at the first line that can't be read: the last directive is then `unreadable`,
     /// with the number of that line.
     pub(crate) fn read(alloc: Global, text: &str) -> Result<Script, AllocError> {
         let mut directives: Vec<Directive> = Vec::new(alloc);
         for (at, line) in text.lines().enumerate() {
-            let number = at.saturating_add(1);
-            let inner = line.trim_start();
-            if inner.is_empty() || inner.starts_with("#") {
-                continue;
-            }
-            let read = if inner.len() == line.len() {
-                begin(alloc, &mut directives, number, line)
-            } else {
-                follow(alloc, &mut directives, inner)
-            };
-            match read {
-                Ok(()) => {}
-                Err(Unread::Memory) => return Err(AllocError),
-                Err(Unread::Open) => {
-                    directives.push(Directive::unread(alloc, number)?)?;
-                    break;
-                }
+            if !read_line(alloc, &mut directives, at.saturating_add(1), line)? {
+                break;
             }
         }
         Ok(Script { directives })
+    }
+}
+
+// reads a line, and tells whether that could be done
+fn read_line(
+    alloc: Global,
+    directives: &mut Vec<Directive>,
+    number: usize,
+    line: &str,
+) -> Result<bool, AllocError> {
+    let inner = line.trim_start();
+    if inner.is_empty() || inner.starts_with("#") {
+        return Ok(true);
+    }
+    let read = if inner.len() == line.len() {
+        begin(alloc, directives, number, line)
+    } else {
+        follow(alloc, directives, inner)
+    };
+    match read {
+        Ok(()) => Ok(true),
+        Err(Unread::Memory) => Err(AllocError),
+        Err(Unread::Open) => {
+            let unread = Directive::unread(alloc, number)?;
+            directives.push(unread)?;
+            Ok(false)
+        }
     }
 }

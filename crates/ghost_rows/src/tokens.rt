@@ -24,12 +24,27 @@ impl Token {
         }
     }
 
+    /// The text, and an empty one where the bytes are none.
+    pub(crate) fn text(&self) -> &str {
+        str::from_utf8(self.bytes()).unwrap_or("")
+    }
+
     pub(crate) fn copied(&self, alloc: Global) -> Result<Token, AllocError> {
         Ok(match self {
             Token::Word(word) => Token::Word(String::from_str(alloc, word.as_str())?),
             Token::Text(bytes) => Token::Text(Vec::from_slice(alloc, bytes.as_slice())?),
         })
     }
+}
+
+/// Tokens, copied.
+pub(crate) fn copied_row(alloc: Global, row: &[Token]) -> Result<Vec<Token>, AllocError> {
+    let mut tokens = Vec::new(alloc);
+    for token in row {
+        let copy = token.copied(alloc)?;
+        tokens.push(copy)?;
+    }
+    Ok(tokens)
 }
 
 /// Why a line can't be read.
@@ -95,12 +110,18 @@ fn raw_text(alloc: Global, rest: &[u8]) -> Result<(Token, usize), Unread> {
 // what stands up to the next quotation mark that isn't escaped
 fn quoted_text(alloc: Global, rest: &[u8]) -> Result<(Token, usize), Unread> {
     let mut text = Vec::new(alloc);
+    let length = read_quoted(&mut text, rest)?;
+    Ok((Token::Text(text), length))
+}
+
+// the same, appended, and how many bytes it takes
+fn read_quoted(text: &mut Vec<u8>, rest: &[u8]) -> Result<usize, Unread> {
     let mut skipped = 0usize;
     for (at, byte) in rest.iter().enumerate() {
         if skipped > 0 {
             skipped -= 1;
         } else if *byte == b'"' {
-            return Ok((Token::Text(text), at.saturating_add(1)));
+            return Ok(at.saturating_add(1));
         } else if *byte == b'\\' {
             let behind = rest.get(at.saturating_add(1)..).unwrap_or(b"");
             let Some((value, taken)) = escaped(behind) else {
@@ -128,23 +149,34 @@ fn bare_word(alloc: Global, rest: &str) -> Result<(Token, usize), Unread> {
     Ok((Token::Word(word), length))
 }
 
-/// The tokens of a line of ASCII.
-pub(crate) fn tokens_of(alloc: Global, line: &str) -> Result<Vec<Token>, Unread> {
-    let mut tokens = Vec::new(alloc);
+// the token that begins at a place with this byte, and how many bytes it takes
+fn token_at(alloc: Global, line: &str, at: usize, byte: u8) -> Result<(Token, usize), Unread> {
+    let behind = line.as_bytes().get(at.saturating_add(1)..).unwrap_or(b"");
+    match byte {
+        b'"' => quoted_text(alloc, behind),
+        b'`' => raw_text(alloc, behind),
+        _ => bare_word(alloc, line.get(at..).unwrap_or("")),
+    }
+}
+
+// appends the tokens of a line
+fn read_tokens(alloc: Global, tokens: &mut Vec<Token>, line: &str) -> Result<(), Unread> {
     let mut next = 0usize;
     for (at, byte) in line.as_bytes().iter().enumerate() {
         if at < next || *byte == b' ' {
             continue;
         }
-        let behind = line.as_bytes().get(at.saturating_add(1)..).unwrap_or(b"");
-        let (token, length) = match *byte {
-            b'"' => quoted_text(alloc, behind)?,
-            b'`' => raw_text(alloc, behind)?,
-            _ => bare_word(alloc, line.get(at..).unwrap_or(""))?,
-        };
+        let (token, length) = token_at(alloc, line, at, *byte)?;
         let marks = usize::from(matches!(*byte, b'"' | b'`'));
         next = at.saturating_add(length).saturating_add(marks);
         tokens.push(token)?;
     }
+    Ok(())
+}
+
+/// The tokens of a line of ASCII.
+pub(crate) fn tokens_of(alloc: Global, line: &str) -> Result<Vec<Token>, Unread> {
+    let mut tokens = Vec::new(alloc);
+    read_tokens(alloc, &mut tokens, line)?;
     Ok(tokens)
 }

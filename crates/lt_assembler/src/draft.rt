@@ -8,14 +8,14 @@ use std::alloc::Global;
 use std::collections::BTreeMap;
 
 /// A place of the code, or the place behind it.
-#[derive(Clone, Copy, Debug, PartialEq, Eq)]
+#[derive(Clone, Copy)]
 pub struct CodePlace {
     pub number: u32,
     pub ghost in_code: { number ≤ most_instructions },
 }
 
 /// A label used as a target.
-#[derive(Clone, Copy, Debug)]
+#[derive(Clone, Copy)]
 pub struct Use<'a> {
     pub name: &'a [u8],
     /// The place of the instruction.

@@ -6,7 +6,7 @@ use crate::errors::AsmError;
 use std::alloc::{AllocError, AllocFailed};
 
 /// What is wrong with a line, without its number.
-#[derive(Clone, Copy, Debug, PartialEq, Eq)]
+#[derive(Clone, Copy)]
 pub enum Fault {
     /// The line has none of the forms of lines, or stands out of order.
     WrongForm,

@@ -6,7 +6,7 @@ ghost use Rattle.lt_assembler.specs.Seen.{draft_of};
 
 use crate::draft::Draft;
 use crate::faults::Fault;
-use crate::numbers::number_within;
+use crate::numbers::{number_in, number_within};
 use crate::stages::takes_bank;
 use lt_isa::limits::{
     LEAST_BLOCK_LOG, MOST_BANKS, MOST_BLOCK_LOG, MOST_CYCLES, MOST_LATENCY, MOST_PERIOD,
@@ -26,16 +26,15 @@ fn cycles_of(
     ensures read { result ≡ cycles_read block_log.now alu.now mul.now word.now taken.now }
     ensures small { IfOk result (λ p. p.block_log ≤ most_block_log) }
 {
-    let block_log = number_within(
+    let block_log = number_in(
         u64::from(LEAST_BLOCK_LOG),
         u64::from(MOST_BLOCK_LOG),
         block_log,
-    )
-    .ok_or(Fault::Number)?;
-    let alu = number_within(1, u64::from(MOST_CYCLES), alu).ok_or(Fault::Number)?;
-    let mul = number_within(1, u64::from(MOST_CYCLES), mul).ok_or(Fault::Number)?;
-    let word = number_within(1, u64::from(MOST_CYCLES), word).ok_or(Fault::Number)?;
-    let taken = number_within(1, u64::from(MOST_TAKEN), taken).ok_or(Fault::Number)?;
+    )?;
+    let alu = number_in(1, u64::from(MOST_CYCLES), alu)?;
+    let mul = number_in(1, u64::from(MOST_CYCLES), mul)?;
+    let word = number_in(1, u64::from(MOST_CYCLES), word)?;
+    let taken = number_in(1, u64::from(MOST_TAKEN), taken)?;
     Ok(Profile {
         block_log: block_log as u8,
         alu: alu as u8,
@@ -61,9 +60,9 @@ fn with_window(
     ensures small { IfOk result (λ p. p.block_log ≤ most_block_log) }
 {
     let profile = cycles?;
-    let period = number_within(2, u64::from(MOST_PERIOD), period).ok_or(Fault::Number)?;
-    let opens = number_within(0, period - 1, opens).ok_or(Fault::Number)?;
-    let closes = number_within(opens + 1, period, closes).ok_or(Fault::Number)?;
+    let period = number_in(2, u64::from(MOST_PERIOD), period)?;
+    let opens = number_in(0, period - 1, opens)?;
+    let closes = number_in(opens + 1, period, closes)?;
     Ok(Profile {
         period: period as u32,
         opens: opens as u32,
@@ -133,10 +132,8 @@ fn bank_of(index: usize, words: &[&[u8]]) -> Result<BankSpec, Fault>
 {
     match words {
         [blocks, latency] => {
-            let blocks = number_within(1, u64::from(most_blocks(index)), blocks).ok_or(
-                Fault::Number,
-            )?;
-            let latency = number_within(1, u64::from(MOST_LATENCY), latency).ok_or(Fault::Number)?;
+            let blocks = number_in(1, u64::from(most_blocks(index)), blocks)?;
+            let latency = number_in(1, u64::from(MOST_LATENCY), latency)?;
             Ok(BankSpec {
                 blocks: blocks as u32,
                 latency: latency as u32,

@@ -1,6 +1,6 @@
 ghost use Rattle.std.specs.Prelude.{◌≡◌, ◌≤◌, map, option_map, IfOk};
 ghost use Rattle.lt_isa.specs.Limits.{most_instructions};
-ghost use Rattle.lt_assembler.specs.Faults.{Reads};
+ghost use Rattle.lt_assembler.specs.Faults.{Reads, number_or};
 ghost use Rattle.lt_assembler.specs.Numbers.{number_within};
 ghost use Rattle.lt_assembler.specs.Instructions.{
   li_read,
@@ -26,7 +26,7 @@ ghost use Rattle.lt_assembler.specs.Instructions.{
 use crate::faults::Fault;
 use crate::mnemonics::{Mnemonic, cmp_named, mnemonic_named, same};
 use crate::numbers::{
-    backward_of, begins_with, begins_with_digit, but_first, constant_of, forward_of, number_within,
+    backward_of, begins_with, begins_with_digit, but_first, constant_of, forward_of, number_in,
 };
 use crate::operands::{bank_named, register_of, slot_of};
 use gr_word::{Op, name_fits};
@@ -36,7 +36,7 @@ use lt_isa::Instr;
 const LAST_PLACE: u64 = 2_147_483_647;
 
 /// Where a target leads.
-#[derive(Clone, Copy, Debug)]
+#[derive(Clone, Copy)]
 pub struct Aim<'a> {
     /// The offset, 0 where a label's place isn't known yet.
     pub offset: i32,
@@ -45,7 +45,7 @@ pub struct Aim<'a> {
 }
 
 /// An instruction, with a label that its target still lacks.
-#[derive(Clone, Copy, Debug)]
+#[derive(Clone, Copy)]
 pub struct Coded<'a> {
     pub instr: Instr,
     pub label: Option<&'a [u8]>,
@@ -57,8 +57,8 @@ fn li(words: &[&[u8]]) -> Result<Instr, Fault>
 {
     match words {
         [rd, value] => {
-            let rd = register_of(rd).ok_or(Fault::WrongForm)?;
-            let value = constant_of(value).ok_or(Fault::Number)?;
+            let rd = register_of(rd)?;
+            let value = constant_of(value)?;
             Ok(Instr::Li { rd, value })
         }
         _ => Err(Fault::WrongForm),
@@ -72,9 +72,9 @@ fn alu(op: Op, words: &[&[u8]]) -> Result<Instr, Fault>
 {
     match words {
         [rd, ra, rb] => {
-            let rd = register_of(rd).ok_or(Fault::WrongForm)?;
-            let ra = register_of(ra).ok_or(Fault::WrongForm)?;
-            let rb = register_of(rb).ok_or(Fault::WrongForm)?;
+            let rd = register_of(rd)?;
+            let ra = register_of(ra)?;
+            let rb = register_of(rb)?;
             Ok(Instr::Alu { op, rd, ra, rb })
         }
         _ => Err(Fault::WrongForm),
@@ -88,9 +88,9 @@ fn ldb(banks: usize, words: &[&[u8]]) -> Result<Instr, Fault>
 {
     match words {
         [slot, bank, reg] => {
-            let bank = bank_named(bank).ok_or(Fault::WrongForm)?;
-            let reg = register_of(reg).ok_or(Fault::WrongForm)?;
-            let slot = slot_of(slot).ok_or(Fault::Number)?;
+            let bank = bank_named(bank)?;
+            let reg = register_of(reg)?;
+            let slot = slot_of(slot)?;
             if bank as usize >= banks {
                 return Err(Fault::Number);
             }
@@ -106,7 +106,7 @@ fn stb(words: &[&[u8]]) -> Result<Instr, Fault>
 {
     match words {
         [slot] => {
-            let slot = slot_of(slot).ok_or(Fault::Number)?;
+            let slot = slot_of(slot)?;
             Ok(Instr::Stb { slot })
         }
         _ => Err(Fault::WrongForm),
@@ -119,8 +119,8 @@ fn idb(words: &[&[u8]]) -> Result<Instr, Fault>
 {
     match words {
         [rd, slot] => {
-            let rd = register_of(rd).ok_or(Fault::WrongForm)?;
-            let slot = slot_of(slot).ok_or(Fault::Number)?;
+            let rd = register_of(rd)?;
+            let slot = slot_of(slot)?;
             Ok(Instr::Idb { rd, slot })
         }
         _ => Err(Fault::WrongForm),
@@ -134,9 +134,9 @@ fn access(words: &[&[u8]]) -> Result<(u8, u8, u8), Fault>
 {
     match words {
         [reg, slot, off] => {
-            let reg = register_of(reg).ok_or(Fault::WrongForm)?;
-            let off = register_of(off).ok_or(Fault::WrongForm)?;
-            let slot = slot_of(slot).ok_or(Fault::Number)?;
+            let reg = register_of(reg)?;
+            let off = register_of(off)?;
+            let slot = slot_of(slot)?;
             Ok((reg, slot, off))
         }
         _ => Err(Fault::WrongForm),
@@ -179,12 +179,13 @@ fn arrow(word: &[u8]) -> Result<(), Fault>
 }
 
 /// A place as a target.
-fn place_aim(place: u32, word: &[u8]) -> Option<i32>
+fn place_aim(place: u32, word: &[u8]) -> Result<i32, Fault>
     requires { place ≤ most_instructions }
-    ensures { result ≡ option_map (λ target. offset_to target place) (number_within 0 2147483647 word.now) }
+    ensures { result
+        ≡ number_or (option_map (λ target. offset_to target place) (number_within 0 2147483647 word.now)) }
 {
-    let target = number_within(0, LAST_PLACE, word)?;
-    Some(target as i32 - place as i32)
+    let target = number_in(0, LAST_PLACE, word)?;
+    Ok(target as i32 - place as i32)
 }
 
 /// The target of an instruction at a place of the code.
@@ -195,21 +196,21 @@ fn target(place: u32, word: &[u8]) -> Result<Aim<'_>, Fault>
         (aim_read place word.now) }
 {
     if begins_with(b'+', word) {
-        let offset = forward_of(but_first(word)).ok_or(Fault::Number)?;
+        let offset = forward_of(but_first(word))?;
         return Ok(Aim {
             offset,
             label: None,
         });
     }
     if begins_with(b'-', word) {
-        let offset = backward_of(but_first(word)).ok_or(Fault::Number)?;
+        let offset = backward_of(but_first(word))?;
         return Ok(Aim {
             offset,
             label: None,
         });
     }
     if begins_with_digit(word) {
-        let offset = place_aim(place, word).ok_or(Fault::Number)?;
+        let offset = place_aim(place, word)?;
         return Ok(Aim {
             offset,
             label: None,
@@ -252,8 +253,8 @@ fn br<'a>(place: u32, words: &[&'a [u8]]) -> Result<Coded<'a>, Fault>
     match words {
         [cmp, ra, rb, sign, word] => {
             let cmp = cmp_named(cmp).ok_or(Fault::WrongForm)?;
-            let ra = register_of(ra).ok_or(Fault::WrongForm)?;
-            let rb = register_of(rb).ok_or(Fault::WrongForm)?;
+            let ra = register_of(ra)?;
+            let rb = register_of(rb)?;
             arrow(sign)?;
             let Aim { offset, label } = target(place, word)?;
             Ok(Coded {

@@ -6,7 +6,7 @@ use std::collections::BTreeMap;
 
 /// A label's name as the key of a map. A number that its bytes give stands before it and tells most names apart, so
 /// few names are compared byte by byte. Names that share that number only take longer.
-#[derive(Clone, Copy, Debug, PartialEq, Eq, PartialOrd, Ord)]
+#[derive(Clone, Copy, PartialEq, Eq, PartialOrd, Ord)]
 pub struct LabelKey<'a> {
     mark: u64,
     name: &'a [u8],

@@ -1,12 +1,14 @@
 ghost use Rattle.std.specs.Prelude.{◌≡◌, bytes_eq};
+ghost use Rattle.lt_assembler.specs.Faults.{form};
 ghost use Rattle.lt_assembler.specs.Operands.{op_named, cmp_named, label_named, shape_named, mnemonic_word, mnemonic_named, named, mnemonics};
 
+use crate::faults::Fault;
 use crate::putting::{label_word, shape_word};
 use gr_word::{Cmp, Label, Op, Shape};
 use lt_isa::instruction_table::{COMPARISONS, Kind, OPERATIONS, cmp_word, mnemonic_of, op_word};
 
 /// The instructions, by their first word.
-#[derive(Clone, Copy, Debug, PartialEq, Eq)]
+#[derive(Clone, Copy)]
 pub enum Mnemonic {
     Nop,
     Halt,
@@ -63,32 +65,32 @@ pub fn cmp_named(word: &[u8]) -> Option<Cmp>
         .find(|cmp| same(cmp_word(*cmp), word))
 }
 
-/// The label of this word.
+/// The label of this word, or what is wrong with its line.
 #[tactic(auto, unfolding(crate::specs::Operands::label_named))]
-pub fn label_named(word: &[u8]) -> Option<Label>
-    ensures { result ≡ label_named word.now }
+pub fn label_named(word: &[u8]) -> Result<Label, Fault>
+    ensures { result ≡ form (label_named word.now) }
 {
     if same(label_word(Label::Public), word) {
-        return Some(Label::Public);
+        return Ok(Label::Public);
     }
     if same(label_word(Label::Secret), word) {
-        return Some(Label::Secret);
+        return Ok(Label::Secret);
     }
-    None
+    Err(Fault::WrongForm)
 }
 
-/// The shape of this word.
+/// The shape of this word, or what is wrong with its line.
 #[tactic(auto, unfolding(crate::specs::Operands::shape_named))]
-pub fn shape_named(word: &[u8]) -> Option<Shape>
-    ensures { result ≡ shape_named word.now }
+pub fn shape_named(word: &[u8]) -> Result<Shape, Fault>
+    ensures { result ≡ form (shape_named word.now) }
 {
     if same(shape_word(Shape::Scalar), word) {
-        return Some(Shape::Scalar);
+        return Ok(Shape::Scalar);
     }
     if same(shape_word(Shape::Array), word) {
-        return Some(Shape::Array);
+        return Ok(Shape::Array);
     }
-    None
+    Err(Fault::WrongForm)
 }
 
 fn mnemonic_word(mnemonic: Mnemonic) -> &'static [u8]

@@ -1,6 +1,7 @@
-ghost use Rattle.std.specs.Prelude.{◌≡◌, ◌≤◌, ◌<◌, slice_index, IfSome};
+ghost use Rattle.std.specs.Prelude.{◌≡◌, ◌≤◌, ◌<◌, slice_index, IfOk, IfSome};
 ghost use Rattle.std.specs.Char.{is_ascii_digit};
 ghost use Rattle.gr_base.specs.Lists.{Within};
+ghost use Rattle.lt_assembler.specs.Faults.{number_or};
 ghost use Rattle.lt_assembler.specs.Numbers.{
   begins_with,
   but_first,
@@ -11,6 +12,7 @@ ghost use Rattle.lt_assembler.specs.Numbers.{
   backward_of,
 };
 
+use crate::faults::Fault;
 use gr_base::numerals::{digits_value, is_canonical_numeral};
 
 /// The most digits of a number word. A number of more digits is in no range.
@@ -72,33 +74,41 @@ pub fn number_within(low: u64, high: u64, word: &[u8]) -> Option<u64>
     }
 }
 
+/// The number that a word writes, where it is from `low` to `high`, or what is wrong with its line.
+pub fn number_in(low: u64, high: u64, word: &[u8]) -> Result<u64, Fault>
+    ensures value { result ≡ number_or (number_within low high word.now) }
+    ensures range { IfOk result (λ n. Within low high n) }
+{
+    number_within(low, high, word).ok_or(Fault::Number)
+}
+
 /// The constant that a word writes: a number, maybe behind a `-`, within 64 bits.
 #[tactic(auto, unfolding(crate::specs::Numbers::constant_of))]
-pub fn constant_of(word: &[u8]) -> Option<i64>
-    ensures { result ≡ constant_of word.now }
+pub fn constant_of(word: &[u8]) -> Result<i64, Fault>
+    ensures { result ≡ number_or (constant_of word.now) }
 {
     if begins_with(b'-', word) {
-        let number = number_within(1, 1 << 63, but_first(word))?;
-        return Some(-1 - (number - 1) as i64);
+        let number = number_in(1, 1 << 63, but_first(word))?;
+        return Ok(-1 - (number - 1) as i64);
     }
-    let number = number_within(0, (1 << 63) - 1, word)?;
-    Some(number as i64)
+    let number = number_in(0, (1 << 63) - 1, word)?;
+    Ok(number as i64)
 }
 
 /// The offset that a word behind a `+` writes.
 #[tactic(auto, unfolding(crate::specs::Numbers::forward_of))]
-pub fn forward_of(word: &[u8]) -> Option<i32>
-    ensures { result ≡ forward_of word.now }
+pub fn forward_of(word: &[u8]) -> Result<i32, Fault>
+    ensures { result ≡ number_or (forward_of word.now) }
 {
-    let number = number_within(0, (1 << 31) - 1, word)?;
-    Some(number as i32)
+    let number = number_in(0, (1 << 31) - 1, word)?;
+    Ok(number as i32)
 }
 
 /// The offset that a word behind a `-` writes.
 #[tactic(auto, unfolding(crate::specs::Numbers::backward_of))]
-pub fn backward_of(word: &[u8]) -> Option<i32>
-    ensures { result ≡ backward_of word.now }
+pub fn backward_of(word: &[u8]) -> Result<i32, Fault>
+    ensures { result ≡ number_or (backward_of word.now) }
 {
-    let number = number_within(1, 1 << 31, word)?;
-    Some(-1 - (number - 1) as i32)
+    let number = number_in(1, 1 << 31, word)?;
+    Ok(-1 - (number - 1) as i32)
 }

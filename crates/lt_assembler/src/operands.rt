@@ -2,6 +2,7 @@ ghost use Rattle.std.specs.Prelude.{◌≡◌, ◌≤◌, ◌<◌, ◌^◌, IfSo
 ghost use Rattle.std.specs.List.{list_all};
 ghost use Rattle.gr_base.specs.Lists.{Within};
 ghost use Rattle.lt_isa.specs.Limits.{most_banks};
+ghost use Rattle.lt_assembler.specs.Faults.{form, number_or};
 ghost use Rattle.lt_assembler.specs.Operands.{
   register_of,
   slot_named,
@@ -12,48 +13,55 @@ ghost use Rattle.lt_assembler.specs.Operands.{
   claims_of,
 };
 
+use crate::faults::Fault;
 use crate::mnemonics::same;
 use crate::numbers::{begins_with, but_first, number_within};
 use gr_base::numerals::digits_value;
 use lt_isa::limits::{FEWEST_BANKS, MOST_BANKS};
 
-/// The register that a word names.
+/// The register that a word names, or what is wrong with its line.
 #[tactic(auto, unfolding(crate::specs::Operands::register_of))]
-pub fn register_of(word: &[u8]) -> Option<u8>
-    ensures { result ≡ register_of word.now }
+pub fn register_of(word: &[u8]) -> Result<u8, Fault>
+    ensures { result ≡ form (register_of word.now) }
 {
     if !begins_with(b'r', word) {
-        return None;
+        return Err(Fault::WrongForm);
     }
-    let number = number_within(0, 31, but_first(word))?;
-    Some(number as u8)
+    match number_within(0, 31, but_first(word)) {
+        Some(number) => Ok(number as u8),
+        None => Err(Fault::WrongForm),
+    }
 }
 
-/// The slot of the scratchpad that a word names.
+/// The slot of the scratchpad that a word names, or what is wrong with its line.
 #[tactic(auto, unfolding(crate::specs::Operands::slot_named))]
-pub fn slot_of(word: &[u8]) -> Option<u8>
-    ensures { result ≡ slot_named word.now }
+pub fn slot_of(word: &[u8]) -> Result<u8, Fault>
+    ensures { result ≡ number_or (slot_named word.now) }
 {
-    let number = number_within(0, 7, word)?;
-    Some(number as u8)
+    match number_within(0, 7, word) {
+        Some(number) => Ok(number as u8),
+        None => Err(Fault::Number),
+    }
 }
 
-/// The bank that a word in the place of an operand names.
+/// The bank that a word in the place of an operand names, or what is wrong with its line.
 #[tactic(auto, unfolding(crate::specs::Operands::bank_named))]
-pub fn bank_named(word: &[u8]) -> Option<u8>
-    ensures { result ≡ bank_named word.now }
+pub fn bank_named(word: &[u8]) -> Result<u8, Fault>
+    ensures { result ≡ form (bank_named word.now) }
 {
     if same(word, b"D") {
-        return Some(0);
+        return Ok(0);
     }
     if same(word, b"E") {
-        return Some(1);
+        return Ok(1);
     }
     if !begins_with(b'O', word) {
-        return None;
+        return Err(Fault::WrongForm);
     }
-    let number = number_within(FEWEST_BANKS as u64, MOST_BANKS as u64 - 1, but_first(word))?;
-    Some(number as u8)
+    match number_within(FEWEST_BANKS as u64, MOST_BANKS as u64 - 1, but_first(word)) {
+        Some(number) => Ok(number as u8),
+        None => Err(Fault::WrongForm),
+    }
 }
 
 fn is_hex(byte: u8) -> bool

@@ -10,7 +10,7 @@ ghost use Rattle.lt_assembler.specs.Seen.{draft_of};
 use crate::draft::Draft;
 use crate::faults::Fault;
 use crate::mnemonics::{label_named, same, shape_named};
-use crate::numbers::number_within;
+use crate::numbers::number_in;
 use crate::stages::takes_symbol;
 use gr_word::{Name, Shape, name_fits};
 use lt_isa::limits::{MOST_SYMBOL_WORDS, MOST_SYMBOLS};
@@ -19,7 +19,7 @@ use lt_isa::{BankSpec, Profile, Symbol};
 use std::alloc::Global;
 
 /// Where a symbol lies, and its length.
-#[derive(Clone, Copy, Debug)]
+#[derive(Clone, Copy)]
 pub struct Site {
     pub bank: u8,
     pub block: u32,
@@ -51,16 +51,15 @@ fn site_of(
     match site {
         [bank, block, word, length] => {
             let last = (banks.len() as u64).saturating_sub(1);
-            let bank = number_within(u64::from(last_bank(before)), last, bank);
-            let bank = bank.ok_or(Fault::Number)? as u8;
+            let bank = number_in(u64::from(last_bank(before)), last, bank)? as u8;
             let last = u64::from(blocks_in(banks, bank)).saturating_sub(1);
-            let block = number_within(0, last, block).ok_or(Fault::Number)? as u32;
+            let block = number_in(0, last, block)? as u32;
             let free = first_free(words, before, bank, block);
             let last = u64::from(words).saturating_sub(1);
-            let word = number_within(free, last, word).ok_or(Fault::Number)? as u16;
+            let word = number_in(free, last, word)? as u16;
             let start = word_in_bank(words, block, word);
             let most = most_length(words, banks, shape, bank, start);
-            let length = number_within(1, most, length).ok_or(Fault::Number)? as u32;
+            let length = number_in(1, most, length)? as u32;
             Ok(Site {
                 bank,
                 block,
@@ -90,8 +89,8 @@ fn symbol_of(
             if site.len() != 4 || !name_fits(name) {
                 return Err(Fault::WrongForm);
             }
-            let label = label_named(label).ok_or(Fault::WrongForm)?;
-            let shape = shape_named(shape).ok_or(Fault::WrongForm)?;
+            let label = label_named(label)?;
+            let shape = shape_named(shape)?;
             let site = site_of(words, banks, before, shape, site)?;
             Ok(Symbol {
                 name: Name::new(alloc, name)?,

@@ -142,19 +142,37 @@ fn played(
     let other = reading(alloc, "2000 1000 1001")?;
     let mut bus = bus_of(alloc, &one, &other)?;
     let mut watch = watcher_of(alloc, room);
+    let halts = halts_of(alloc, turns, &mut bus, &mut watch)?;
+    Ok((watch.marks, bus.sound(), halts))
+}
+
+/// Runs a bus of two cores for 5,000 cycles, or plays the turns, and answers their halts.
+fn halts_of(
+    alloc: Global,
+    turns: &[Turn],
+    bus: &mut Bus<'_, PlainBank>,
+    watch: &mut Marks,
+) -> Result<[Option<u32>; 2], Fail>
+    requires turns { All (λ t. (t.core < 2) × (1 ≤ t.to)) turns.now }
+    requires two { length bus.old.plan ≡ 2 }
+    requires all { length bus.old.cores ≡ 2 }
+    requires sound { bus.old.sound ≡ true }
+    requires fresh { bus.old.fresh ≡ true }
+    requires whole { watch.old.whole ≡ true }
+{
     let done = if turns.is_empty() {
-        bus.run(5000, &mut watch)
+        bus.run(5000, watch)
     } else {
-        bus.play(turns, &mut watch)
+        bus.play(turns, watch)
     };
     if done.is_ok() != bus.sound() || bus.fresh() || bus.entered() != 2 {
         return Err(Fail::from("not as it was run"));
     }
-    let (words, halts) = left_of(alloc, &bus)?;
+    let (words, halts) = left_of(alloc, bus)?;
     if words != [0, 0] {
         return Err(Fail::from("words of no variable"));
     }
-    Ok((watch.marks, bus.sound(), halts))
+    Ok(halts)
 }
 
 #[test]

@@ -1,7 +1,9 @@
+ghost use Rattle.std.specs.Prelude.{◌≤◌};
+
 use gr_word::Cmp;
 use lt_checker::{CheckError, check};
 use lt_isa::Instr::{Br, Halt, Jmp, Ldb, Ldw, Li, Nop};
-use lt_isa::{BankSpec, Instr, Note, Object, Profile};
+use lt_isa::{BankSpec, Instr, Object, Profile};
 use std::alloc::Global;
 use std::hash::{BuildHasher, BuildHasherDefault, FoldHasher};
 use std::test::Fail;
@@ -20,6 +22,14 @@ const UNUSUAL: Profile = Profile {
     closes: 1,
 };
 
+const START: Instr = Li { rd: 1, value: 0 };
+
+const LOAD: Instr = Ldb {
+    slot: 1,
+    bank: 1,
+    reg: 1,
+};
+
 const READ: Instr = Ldw {
     rd: 2,
     slot: 1,
@@ -35,21 +45,39 @@ fn branch(offset: i32) -> Instr {
     }
 }
 
-// An object with four blocks of plain and of encrypted memory.
-fn object_of(
-    alloc: Global,
-    profile: Profile,
-    notes: &[Note],
-    code: Vec<Instr>,
-) -> Result<Object, Fail> {
+// An object with this code, and four blocks of plain and of encrypted memory.
+fn object_of(alloc: Global, code: Vec<Instr>) -> Result<Object, Fail> {
     let bank = BankSpec {
         blocks: 4,
         latency: 11,
     };
     let banks = [bank, bank].to_vec(alloc)?;
-    let notes = notes.to_vec(alloc)?;
-    let made = Object::try_new(profile, banks, Vec::new(alloc), notes, code);
-    Ok(made.ok().ok_or("out of range")?)
+    match Object::try_new(UNUSUAL, banks, Vec::new(alloc), Vec::new(alloc), code) {
+        Ok(object) => Ok(object),
+        Err(_) => Err(Fail::from("out of range")),
+    }
+}
+
+// Appends a branch on a secret at place 3, with these arms.
+fn put_branch(
+    code: &mut Vec<Instr>,
+    taken: i32,
+    first: &[Instr],
+    second: &[Instr],
+) -> Result<(), Fail> {
+    code.extend_from_slice(&[START, LOAD, READ, branch(taken)])?;
+    code.extend_from_slice(first)?;
+    code.push(Jmp { offset: taken })?;
+    code.extend_from_slice(second)?;
+    code.push(Halt)?;
+    Ok(())
+}
+
+// The object of a branch on a secret at place 3, with these arms.
+fn branching(alloc: Global, taken: i32, first: &[Instr], second: &[Instr]) -> Result<Object, Fail> {
+    let mut code = Vec::new(alloc);
+    put_branch(&mut code, taken, first, second)?;
+    object_of(alloc, code)
 }
 
 // The place and the number of the reason where a branch on a secret at place 3 with these arms is refused, and two
@@ -58,25 +86,18 @@ fn refusal(
     alloc: Global,
     taken: i32,
     first: &[Instr],
-    jump: i32,
     second: &[Instr],
 ) -> Result<(u32, u8), Fail> {
-    let load = Ldb {
-        slot: 1,
-        bank: 1,
-        reg: 1,
-    };
-    let start = Li { rd: 1, value: 0 };
-    let mut code = [start, load, READ, branch(taken)].to_vec(alloc)?;
-    code.extend_from_slice(first)?;
-    code.push(Jmp { offset: jump })?;
-    code.extend_from_slice(second)?;
-    code.push(Halt)?;
-    let object = object_of(alloc, UNUSUAL, &[], code)?;
-    match check(alloc, object) {
+    match check(alloc, branching(alloc, taken, first, second)?) {
         Ok(_) => Ok((0, 0)),
-        Err(CheckError::Refused { pc, reason, .. }) => Ok((pc, reason.number())),
-        Err(CheckError::Memory { .. }) => Err(Fail::from("no memory")),
+        Err(fault) => reason_of(&fault),
+    }
+}
+
+fn reason_of(fault: &CheckError) -> Result<(u32, u8), Fail> {
+    match fault {
+        CheckError::Refused { pc, reason, .. } => Ok((*pc, reason.number())),
+        CheckError::Memory { .. } => Err(Fail::from("no memory")),
     }
 }
 
@@ -96,22 +117,27 @@ fn constants(alloc: Global, count: usize, mask: u64) -> Result<Vec<Instr>, Fail>
     Ok(code)
 }
 
+// The microseconds of the check of a branch whose one arm has so many constants, chosen by a mask.
+fn time_of(rt: &HostRuntime, count: u32, mask: u64) -> Result<u128, Fail>
+    requires { count ≤ 65536 }
+{
+    let chosen = constants(rt.alloc(), count as usize, mask)?;
+    let as_long = vec![in rt.alloc(); Nop; count as usize + 1]?;
+    let start = Instant::now(rt)?;
+    let refused = refusal(rt.alloc(), count as i32 + 2, &chosen, &as_long)?;
+    if refused != (0, 0) {
+        return Err(Fail::from("refused"));
+    }
+    Ok(start.elapsed(rt)?.as_micros())
+}
+
 // Constants that are chosen to meet, all in the same sixteenth of a table that hashes each by itself, take no longer
 // than others: ten times as long at most, so that the test holds on a busy machine too. Where they meet, the check of
 // theirs takes the square of their number.
 #[test]
 fn constants_that_are_chosen_to_meet_do_not(rt: HostRuntime) -> Result<(), Fail> {
-    let alloc = rt.alloc();
-    let usual = constants(alloc, 8_192, 0)?;
-    let as_long = vec![in alloc; Nop; 8_193]?;
-    let start = Instant::now(&rt)?;
-    assert_eq!(rt; refusal(alloc, 8_194, &usual, 8_194, &as_long)?, (0, 0));
-    let usual_time = start.elapsed(&rt)?;
-    let chosen = constants(alloc, 65_536, 0x1E00)?;
-    let as_long = vec![in alloc; Nop; 65_537]?;
-    let start = Instant::now(&rt)?;
-    assert_eq!(rt; refusal(alloc, 65_538, &chosen, 65_538, &as_long)?, (0, 0));
-    let chosen_time = start.elapsed(&rt)?;
-    assert!(rt; chosen_time.as_micros() / (8 * 10) <= usual_time.as_micros());
+    let usual = time_of(&rt, 8_192, 0)?;
+    let chosen = time_of(&rt, 65_536, 0x1E00)?;
+    assert!(rt; chosen / (8 * 10) <= usual);
     Ok(())
 }

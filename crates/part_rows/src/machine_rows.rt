@@ -29,8 +29,8 @@ type Ended = Result<End, WatchFailed>;
 fn watched(alloc: Global, accepted: &Accepted, inputs: &Inputs) -> Result<(Ended, usize), Fail>
     requires { FitsObject accepted.now inputs.now }
 {
-    let mut machine = load_start(alloc, accepted, inputs)?;
     let mut watch = ListWatch::new(alloc, [1].to_vec(alloc)?, 2, 8)?;
+    let mut machine = load_start(alloc, accepted, inputs)?;
     let end = machine.run(1000, &mut watch);
     Ok((end, watch.len()))
 }
@@ -74,8 +74,8 @@ fn cut_at(
     requires fits { FitsObject accepted.now inputs.now }
     requires some_cycle { 1 ≤ cycles }
 {
-    let mut machine = load_start(alloc, accepted, inputs)?;
     let mut watch = ListWatch::new(alloc, Vec::new(alloc), 2, 8)?;
+    let mut machine = load_start(alloc, accepted, inputs)?;
     let Ok(End::Spent) = machine.run(cycles, &mut watch) else {
         return Err(Fail::from("not spent"));
     };

@@ -47,19 +47,34 @@ fn read_between(alloc: Global, before: u32, after: u32) -> Result<Pattern, Fail>
     Ok(pattern)
 }
 
-#[test]
-fn gaps_that_meet_are_one(rt: HostRuntime) -> Result<(), Fail> {
-    let alloc = rt.alloc();
+// Two gaps, and behind them a read between gaps.
+fn met_gaps(alloc: Global) -> Result<Pattern, Fail> {
+    let read = read_between(alloc, 0, 3)?;
     let mut arm = Pattern::new(alloc);
     arm.push_gap(1);
     arm.push_gap(1);
-    let Ok(()) = arm.append(&read_between(alloc, 0, 3)?) else {
-        return Err(Fail::from("no memory"));
-    };
-    assert!(rt; arm.same(&read_between(alloc, 2, 3)?));
-    assert!(rt; !arm.same(&read_between(alloc, 3, 3)?));
-    assert!(rt; !arm.same(&read_between(alloc, 2, 2)?));
-    assert!(rt; !arm.same(&Pattern::new(alloc)));
+    match arm.append(&read) {
+        Ok(()) => Ok(arm),
+        Err(_) => Err(Fail::from("no memory")),
+    }
+}
+
+fn is_read_between(alloc: Global, arm: &Pattern, before: u32, after: u32) -> Result<bool, Fail> {
+    Ok(arm.same(&read_between(alloc, before, after)?))
+}
+
+#[test]
+fn gaps_that_meet_are_one(rt: HostRuntime) -> Result<(), Fail> {
+    let arm = met_gaps(rt.alloc())?;
+    assert_eq!(rt;
+        (
+            is_read_between(rt.alloc(), &arm, 2, 3)?,
+            is_read_between(rt.alloc(), &arm, 3, 3)?,
+            is_read_between(rt.alloc(), &arm, 2, 2)?
+        ),
+        (true, false, false)
+    );
+    assert!(rt; !arm.same(&Pattern::new(rt.alloc())));
     Ok(())
 }
 

@@ -4,7 +4,7 @@ ghost use Rattle.processor.specs.Stepping.{went_of};
 use banks::Leaves;
 
 /// What an instruction left to be told.
-#[derive(Clone, Copy, Debug)]
+#[derive(Clone, Copy)]
 pub(crate) enum Untold {
     /// The block that this slot is bound to was read into it, which showed these paths.
     Read { slot: u8, leaves: Leaves },
@@ -17,7 +17,7 @@ pub(crate) enum Untold {
 }
 
 /// How a step went.
-#[derive(Clone, Copy, Debug, PartialEq, Eq)]
+#[derive(Clone, Copy)]
 pub(crate) enum Went {
     /// The run goes on.
     On,

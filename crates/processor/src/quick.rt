@@ -15,7 +15,7 @@ use gr_word::{Cmp, Op, apply, holds};
 use lt_isa::Object;
 
 /// Where a machine is, and when.
-#[derive(Clone, Copy, Debug)]
+#[derive(Clone, Copy)]
 pub(crate) struct Point {
     pub(crate) place: usize,
     pub(crate) cycle: u64,
@@ -73,31 +73,31 @@ fn pass_quickly(
     requires early { at.cycle < 2 ^ 32 }
     ensures { PassesQuickly object.now (instr_of flat.now) registers.old pad.old at result registers.new pad.new }
 {
-    match flat {
+    match *flat {
         Flat::Access => None,
         Flat::Nop => Some(behind(at, 1)),
-        Flat::Li { rd, value } => Some(load_constant(registers, *rd, *value, at)),
-        Flat::Add { rd, ra, rb } => Some(operate(object, registers, Op::Add, *rd, *ra, *rb, at)),
-        Flat::Sub { rd, ra, rb } => Some(operate(object, registers, Op::Sub, *rd, *ra, *rb, at)),
-        Flat::Mul { rd, ra, rb } => Some(operate(object, registers, Op::Mul, *rd, *ra, *rb, at)),
-        Flat::Div { rd, ra, rb } => Some(operate(object, registers, Op::Div, *rd, *ra, *rb, at)),
-        Flat::Rem { rd, ra, rb } => Some(operate(object, registers, Op::Rem, *rd, *ra, *rb, at)),
-        Flat::Remu { rd, ra, rb } => Some(operate(object, registers, Op::Remu, *rd, *ra, *rb, at)),
-        Flat::And { rd, ra, rb } => Some(operate(object, registers, Op::And, *rd, *ra, *rb, at)),
-        Flat::Or { rd, ra, rb } => Some(operate(object, registers, Op::Or, *rd, *ra, *rb, at)),
-        Flat::Xor { rd, ra, rb } => Some(operate(object, registers, Op::Xor, *rd, *ra, *rb, at)),
-        Flat::Shl { rd, ra, rb } => Some(operate(object, registers, Op::Shl, *rd, *ra, *rb, at)),
-        Flat::Shr { rd, ra, rb } => Some(operate(object, registers, Op::Shr, *rd, *ra, *rb, at)),
-        Flat::Idb { rd, slot } => load_number(registers, pad, *rd, *slot, at),
-        Flat::Ldw { rd, slot, off } => load_word(object, registers, pad, *rd, *slot, *off, at),
-        Flat::Stw { rs, slot, off } => store_word(object, registers, pad, *rs, *slot, *off, at),
-        Flat::Jmp { offset } => Some(jump(object, *offset, at)),
-        Flat::Eq { ra, rb, offset } => branch(object, registers, Cmp::Eq, *ra, *rb, *offset, at),
-        Flat::Ne { ra, rb, offset } => branch(object, registers, Cmp::Ne, *ra, *rb, *offset, at),
-        Flat::Lt { ra, rb, offset } => branch(object, registers, Cmp::Lt, *ra, *rb, *offset, at),
-        Flat::Le { ra, rb, offset } => branch(object, registers, Cmp::Le, *ra, *rb, *offset, at),
-        Flat::Gt { ra, rb, offset } => branch(object, registers, Cmp::Gt, *ra, *rb, *offset, at),
-        Flat::Ge { ra, rb, offset } => branch(object, registers, Cmp::Ge, *ra, *rb, *offset, at),
+        Flat::Li { rd, value } => Some(load_constant(registers, rd, value, at)),
+        Flat::Add { rd, ra, rb } => Some(operate(object, registers, Op::Add, rd, ra, rb, at)),
+        Flat::Sub { rd, ra, rb } => Some(operate(object, registers, Op::Sub, rd, ra, rb, at)),
+        Flat::Mul { rd, ra, rb } => Some(operate(object, registers, Op::Mul, rd, ra, rb, at)),
+        Flat::Div { rd, ra, rb } => Some(operate(object, registers, Op::Div, rd, ra, rb, at)),
+        Flat::Rem { rd, ra, rb } => Some(operate(object, registers, Op::Rem, rd, ra, rb, at)),
+        Flat::Remu { rd, ra, rb } => Some(operate(object, registers, Op::Remu, rd, ra, rb, at)),
+        Flat::And { rd, ra, rb } => Some(operate(object, registers, Op::And, rd, ra, rb, at)),
+        Flat::Or { rd, ra, rb } => Some(operate(object, registers, Op::Or, rd, ra, rb, at)),
+        Flat::Xor { rd, ra, rb } => Some(operate(object, registers, Op::Xor, rd, ra, rb, at)),
+        Flat::Shl { rd, ra, rb } => Some(operate(object, registers, Op::Shl, rd, ra, rb, at)),
+        Flat::Shr { rd, ra, rb } => Some(operate(object, registers, Op::Shr, rd, ra, rb, at)),
+        Flat::Idb { rd, slot } => load_number(registers, pad, rd, slot, at),
+        Flat::Ldw { rd, slot, off } => load_word(object, registers, pad, rd, slot, off, at),
+        Flat::Stw { rs, slot, off } => store_word(object, registers, pad, rs, slot, off, at),
+        Flat::Jmp { offset } => Some(jump(object, offset, at)),
+        Flat::Eq { ra, rb, offset } => branch(object, registers, Cmp::Eq, ra, rb, offset, at),
+        Flat::Ne { ra, rb, offset } => branch(object, registers, Cmp::Ne, ra, rb, offset, at),
+        Flat::Lt { ra, rb, offset } => branch(object, registers, Cmp::Lt, ra, rb, offset, at),
+        Flat::Le { ra, rb, offset } => branch(object, registers, Cmp::Le, ra, rb, offset, at),
+        Flat::Gt { ra, rb, offset } => branch(object, registers, Cmp::Gt, ra, rb, offset, at),
+        Flat::Ge { ra, rb, offset } => branch(object, registers, Cmp::Ge, ra, rb, offset, at),
     }
 }
 

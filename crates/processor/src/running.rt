@@ -149,7 +149,6 @@ impl<'a, B: Bank + Drop> Machine<'a, B> {
     // One step that the loop between accesses leaves. The watcher is told of it, with its start for a stamp.
     #[inline(always)]
     fn step<W: Watch>(&mut self, stamp: u32, watch: &mut W) -> Result<Went, WatchFailed>
-        requires early { step_start self.old.object self.old.state < 2 ^ 32 }
         requires start { stamp ≡ step_start self.old.object self.old.state }
         requires left { StandsForStep self.old.object self.old.state }
         requires whole { IsTrue (W.whole watch.old) }

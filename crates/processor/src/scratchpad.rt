@@ -14,7 +14,7 @@ use std::marker::Model;
 pub(crate) const SLOTS: usize = 8;
 
 /// A slot: whether it is bound, the block that it is bound to, and room for a block's words.
-#[derive(Debug, Drop)]
+#[derive(Drop)]
 pub(crate) struct Cell {
     pub(crate) bound: bool,
     pub(crate) bank: u8,
@@ -23,7 +23,7 @@ pub(crate) struct Cell {
 }
 
 /// What a bound slot holds.
-#[derive(Clone, Copy, Debug)]
+#[derive(Clone, Copy)]
 pub(crate) struct Held<'a> {
     pub(crate) bank: u8,
     pub(crate) block: u32,
@@ -31,7 +31,7 @@ pub(crate) struct Held<'a> {
 }
 
 /// The scratchpad. Seen as its slots.
-#[derive(Debug, Drop)]
+#[derive(Drop)]
 pub(crate) struct Scratchpad {
     words: u32,
     pub(crate) cells: Vec<Cell>,

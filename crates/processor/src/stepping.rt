@@ -50,14 +50,9 @@ impl<'a, B: Bank + Drop> Machine<'a, B> {
             Instr::Halt => self.stop(),
             Instr::Ldb { slot, bank, reg } => self.load_block(slot, bank, reg),
             Instr::Stb { slot } => self.store_block(slot),
-            Instr::Nop => Untold::Fault,
-            Instr::Li { .. } => Untold::Fault,
-            Instr::Alu { .. } => Untold::Fault,
-            Instr::Idb { .. } => Untold::Fault,
-            Instr::Ldw { .. } => Untold::Fault,
-            Instr::Stw { .. } => Untold::Fault,
-            Instr::Jmp { .. } => Untold::Fault,
-            Instr::Br { .. } => Untold::Fault,
+            Instr::Nop | Instr::Li { .. } | Instr::Alu { .. } => Untold::Fault,
+            Instr::Idb { .. } | Instr::Ldw { .. } | Instr::Stw { .. } => Untold::Fault,
+            Instr::Jmp { .. } | Instr::Br { .. } => Untold::Fault,
         }
     }
 

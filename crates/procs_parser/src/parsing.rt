@@ -1,4 +1,4 @@
-ghost use Rattle.std.specs.Prelude.{◌≡◌, ◌^◌, ◌<◌, IfErr, IfOk, if◌then◌else◌, length, option_map};
+ghost use Rattle.std.specs.Prelude.{◌≡◌, None, ◌^◌, ◌<◌, IfErr, IfOk, if◌then◌else◌, length, option_map};
 ghost use Rattle.src_parser.specs.Grammar.{limits};
 ghost use Rattle.src_parser.specs.Refusals.{token_kinds};
 ghost use Rattle.src_parser.specs.Tokenwise.{Wrong};
@@ -87,6 +87,14 @@ fn whole(blocks: Blocks) -> Option<ProcFile>
     }
 }
 
+// No file, where its statements aren't whole. They are dropped by this call: what is dropped in line is proved at each
+// exit.
+fn unfinished(_blocks: Blocks) -> Option<ProcFile>
+    ensures { result ≡ None }
+{
+    None
+}
+
 // The file, where its statements stand between two parts and are whole.
 fn paused(alloc: Global, mut blocks: Blocks, pause: Pause) -> Result<Option<ProcFile>, Memory>
     ensures { IfOk result (λ p. option_map file_of p ≡ program_of (doing blocks (pause_of pause))) }
@@ -94,15 +102,29 @@ fn paused(alloc: Global, mut blocks: Blocks, pause: Pause) -> Result<Option<Proc
     match pause {
         Pause::Ready => Ok(whole(blocks)),
         Pause::MayElse(guard, first) => {
-            choose(alloc, &mut blocks, guard, first)?;
-            Ok(whole(blocks))
+            match choose(alloc, &mut blocks, guard, first) {
+                Ok(()) => Ok(whole(blocks)),
+                Err(error) => {
+                    drop(blocks);
+                    Err(error)
+                }
+            }
         }
-        Pause::Named(_name) => Ok(None),
-        Pause::Calling(_name) => Ok(None),
-        Pause::Argument(_name, _before, _reading) => Ok(None),
-        Pause::Called(_name, _arguments) => Ok(None),
-        Pause::Guarded(_form, _guard) => Ok(None),
-        Pause::Otherwise(_guard, _first) => Ok(None),
+        Pause::Named(_name) => Ok(unfinished(blocks)),
+        Pause::Calling(_name) => Ok(unfinished(blocks)),
+        Pause::Argument(_name, _before, reading) => {
+            drop(reading);
+            Ok(unfinished(blocks))
+        }
+        Pause::Called(_name, _arguments) => Ok(unfinished(blocks)),
+        Pause::Guarded(_form, guard) => {
+            drop(guard);
+            Ok(unfinished(blocks))
+        }
+        Pause::Otherwise(guard, _first) => {
+            drop(guard);
+            Ok(unfinished(blocks))
+        }
     }
 }
 
@@ -112,7 +134,10 @@ fn settle(alloc: Global, blocks: Blocks, mode: Phase) -> Result<Option<ProcFile>
 {
     match mode {
         Phase::Between(pause) => paused(alloc, blocks, pause),
-        Phase::InPart(_part) => Ok(None),
+        Phase::InPart(part) => {
+            drop(part);
+            Ok(unfinished(blocks))
+        }
     }
 }
 
@@ -126,8 +151,15 @@ fn unbegun(alloc: Global, start: Start) -> Option<ProcFile>
             procs: Vec::new(alloc),
             body: Vec::new(alloc),
         }),
-        Start::Declaring(_decls, _heading) => None,
-        Start::Naming(_head, _phase) => None,
+        Start::Declaring(_decls, heading) => {
+            drop(heading);
+            None
+        }
+        Start::Naming(head, phase) => {
+            drop(head);
+            drop(phase);
+            None
+        }
     }
 }
 
@@ -157,7 +189,11 @@ pub fn parse_procs(alloc: Global, tokens: &[Token]) -> Result<ProcFile, ParseErr
 {
     let mut state = ParserState::Before(Start::Between(Vec::new(alloc)));
     for token in tokens {
-        match take(alloc, &mut state, &token.kind)? {
+        let Ok(advance) = take(alloc, &mut state, &token.kind) else {
+            drop(state);
+            return Err(ParseError::Memory);
+        };
+        match advance {
             Advance::Goes => {}
             Advance::Opens(head) => {
                 let start = Start::Naming(head, HeadPhase::Opening);

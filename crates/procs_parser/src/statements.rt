@@ -63,6 +63,29 @@ fn close(alloc: Global, blocks: &mut Blocks, mode: &mut Phase) -> Result<Advance
     }
 }
 
+// A block ends, and its statement is behind those before it.
+fn end_block(blocks: &mut Blocks, mode: &mut Phase, outer: Outer) -> Result<Advance, Memory>
+    ensures { IfOk result (λ t. advance_of t (doing blocks.new (mode_of mode.new))
+        ≡ leaving (front_of blocks.old.front) (outer_of outer ∷ outers_of blocks.old.outer.items)
+        (calls_seen blocks.old.here.items)) }
+{
+    match outer {
+        Outer::InFirst(guard, before) => {
+            let first = mem::replace(&mut blocks.here, before);
+            put(mode, Phase::Between(Pause::MayElse(guard, first)));
+            Ok(Advance::Goes)
+        }
+        Outer::InSecond(guard, first, before) => {
+            let second = mem::replace(&mut blocks.here, before);
+            add(blocks, mode, PStmt::If(guard, first, second))
+        }
+        Outer::InLoop(guard, before) => {
+            let body = mem::replace(&mut blocks.here, before);
+            add(blocks, mode, PStmt::While(guard, body))
+        }
+    }
+}
+
 // A closing brace.
 fn leave(alloc: Global, blocks: &mut Blocks, mode: &mut Phase) -> Result<Advance, Memory>
     ensures { IfOk result (λ t. advance_of t (doing blocks.new (mode_of mode.new))
@@ -70,19 +93,7 @@ fn leave(alloc: Global, blocks: &mut Blocks, mode: &mut Phase) -> Result<Advance
 {
     match blocks.outer.pop() {
         None => close(alloc, blocks, mode),
-        Some(Outer::InFirst(guard, before)) => {
-            let first = mem::replace(&mut blocks.here, before);
-            put(mode, Phase::Between(Pause::MayElse(guard, first)));
-            Ok(Advance::Goes)
-        }
-        Some(Outer::InSecond(guard, first, before)) => {
-            let second = mem::replace(&mut blocks.here, before);
-            add(blocks, mode, PStmt::If(guard, first, second))
-        }
-        Some(Outer::InLoop(guard, before)) => {
-            let body = mem::replace(&mut blocks.here, before);
-            add(blocks, mode, PStmt::While(guard, body))
-        }
+        Some(outer) => end_block(blocks, mode, outer),
     }
 }
 
@@ -304,7 +315,10 @@ fn behind_argument(
             put(mode, Phase::Between(Pause::Called(name, arguments)));
             Ok(Advance::Goes)
         }
-        _ => Ok(Advance::Wrong),
+        _ => {
+            drop(tree);
+            Ok(Advance::Wrong)
+        }
     }
 }
 
@@ -330,7 +344,11 @@ fn argue(
         (calls_seen blocks.now.here.items) name (trees_of before.items) kind.now
         (reads limits (reading_of reading) kind.now)) }
 {
-    match read(alloc, &mut reading, kind)? {
+    let Ok(step) = read(alloc, &mut reading, kind) else {
+        drop(reading);
+        return Err(Memory);
+    };
+    match step {
         TokenStep::Moves => {
             put(mode, Phase::Between(Pause::Argument(name, before, reading)));
             Ok(Advance::Goes)
@@ -408,6 +426,7 @@ fn nest(
         (Doing (front_of blocks.old.front) (outer_of next ∷ outers_of blocks.old.outer.items) [] Ready)) }
 {
     if !has_room(&blocks.front, blocks.outer.as_slice()) {
+        drop(next);
         return Ok(Advance::TooMuch);
     }
     blocks.outer.push(next)?;
@@ -437,7 +456,10 @@ fn enter(
                 Form::Loop => nest(alloc, blocks, mode, Outer::InLoop(guard, before)),
             }
         }
-        _ => Ok(Advance::Wrong),
+        _ => {
+            drop(guard);
+            Ok(Advance::Wrong)
+        }
     }
 }
 
@@ -459,7 +481,10 @@ fn other(
             let before = mem::replace(&mut blocks.here, Vec::new(alloc));
             nest(alloc, blocks, mode, Outer::InSecond(guard, first, before))
         }
-        _ => Ok(Advance::Wrong),
+        _ => {
+            drop(guard);
+            Ok(Advance::Wrong)
+        }
     }
 }
 

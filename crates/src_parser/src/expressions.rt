@@ -6,6 +6,7 @@ ghost use Rattle.src_parser.specs.Grammar.{limits, level_of, operator_of};
 ghost use Rattle.src_parser.specs.Operands.{tree_joined, wanting, pending, closing, having, naming, reads, whole, Moves, Stops, At, Joins, Wanted, Given};
 ghost use Rattle.src_parser.specs.Seen.{joint_of, stack_of, step_of, reading_of, frame_of};
 
+use crate::putting::put;
 use crate::readings::{
     Joint, MAX_BRACKETS, MAX_OPERATORS, OperandState, Reading, TokenStep, Waiting,
 };
@@ -114,7 +115,7 @@ fn opened(reading: &mut Reading, frame: Waiting, used: u32) -> Result<TokenStep,
     reading.stack.push(frame)?;
     reading.depth += 1;
     reading.used = used;
-    reading.operand = OperandState::Wanted;
+    put(&mut reading.operand, OperandState::Wanted);
     Ok(TokenStep::Moves)
 }
 
@@ -148,10 +149,10 @@ fn number(reading: &mut Reading, value: i64) -> TokenStep
         ≡ wanting limits (stack_of reading.old.stack.items) reading.old.depth reading.old.used (Num value) }
 {
     if value < 0 {
-        reading.operand = OperandState::Wanted;
+        put(&mut reading.operand, OperandState::Wanted);
         return TokenStep::Stops;
     }
-    reading.operand = OperandState::Given(Expr::Num(value));
+    put(&mut reading.operand, OperandState::Given(Expr::Num(value)));
     TokenStep::Moves
 }
 
@@ -163,13 +164,14 @@ fn want(alloc: Global, reading: &mut Reading, kind: &TokenKind) -> Result<TokenS
     match kind {
         TokenKind::Num(value) => Ok(number(reading, *value)),
         TokenKind::Word(name) => {
-            reading.operand = OperandState::Named(name.copy(alloc)?);
+            let name = name.copy(alloc)?;
+            put(&mut reading.operand, OperandState::Named(name));
             Ok(TokenStep::Moves)
         }
         TokenKind::LParen => bracket(reading),
         TokenKind::Minus => sign(reading),
         _ => {
-            reading.operand = OperandState::Wanted;
+            put(&mut reading.operand, OperandState::Wanted);
             Ok(TokenStep::Stops)
         }
     }
@@ -181,6 +183,7 @@ fn pend(reading: &mut Reading, op: Op, joint: Joint) -> Result<TokenStep, Memory
         ≡ pending limits op reading.old.used (joint_of joint)) }
 {
     if reading.used >= MAX_OPERATORS {
+        drop(joint);
         return Ok(TokenStep::Deep);
     }
     let Joint {
@@ -192,7 +195,7 @@ fn pend(reading: &mut Reading, op: Op, joint: Joint) -> Result<TokenStep, Memory
     reading.stack = stack;
     reading.depth = depth;
     reading.used += 1;
-    reading.operand = OperandState::Wanted;
+    put(&mut reading.operand, OperandState::Wanted);
     Ok(TokenStep::Moves)
 }
 
@@ -202,7 +205,7 @@ fn give(reading: &mut Reading, stack: Vec<Waiting>, depth: u32, tree: Expr)
 {
     reading.stack = stack;
     reading.depth = depth;
-    reading.operand = OperandState::Given(tree);
+    put(&mut reading.operand, OperandState::Given(tree));
 }
 
 // What waits last stays, and the expression ends before the token.

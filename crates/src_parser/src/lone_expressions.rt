@@ -45,13 +45,24 @@ fn expression(
 {
     let mut reading = fresh(alloc, opened, used);
     for (i, token) in tokens.iter().enumerate() {
-        match read(alloc, &mut reading, &token.kind)? {
+        let Ok(step) = read(alloc, &mut reading, &token.kind) else {
+            drop(reading);
+            return Err(ParseError::Memory);
+        };
+        match step {
             TokenStep::Moves => {}
-            TokenStep::Stops => match finish(&mut reading) {
-                Some(tree) => return Ok((tree, i)),
-                None => return Err(ParseError::Unexpected(token.start)),
-            },
-            TokenStep::Deep => return Err(ParseError::TooDeep(token.start)),
+            TokenStep::Stops => {
+                let tree = finish(&mut reading);
+                drop(reading);
+                match tree {
+                    Some(tree) => return Ok((tree, i)),
+                    None => return Err(ParseError::Unexpected(token.start)),
+                }
+            }
+            TokenStep::Deep => {
+                drop(reading);
+                return Err(ParseError::TooDeep(token.start));
+            }
         }
     }
     match end(alloc, reading)? {

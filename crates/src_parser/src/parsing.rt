@@ -129,8 +129,14 @@ fn paused(alloc: Global, mut blocks: Blocks, pause: Pause) -> Result<Option<Prog
             choose(alloc, &mut blocks, guard, first)?;
             Ok(whole(blocks))
         }
-        Pause::Guarded(_form, _guard) => Ok(None),
-        Pause::Otherwise(_guard, _first) => Ok(None),
+        Pause::Guarded(_form, guard) => {
+            drop(guard);
+            Ok(None)
+        }
+        Pause::Otherwise(guard, _first) => {
+            drop(guard);
+            Ok(None)
+        }
     }
 }
 
@@ -140,7 +146,10 @@ fn settle(alloc: Global, blocks: Blocks, mode: Phase) -> Result<Option<Program>,
 {
     match mode {
         Phase::Between(pause) => paused(alloc, blocks, pause),
-        Phase::InPart(_part) => Ok(None),
+        Phase::InPart(part) => {
+            drop(part);
+            Ok(None)
+        }
     }
 }
 
@@ -154,7 +163,10 @@ fn conclude(alloc: Global, state: ParserState) -> Result<Option<Program>, Memory
             decls,
             body: Vec::new(alloc),
         })),
-        ParserState::Declaring(_decls, _heading) => Ok(None),
+        ParserState::Declaring(_decls, heading) => {
+            drop(heading);
+            Ok(None)
+        }
     }
 }
 
@@ -170,7 +182,11 @@ pub fn parse(alloc: Global, tokens: &[Token]) -> Result<Program, ParseError>
 {
     let mut state = ParserState::Between(Vec::new(alloc));
     for token in tokens {
-        match take(alloc, &mut state, &token.kind)? {
+        let Ok(advance) = take(alloc, &mut state, &token.kind) else {
+            drop(state);
+            return Err(ParseError::Memory);
+        };
+        match advance {
             Advance::Goes => {}
             Advance::Wrong => {
                 drop(state);

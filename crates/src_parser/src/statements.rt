@@ -26,6 +26,29 @@ fn add(blocks: &mut Blocks, mode: &mut Phase, statement: Stmt) -> Result<Advance
     Ok(Advance::Goes)
 }
 
+// A block ends, and its statement is behind those before it.
+fn end_block(blocks: &mut Blocks, mode: &mut Phase, outer: Outer) -> Result<Advance, Memory>
+    ensures { IfOk result (λ t. advance_of t (doing blocks.new (mode_of mode.new))
+        ≡ leaving blocks.old.decls.items (outer_of outer ∷ outers_of blocks.old.outer.items)
+        (statements_seen blocks.old.here.items)) }
+{
+    match outer {
+        Outer::InFirst(guard, before) => {
+            let first = mem::replace(&mut blocks.here, before);
+            put(mode, Phase::Between(Pause::MayElse(guard, first)));
+            Ok(Advance::Goes)
+        }
+        Outer::InSecond(guard, first, before) => {
+            let second = mem::replace(&mut blocks.here, before);
+            add(blocks, mode, Stmt::If(guard, first, second))
+        }
+        Outer::InLoop(guard, before) => {
+            let body = mem::replace(&mut blocks.here, before);
+            add(blocks, mode, Stmt::While(guard, body))
+        }
+    }
+}
+
 // A closing brace.
 fn leave(blocks: &mut Blocks, mode: &mut Phase) -> Result<Advance, Memory>
     ensures { IfOk result (λ t. advance_of t (doing blocks.new (mode_of mode.new))
@@ -33,19 +56,7 @@ fn leave(blocks: &mut Blocks, mode: &mut Phase) -> Result<Advance, Memory>
 {
     match blocks.outer.pop() {
         None => Ok(Advance::Wrong),
-        Some(Outer::InFirst(guard, before)) => {
-            let first = mem::replace(&mut blocks.here, before);
-            put(mode, Phase::Between(Pause::MayElse(guard, first)));
-            Ok(Advance::Goes)
-        }
-        Some(Outer::InSecond(guard, first, before)) => {
-            let second = mem::replace(&mut blocks.here, before);
-            add(blocks, mode, Stmt::If(guard, first, second))
-        }
-        Some(Outer::InLoop(guard, before)) => {
-            let body = mem::replace(&mut blocks.here, before);
-            add(blocks, mode, Stmt::While(guard, body))
-        }
+        Some(outer) => end_block(blocks, mode, outer),
     }
 }
 
@@ -156,6 +167,7 @@ fn nest(
         (Doing blocks.old.decls.items (outer_of next ∷ outers_of blocks.old.outer.items) [] Ready)) }
 {
     if blocks.outer.len() >= MAX_BRACES {
+        drop(next);
         return Ok(Advance::TooMuch);
     }
     blocks.outer.push(next)?;
@@ -185,7 +197,10 @@ fn enter(
                 Form::Loop => nest(alloc, blocks, mode, Outer::InLoop(guard, before)),
             }
         }
-        _ => Ok(Advance::Wrong),
+        _ => {
+            drop(guard);
+            Ok(Advance::Wrong)
+        }
     }
 }
 
@@ -207,7 +222,10 @@ fn other(
             let before = mem::replace(&mut blocks.here, Vec::new(alloc));
             nest(alloc, blocks, mode, Outer::InSecond(guard, first, before))
         }
-        _ => Ok(Advance::Wrong),
+        _ => {
+            drop(guard);
+            Ok(Advance::Wrong)
+        }
     }
 }
 

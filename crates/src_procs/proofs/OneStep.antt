@@ -8,7 +8,7 @@ use Rattle.src_tree.specs.Trees.{Tree, Test}
 use Rattle.src_procs.specs.Trees.{Statement, SetVariable, SetElement, Choice, Loop, Call, Block, Nothing, Then, Procedure}
 use Rattle.src_procs.specs.Frames.{naming_all, new_values, new_labels}
 use Rattle.src_procs.specs.Inlined.{Renaming, renamed, renamed_test, Inlined, blocks_joined, both, inlined, inlined_all, inlines_of, inlined_call, assigned, new_name, no_name}
-use Rattle.src_procs.specs.Expanding.{Scope, Held, Found, found, statements_of, put, opened, closed_choice, end_choice, end_loop, with_made, expanded_one, expanded, returned, begun, with_scope, Pending, finished}
+use Rattle.src_procs.specs.Expanding.{Scope, Held, Found, found, statements_of, put, opened, closed_choice, end_choice, end_loop, with_made, expanded_one, expanded, returned, begun, with_scope, Pending, Rest, Open, EndChoice, EndLoop, finished}
 
 pub block_again : (b : plain.Block) → plain.block_of (statements_of b) ≡ b
 block_again plain.Nothing = refl
@@ -216,22 +216,32 @@ some_expanded name arguments scope x f e =
     sym (call_expanded name arguments f.procedure f.earlier scope.callable scope.names x.scopes x.open_blocks x.labels
     (inlines_found scope.callable name f e scope.names arguments (length x.labels)))
 
--- a choice, by its guard in the program and by what is held when its first part begins
-pub choice_so : (t made : Test) (a b : Block) (scope : Scope) (x y : Held) (waiting : List Pending)
-    → made ≡ renamed_test scope.names t → y ≡ with_scope scope x
-    → finished waiting (end_choice made (expanded b (opened (expanded a (opened y)))))
+-- a choice, by its guard in the program, by what is held when its first part begins, and by what waits then
+pub choice_so : (t made : Test) (a b : Block) (scope : Scope) (x y : Held) (blocks : List (List plain.Statement))
+    (waiting next : List Pending)
+    → made ≡ renamed_test scope.names t → y ≡ with_scope scope x → blocks ≡ [] ∷ y.open_blocks
+    → next ≡ Rest a ∷ Open ∷ Rest b ∷ EndChoice made ∷ waiting
+    → finished next (record y { open_blocks = blocks })
     ≡ finished waiting (expanded_one (Choice t a b) (with_scope scope x))
-choice_so t made a b scope x y waiting is same =
-    ap (λ m. finished waiting (end_choice m (expanded b (opened (expanded a (opened y)))))) is
+choice_so t made a b scope x y blocks waiting next is same opens waits =
+    ap (λ ps. finished ps (record y { open_blocks = blocks })) waits
+    ∙ (ap (λ (bs : List (List plain.Statement)). finished waiting (end_choice made (expanded b (opened
+    (expanded a (record y { open_blocks = bs })))))) opens
+    ∙ (ap (λ m. finished waiting (end_choice m (expanded b (opened (expanded a (opened y)))))) is
     ∙ (ap (λ h. finished waiting (end_choice (renamed_test scope.names t)
     (expanded b (opened (expanded a (opened h)))))) same
-    ∙ ap (finished waiting) (sym (choice_expanded t a b scope x.scopes x.open_blocks x.labels)))
+    ∙ ap (finished waiting) (sym (choice_expanded t a b scope x.scopes x.open_blocks x.labels)))))
 
-pub loop_so : (t made : Test) (a : Block) (scope : Scope) (x y : Held) (waiting : List Pending)
-    → made ≡ renamed_test scope.names t → y ≡ with_scope scope x
-    → finished waiting (end_loop made (expanded a (opened y)))
+pub loop_so : (t made : Test) (a : Block) (scope : Scope) (x y : Held) (blocks : List (List plain.Statement))
+    (waiting next : List Pending)
+    → made ≡ renamed_test scope.names t → y ≡ with_scope scope x → blocks ≡ [] ∷ y.open_blocks
+    → next ≡ Rest a ∷ EndLoop made ∷ waiting
+    → finished next (record y { open_blocks = blocks })
     ≡ finished waiting (expanded_one (Loop t a) (with_scope scope x))
-loop_so t made a scope x y waiting is same =
-    ap (λ m. finished waiting (end_loop m (expanded a (opened y)))) is
+loop_so t made a scope x y blocks waiting next is same opens waits =
+    ap (λ ps. finished ps (record y { open_blocks = blocks })) waits
+    ∙ (ap (λ (bs : List (List plain.Statement)). finished waiting (end_loop made
+    (expanded a (record y { open_blocks = bs })))) opens
+    ∙ (ap (λ m. finished waiting (end_loop m (expanded a (opened y)))) is
     ∙ (ap (λ h. finished waiting (end_loop (renamed_test scope.names t) (expanded a (opened h)))) same
-    ∙ ap (finished waiting) (sym (loop_expanded t a scope x.scopes x.open_blocks x.labels)))
+    ∙ ap (finished waiting) (sym (loop_expanded t a scope x.scopes x.open_blocks x.labels)))))

@@ -142,13 +142,18 @@ pub record Binding : Type 0 where
   pub open_blocks : List (List plain.Statement)
   pub labels : List Label
 
--- a new variable of a value
-abbrev pub with_new : Binding → Label → List ℕ → Tree → Binding
-with_new b label name value = record {
-  bound = b.bound ++ (name, new_name (length b.labels)) ∷ [];
-  open_blocks = put (plain.SetVariable (new_name (length b.labels)) value ∷ []) b.open_blocks;
+-- a new variable that a name stands for, with a statement that assigns to it
+abbrev pub with_variable : Binding → Label → List ℕ → List ℕ → plain.Statement → Binding
+with_variable b label name stands s = record {
+  bound = b.bound ++ (name, stands) ∷ [];
+  open_blocks = put (s ∷ []) b.open_blocks;
   labels = b.labels ++ label ∷ [];
 }
+
+-- a new variable of a value
+abbrev pub with_new : Binding → Label → List ℕ → Tree → Binding
+with_new b label name value =
+    with_variable b label name (new_name (length b.labels)) (plain.SetVariable (new_name (length b.labels)) value)
 
 abbrev pub with_alias : Binding → List ℕ → List ℕ → Binding
 with_alias b name other = record b { bound = b.bound ++ (name, other) ∷ [] }

@@ -15,7 +15,7 @@ use Rattle.src_procs.specs.declared.scopes.Scope as scopes
 use Rattle.src_procs.specs.declared.expanding.Pending as pendings
 use Rattle.src_procs.specs.declared.expanding.Pending.TheVariants as pending
 use Rattle.src_procs.specs.declared.expanding.Held as helds
-use Rattle.src_procs.specs.declared.binding.Binding as bindings
+use Rattle.src_procs.specs.declared.expanding.Made as mades
 use Rattle.src_procs.specs.declared.live.Live.{Live}
 use Rattle.src_procs.specs.declared.live.Live.TheOpen.{Live-F}
 use Rattle.src_procs.specs.declared.live.Live.TheOpen as open_live
@@ -55,8 +55,8 @@ blocks_of open_blocks = reverse (map statements_seen open_blocks)
 abbrev pub held_of : List Proc → helds.Held → Held
 held_of procs x = record {
   scopes = scopes_of procs x.scopes.items;
-  open_blocks = blocks_of x.open_blocks.items;
-  labels = x.labels.items;
+  open_blocks = blocks_of x.made.open_blocks.items;
+  labels = x.made.labels.items;
 }
 
 -- arguments that are held by reference
@@ -90,17 +90,12 @@ pending_of (pending.EndLoop guard) = EndLoop (test_of guard)
 abbrev pub pending_all : List pendings.Pending → List Pending
 pending_all waiting = reverse (map pending_of waiting)
 
-abbrev pub binding_of : bindings.Binding → Binding
-binding_of b = record {
-  bound = map bound_pair b.bounds.items;
-  open_blocks = blocks_of b.open_blocks.items;
-  labels = b.labels.items;
+abbrev pub binding_of : List bounds.Bound → mades.Made → Binding
+binding_of bs m = record {
+  bound = map bound_pair bs;
+  open_blocks = blocks_of m.open_blocks.items;
+  labels = m.labels.items;
 }
-
--- one whose statements, if it has any, are left out
-abbrev pub ending : pendings.Pending → Pending
-ending (pending.Rest left) = Rest Nothing
-ending p = pending_of p
 
 abbrev pub no_procedure : Procedure
 no_procedure = record { name = []; parameters = []; locals = []; body = Nothing }

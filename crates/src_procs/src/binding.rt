@@ -1,28 +1,20 @@
-ghost use Rattle.std.specs.Prelude.{◌≡◌, IfOk, pos, map};
-ghost use Rattle.src_tree.specs.Trees.{expr_tree, Number};
+ghost use Rattle.std.specs.Prelude.{◌≡◌, ◌++◌, ◌∷◌, [], IfOk, OnOk, pos, map};
+ghost use Rattle.src_tree.specs.Trees.{expr_tree, statement_of, Number, SetVariable};
 ghost use Rattle.src_procs.specs.Expanding as spec;
 ghost use Rattle.src_procs.specs.Frames.{named_by};
 ghost use Rattle.src_procs.specs.Inlined as inlined;
-ghost use Rattle.src_procs.specs.Inlined.{no_name};
-ghost use Rattle.src_procs.specs.Seen.{parameter_of};
-ghost use Rattle.src_procs.specs.Views.{binding_of, names_of, trees_seen};
+ghost use Rattle.src_procs.specs.Inlined.{no_name, renamed};
+ghost use Rattle.src_procs.specs.Seen.{parameter_of, procedure_of};
+ghost use Rattle.src_procs.specs.Views.{binding_of, bound_pair, names_of, trees_seen};
 
-use crate::expanding::put_statement;
+use crate::expanding::{Made, put_statement};
 use crate::scopes::{Bound, Naming, new_name_of, no_name, renamed};
-use crate::trees::Param;
+use crate::trees::{Param, Proc};
 use gr_base::Memory;
 use gr_word::{Label, Name};
 use itoa::Buffer;
 use src_tree::{Decl, Expr, Stmt};
 use std::alloc::Global;
-
-// A call's names so far, the open blocks with its assignments, and the labels of the new variables.
-#[derive(Drop)]
-pub(crate) struct Binding<'a> {
-    pub bounds: Vec<Bound<'a>>,
-    pub open_blocks: Vec<Vec<Stmt>>,
-    pub labels: Vec<Label>,
-}
 
 // The bytes of the name of new variable number `n`.
 fn new_bytes(alloc: Global, n: u64) -> Result<Vec<u8>, Memory>
@@ -44,34 +36,40 @@ pub(crate) fn new_name(alloc: Global, n: u64) -> Result<Name, Memory>
     Name::new(alloc, bytes.as_slice())
 }
 
-// A new variable of a value.
+// A new variable, with the name that it stands for and the assignment of its value.
 fn with_new<'a>(
-    alloc: Global,
-    b: Binding<'a>,
+    made: &mut Made,
+    bounds: &mut Vec<Bound<'a>>,
     label: Label,
     name: &'a Name,
-    value: Expr,
-) -> Result<Binding<'a>, Memory>
-    ensures { IfOk result (λ r. binding_of r ≡ spec.with_new (binding_of b.entry) label name.now (expr_tree value)) }
+    stands: Name,
+    assigned: Stmt,
+) -> Result<(), Memory>
+    ensures { OnOk result (binding_of bounds.new.items made.new
+        ≡ spec.with_variable (binding_of bounds.old.items made.old) label name.now stands (statement_of assigned)) }
 {
-    let Binding {
-        mut bounds,
-        open_blocks,
-        mut labels,
-    } = b;
-    let stands = new_name(alloc, labels.len() as u64)?;
-    let target = stands.copy(alloc)?;
-    let open_blocks = put_statement(open_blocks, Stmt::Set(target, value))?;
-    labels.push(label)?;
+    put_statement(&mut made.open_blocks, assigned)?;
+    made.labels.push(label)?;
     bounds.push(Bound {
         name: name.bytes(),
         stands,
     })?;
-    Ok(Binding {
-        bounds,
-        open_blocks,
-        labels,
-    })
+    Ok(())
+}
+
+// The assignment of an argument to a new variable.
+fn new_assignment(
+    alloc: Global,
+    caller: &Naming<'_>,
+    stands: &Name,
+    argument: &Expr,
+) -> Result<Stmt, Memory>
+    ensures { IfOk result (λ s. statement_of s
+        ≡ SetVariable stands.now (renamed (names_of caller.now) (expr_tree argument.now))) }
+{
+    let target = stands.copy(alloc)?;
+    let value = renamed(alloc, caller, argument)?;
+    Ok(Stmt::Set(target, value))
 }
 
 // What an argument names for the caller.
@@ -86,79 +84,103 @@ fn alias(alloc: Global, caller: &Naming<'_>, e: &Expr) -> Result<Name, Memory>
     }
 }
 
-fn with_alias<'a>(b: Binding<'a>, name: &'a Name, other: Name) -> Result<Binding<'a>, Memory>
-    ensures { IfOk result (λ r. binding_of r ≡ spec.with_alias (binding_of b.entry) name.now other) }
+// A name that stands for another of the caller.
+fn with_alias<'a>(bounds: &mut Vec<Bound<'a>>, name: &'a Name, other: Name) -> Result<(), Memory>
+    ensures { OnOk result (map bound_pair bounds.new.items
+        ≡ map bound_pair bounds.old.items ++ (name.now, other) ∷ []) }
 {
-    let Binding {
-        mut bounds,
-        open_blocks,
-        labels,
-    } = b;
     bounds.push(Bound {
         name: name.bytes(),
         stands: other,
     })?;
-    Ok(Binding {
-        bounds,
-        open_blocks,
-        labels,
-    })
+    Ok(())
 }
 
 // A parameter with its argument.
 fn with_parameter<'a>(
     alloc: Global,
     caller: &Naming<'_>,
-    b: Binding<'a>,
+    made: &mut Made,
+    bounds: &mut Vec<Bound<'a>>,
     param: &'a Param,
     argument: &Expr,
-) -> Result<Binding<'a>, Memory>
-    ensures { IfOk result (λ r. binding_of r
-        ≡ spec.with_parameter (names_of caller.now) (binding_of b.entry) (parameter_of param.now) (expr_tree argument.now)) }
+) -> Result<(), Memory>
+    ensures { OnOk result (binding_of bounds.new.items made.new
+        ≡ spec.with_parameter (names_of caller.now) (binding_of bounds.old.items made.old) (parameter_of param.now)
+        (expr_tree argument.now)) }
 {
     match param {
         Param::Scalar(label, name) => {
-            let value = renamed(alloc, caller, argument)?;
-            with_new(alloc, b, *label, name, value)
+            let stands = new_name(alloc, made.labels.len() as u64)?;
+            let assigned = new_assignment(alloc, caller, &stands, argument)?;
+            with_new(made, bounds, *label, name, stands, assigned)
         }
         Param::Array(name) => {
             let other = alias(alloc, caller, argument)?;
-            with_alias(b, name, other)
+            with_alias(bounds, name, other)
         }
     }
 }
 
-pub(crate) fn with_parameters<'a>(
+fn with_parameters<'a>(
     alloc: Global,
     caller: &Naming<'_>,
-    b: Binding<'a>,
+    made: &mut Made,
+    bounds: &mut Vec<Bound<'a>>,
     params: &'a [Param],
     arguments: &[&Expr],
-) -> Result<Binding<'a>, Memory>
-    ensures { IfOk result (λ r. binding_of r
-        ≡ spec.with_parameters (names_of caller.now) (binding_of b.entry) (map parameter_of params.now)
+) -> Result<(), Memory>
+    ensures { OnOk result (binding_of bounds.new.items made.new
+        ≡ spec.with_parameters (names_of caller.now) (binding_of bounds.old.items made.old) (map parameter_of params.now)
         (trees_seen arguments.now)) }
 {
-    let mut b = b;
     for (i, param) in params.iter().enumerate() {
         if i >= arguments.len() {
-            return Ok(b);
+            return Ok(());
         }
-        b = with_parameter(alloc, caller, b, param, arguments[i])?;
+        with_parameter(alloc, caller, made, bounds, param, arguments[i])?;
     }
-    Ok(b)
+    Ok(())
 }
 
-pub(crate) fn with_locals<'a>(
+fn with_locals<'a>(
     alloc: Global,
-    b: Binding<'a>,
+    made: &mut Made,
+    bounds: &mut Vec<Bound<'a>>,
     locals: &'a [Decl],
-) -> Result<Binding<'a>, Memory>
-    ensures { IfOk result (λ r. binding_of r ≡ spec.with_locals (binding_of b.entry) locals.now) }
+) -> Result<(), Memory>
+    ensures { OnOk result (binding_of bounds.new.items made.new
+        ≡ spec.with_locals (binding_of bounds.old.items made.old) locals.now) }
 {
-    let mut b = b;
     for local in locals {
-        b = with_new(alloc, b, local.label, &local.name, Expr::Num(0))?;
+        let stands = new_name(alloc, made.labels.len() as u64)?;
+        let zero = Stmt::Set(stands.copy(alloc)?, Expr::Num(0));
+        with_new(made, bounds, local.label, &local.name, stands, zero)?;
     }
-    Ok(b)
+    Ok(())
+}
+
+// The names of a procedure for a call of it, with the assignments to its new variables.
+pub(crate) fn bound_names<'a>(
+    alloc: Global,
+    caller: &Naming<'_>,
+    made: &mut Made,
+    p: &'a Proc,
+    arguments: &[&Expr],
+) -> Result<Vec<Bound<'a>>, Memory>
+    ensures { IfOk result (λ bounds. binding_of bounds.items made.new
+        ≡ spec.with_locals (spec.with_parameters (names_of caller.now) (binding_of [] made.old)
+        (procedure_of p.now).parameters (trees_seen arguments.now)) (procedure_of p.now).locals) }
+{
+    let mut bounds = Vec::new(alloc);
+    with_parameters(
+        alloc,
+        caller,
+        made,
+        &mut bounds,
+        p.params.as_slice(),
+        arguments,
+    )?;
+    with_locals(alloc, made, &mut bounds, p.locals.as_slice())?;
+    Ok(bounds)
 }

@@ -1,12 +1,10 @@
-ghost use Rattle.std.specs.Prelude.{◌≡◌, ◌<◌, ◌≤◌, ◌∷◌, [], IfOk, IfSome, length, map, option_map, reverse, take};
+ghost use Rattle.std.specs.Prelude.{◌≡◌, ◌∷◌, [], IfOk, OnOk, map, option_map, reverse};
 ghost use Rattle.src_tree.specs.Trees.{test_of, statement_of};
-ghost use Rattle.src_procs.specs.Expanding.{closed_choice, closed_loop, end_choice, end_loop, expanded, finished, found, opened, plain_statement, put};
-ghost use Rattle.src_procs.specs.Seen.{procedure_of};
-ghost use Rattle.src_procs.specs.Views.{blocks_of, ending, found_at, held_of, live_block, live_of, names_of, pending_all};
+ghost use Rattle.src_procs.specs.Expanding.{EndChoice, EndLoop, Open, Rest, Return, closed_choice, closed_loop, plain_statement, put};
+ghost use Rattle.src_procs.specs.Views.{blocks_of, live_block, live_of, names_of, pending_all};
 
 use crate::live::Live;
 use crate::scopes::{Naming, Scope, new_name_of, renamed};
-use crate::trees::Proc;
 use gr_base::Memory;
 use gr_word::Label;
 use src_tree::{Guard, Stmt};
@@ -29,13 +27,19 @@ pub(crate) enum Pending<'b, 'a> {
     EndLoop(Guard),
 }
 
-// What was made so far: the scopes, the last behind the others; the statements of the open blocks, the innermost behind
-// the others; and the labels of the new variables.
+// What was made so far: the statements of the open blocks, the innermost behind the others, and the labels of the new
+// variables.
+#[derive(Drop)]
+pub(crate) struct Made {
+    pub open_blocks: Vec<Vec<Stmt>>,
+    pub labels: Vec<Label>,
+}
+
+// The scopes, the last behind the others, and what was made so far.
 #[derive(Drop)]
 pub(crate) struct Held<'a> {
     pub scopes: Vec<Scope<'a>>,
-    pub open_blocks: Vec<Vec<Stmt>>,
-    pub labels: Vec<Label>,
+    pub made: Made,
 }
 
 // What was made, and a stack of what is still to be done, with the next on top.
@@ -45,58 +49,65 @@ pub(crate) struct Work<'b, 'a> {
     pub held: Held<'a>,
 }
 
-// One statement more in the innermost open block.
-pub(crate) fn put_statement(
-    mut open_blocks: Vec<Vec<Stmt>>,
-    s: Stmt,
-) -> Result<Vec<Vec<Stmt>>, Memory>
-    ensures { IfOk result (λ o. blocks_of o.items ≡ put (statement_of s ∷ []) (blocks_of open_blocks.items)) }
+// One statement more in the innermost open block. What isn't used is dropped by a call, here and below: where a
+// statement, a guard or an expression is dropped in line, all that it may hold is proved there.
+pub(crate) fn put_statement(open_blocks: &mut Vec<Vec<Stmt>>, s: Stmt) -> Result<(), Memory>
+    ensures { OnOk result (blocks_of open_blocks.new.items
+        ≡ put (statement_of s ∷ []) (blocks_of open_blocks.old.items)) }
 {
     match open_blocks.pop() {
-        None => Ok(open_blocks),
+        None => {
+            drop(s);
+            Ok(())
+        }
         Some(mut here) => {
             here.push(s)?;
             open_blocks.push(here)?;
-            Ok(open_blocks)
+            Ok(())
         }
     }
 }
 
-fn close_choice(mut open_blocks: Vec<Vec<Stmt>>, guard: Guard) -> Result<Vec<Vec<Stmt>>, Memory>
-    ensures { IfOk result (λ o. blocks_of o.items ≡ closed_choice (test_of guard) (blocks_of open_blocks.items)) }
+// A choice ends with its second block.
+pub(crate) fn close_choice(open_blocks: &mut Vec<Vec<Stmt>>, guard: Guard) -> Result<(), Memory>
+    ensures { OnOk result (blocks_of open_blocks.new.items
+        ≡ closed_choice (test_of guard) (blocks_of open_blocks.old.items)) }
 {
     match open_blocks.pop() {
-        None => Ok(open_blocks),
+        None => {
+            drop(guard);
+            Ok(())
+        }
         Some(second) => match open_blocks.pop() {
-            None => Ok(open_blocks),
+            None => {
+                drop(guard);
+                Ok(())
+            }
             Some(first) => put_statement(open_blocks, Stmt::If(guard, first, second)),
         },
     }
 }
 
-fn close_loop(mut open_blocks: Vec<Vec<Stmt>>, guard: Guard) -> Result<Vec<Vec<Stmt>>, Memory>
-    ensures { IfOk result (λ o. blocks_of o.items ≡ closed_loop (test_of guard) (blocks_of open_blocks.items)) }
+// A loop ends with its body.
+pub(crate) fn close_loop(open_blocks: &mut Vec<Vec<Stmt>>, guard: Guard) -> Result<(), Memory>
+    ensures { OnOk result (blocks_of open_blocks.new.items
+        ≡ closed_loop (test_of guard) (blocks_of open_blocks.old.items)) }
 {
     match open_blocks.pop() {
-        None => Ok(open_blocks),
+        None => {
+            drop(guard);
+            Ok(())
+        }
         Some(body) => put_statement(open_blocks, Stmt::While(guard, body)),
     }
 }
 
-fn open_block<'a>(alloc: Global, procs: &'a [Proc], held: Held<'a>) -> Result<Held<'a>, Memory>
-    ensures { IfOk result (λ h. held_of procs.now h ≡ opened (held_of procs.now held.entry)) }
+// A block opens.
+pub(crate) fn open_block(alloc: Global, open_blocks: &mut Vec<Vec<Stmt>>) -> Result<(), Memory>
+    ensures { OnOk result (blocks_of open_blocks.new.items ≡ [] ∷ blocks_of open_blocks.old.items) }
 {
-    let Held {
-        scopes,
-        mut open_blocks,
-        labels,
-    } = held;
     open_blocks.push(Vec::new(alloc))?;
-    Ok(Held {
-        scopes,
-        open_blocks,
-        labels,
-    })
+    Ok(())
 }
 
 // The statement of the program for an assignment.
@@ -116,8 +127,13 @@ pub(crate) fn assignment(
         Live::Put(name, index, value) => {
             let name = new_name_of(alloc, names, *name)?;
             let index = renamed(alloc, names, *index)?;
-            let value = renamed(alloc, names, *value)?;
-            Ok(Some(Stmt::Put(name, index, value)))
+            match renamed(alloc, names, *value) {
+                Ok(value) => Ok(Some(Stmt::Put(name, index, value))),
+                Err(error) => {
+                    drop(index);
+                    Err(error)
+                }
+            }
         }
         Live::If(_, _, _) => Ok(None),
         Live::While(_, _) => Ok(None),
@@ -125,112 +141,59 @@ pub(crate) fn assignment(
     }
 }
 
-// What was made, once a block opens or ends, or the caller's names count again.
-pub(crate) fn end<'b, 'a>(
-    alloc: Global,
-    procs: &'a [Proc],
-    waiting: Vec<Pending<'b, 'a>>,
-    next: Pending<'b, 'a>,
-    held: Held<'a>,
-) -> Result<Work<'b, 'a>, Memory>
-    ensures { IfOk result (λ w. finished (pending_all w.waiting.items) (held_of procs.now w.held)
-        ≡ finished (ending next.entry ∷ pending_all waiting.entry.items) (held_of procs.now held.entry)) }
+// The statements behind one are to be done.
+pub(crate) fn waits_for<'b, 'a>(
+    waiting: &mut Vec<Pending<'b, 'a>>,
+    others: &'b [Live<'a>],
+) -> Result<(), Memory>
+    ensures { OnOk result (pending_all waiting.new.items
+        ≡ Rest (live_block others.now) ∷ pending_all waiting.old.items) }
 {
-    match next {
-        Pending::Rest(_left) => Ok(Work { waiting, held }),
-        Pending::Return => {
-            let Held {
-                mut scopes,
-                open_blocks,
-                labels,
-            } = held;
-            let _scope = scopes.pop();
-            Ok(Work {
-                waiting,
-                held: Held {
-                    scopes,
-                    open_blocks,
-                    labels,
-                },
-            })
-        }
-        Pending::Open => {
-            let held = open_block(alloc, procs, held)?;
-            Ok(Work { waiting, held })
-        }
-        Pending::EndChoice(guard) => {
-            let Held {
-                scopes,
-                open_blocks,
-                labels,
-            } = held;
-            let open_blocks = close_choice(open_blocks, guard)?;
-            Ok(Work {
-                waiting,
-                held: Held {
-                    scopes,
-                    open_blocks,
-                    labels,
-                },
-            })
-        }
-        Pending::EndLoop(guard) => {
-            let Held {
-                scopes,
-                open_blocks,
-                labels,
-            } = held;
-            let open_blocks = close_loop(open_blocks, guard)?;
-            Ok(Work {
-                waiting,
-                held: Held {
-                    scopes,
-                    open_blocks,
-                    labels,
-                },
-            })
-        }
-    }
+    waiting.push(Pending::Rest(Left { statements: others }))?;
+    Ok(())
 }
 
-// The first part of a choice begins.
-pub(crate) fn begin_choice<'b, 'a>(
-    alloc: Global,
-    procs: &'a [Proc],
-    mut waiting: Vec<Pending<'b, 'a>>,
+// The statements of a procedure are to be done, and then the caller's names count again.
+pub(crate) fn waits_for_call<'b, 'a>(
+    waiting: &mut Vec<Pending<'b, 'a>>,
+    body: &'b [Live<'a>],
+) -> Result<(), Memory>
+    ensures { OnOk result (pending_all waiting.new.items
+        ≡ Rest (live_block body.now) ∷ Return ∷ pending_all waiting.old.items) }
+{
+    waiting.push(Pending::Return)?;
+    waiting.push(Pending::Rest(Left { statements: body }))?;
+    Ok(())
+}
+
+// The blocks of a choice are to be done, the second in a block that opens behind the first.
+pub(crate) fn waits_for_choice<'b, 'a>(
+    waiting: &mut Vec<Pending<'b, 'a>>,
     guard: Guard,
     first: &'b [Live<'a>],
     second: &'b [Live<'a>],
-    held: Held<'a>,
-) -> Result<Work<'b, 'a>, Memory>
-    ensures { IfOk result (λ w. finished (pending_all w.waiting.items) (held_of procs.now w.held)
-        ≡ finished (pending_all waiting.entry.items) (end_choice (test_of guard)
-        (expanded (live_block second.now)
-        (opened (expanded (live_block first.now) (opened (held_of procs.now held.entry))))))) }
+) -> Result<(), Memory>
+    ensures { OnOk result (pending_all waiting.new.items
+        ≡ Rest (live_block first.now) ∷ Open ∷ Rest (live_block second.now) ∷ EndChoice (test_of guard)
+        ∷ pending_all waiting.old.items) }
 {
     waiting.push(Pending::EndChoice(guard))?;
     waiting.push(Pending::Rest(Left { statements: second }))?;
     waiting.push(Pending::Open)?;
     waiting.push(Pending::Rest(Left { statements: first }))?;
-    let held = open_block(alloc, procs, held)?;
-    Ok(Work { waiting, held })
+    Ok(())
 }
 
-// The body of a loop begins.
-pub(crate) fn begin_loop<'b, 'a>(
-    alloc: Global,
-    procs: &'a [Proc],
-    mut waiting: Vec<Pending<'b, 'a>>,
+// The body of a loop is to be done.
+pub(crate) fn waits_for_loop<'b, 'a>(
+    waiting: &mut Vec<Pending<'b, 'a>>,
     guard: Guard,
     body: &'b [Live<'a>],
-    held: Held<'a>,
-) -> Result<Work<'b, 'a>, Memory>
-    ensures { IfOk result (λ w. finished (pending_all w.waiting.items) (held_of procs.now w.held)
-        ≡ finished (pending_all waiting.entry.items)
-        (end_loop (test_of guard) (expanded (live_block body.now) (opened (held_of procs.now held.entry))))) }
+) -> Result<(), Memory>
+    ensures { OnOk result (pending_all waiting.new.items
+        ≡ Rest (live_block body.now) ∷ EndLoop (test_of guard) ∷ pending_all waiting.old.items) }
 {
     waiting.push(Pending::EndLoop(guard))?;
     waiting.push(Pending::Rest(Left { statements: body }))?;
-    let held = open_block(alloc, procs, held)?;
-    Ok(Work { waiting, held })
+    Ok(())
 }

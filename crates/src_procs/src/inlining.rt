@@ -14,7 +14,7 @@ ghost use Rattle.src_procs.specs.Views.{bare_file, blocks_of, bodies_of, held_of
 use crate::binding::new_name;
 use crate::call_faults::walk_file;
 use crate::errors::InlineError;
-use crate::expanding::{Held, Left, Pending, Work};
+use crate::expanding::{Held, Left, Made, Pending, Work};
 use crate::finding::numbers_of;
 use crate::live::{Live, live_bodies, live_statements};
 use crate::own_names::{Numbers, procedures_fault};
@@ -123,8 +123,10 @@ fn start<'b, 'a>(
         waiting,
         held: Held {
             scopes,
-            open_blocks,
-            labels: Vec::new(alloc),
+            made: Made {
+                open_blocks,
+                labels: Vec::new(alloc),
+            },
         },
     })
 }
@@ -143,8 +145,12 @@ fn expanded_live<'b, 'a>(
     ensures { IfOk result (λ h. held_of procs.now h
         ≡ expanded (live_block body.now) (held_start (map procedure_of procs.now))) }
 {
-    let start = start(alloc, procs, body)?;
-    expand(alloc, procs, numbers, bodies, start)
+    let Work {
+        mut waiting,
+        mut held,
+    } = start(alloc, procs, body)?;
+    expand(alloc, procs, numbers, bodies, &mut waiting, &mut held)?;
+    Ok(held)
 }
 
 // What is held once no call is left.
@@ -188,11 +194,12 @@ fn finish<'a>(
         ≡ with_made (held_start (map procedure_of procs.now)) (inlined_body (bare_file procs.now body.now)) }
     ensures { IfOk result (λ p. source_of p ≡ inlined_file (record (bare_file procs.now body.now) { decls = decls.now })) }
 {
-    let Held {
-        scopes: _scopes,
+    let Held { scopes, made } = held;
+    drop(scopes);
+    let Made {
         open_blocks,
         labels,
-    } = held;
+    } = made;
     let decls = with_added(alloc, decls, labels.as_slice())?;
     let body = innermost(alloc, open_blocks);
     Ok(Program { decls, body })

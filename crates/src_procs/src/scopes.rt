@@ -85,13 +85,13 @@ pub(crate) fn renamed(alloc: Global, names: &Naming<'_>, e: &Expr) -> Result<Exp
         Expr::Var(name) => Ok(Expr::Var(new_name_of(alloc, names, name)?)),
         Expr::Item(name, index) => {
             let name = new_name_of(alloc, names, name)?;
-            let index = renamed(alloc, names, index)?;
-            Ok(Expr::Item(name, Box::new(alloc, index)?))
+            let index = Box::new(alloc, renamed(alloc, names, index)?)?;
+            Ok(Expr::Item(name, index))
         }
         Expr::Bin(op, left, right) => {
-            let left = renamed(alloc, names, left)?;
-            let right = renamed(alloc, names, right)?;
-            Ok(Expr::Bin(*op, Box::new(alloc, left)?, Box::new(alloc, right)?))
+            let left = Box::new(alloc, renamed(alloc, names, left)?)?;
+            let right = Box::new(alloc, renamed(alloc, names, right)?)?;
+            Ok(Expr::Bin(*op, left, right))
         }
     }
 }
@@ -104,10 +104,15 @@ pub(crate) fn renamed_guard(
     ensures { IfOk result (λ g. test_of g ≡ renamed_test (names_of names.now) (test_of guard.now)) }
 {
     let left = renamed(alloc, names, &guard.left)?;
-    let right = renamed(alloc, names, &guard.right)?;
-    Ok(Guard {
-        cmp: guard.cmp,
-        left,
-        right,
-    })
+    match renamed(alloc, names, &guard.right) {
+        Ok(right) => Ok(Guard {
+            cmp: guard.cmp,
+            left,
+            right,
+        }),
+        Err(error) => {
+            drop(left);
+            Err(error)
+        }
+    }
 }

@@ -1,4 +1,4 @@
-ghost use Rattle.std.specs.Prelude.{◌≡◌, ◌<◌, ◌≤◌, ◌∷◌, [], IfErr, IfOk, IfSome, length, map, reverse, slice_index_or, take};
+ghost use Rattle.std.specs.Prelude.{◌≡◌, ◌<◌, ◌≤◌, ◌∷◌, [], IfNone, IfSome, OnOk, length, map, reverse, slice_index_or, take};
 ghost use Rattle.gr_base.specs.NameMaps.{found_under};
 ghost use Rattle.src_tree.specs.Trees.{test_of};
 ghost use Rattle.src_procs.specs.Expanding.{Rest, Return, assigned_one, begun, expanded, expanded_one, finished, found, with_scope};
@@ -8,9 +8,10 @@ ghost use Rattle.src_procs.specs.Seen.{procedure_of};
 ghost use Rattle.src_procs.specs.Trees.{Block, Call, Choice, Loop, Then};
 ghost use Rattle.src_procs.specs.Views.{bodies_of, found_at, held_of, live_block, live_of, names_of, no_procedure, pending_all, pending_of, scope_of, trees_seen};
 
-use crate::binding::{Binding, with_locals, with_parameters};
+use crate::binding::bound_names;
 use crate::expanding::{
-    Held, Left, Pending, Work, assignment, begin_choice, begin_loop, end, put_statement,
+    Held, Pending, assignment, close_choice, close_loop, open_block, put_statement, waits_for,
+    waits_for_call, waits_for_choice, waits_for_loop,
 };
 use crate::finding::called;
 use crate::live::Live;
@@ -23,20 +24,12 @@ use src_tree::{Expr, Guard};
 use std::alloc::Global;
 
 // What is held, with one more scope.
-fn scoped<'a>(procs: &'a [Proc], held: Held<'a>, scope: Scope<'a>) -> Result<Held<'a>, Memory>
-    ensures { IfOk result (λ h. held_of procs.now h ≡ with_scope (scope_of procs.now scope.entry) (held_of procs.now held.entry)) }
+fn scoped<'a>(procs: &'a [Proc], held: &mut Held<'a>, scope: Scope<'a>) -> Result<(), Memory>
+    ensures { OnOk result (held_of procs.now held.new
+        ≡ with_scope (scope_of procs.now scope.entry) (held_of procs.now held.old)) }
 {
-    let Held {
-        mut scopes,
-        open_blocks,
-        labels,
-    } = held;
-    scopes.push(scope)?;
-    Ok(Held {
-        scopes,
-        open_blocks,
-        labels,
-    })
+    held.scopes.push(scope)?;
+    Ok(())
 }
 
 // What is held when the call of a procedure begins.
@@ -46,56 +39,21 @@ fn begin_call<'a>(
     k: usize,
     arguments: &[&Expr],
     scope: Scope<'a>,
-    held: Held<'a>,
-) -> Result<Held<'a>, Memory>
+    held: &mut Held<'a>,
+) -> Result<(), Memory>
     requires { k < length procs.now }
-    ensures { IfOk result (λ h. held_of procs.now h
+    ensures { OnOk result (held_of procs.now held.new
         ≡ begun (slice_index_or (map procedure_of procs.now) k no_procedure)
         (reverse (take k (map procedure_of procs.now))) (names_of scope.entry.names) (trees_seen arguments.now)
-        (with_scope (scope_of procs.now scope.entry) (held_of procs.now held.entry))) }
+        (with_scope (scope_of procs.now scope.entry) (held_of procs.now held.old))) }
 {
-    let p = &procs[k];
-    let Held {
-        scopes,
-        open_blocks,
-        labels,
-    } = held;
-    let start = Binding {
-        bounds: Vec::new(alloc),
-        open_blocks,
-        labels,
-    };
-    let made = with_parameters(alloc, &scope.names, start, p.params.as_slice(), arguments)?;
-    let Binding {
-        bounds,
-        open_blocks,
-        labels,
-    } = with_locals(alloc, made, p.locals.as_slice())?;
-    let held = Held {
-        scopes,
-        open_blocks,
-        labels,
-    };
-    let held = scoped(procs, held, scope)?;
+    let bounds = bound_names(alloc, &scope.names, &mut held.made, &procs[k], arguments)?;
     let own = Scope {
         callable: k,
         names: Naming::Bound(bounds),
     };
-    let held = scoped(procs, held, own)?;
-    Ok(held)
-}
-
-// The statements of a procedure are to be done, and then the caller's names count again.
-fn waits<'b, 'a>(
-    mut waiting: Vec<Pending<'b, 'a>>,
-    body: &'b [Live<'a>],
-) -> Result<Vec<Pending<'b, 'a>>, Memory>
-    ensures { IfOk result (λ w. pending_all w.items
-        ≡ Rest (live_block body.now) ∷ Return ∷ pending_all waiting.entry.items) }
-{
-    waiting.push(Pending::Return)?;
-    waiting.push(Pending::Rest(Left { statements: body }))?;
-    Ok(waiting)
+    scoped(procs, held, scope)?;
+    scoped(procs, held, own)
 }
 
 // A call of a procedure.
@@ -104,72 +62,46 @@ fn call<'b, 'a>(
     procs: &'a [Proc],
     numbers: &Numbers<'a>,
     bodies: &'b [Vec<Live<'a>>],
-    waiting: Vec<Pending<'b, 'a>>,
+    waiting: &mut Vec<Pending<'b, 'a>>,
     name: &'a Name,
     arguments: &[&Expr],
     callable: usize,
     scope: Scope<'a>,
-    held: Held<'a>,
-) -> Result<Work<'b, 'a>, Memory>
+    held: &mut Held<'a>,
+) -> Result<(), Memory>
     requires callable { callable ≡ scope.callable }
     requires numbers { AreNumbered (map procedure_of procs.now) (found_under numbers.now) }
     requires bodies { ArePruned (map procedure_of procs.now) (bodies_of bodies.now) }
     requires whole { length procs.now ≤ length bodies.now }
-    ensures { IfOk result (λ w. finished (pending_all w.waiting.items) (held_of procs.now w.held)
-        ≡ finished (pending_all waiting.entry.items) (expanded_one (Call name.now (trees_seen arguments.now))
-        (with_scope (scope_of procs.now scope.entry) (held_of procs.now held.entry)))) }
+    ensures { OnOk result (finished (pending_all waiting.new.items) (held_of procs.now held.new)
+        ≡ finished (pending_all waiting.old.items) (expanded_one (Call name.now (trees_seen arguments.now))
+        (with_scope (scope_of procs.now scope.entry) (held_of procs.now held.old)))) }
 {
-    let k = match called(procs, numbers, callable, name.bytes()) {
-        None => {
-            let held = scoped(procs, held, scope)?;
-            return Ok(Work { waiting, held });
+    match called(procs, numbers, callable, name.bytes()) {
+        None => scoped(procs, held, scope),
+        Some(k) => {
+            begin_call(alloc, procs, k, arguments, scope, held)?;
+            waits_for_call(waiting, bodies[k].as_slice())
         }
-        Some(k) => k,
-    };
-    let held = begin_call(alloc, procs, k, arguments, scope, held)?;
-    let waiting = waits(waiting, bodies[k].as_slice())?;
-    Ok(Work { waiting, held })
+    }
 }
 
 // An assignment; another statement is left out.
-fn put_assignment<'b, 'a>(
+fn put_assignment<'a>(
     alloc: Global,
     procs: &'a [Proc],
-    waiting: Vec<Pending<'b, 'a>>,
-    s: &'b Live<'a>,
+    s: &Live<'a>,
     scope: Scope<'a>,
-    held: Held<'a>,
-) -> Result<Work<'b, 'a>, Memory>
-    ensures { IfOk result (λ w. finished (pending_all w.waiting.items) (held_of procs.now w.held)
-        ≡ finished (pending_all waiting.entry.items) (assigned_one (live_of s.now)
-        (with_scope (scope_of procs.now scope.entry) (held_of procs.now held.entry)))) }
+    held: &mut Held<'a>,
+) -> Result<(), Memory>
+    ensures { OnOk result (held_of procs.now held.new
+        ≡ assigned_one (live_of s.now) (with_scope (scope_of procs.now scope.entry) (held_of procs.now held.old))) }
 {
-    let made = assignment(alloc, &scope.names, s)?;
-    let held = scoped(procs, held, scope)?;
-    let Held {
-        scopes,
-        open_blocks,
-        labels,
-    } = held;
-    match made {
-        None => Ok(Work {
-            waiting,
-            held: Held {
-                scopes,
-                open_blocks,
-                labels,
-            },
-        }),
+    match assignment(alloc, &scope.names, s)? {
+        None => scoped(procs, held, scope),
         Some(made) => {
-            let open_blocks = put_statement(open_blocks, made)?;
-            Ok(Work {
-                waiting,
-                held: Held {
-                    scopes,
-                    open_blocks,
-                    labels,
-                },
-            })
+            put_statement(&mut held.made.open_blocks, made)?;
+            scoped(procs, held, scope)
         }
     }
 }
@@ -178,43 +110,43 @@ fn put_assignment<'b, 'a>(
 fn choice<'b, 'a>(
     alloc: Global,
     procs: &'a [Proc],
-    waiting: Vec<Pending<'b, 'a>>,
+    waiting: &mut Vec<Pending<'b, 'a>>,
     guard: &'a Guard,
     first: &'b [Live<'a>],
     second: &'b [Live<'a>],
     scope: Scope<'a>,
-    held: Held<'a>,
-) -> Result<Work<'b, 'a>, Memory>
-    ensures { IfOk result (λ w. finished (pending_all w.waiting.items) (held_of procs.now w.held)
-        ≡ finished (pending_all waiting.entry.items)
+    held: &mut Held<'a>,
+) -> Result<(), Memory>
+    ensures { OnOk result (finished (pending_all waiting.new.items) (held_of procs.now held.new)
+        ≡ finished (pending_all waiting.old.items)
         (expanded_one (Choice (test_of guard.now) (live_block first.now) (live_block second.now))
-        (with_scope (scope_of procs.now scope.entry) (held_of procs.now held.entry)))) }
+        (with_scope (scope_of procs.now scope.entry) (held_of procs.now held.old)))) }
 {
     let guard = renamed_guard(alloc, &scope.names, guard)?;
-    let held = scoped(procs, held, scope)?;
-    let work = begin_choice(alloc, procs, waiting, guard, first, second, held)?;
-    Ok(work)
+    waits_for_choice(waiting, guard, first, second)?;
+    scoped(procs, held, scope)?;
+    open_block(alloc, &mut held.made.open_blocks)
 }
 
 // A loop.
 fn repeat<'b, 'a>(
     alloc: Global,
     procs: &'a [Proc],
-    waiting: Vec<Pending<'b, 'a>>,
+    waiting: &mut Vec<Pending<'b, 'a>>,
     guard: &'a Guard,
     body: &'b [Live<'a>],
     scope: Scope<'a>,
-    held: Held<'a>,
-) -> Result<Work<'b, 'a>, Memory>
-    ensures { IfOk result (λ w. finished (pending_all w.waiting.items) (held_of procs.now w.held)
-        ≡ finished (pending_all waiting.entry.items)
+    held: &mut Held<'a>,
+) -> Result<(), Memory>
+    ensures { OnOk result (finished (pending_all waiting.new.items) (held_of procs.now held.new)
+        ≡ finished (pending_all waiting.old.items)
         (expanded_one (Loop (test_of guard.now) (live_block body.now))
-        (with_scope (scope_of procs.now scope.entry) (held_of procs.now held.entry)))) }
+        (with_scope (scope_of procs.now scope.entry) (held_of procs.now held.old)))) }
 {
     let guard = renamed_guard(alloc, &scope.names, guard)?;
-    let held = scoped(procs, held, scope)?;
-    let work = begin_loop(alloc, procs, waiting, guard, body, held)?;
-    Ok(work)
+    waits_for_loop(waiting, guard, body)?;
+    scoped(procs, held, scope)?;
+    open_block(alloc, &mut held.made.open_blocks)
 }
 
 // One statement, where statements stand in a scope.
@@ -223,21 +155,21 @@ fn statement<'b, 'a>(
     procs: &'a [Proc],
     numbers: &Numbers<'a>,
     bodies: &'b [Vec<Live<'a>>],
-    waiting: Vec<Pending<'b, 'a>>,
+    waiting: &mut Vec<Pending<'b, 'a>>,
     s: &'b Live<'a>,
     scope: Scope<'a>,
-    held: Held<'a>,
-) -> Result<Work<'b, 'a>, Memory>
+    held: &mut Held<'a>,
+) -> Result<(), Memory>
     requires numbers { AreNumbered (map procedure_of procs.now) (found_under numbers.now) }
     requires bodies { ArePruned (map procedure_of procs.now) (bodies_of bodies.now) }
     requires whole { length procs.now ≤ length bodies.now }
-    ensures { IfOk result (λ w. finished (pending_all w.waiting.items) (held_of procs.now w.held)
-        ≡ finished (pending_all waiting.entry.items) (expanded_one (live_of s.now)
-        (with_scope (scope_of procs.now scope.entry) (held_of procs.now held.entry)))) }
+    ensures { OnOk result (finished (pending_all waiting.new.items) (held_of procs.now held.new)
+        ≡ finished (pending_all waiting.old.items) (expanded_one (live_of s.now)
+        (with_scope (scope_of procs.now scope.entry) (held_of procs.now held.old)))) }
 {
     match s {
-        Live::Set(_, _) => put_assignment(alloc, procs, waiting, s, scope, held),
-        Live::Put(_, _, _) => put_assignment(alloc, procs, waiting, s, scope, held),
+        Live::Set(_, _) => put_assignment(alloc, procs, s, scope, held),
+        Live::Put(_, _, _) => put_assignment(alloc, procs, s, scope, held),
         Live::If(guard, first, second) => {
             choice(
                 alloc,
@@ -271,74 +203,36 @@ fn statement<'b, 'a>(
     }
 }
 
-// The statements behind one are to be done.
-fn waits_for<'b, 'a>(
-    mut waiting: Vec<Pending<'b, 'a>>,
-    others: &'b [Live<'a>],
-) -> Result<Vec<Pending<'b, 'a>>, Memory>
-    ensures { IfOk result (λ w. pending_all w.items ≡ Rest (live_block others.now) ∷ pending_all waiting.entry.items) }
-{
-    waiting.push(Pending::Rest(Left { statements: others }))?;
-    Ok(waiting)
-}
-
 // A statement with others behind it.
 fn first_of<'b, 'a>(
     alloc: Global,
     procs: &'a [Proc],
     numbers: &Numbers<'a>,
     bodies: &'b [Vec<Live<'a>>],
-    waiting: Vec<Pending<'b, 'a>>,
+    waiting: &mut Vec<Pending<'b, 'a>>,
     s: &'b Live<'a>,
     others: &'b [Live<'a>],
     scope: Scope<'a>,
-    held: Held<'a>,
-) -> Result<Work<'b, 'a>, Memory>
+    held: &mut Held<'a>,
+) -> Result<(), Memory>
     requires numbers { AreNumbered (map procedure_of procs.now) (found_under numbers.now) }
     requires bodies { ArePruned (map procedure_of procs.now) (bodies_of bodies.now) }
     requires whole { length procs.now ≤ length bodies.now }
-    ensures { IfOk result (λ w. finished (pending_all w.waiting.items) (held_of procs.now w.held)
-        ≡ finished (pending_all waiting.entry.items) (expanded (Then (live_of s.now) (live_block others.now))
-        (with_scope (scope_of procs.now scope.entry) (held_of procs.now held.entry)))) }
+    ensures { OnOk result (finished (pending_all waiting.new.items) (held_of procs.now held.new)
+        ≡ finished (pending_all waiting.old.items) (expanded (Then (live_of s.now) (live_block others.now))
+        (with_scope (scope_of procs.now scope.entry) (held_of procs.now held.old)))) }
 {
-    let waiting = waits_for(waiting, others)?;
-    let work = statement(alloc, procs, numbers, bodies, waiting, s, scope, held)?;
-    Ok(work)
+    waits_for(waiting, others)?;
+    statement(alloc, procs, numbers, bodies, waiting, s, scope, held)
 }
 
-// The innermost scope, and what is held but for it.
-#[derive(Drop)]
-struct Inner<'a> {
-    scope: Scope<'a>,
-    held: Held<'a>,
-}
-
-// Takes the innermost scope out of what is held, and gives it back whole where there is none.
-fn innermost<'a>(procs: &'a [Proc], held: Held<'a>) -> Result<Inner<'a>, Held<'a>>
-    ensures found { IfOk result (λ i. with_scope (scope_of procs.now i.scope) (held_of procs.now i.held)
-        ≡ held_of procs.now held.entry) }
-    ensures none { IfErr result (λ h. (b : Block) → held_of procs.now h ≡ expanded b (held_of procs.now held.entry)) }
+// Takes the innermost scope out of what is held, where there is one.
+fn innermost<'a>(procs: &'a [Proc], held: &mut Held<'a>) -> Option<Scope<'a>>
+    ensures found { IfSome result (λ scope. with_scope (scope_of procs.now scope) (held_of procs.now held.new)
+        ≡ held_of procs.now held.old) }
+    ensures none { IfNone result ((b : Block) → held_of procs.now held.new ≡ expanded b (held_of procs.now held.old)) }
 {
-    let Held {
-        mut scopes,
-        open_blocks,
-        labels,
-    } = held;
-    match scopes.pop() {
-        None => Err(Held {
-            scopes,
-            open_blocks,
-            labels,
-        }),
-        Some(scope) => Ok(Inner {
-            scope,
-            held: Held {
-                scopes,
-                open_blocks,
-                labels,
-            },
-        }),
-    }
+    held.scopes.pop()
 }
 
 // The first of some statements, where one is left.
@@ -347,37 +241,37 @@ fn rest<'b, 'a>(
     procs: &'a [Proc],
     numbers: &Numbers<'a>,
     bodies: &'b [Vec<Live<'a>>],
-    waiting: Vec<Pending<'b, 'a>>,
+    waiting: &mut Vec<Pending<'b, 'a>>,
     statements: &'b [Live<'a>],
-    held: Held<'a>,
-) -> Result<Work<'b, 'a>, Memory>
+    held: &mut Held<'a>,
+) -> Result<(), Memory>
     requires numbers { AreNumbered (map procedure_of procs.now) (found_under numbers.now) }
     requires bodies { ArePruned (map procedure_of procs.now) (bodies_of bodies.now) }
     requires whole { length procs.now ≤ length bodies.now }
-    ensures { IfOk result (λ w. finished (pending_all w.waiting.items) (held_of procs.now w.held)
-        ≡ finished (pending_all waiting.entry.items)
-        (expanded (live_block statements.now) (held_of procs.now held.entry))) }
+    ensures { OnOk result (finished (pending_all waiting.new.items) (held_of procs.now held.new)
+        ≡ finished (pending_all waiting.old.items)
+        (expanded (live_block statements.now) (held_of procs.now held.old))) }
 {
     if statements.is_empty() {
-        return Ok(Work { waiting, held });
+        return Ok(());
     }
-    let Inner { scope, held } = match innermost(procs, held) {
-        Ok(inner) => inner,
-        Err(held) => return Ok(Work { waiting, held }),
-    };
-    let (_, others) = statements.split_at(1);
-    let work = first_of(
-        alloc,
-        procs,
-        numbers,
-        bodies,
-        waiting,
-        &statements[0],
-        others,
-        scope,
-        held,
-    )?;
-    Ok(work)
+    match innermost(procs, held) {
+        None => Ok(()),
+        Some(scope) => {
+            let (_, others) = statements.split_at(1);
+            first_of(
+                alloc,
+                procs,
+                numbers,
+                bodies,
+                waiting,
+                &statements[0],
+                others,
+                scope,
+                held,
+            )
+        }
+    }
 }
 
 // What is to be done next.
@@ -386,15 +280,15 @@ fn step<'b, 'a>(
     procs: &'a [Proc],
     numbers: &Numbers<'a>,
     bodies: &'b [Vec<Live<'a>>],
-    waiting: Vec<Pending<'b, 'a>>,
+    waiting: &mut Vec<Pending<'b, 'a>>,
     next: Pending<'b, 'a>,
-    held: Held<'a>,
-) -> Result<Work<'b, 'a>, Memory>
+    held: &mut Held<'a>,
+) -> Result<(), Memory>
     requires numbers { AreNumbered (map procedure_of procs.now) (found_under numbers.now) }
     requires bodies { ArePruned (map procedure_of procs.now) (bodies_of bodies.now) }
     requires whole { length procs.now ≤ length bodies.now }
-    ensures { IfOk result (λ w. finished (pending_all w.waiting.items) (held_of procs.now w.held)
-        ≡ finished (pending_of next.entry ∷ pending_all waiting.entry.items) (held_of procs.now held.entry)) }
+    ensures { OnOk result (finished (pending_all waiting.new.items) (held_of procs.now held.new)
+        ≡ finished (pending_of next.entry ∷ pending_all waiting.old.items) (held_of procs.now held.old)) }
 {
     match next {
         Pending::Rest(left) => rest(
@@ -406,10 +300,13 @@ fn step<'b, 'a>(
             left.statements,
             held,
         ),
-        Pending::Return => end(alloc, procs, waiting, Pending::Return, held),
-        Pending::Open => end(alloc, procs, waiting, Pending::Open, held),
-        Pending::EndChoice(guard) => end(alloc, procs, waiting, Pending::EndChoice(guard), held),
-        Pending::EndLoop(guard) => end(alloc, procs, waiting, Pending::EndLoop(guard), held),
+        Pending::Return => {
+            drop(held.scopes.pop());
+            Ok(())
+        }
+        Pending::Open => open_block(alloc, &mut held.made.open_blocks),
+        Pending::EndChoice(guard) => close_choice(&mut held.made.open_blocks, guard),
+        Pending::EndLoop(guard) => close_loop(&mut held.made.open_blocks, guard),
     }
 }
 
@@ -419,20 +316,19 @@ pub(crate) fn expand<'b, 'a>(
     procs: &'a [Proc],
     numbers: &Numbers<'a>,
     bodies: &'b [Vec<Live<'a>>],
-    start: Work<'b, 'a>,
-) -> Result<Held<'a>, Memory>
+    waiting: &mut Vec<Pending<'b, 'a>>,
+    held: &mut Held<'a>,
+) -> Result<(), Memory>
     requires numbers { AreNumbered (map procedure_of procs.now) (found_under numbers.now) }
     requires bodies { ArePruned (map procedure_of procs.now) (bodies_of bodies.now) }
     requires whole { length procs.now ≤ length bodies.now }
-    ensures { IfOk result (λ h. held_of procs.now h
-        ≡ finished (pending_all start.entry.waiting.items) (held_of procs.now start.entry.held)) }
+    ensures { OnOk result (held_of procs.now held.new
+        ≡ finished (pending_all waiting.old.items) (held_of procs.now held.old)) }
 {
-    let mut work = start;
     for _ in 0..u64::MAX {
-        let Work { mut waiting, held } = work;
         match waiting.pop() {
-            None => return Ok(held),
-            Some(next) => work = step(alloc, procs, numbers, bodies, waiting, next, held)?,
+            None => return Ok(()),
+            Some(next) => step(alloc, procs, numbers, bodies, waiting, next, held)?,
         }
     }
     Err(Memory)

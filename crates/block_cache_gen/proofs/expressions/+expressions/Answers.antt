@@ -42,6 +42,19 @@ put_access-returns-in_ok-put_located-in-None-clause-emitted t c =
     c.in_ok-put_located-in-None.ensures.appended)
     c.put_load-in-None.ensures.appended
 
+pub put_access-returns-in_err-put_located-in-None-clause-grows :
+    goal.put_access-returns-in_err-put_located-in-None-clause-grows
+put_access-returns-in_err-put_located-in-None-clause-grows t c =
+    grows_then c.args.out.now c.put_expr.new.out c.put_located.new.out c.put_expr.ensures.grows
+    c.put_located.ensures.grows
+
+pub put_access-returns-in_ok-put_located-in-None-clause-grows :
+    goal.put_access-returns-in_ok-put_located-in-None-clause-grows
+put_access-returns-in_ok-put_located-in-None-clause-grows t c =
+    grows_then c.args.out.now c.put_located.new.out c.put_load-in-None.new.out
+    (grows_then c.args.out.now c.put_expr.new.out c.put_located.new.out c.put_expr.ensures.grows
+    c.put_located.ensures.grows) c.put_load-in-None.ensures.grows
+
 pub put_expr-put_expr-requires-in-Bin : goal.put_expr-put_expr-requires-in-Bin
 put_expr-put_expr-requires-in-Bin t c = (
   search rules,
@@ -85,3 +98,22 @@ put_expr-returns-in_ok-put_expr-in-Bin-2-clause-emitted t c =
     c.label_of.ensures c.marked_by-mask.ensures c.in_ok-put_expr-in-Bin.ensures.emitted
     c.in_ok-put_expr-in-Bin-2.ensures.emitted)
     c.put-in-Bin.ensures.appended
+
+pub put_expr-returns-in_ok-put_access-in-Item-clause-grows :
+    goal.put_expr-returns-in_ok-put_access-in-Item-clause-grows
+put_expr-returns-in_ok-put_access-in-Item-clause-grows t c =
+    grows_then c.args.out.now c.put_access.new.out c.put-in-Item.new.self c.put_access.ensures.grows
+    c.put-in-Item.ensures.grows
+
+pub put_expr-returns-in_err-put_expr-in-Bin-2-clause-grows :
+    goal.put_expr-returns-in_err-put_expr-in-Bin-2-clause-grows
+put_expr-returns-in_err-put_expr-in-Bin-2-clause-grows t c =
+    grows_then c.args.out.now c.put_expr.new.out c.put_expr-in-Bin.new.out c.put_expr.ensures.grows
+    c.put_expr-in-Bin.ensures.grows
+
+pub put_expr-returns-in_ok-put_expr-in-Bin-2-clause-grows :
+    goal.put_expr-returns-in_ok-put_expr-in-Bin-2-clause-grows
+put_expr-returns-in_ok-put_expr-in-Bin-2-clause-grows t c =
+    grows_then c.args.out.now c.put_expr-in-Bin.new.out c.put-in-Bin.new.self
+    (grows_then c.args.out.now c.put_expr.new.out c.put_expr-in-Bin.new.out c.put_expr.ensures.grows
+    c.put_expr-in-Bin.ensures.grows) c.put-in-Bin.ensures.grows

@@ -2,6 +2,7 @@ use Rattle.std.proofs.lemmas.Result.{on_ok_weaker}
 use Rattle.src_tree.specs.Trees.{expr_tree}
 use Rattle.block_cache_gen.specs.Variables.{home_in}
 use Rattle.block_cache_gen.proofs.EmittedStatements.{element_set, room_for_access}
+use Rattle.block_cache_gen.proofs.Emitting.{grows_then}
 use Rattle.block_cache_gen.proofs.statements.put_set_element.Goals as goal
 
 pub put_access-requires-clause-room : goal.put_access-requires-clause-room
@@ -20,3 +21,21 @@ returns-clause-emitted c =
     c.variable-array.ensures.home c.label_of.ensures c.marked_by-mask.ensures c.in_ok-put_expr.ensures.emitted
     c.in_ok-put_access.ensures.emitted c.in_ok-put_store.ensures.appended)
     c.put.ensures.appended
+
+pub returns-in_err-put_access-clause-grows : goal.returns-in_err-put_access-clause-grows
+returns-in_err-put_access-clause-grows c =
+    grows_then c.args.out.now c.put_expr.new.out c.put_access.new.out c.put_expr.ensures.grows
+    c.put_access.ensures.grows
+
+pub returns-in_err-put_store-clause-grows : goal.returns-in_err-put_store-clause-grows
+returns-in_err-put_store-clause-grows c =
+    grows_then c.args.out.now c.put_access.new.out c.put_store.new.out
+    (grows_then c.args.out.now c.put_expr.new.out c.put_access.new.out c.put_expr.ensures.grows
+    c.put_access.ensures.grows) c.put_store.ensures.grows
+
+pub returns-clause-grows : goal.returns-clause-grows
+returns-clause-grows c =
+    grows_then c.args.out.now c.put_store.new.out c.put.new.self
+    (grows_then c.args.out.now c.put_access.new.out c.put_store.new.out
+    (grows_then c.args.out.now c.put_expr.new.out c.put_access.new.out c.put_expr.ensures.grows
+    c.put_access.ensures.grows) c.put_store.ensures.grows) c.put.ensures.grows

@@ -4,6 +4,7 @@ use Rattle.std.proofs.lemmas.Result.{on_ok_weaker}
 use Rattle.src_tree.specs.Trees.{expr_tree}
 use Rattle.block_cache_gen.specs.Variables.{home_in}
 use Rattle.block_cache_gen.proofs.EmittedStatements.{variable_set}
+use Rattle.block_cache_gen.proofs.Emitting.{grows_then}
 use Rattle.block_cache_gen.proofs.statements.put_set_variable.Goals as goal
 
 pub returns-clause-emitted : goal.returns-clause-emitted
@@ -15,3 +16,13 @@ returns-clause-emitted c =
     c.bytes.ensures.bytes c.variable-scalar.ensures.home same c.in_ok-put_expr.ensures.emitted
     c.in_ok-put.ensures.appended)
     c.put_store.ensures.appended
+
+pub returns-in_err-put-clause-grows : goal.returns-in_err-put-clause-grows
+returns-in_err-put-clause-grows c =
+    grows_then c.args.out.now c.put_expr.new.out c.put.new.self c.put_expr.ensures.grows c.put.ensures.grows
+
+pub returns-clause-grows : goal.returns-clause-grows
+returns-clause-grows c =
+    grows_then c.args.out.now c.put.new.self c.put_store.new.out
+    (grows_then c.args.out.now c.put_expr.new.out c.put.new.self c.put_expr.ensures.grows c.put.ensures.grows)
+    c.put_store.ensures.grows

@@ -149,6 +149,21 @@ put_choice-returns-in_err-put_taken-clause-grows t c =
     c.next_place-branch.ensures c.set_branch.ensures.code c.set_branch.ensures.notes in
     grows_then c.args.out.now c.set_branch.new.self c.put_taken.new.out set_one c.put_taken.ensures.grows
 
+pub put_choice-returns-in_err-put-clause-grows : goal.put_choice-returns-in_err-put-clause-grows
+put_choice-returns-in_err-put-clause-grows t c =
+    grows_then c.args.out.now c.put_guard.new.out c.put.new.self c.put_guard.ensures.grows c.put.ensures.grows
+
+pub put_choice-returns-in_err-put_untaken-clause-grows : goal.put_choice-returns-in_err-put_untaken-clause-grows
+put_choice-returns-in_err-put_untaken-clause-grows t c =
+    grows_thrice c.args.out.now c.put_guard.new.out c.put.new.self c.put_untaken.new.out c.put_guard.ensures.grows
+    c.put.ensures.grows c.put_untaken.ensures.grows
+
+pub put_choice-returns-in_err-put-2-clause-grows : goal.put_choice-returns-in_err-put-2-clause-grows
+put_choice-returns-in_err-put-2-clause-grows t c =
+    grows_then c.args.out.now c.put_untaken.new.out c.put-2.new.self
+    (grows_thrice c.args.out.now c.put_guard.new.out c.put.new.self c.put_untaken.new.out c.put_guard.ensures.grows
+    c.put.ensures.grows c.put_untaken.ensures.grows) c.put-2.ensures.grows
+
 pub put_row-loop-i-init : goal.put_row-loop-i-init
 put_row-loop-i-init t c = record {
   behind = omega arith;
@@ -242,6 +257,10 @@ put_taken-put_row-requires-2 t c =
       ),
     )
 
+pub put_taken-returns-in_err-put_row-2-clause-grows : goal.put_taken-returns-in_err-put_row-2-clause-grows
+put_taken-returns-in_err-put_row-2-clause-grows t c =
+    grows_then c.args.out.now c.put_row.new.out c.put_row-2.new.out c.put_row.ensures.grows c.put_row-2.ensures.grows
+
 pub put_taken-returns : goal.put_taken-returns
 put_taken-returns t c = record {
   emitted =
@@ -321,6 +340,15 @@ put_untaken-put_row-requires-3 t c =
         (omega arith, (fit.arm, (fit.few, (fit.second_typed, (fit.second_low, omega arith))))),
       ),
     )
+
+pub put_untaken-returns-in_err-put_row-clause-grows : goal.put_untaken-returns-in_err-put_row-clause-grows
+put_untaken-returns-in_err-put_row-clause-grows t c =
+    grows_then c.args.out.now c.put_idle.new.out c.put_row.new.out c.put_idle.ensures.grows c.put_row.ensures.grows
+
+pub put_untaken-returns-in_err-put_row-2-clause-grows : goal.put_untaken-returns-in_err-put_row-2-clause-grows
+put_untaken-returns-in_err-put_row-2-clause-grows t c =
+    grows_thrice c.args.out.now c.put_idle.new.out c.put_row.new.out c.put_row-2.new.out c.put_idle.ensures.grows
+    c.put_row.ensures.grows c.put_row-2.ensures.grows
 
 pub put_untaken-returns : goal.put_untaken-returns
 put_untaken-returns t c = record {

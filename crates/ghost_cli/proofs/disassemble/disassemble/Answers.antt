@@ -1,17 +1,15 @@
-use Rattle.std.proofs.Common.{refl}
-use Rattle.ghost_cli.proofs.Answering.{asked-done, unasked-said, starved-said}
+use Rattle.std.proofs.Common.{◌∙◌}
+use Rattle.ghost_cli.specs.Disassemble.{disassemble_work}
+use Rattle.ghost_cli.specs.Options.{two_named}
+use Rattle.ghost_cli.proofs.Answering.{asked-done, unasked-said}
 use Rattle.ghost_cli.proofs.disassemble.disassemble.Goals as goal
 
-pub returns-in-Ok-Some : goal.returns-in-Ok-Some
-returns-in-Ok-Some g c =
-    asked-done _ _ _ _ _ _ _ c.in-Ok-Some.field-0-is c.in-Ok-Some.ensures c.disassemble_file.ensures
+pub returns-in-Some : goal.returns-in-Some
+returns-in-Some g c =
+    asked-done _ _ _ _ _ _ _ c.in-Some.is
+    (c.two_names.ensures disassemble_work ∙ (λ k. two_named disassemble_work (c.value.ensures k) (c.value-2.ensures k))) c.disassemble_file.ensures
 
-pub returns-in-Ok-None : goal.returns-in-Ok-None
-returns-in-Ok-None g c =
+pub returns-in-None : goal.returns-in-None
+returns-in-None g c =
     unasked-said _ _ _ (g.F.Shelf.seen c.args.shelf.now) (g.O.Sink.seen c.args.out.now) (g.O.Sink.seen c.say.new.out) _
-    c.in-Ok-None.field-0-is c.in-Ok-None.ensures c.say.ensures
-
-pub returns-in-Err : goal.returns-in-Err
-returns-in-Err g c =
-    starved-said _ (g.F.Shelf.seen c.args.shelf.now) (g.F.Shelf.seen c.args.shelf.now) (g.O.Sink.seen c.args.out.now)
-    (g.O.Sink.seen c.say_no_memory.new.out) _ refl c.say_no_memory.ensures
+    c.in-None.is (c.two_names.ensures disassemble_work ∙ (λ k. two_named disassemble_work (c.value.ensures k) (c.value-2.ensures k))) c.say.ensures

@@ -9,14 +9,14 @@ pub returns-in-Err : goal.returns-in-Err
 returns-in-Err g c =
     stopped-said (g.F.Shelf.seen c.args.shelf.now) (g.F.Shelf.seen c.find_object.new.shelf)
     (g.O.Sink.seen c.args.out.now) (g.O.Sink.seen c.say.new.out) _ _ _
-    (c.in-Err.ensures.stopped (λ o. Writes c.args.asked.output.now (canonical o) Disassembled)) c.say.ensures
+    (c.in-Err.ensures.stopped (λ o. Writes c.args.asked.written.now (canonical o) Disassembled)) c.say.ensures
 
 pub returns-in-Ok-text_of : goal.returns-in-Ok-text_of
 returns-in-Ok-text_of g c =
     written-said (g.F.Shelf.seen c.args.shelf.now) (g.F.Shelf.seen c.find_object.new.shelf)
     (g.F.Shelf.seen c.write_and_say.new.shelf) (g.O.Sink.seen c.args.out.now)
     (g.O.Sink.seen c.write_and_say.new.out) _ _ _ _ _ Disassembled
-    (c.in-Ok.ensures.found (λ o. Writes c.args.asked.output.now (canonical o) Disassembled)) c.in-Ok.ensures.calm
+    (c.in-Ok.ensures.found (λ o. Writes c.args.asked.written.now (canonical o) Disassembled)) c.in-Ok.ensures.calm
     (c.deref.ensures.value ∙ c.in-Ok-text_of.ensures.text) c.write_and_say.ensures
 
 pub returns : goal.returns

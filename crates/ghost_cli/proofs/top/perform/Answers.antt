@@ -1,26 +1,33 @@
-use Rattle.std.proofs.Common.{rules, ◌≡◌, false, Option, subst}
-use Rattle.std.specs.Prelude.{codes}
-use Rattle.std.specs.Str.{bytes_eq}
-use Rattle.ghost_cli.specs.Work.{Work}
+use Rattle.std.proofs.Common.{ap, refl}
+use Rattle.std.specs.Prelude.{option_and_then}
+use Rattle.clap.specs.Words.{found_of, rows_of}
 use Rattle.ghost_cli.specs.Options.{texts}
-use Rattle.ghost_cli.specs.Outside.{Explains, outside}
-use Rattle.ghost_cli.proofs.Answering.{no-work-said, other-verb}
+use Rattle.ghost_cli.specs.Verbs.{asked_for, row_of}
+use Rattle.ghost_cli.proofs.Answering.{starved-said, told-done, untold-said}
 use Rattle.ghost_cli.proofs.top.perform.Goals as goal
 
-pub returns : goal.returns
-returns g c =
-    let check : bytes_eq c.args.verb.now (codes "check") ≡ false = search rules in
-    let trace : bytes_eq c.args.verb.now (codes "trace") ≡ false = search rules in
-    let run : bytes_eq c.args.verb.now (codes "run") ≡ false = search rules in
-    let asm : bytes_eq c.args.verb.now (codes "asm") ≡ false = search rules in
-    let dis : bytes_eq c.args.verb.now (codes "dis") ≡ false = search rules in
-    let eval : bytes_eq c.args.verb.now (codes "eval") ≡ false = search rules in
-    let compile : bytes_eq c.args.verb.now (codes "compile") ≡ false = search rules in
-    let sample : bytes_eq c.args.verb.now (codes "sample") ≡ false = search rules in
-    let bus : bytes_eq c.args.verb.now (codes "bus") ≡ false = search rules in
-    let infer : bytes_eq c.args.verb.now (codes "infer") ≡ false = search rules in
-    subst (λ (a : Option Work). Explains (outside (g.F.Shelf.seen c.args.shelf.now) (g.O.Sink.seen c.args.out.now))
-    (outside (g.F.Shelf.seen c.args.shelf.now) (g.O.Sink.seen c.say.new.out)) c.say.result a)
-    (other-verb c.args.verb.now (texts c.args.words.now) check trace run asm dis eval compile sample bus infer)
-    (no-work-said (g.F.Shelf.seen c.args.shelf.now) (g.O.Sink.seen c.args.out.now)
-    (g.O.Sink.seen c.say.new.out) _ c.say.ensures)
+pub returns-in_default : goal.returns-in_default
+returns-in_default g c =
+    untold-said (λ verb. asked_for verb (texts c.args.words.now)) c.verb_named.result _
+    (g.F.Shelf.seen c.args.shelf.now) (g.O.Sink.seen c.args.out.now) (g.O.Sink.seen c.say.new.out) _ c.in_default.is
+    (ap (option_and_then (λ verb. asked_for verb (texts c.args.words.now))) c.verb_named.ensures) c.say.ensures
+
+pub returns-in-Ok-Some : goal.returns-in-Ok-Some
+returns-in-Ok-Some g c =
+    told-done (λ verb. asked_for verb (texts c.args.words.now)) c.verb_named.result c.in-Some.verb _ _ _ _ c.in-Some.is
+    (ap (option_and_then (λ verb. asked_for verb (texts c.args.words.now))) c.verb_named.ensures)
+    (told-done (λ m. (row_of c.in-Some.verb).asks (rows_of (found_of m))) _ _ _ _ _ _ c.in-Ok-Some.field-0-is
+    c.in-Ok-Some.ensures c.work.ensures)
+
+pub returns-in-Ok-None : goal.returns-in-Ok-None
+returns-in-Ok-None g c =
+    told-done (λ verb. asked_for verb (texts c.args.words.now)) c.verb_named.result c.in-Some.verb _ _ _ _ c.in-Some.is
+    (ap (option_and_then (λ verb. asked_for verb (texts c.args.words.now))) c.verb_named.ensures)
+    (untold-said (λ m. (row_of c.in-Some.verb).asks (rows_of (found_of m))) _ _ (g.F.Shelf.seen c.args.shelf.now)
+    (g.O.Sink.seen c.args.out.now) (g.O.Sink.seen c.say-in-Ok-None.new.out) _ c.in-Ok-None.field-0-is
+    c.in-Ok-None.ensures c.say-in-Ok-None.ensures)
+
+pub returns-in-Err : goal.returns-in-Err
+returns-in-Err g c =
+    starved-said _ (g.F.Shelf.seen c.args.shelf.now) (g.F.Shelf.seen c.args.shelf.now) (g.O.Sink.seen c.args.out.now)
+    (g.O.Sink.seen c.say_no_memory.new.out) _ refl c.say_no_memory.ensures

@@ -14,30 +14,30 @@ use Rattle.procs_parser.proofs.parsing.parse_procs.Goals.{in-Goes, in-Opens}
 pub returns-in-Wrong-clause-refused : goal.returns-in-Wrong-clause-refused
 returns-in-Wrong-clause-refused c =
     let h : taken limits (state_of c.loop-token.state) c.token-item.result.kind ≡ Wrong =
-    sym c.in_ok-take.ensures ∙ ap (λ t. advance_of t (state_of c.take.new.state)) c.in-Wrong.is in
+    sym c.in-Ok.ensures ∙ ap (λ t. advance_of t (state_of c.take.new.state)) c.in-Wrong.is in
     unexpected_at file_laws c.args.tokens.now c.loop-token.token-index c.token-item.result (state_of c.loop-token.state)
     (omega arith) c.token-item.is c.loop-token.invariant h
 
 pub returns-in-TooMuch-clause-refused : goal.returns-in-TooMuch-clause-refused
 returns-in-TooMuch-clause-refused c =
     let h : taken limits (state_of c.loop-token.state) c.token-item.result.kind ≡ TooMuch =
-    sym c.in_ok-take.ensures ∙ ap (λ t. advance_of t (state_of c.take.new.state)) c.in-TooMuch.is in
+    sym c.in-Ok.ensures ∙ ap (λ t. advance_of t (state_of c.take.new.state)) c.in-TooMuch.is in
     too_deep_at file_laws c.args.tokens.now c.loop-token.token-index c.token-item.result (state_of c.loop-token.state)
     (omega arith) c.token-item.is c.loop-token.invariant h
 
 pub loop-token-preserved : goal.loop-token-preserved
 loop-token-preserved c =
-    let next = state_of c.match-branch-2.state in
+    let next = state_of c.match-advance.state in
     let goes = λ (h : taken limits (state_of c.loop-token.state) c.token-item.result.kind ≡ Goes next).
     goes_at file_laws c.args.tokens.now c.loop-token.token-index c.token-item.result (state_of c.loop-token.state) next
     (omega arith) c.token-item.is c.loop-token.invariant h in
-    elim c.match-branch-2.branch [
+    elim c.match-advance.branch [
       | in-Goes w ↦ goes
-          (sym c.in_ok-take.ensures
+          (sym c.in-Ok.ensures
           ∙ (ap (λ t. advance_of t (state_of c.take.new.state)) w.in-Goes.is
           ∙ ap (λ s. Goes (state_of s)) (sym w.state-is)))
       | in-Opens w ↦ goes
-          (sym c.in_ok-take.ensures
+          (sym c.in-Ok.ensures
           ∙ (ap (λ t. advance_of t (state_of c.take.new.state)) w.in-Opens.is
           ∙ ap (λ s. Goes (state_of s)) (sym (w.state-is ∙ w.put.ensures))))
     ]

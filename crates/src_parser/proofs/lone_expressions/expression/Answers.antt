@@ -12,9 +12,9 @@ pub returns-in-Some-clause-found : goal.returns-in-Some-clause-found
 returns-in-Some-clause-found c =
     let h : reads limits (reading_of c.loop-i.reading) c.index-tokens-i.result.kind ≡ Stops
     (reading_of c.read.new.reading) =
-    sym c.in_ok-read.ensures ∙ ap (λ t. step_of t (reading_of c.read.new.reading)) c.in-Stops.is in
+    sym c.in-Ok.ensures ∙ ap (λ t. step_of t (reading_of c.read.new.reading)) c.in-Stops.is in
     let w : whole (reading_of c.read.new.reading) ≡ Some (expr_tree c.in-Some.tree) =
-    sym c.finish.ensures ∙ ap (option_map expr_tree) c.in-Some.is in
+    sym c.finish-tree.ensures ∙ ap (option_map expr_tree) c.in-Some.is in
     found_at c.args.tokens.now c.args.opened c.args.used c.loop-i.i c.index-tokens-i.result
     (reading_of c.loop-i.reading) (reading_of c.read.new.reading) (expr_tree c.in-Some.tree) c.requires (omega arith)
     c.index-tokens-i.is c.loop-i.invariant h w
@@ -23,9 +23,9 @@ pub returns-in-None-clause-refused : goal.returns-in-None-clause-refused
 returns-in-None-clause-refused c =
     let h : reads limits (reading_of c.loop-i.reading) c.index-tokens-i.result.kind ≡ Stops
     (reading_of c.read.new.reading) =
-    sym c.in_ok-read.ensures ∙ ap (λ t. step_of t (reading_of c.read.new.reading)) c.in-Stops.is in
+    sym c.in-Ok.ensures ∙ ap (λ t. step_of t (reading_of c.read.new.reading)) c.in-Stops.is in
     let w : whole (reading_of c.read.new.reading) ≡ None =
-    sym c.finish.ensures ∙ ap (option_map expr_tree) c.in-None.is in
+    sym c.finish-tree.ensures ∙ ap (option_map expr_tree) c.in-None.is in
     stray_at c.args.tokens.now c.args.opened c.args.used c.loop-i.i c.index-tokens-i.result
     (reading_of c.loop-i.reading) (reading_of c.read.new.reading) c.requires (omega arith)
     c.index-tokens-i.is c.loop-i.invariant h w
@@ -33,7 +33,7 @@ returns-in-None-clause-refused c =
 pub returns-in-Deep-clause-refused : goal.returns-in-Deep-clause-refused
 returns-in-Deep-clause-refused c =
     let h : reads limits (reading_of c.loop-i.reading) c.index-tokens-i.result.kind ≡ Deep =
-    sym c.in_ok-read.ensures ∙ ap (λ t. step_of t (reading_of c.read.new.reading)) c.in-Deep.is in
+    sym c.in-Ok.ensures ∙ ap (λ t. step_of t (reading_of c.read.new.reading)) c.in-Deep.is in
     deep_at c.args.tokens.now c.args.opened c.args.used c.loop-i.i c.index-tokens-i.result
     (reading_of c.loop-i.reading) c.requires (omega arith) c.index-tokens-i.is c.loop-i.invariant h
 
@@ -41,7 +41,7 @@ pub loop-i-preserved : goal.loop-i-preserved
 loop-i-preserved c =
     let h : reads limits (reading_of c.loop-i.reading) c.index-tokens-i.result.kind ≡ Moves
     (reading_of c.read.new.reading) =
-    sym c.in_ok-read.ensures ∙ ap (λ t. step_of t (reading_of c.read.new.reading)) c.in-Moves.is in
+    sym c.in-Ok.ensures ∙ ap (λ t. step_of t (reading_of c.read.new.reading)) c.in-Moves.is in
     goes_at c.args.tokens.now c.args.opened c.args.used c.loop-i.i c.index-tokens-i.result
     (reading_of c.loop-i.reading) (reading_of c.read.new.reading) (omega arith) c.index-tokens-i.is c.loop-i.invariant h
 

@@ -13,21 +13,21 @@ use Rattle.src_parser.proofs.parsing.parse.Goals as goal
 pub returns-in-Wrong-clause-refused : goal.returns-in-Wrong-clause-refused
 returns-in-Wrong-clause-refused c =
     let h : advanced limits (state_of c.loop-token.state) c.token-item.result.kind ≡ Wrong =
-    sym c.in_ok-take.ensures ∙ ap (λ t. advance_of t (state_of c.take.new.state)) c.in-Wrong.is in
+    sym c.in-Ok.ensures ∙ ap (λ t. advance_of t (state_of c.take.new.state)) c.in-Wrong.is in
     unexpected _ _ (unexpected_at program_laws c.args.tokens.now c.loop-token.token-index c.token-item.result
     (state_of c.loop-token.state) (omega arith) c.token-item.is c.loop-token.invariant h)
 
 pub returns-in-TooMuch-clause-refused : goal.returns-in-TooMuch-clause-refused
 returns-in-TooMuch-clause-refused c =
     let h : advanced limits (state_of c.loop-token.state) c.token-item.result.kind ≡ TooMuch =
-    sym c.in_ok-take.ensures ∙ ap (λ t. advance_of t (state_of c.take.new.state)) c.in-TooMuch.is in
+    sym c.in-Ok.ensures ∙ ap (λ t. advance_of t (state_of c.take.new.state)) c.in-TooMuch.is in
     too_deep _ _ (too_deep_at program_laws c.args.tokens.now c.loop-token.token-index c.token-item.result
     (state_of c.loop-token.state) (omega arith) c.token-item.is c.loop-token.invariant h)
 
 pub loop-token-preserved : goal.loop-token-preserved
 loop-token-preserved c =
     let h : advanced limits (state_of c.loop-token.state) c.token-item.result.kind ≡ Goes (state_of c.take.new.state) =
-    sym c.in_ok-take.ensures ∙ ap (λ t. advance_of t (state_of c.take.new.state)) c.in-Goes.is in
+    sym c.in-Ok.ensures ∙ ap (λ t. advance_of t (state_of c.take.new.state)) c.in-Goes.is in
     goes_at program_laws c.args.tokens.now c.loop-token.token-index c.token-item.result (state_of c.loop-token.state)
     (state_of c.take.new.state) (omega arith) c.token-item.is c.loop-token.invariant h
 

@@ -25,7 +25,7 @@ returns-in_default-clause-heard g c =
 pub execute-done-requires-clause-ready : goal.execute-done-requires-clause-ready
 execute-done-requires-clause-ready g c =
     let early : c.args.self.now.state.cycle < 2 ^ 32 =
-    omega (arith, step_start-least c.args.self.now.object c.args.self.now.state, c.requires.early) in
+    omega (arith, step_start-least c.args.self.now.object c.args.self.now.state, c.requires.start) in
     c.in-Some.ensures.ready early
 
 pub execute-done-requires-clause-left : goal.execute-done-requires-clause-left

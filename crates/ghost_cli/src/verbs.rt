@@ -1,0 +1,154 @@
+ghost use Rattle.std.specs.Prelude.{◌≡◌, IfOk, bytes_eq, false, option_and_then};
+ghost use Rattle.clap.specs.Words.{app_of, found_of, rows_of, rule_of};
+ghost use Rattle.ghost_cli.specs.Options.{texts};
+ghost use Rattle.ghost_cli.specs.VerbRows.{command_of, rule_for, with_all};
+ghost use Rattle.ghost_cli.specs.Verbs.{asked_for, row_of, verb_named};
+
+use crate::options::matches_in;
+use crate::{assemble, bus, check, compile, disassemble, evaluate, infer, run, sample, trace};
+use clap::{Arg, ArgAction, ArgMatches, Command};
+use gr_base::Memory;
+use std::alloc::Global;
+
+/// The verbs of the program.
+#[derive(Clone, Copy)]
+pub enum Verb {
+    Check,
+    Trace,
+    Run,
+    Assemble,
+    Disassemble,
+    Evaluate,
+    Compile,
+    Sample,
+    Bus,
+    Infer,
+}
+
+/// All verbs.
+const VERBS: [Verb; 10] = [
+    Verb::Check,
+    Verb::Trace,
+    Verb::Run,
+    Verb::Assemble,
+    Verb::Disassemble,
+    Verb::Evaluate,
+    Verb::Compile,
+    Verb::Sample,
+    Verb::Bus,
+    Verb::Infer,
+];
+
+/// How an argument stands among the words.
+#[derive(Clone, Copy)]
+pub enum Argument {
+    /// A word that must stand in its place.
+    Word,
+    /// 2 to 16 words that must stand in their places under one name.
+    Words,
+    /// An option with a value.
+    Valued,
+    /// An option without a value.
+    Flag,
+}
+
+/// The words that a verb takes: its name, how words stand in their places and under which names, its options with a
+/// value, and those without one.
+#[derive(Clone, Copy)]
+pub struct VerbWords<'a> {
+    pub name: &'a str,
+    pub place: Argument,
+    pub places: &'a [&'a str],
+    pub options: &'a [&'a str],
+    pub flags: &'a [&'a str],
+}
+
+/// The words that each verb takes: the table that a new verb is added to.
+fn words_of<'a>(verb: Verb) -> VerbWords<'a>
+    ensures name { result.name.now ≡ (row_of verb).name }
+    ensures place { result.place ≡ (row_of verb).place }
+    ensures places { texts result.places.now ≡ (row_of verb).places }
+    ensures options { texts result.options.now ≡ (row_of verb).options }
+    ensures flags { texts result.flags.now ≡ (row_of verb).flags }
+{
+    match verb {
+        Verb::Check => check::WORDS,
+        Verb::Trace => trace::WORDS,
+        Verb::Run => run::WORDS,
+        Verb::Assemble => assemble::WORDS,
+        Verb::Disassemble => disassemble::WORDS,
+        Verb::Evaluate => evaluate::WORDS,
+        Verb::Compile => compile::WORDS,
+        Verb::Sample => sample::WORDS,
+        Verb::Bus => bus::WORDS,
+        Verb::Infer => infer::WORDS,
+    }
+}
+
+fn is_named(verb: Verb, name: &str) -> bool
+    ensures { result ≡ bytes_eq (row_of verb).name name.now }
+{
+    words_of(verb).name == name
+}
+
+/// The verb of a name.
+#[tactic(auto, unfolding(crate::specs::Verbs::verb_named))]
+pub fn verb_named(name: &str) -> Option<Verb>
+    ensures { result ≡ verb_named name.now }
+{
+    VERBS.iter().copied().find(|verb| is_named(*verb, name))
+}
+
+/// What a verb finds in the words, the verb first, or none where it refuses them. A call for help is refused too.
+pub fn matches_of<'a>(
+    alloc: Global,
+    verb: Verb,
+    words: &'a [&'a str],
+) -> Result<Option<ArgMatches<'a>>, Memory>
+    ensures { IfOk result (λ found.
+        option_and_then (λ m. (row_of verb).asks (rows_of (found_of m))) found ≡ asked_for verb (texts words.now)) }
+{
+    matches_in(command(alloc, verb)?, words)
+}
+
+/// The command of a verb's words.
+fn command<'a>(alloc: Global, verb: Verb) -> Result<Command<'a>, Memory>
+    ensures { IfOk result (λ c. app_of c ≡ command_of (row_of verb)) }
+{
+    let words = words_of(verb);
+    let empty = Command::new(alloc, words.name);
+    let placed = with_all(alloc, empty, words.place, words.places)?;
+    let optional = with_all(alloc, placed, Argument::Valued, words.options)?;
+    with_all(alloc, optional, Argument::Flag, words.flags)
+}
+
+/// A command with these arguments more.
+fn with_all<'a>(
+    alloc: Global,
+    command: Command<'a>,
+    kind: Argument,
+    names: &[&'a str],
+) -> Result<Command<'a>, Memory>
+    ensures { IfOk result (λ c. app_of c ≡ with_all (app_of command.entry) kind (texts names.now)) }
+{
+    let mut more = command;
+    'adding: for name in names {
+        match more.arg(new_argument(alloc, kind, name)) {
+            Ok(one_more) => more = one_more,
+            Err(_) => return Err(Memory),
+        }
+    }
+    Ok(more)
+}
+
+fn new_argument<'a>(alloc: Global, kind: Argument, name: &'a str) -> Arg<'a>
+    ensures rule { rule_of result ≡ rule_for kind name.now }
+    ensures local { result.global ≡ false }
+{
+    match kind {
+        Argument::Word => Arg::new(alloc, name).required(true),
+        Argument::Words => Arg::new(alloc, name).required(true).num_args(2..=16),
+        Argument::Valued => Arg::new(alloc, name).long(name),
+        Argument::Flag => Arg::new(alloc, name).long(name).action(ArgAction::SetTrue),
+    }
+}
