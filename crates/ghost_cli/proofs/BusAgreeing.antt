@@ -6,19 +6,20 @@ use Rattle.lt_isa.specs.Object.{Parts}
 use Rattle.lt_isa.specs.Ranges.{IsInRange}
 use Rattle.lt_isa.specs.Start.{FitsObject, start_state, trace}
 use Rattle.lt_isa.specs.Step.{step_start}
-use Rattle.lt_isa.specs.Trace.{HaltsAt, Stamped, seen_at, stamped}
+use Rattle.lt_isa.specs.Trace.{HaltsAt, seen_at, stamped}
 use Rattle.lt_isa.proofs.Ends.{HasHalted, halted-from_halt, reaches-no_halt, stamped-halt}
 use Rattle.lt_isa.proofs.Starts.{IsShaped-start}
 use Rattle.bus_arbiter.specs.Laws.{traces_on}
-use Rattle.bus_arbiter.specs.Transfers.{joined_of}
-use Rattle.bus_arbiter.proofs.JoinedLaws.{agreeing}
+use Rattle.bus_arbiter.specs.Transfers.{IsJoined, Transfer}
+use Rattle.bus_arbiter.proofs.JoinedLaws.{agreeing, one-list}
 use Rattle.ghost_cli.specs.declared.replies.Verdict.TheVariants.{Shared}
 use Rattle.ghost_cli.specs.Bus.{all_halted, with_halts}
+use Rattle.ghost_cli.specs.Questions.{WhatIsJoined}
 use Rattle.ghost_cli.specs.BusAgrees.{BusAgrees}
 use Rattle.ghost_cli.specs.Runs.{HaltOf}
 use Rattle.ghost_cli.specs.Sharing.{AllFit, AreHalts}
 use Rattle.ghost_cli.specs.Showing.{bus_seen}
-use Rattle.ghost_cli.specs.Work.{Ending, Ends, Holds, IsVerdict, MayEnd, Work, said_at}
+use Rattle.ghost_cli.specs.Work.{Asks, Ending, Ends, Holds, IsVerdict, MayEnd, Work, said_at}
 use Rattle.ghost_cli.proofs.Behind.{behind-it}
 
 -- ---- a run has one halt at most
@@ -72,19 +73,43 @@ halting G n (o ∷ os) (d ∷ ds) next ending comes =
     let rest = halting G n os ds (λ more. next (first.0 ∷ more)) ending first.2 in
     record { halts = first.0 ∷ rest.halts; are = (first.1, rest.are); comes = rest.comes }
 
--- the work that is left once it is known when each run halts
-abbrev ends-on : List (List Stamped) → List (Option ℕ) → Work
-ends-on traces halts = Ends (bus_seen (joined_of traces) halts) (Shared (all_halted halts))
+-- the work that is left once it is known when each run halts, and what it comes to
+abbrev pub joins-on : ℕ → List Parts → List (List (List ℤ)) → List (Option ℕ) → Work
+joins-on n os ds halts =
+    Asks (WhatIsJoined os ds n) (λ joined. Ends (bus_seen joined halts) (Shared (all_halted halts)))
+
+record Joining (n : ℕ) (os : List Parts) (ds : List (List (List ℤ))) (ending : Ending) : Type 0 where
+  halts : List (Option ℕ)
+  are : AreHalts (traces_on os ds n) halts
+  joined : List Transfer
+  joins : IsJoined (traces_on os ds n) joined
+  is : ending ≡ IsVerdict (bus_seen joined halts) (Shared (all_halted halts))
+
+joining : (G : List ℕ → Option (List ℕ) → Type 0) (n : ℕ) (os : List Parts) (ds : List (List (List ℤ)))
+    (ending : Ending) → MayEnd G (with_halts n os ds (joins-on n os ds)) ending → Joining n os ds ending
+joining G n os ds ending comes =
+    let left = halting G n os ds (joins-on n os ds) ending comes in
+    let asked = behind-it G (joins-on n os ds left.halts) ending left.comes in
+    record {
+      halts = left.halts;
+      are = left.are;
+      joined = asked.0;
+      joins = asked.1;
+      is = behind-it G (Ends (bus_seen asked.0 left.halts) (Shared (all_halted left.halts))) ending asked.2;
+    }
 
 pub bus-agrees : BusAgrees
 bus-agrees plan os ds es cycles fit oblivious agree files others one other first second =
-    let left = halting (Holds files) cycles os ds (ends-on (traces_on os ds cycles)) one first in
-    let right = halting (Holds others) cycles os es (ends-on (traces_on os es cycles)) other second in
-    let traces = agreeing os ds es oblivious agree cycles in
+    let left = joining (Holds files) cycles os ds one first in
+    let right = joining (Holds others) cycles os es other second in
+    let traces = sym (agreeing os ds es oblivious agree cycles) in
+    let joined : left.joined ≡ right.joined =
+    one-list (traces_on os ds cycles) left.joined right.joined left.joins
+    (subst (λ ts. IsJoined ts right.joined) traces right.joins) in
     let halts : left.halts ≡ right.halts =
     same-halts os ds cycles fit left.halts right.halts left.are
-    (subst (λ ts. AreHalts ts right.halts) (sym traces) right.are) in
-    ap said_at (behind-it (Holds files) (ends-on (traces_on os ds cycles) left.halts) one left.comes)
-    ∙ ap₂ (λ (ts : List (List Stamped)) (hs : List (Option ℕ)).
-    said_at (IsVerdict (bus_seen (joined_of ts) hs) (Shared (all_halted hs)))) traces halts
-    ∙ sym (ap said_at (behind-it (Holds others) (ends-on (traces_on os es cycles) right.halts) other right.comes))
+    (subst (λ ts. AreHalts ts right.halts) traces right.are) in
+    ap said_at left.is
+    ∙ ap₂ (λ (ts : List Transfer) (hs : List (Option ℕ)).
+    said_at (IsVerdict (bus_seen ts hs) (Shared (all_halted hs)))) joined halts
+    ∙ sym (ap said_at right.is)

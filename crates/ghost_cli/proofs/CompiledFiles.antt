@@ -8,7 +8,8 @@ use Rattle.ghost_cli.specs.Texts.{Said}
 use Rattle.ghost_cli.specs.Sources.{SpellsTyped}
 use Rattle.ghost_cli.specs.Compile.{compile_work, compiles_to, on_compiled}
 use Rattle.ghost_cli.specs.Questions.{IsRight, WhichSource, WhichCompiled}
-use Rattle.ghost_cli.specs.Steps.{on_source}
+use Rattle.ghost_cli.specs.declared.replies.Verdict.TheVariants.{BadSource}
+use Rattle.ghost_cli.specs.Steps.{or_ends}
 use Rattle.ghost_cli.specs.Work.{Work, Ending, MayEnd, Holds, said_at, files_at}
 use Rattle.ghost_cli.specs.Outside.{Outside, Explains}
 use Rattle.ghost_cli.specs.Promises.{Answers, NoAnswer, AnswersSo, IsCompiledFile}
@@ -44,7 +45,7 @@ module _ (files : Files) (source output text : List ℕ) (profile : Profile) (pr
       (λ e. omega (arith, e)) (λ e. omega (arith, e))
 
   text-compiled : (answer : Result Source SourceFault) → IsRight (WhichSource procs text) answer
-      → MayEnd (Holds files) (on_source (compiles_to output profile) answer) ending
+      → MayEnd (Holds files) (or_ends BadSource (compiles_to output profile) answer) ending
       → IsCompiledFile procs files (files_at ending files) source output profile
   text-compiled (Ok p) spells comes =
       let asked = behind-it (Holds files) _ ending comes in bytes-compiled p spells asked.0 asked.1 asked.2

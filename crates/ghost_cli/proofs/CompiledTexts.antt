@@ -1,5 +1,5 @@
 -- The texts that the runs of a compiled object read and write are those of its program.
-use Rattle.std.proofs.Common.{◌≡◌, ℕ, ◌+◌, ◌*◌, ◌<◌, ◌≤◌, ℤ, List, length, map, Some, Result, Ok, Err, refl, sym, ap, ◌∙◌, subst, ⊎_elim, arith}
+use Rattle.std.proofs.Common.{◌≡◌, ℕ, ◌+◌, ◌*◌, ◌<◌, ◌≤◌, ℤ, List, length, map, Some, Result, Ok, sym, ap, ◌∙◌, subst, ⊎_elim, arith}
 use Rattle.std.specs.Result.{result_map_both}
 use Rattle.std.specs.List.Sorted.{IsPermutation}
 use Rattle.std.proofs.lemmas.Bool.{cases_lt}
@@ -17,7 +17,6 @@ use Rattle.lt_isa.proofs.Variables as symbols
 use Rattle.object_file.proofs.ObjectLaws.{spelling-injective}
 use Rattle.run_data.specs.InputsOf.{json_of, inputs_of}
 use Rattle.run_data.specs.OutputText.{output_of}
-use Rattle.run_data.specs.declared.errors.InputError.{InputError}
 use Rattle.run_data.proofs.FaultOrder.{inputs_permuted}
 use Rattle.run_data.proofs.MemberOrder.{output_permuted}
 use Rattle.run_data.proofs.ReadWords.{inputs_fit}
@@ -35,7 +34,7 @@ use Rattle.code_gen.proofs.WantedInputs.{inputs-wanted}
 use Rattle.code_gen.proofs.WantsInOrder.{wants-permuted, wants-differ, words_named, store-named}
 use Rattle.ghost_cli.specs.Compiled.{IsCompiledTo}
 use Rattle.ghost_cli.specs.CompiledRuns.{IsStoreOf}
-use Rattle.ghost_cli.specs.CompiledTexts.{given_by_name, TextsAsMeant, CompiledTexts}
+use Rattle.ghost_cli.specs.CompiledTexts.{TextsAsMeant, CompiledTexts}
 
 ok-same : {X E : Type 0} (x y : X) → ◌≡◌ {A = Result X E} (Ok x) (Ok y) → x ≡ y
 ok-same x y e = cc
@@ -52,16 +51,12 @@ module _ (p : Source) (profile : Profile) (bytes : List ℕ) (typed : IsTyped p)
   permuted : IsPermutation (declared_wants p.decls) (wants_of o)
   permuted = wants-permuted p profile.block_log typed.once limits compiled.room o compiled.layout
 
-  named : (r : Result Store InputError) → result_map_both (by_name p o) (λ e. e) r ≡ given_by_name p o r
-  named (Ok store) = refl
-  named (Err fault) = refl
-
   text-given : (text : List ℕ)
-      → inputs_of (wants_of o) (json_of text) ≡ given_by_name p o (inputs_of (declared_wants p.decls) (json_of text))
+      → inputs_of (wants_of o) (json_of text)
+      ≡ result_map_both (by_name p o) (λ fault. fault) (inputs_of (declared_wants p.decls) (json_of text))
   text-given text =
       inputs_permuted (declared_wants p.decls) (wants_of o) permuted (wants-differ p typed.once) (by_name p o) arranges
       (json_of text)
-      ∙ named (inputs_of (declared_wants p.decls) (json_of text))
 
   text-fits : (text : List ℕ) (store : Store) → inputs_of (declared_wants p.decls) (json_of text) ≡ Ok store
       → IsStoreOf p store
@@ -101,7 +96,8 @@ module _ (p : Source) (profile : Profile) (bytes : List ℕ) (typed : IsTyped p)
       → output_of (wants_of o) (outputs o (final o inputs cycles)) ≡ output_of (declared_wants p.decls) left
   text-written text store left inputs turns cycles given is read halts =
       let same : inputs ≡ by_name p o store =
-      ok-same inputs (by_name p o store) (sym read ∙ text-given text ∙ ap (given_by_name p o) given) in
+      ok-same inputs (by_name p o store)
+      (sym read ∙ text-given text ∙ ap (result_map_both (by_name p o) (λ fault. fault)) given) in
       let fits = text-fits text store given in
       let in_object : FitsObject o inputs =
       inputs_fit (wants_of o) text inputs (symbols.wants_are_variables o compiled.spells.in_range) read in

@@ -9,7 +9,8 @@ use Rattle.flow_types.specs.Wants.{declared_wants}
 use Rattle.ghost_cli.specs.declared.replies.Verdict.TheVariants.{Spent}
 use Rattle.ghost_cli.specs.declared.replies.Done.TheVariants.{Evaluated}
 use Rattle.ghost_cli.specs.Texts.{Said, comes_to}
-use Rattle.ghost_cli.specs.Questions.{WhatIsLeft, IsLeft}
+use Rattle.src_tree.specs.Meaning.{meaning}
+use Rattle.ghost_cli.specs.Questions.{WhatIsLeft}
 use Rattle.ghost_cli.specs.Work.{Work}
 use Rattle.ghost_cli.specs.Outside.{outside, Explains}
 use Rattle.ghost_cli.specs.Steps.{with_source, with_variables}
@@ -57,7 +58,7 @@ pub evaluated-said : (shelf between now : ShelfSeen) (before after : SinkSeen) (
     (bytes : List ℕ)
     → HasLeft shelf (evaluate_work source input output turns procs) (evaluates_on output turns p inputs)
     → between ≡ shelf
-    → IsLeft p inputs turns (Some left) → bytes ≡ output_of (declared_wants p.decls) left
+    → meaning p inputs turns ≡ Some left → bytes ≡ output_of (declared_wants p.decls) left
     → WritesOut (outside between before) (outside now after) status output bytes Evaluated
     → Explains (outside shelf before) (outside now after) status (Some (evaluate_work source input output turns procs))
 evaluated-said shelf between now before after status source input output turns procs p inputs left bytes leads same is
@@ -71,7 +72,7 @@ evaluated-said shelf between now before after status source input output turns p
 pub turns-spent : (shelf now : ShelfSeen) (source input output : List ℕ) (turns : ℕ) (procs : Bool) (p : Source)
     (inputs : List (List ℤ))
     → HasLeft shelf (evaluate_work source input output turns procs) (evaluates_on output turns p inputs) → now ≡ shelf
-    → IsLeft p inputs turns None → Stops shelf now (evaluate_work source input output turns procs) (comes_to
+    → meaning p inputs turns ≡ None → Stops shelf now (evaluate_work source input output turns procs) (comes_to
     (Spent turns))
 turns-spent shelf now source input output turns procs p inputs leads same none =
     ends-at shelf now (evaluate_work source input output turns procs) (Spent turns)

@@ -19,7 +19,8 @@ use Rattle.ghost_cli.specs.Inferred.{GetsNotes}
 use Rattle.ghost_cli.specs.Infer.{infer_work, infers_to, on_inferred}
 use Rattle.ghost_cli.specs.Objects.{SpellsObject}
 use Rattle.ghost_cli.specs.Questions.{IsRight, WhichObject, WhatIsInferred}
-use Rattle.ghost_cli.specs.Steps.{on_object}
+use Rattle.ghost_cli.specs.declared.replies.Verdict.TheVariants.{Malformed}
+use Rattle.ghost_cli.specs.Steps.{or_ends}
 use Rattle.ghost_cli.specs.Work.{Work, Ending, MayEnd, Holds, said_at, files_at}
 use Rattle.ghost_cli.specs.Outside.{Outside, outside, Explains}
 use Rattle.ghost_cli.specs.Promises.{Answers, NoAnswer, AnswersSo, IsInferredFile, IsSafe}
@@ -91,7 +92,7 @@ module _ (files : Files) (object output bytes : List ℕ) (there : Holds files o
       (λ e. omega (arith, e)) (λ e. omega (arith, e))
 
   object-read : (answer : Result Parts DecodeError) → IsRight (WhichObject bytes) answer
-      → MayEnd (Holds files) (on_object (infers_to output) answer) ending
+      → MayEnd (Holds files) (or_ends Malformed (infers_to output) answer) ending
       → IsInferredFile files (files_at ending files) object output
   object-read (Ok o) spells comes =
       let asked = behind-it (Holds files) _ ending comes in notes-written o spells asked.0 asked.1 asked.2

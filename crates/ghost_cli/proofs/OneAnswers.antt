@@ -26,29 +26,29 @@ use Rattle.run_data.proofs.ReadWords.{inputs_fit}
 use Rattle.bus_arbiter.specs.declared.errors.BusError.{BusError}
 use Rattle.bus_arbiter.specs.Refusals.{refusal}
 use Rattle.bus_arbiter.specs.Shares.{share_of}
+use Rattle.bus_arbiter.proofs.JoinedLaws.{one-list}
 use Rattle.ghost_cli.specs.declared.replies.InputFault.{InputFault}
 use Rattle.ghost_cli.specs.declared.replies.Done.{Done}
 use Rattle.ghost_cli.specs.declared.replies.Done.TheVariants.{Assembled, Disassembled, Inferred}
 use Rattle.ghost_cli.specs.declared.replies.Verdict.{Verdict}
-use Rattle.ghost_cli.specs.declared.replies.Verdict.TheVariants.{Accepted, Traced}
+use Rattle.ghost_cli.specs.declared.replies.Verdict.TheVariants.{Accepted, Traced, BadAssembly, BadInput, Malformed}
 use Rattle.ghost_cli.specs.Bus.{Pair, Read, bus_work, none_read, on_plan, one_read, shares_bus, with_cores, with_halts}
 use Rattle.ghost_cli.specs.Assemble.{assemble_work}
 use Rattle.ghost_cli.specs.Check.{check_work}
 use Rattle.ghost_cli.specs.Disassemble.{disassemble_work}
 use Rattle.ghost_cli.specs.Infer.{infer_work, infers_to, on_inferred}
-use Rattle.ghost_cli.specs.Inferred.{AreFound}
 use Rattle.ghost_cli.specs.OneAnswer.{HasOneAnswer, HoldRun, IsDoneOnce, TraceAgrees}
 use Rattle.ghost_cli.specs.Promises.{Answers, AnswersSo, IsDone, NoAnswer}
 use Rattle.ghost_cli.specs.Texts.{Said, usage}
 use Rattle.lt_assembler.specs.Canonical.{canonical}
 use Rattle.note_infer.specs.declared.faults.InferError.{InferError}
 use Rattle.ghost_cli.specs.Objects.{SpellsObject, object_limit}
-use Rattle.ghost_cli.specs.Questions.{Answer, AreInputs, IsAssembly, IsJudged, IsObject, IsRight, Question, Shows, WhenItHalts, WhetherAccepted, WhichAssembly, WhichInputs, WhichObject}
+use Rattle.ghost_cli.specs.Questions.{Answer, AreInputs, IsRight, Question, Shows, WhatIsInferred, WhatIsJoined, WhenItHalts, WhetherAccepted, WhichAssembly, WhichInputs, WhichObject}
 use Rattle.ghost_cli.specs.Run.{on_halt, run_work, runs_on}
 use Rattle.ghost_cli.specs.Runs.{HaltOf}
 use Rattle.ghost_cli.specs.Sharing.{AllFit, AreRead}
 use Rattle.ghost_cli.specs.Showing.{Seen, events_alone, nothing_seen}
-use Rattle.ghost_cli.specs.Steps.{input_limit, on_assembly, on_inputs, on_judged, on_object, with_accepted, with_assembly, with_inputs, with_object}
+use Rattle.ghost_cli.specs.Steps.{input_limit, on_judged, or_ends, with_accepted, with_assembly, with_inputs, with_object}
 use Rattle.ghost_cli.specs.Trace.{shows_on, trace_work, traces_on}
 use Rattle.ghost_cli.specs.Work.{Answered, Asks, Ended, Ending, Ends, Found, Holds, IsTooLong, IsUnread, IsVerdict, IsWritten, MayEnd, Missing, Reads, TooLong, Work, Writes, Wrote, files_at, said_at}
 use Rattle.ghost_cli.proofs.BusAgreeing.{one-halt}
@@ -94,19 +94,22 @@ past-limit n limit long short = absurd (omega (arith, long, short))
 
 -- ---- each question has one right answer
 
-pub decoded-right : (bytes : List ℕ) (answer : Result Parts DecodeError) → IsObject bytes answer
+pub decoded-right : (bytes : List ℕ) (answer : Result Parts DecodeError) → IsRight (WhichObject bytes) answer
     → decoded bytes ≡ answer
 decoded-right bytes (Ok o) spells = ap decoded spells.spelled ∙ decoded-spelling o spells.in_range
 decoded-right bytes (Err first) is = first-decoded bytes first is
 
-object-once : (bytes : List ℕ) (a b : Result Parts DecodeError) → IsObject bytes a → IsObject bytes b → a ≡ b
+object-once : (bytes : List ℕ) (a b : Result Parts DecodeError) → IsRight (WhichObject bytes) a
+    → IsRight (WhichObject bytes) b → a ≡ b
 object-once bytes a b first second = sym (decoded-right bytes a first) ∙ decoded-right bytes b second
 
-assembled-right : (text : List ℕ) (answer : Result Parts AsmError) → IsAssembly text answer → assembled text ≡ answer
+assembled-right : (text : List ℕ) (answer : Result Parts AsmError) → IsRight (WhichAssembly text) answer
+    → assembled text ≡ answer
 assembled-right text (Ok o) spells = spells-assembled text o spells
 assembled-right text (Err first) is = one_fault text first is
 
-assembly-once : (text : List ℕ) (a b : Result Parts AsmError) → IsAssembly text a → IsAssembly text b → a ≡ b
+assembly-once : (text : List ℕ) (a b : Result Parts AsmError) → IsRight (WhichAssembly text) a
+    → IsRight (WhichAssembly text) b → a ≡ b
 assembly-once text a b first second = sym (assembled-right text a first) ∙ assembled-right text b second
 
 shown-once : (first : InputError) (a b : InputFault) → Shows first a → Shows first b → a ≡ b
@@ -139,7 +142,8 @@ inputs-once wants json (Err f) (Err g) first second =
     ap Err (shown-once first.0 f g first.2
     (subst (λ x. Shows x g) (err-once (inputs_of wants (json_of json)) second.0 first.0 second.1 first.1) second.2))
 
-judged-once : (o : Parts) (a b : Option (ℕ × Reason)) → IsJudged o a → IsJudged o b → a ≡ b
+judged-once : (o : Parts) (a b : Option (ℕ × Reason)) → IsRight (WhetherAccepted o) a
+    → IsRight (WhetherAccepted o) b → a ≡ b
 judged-once o None None first second = refl
 judged-once o None (Some r) first second = absurd (refused_is_not_accepted o r.0 r.1 second first)
 judged-once o (Some r) None first second = absurd (refused_is_not_accepted o r.0 r.1 first second)
@@ -208,11 +212,11 @@ module _ (P : Ending → Type 0) (files : Files) where
   pub object-step : (name : List ℕ) (next : Parts → Work) → ((o : Parts) → IsInRange o → Once (next o))
       → Once (with_object name next)
   object-step name next once =
-      reads-once name object_limit _ (λ bytes. asks-once (WhichObject bytes) (on_object next)
+      reads-once name object_limit _ (λ bytes. asks-once (WhichObject bytes) (or_ends Malformed next)
       (object-once bytes) (by bytes))
     where
-      by : (bytes : List ℕ) (answer : Result Parts DecodeError) → IsObject bytes answer
-          → Once (on_object next answer)
+      by : (bytes : List ℕ) (answer : Result Parts DecodeError) → IsRight (WhichObject bytes) answer
+          → Once (or_ends Malformed next answer)
       by bytes (Ok o) spells = once o spells.in_range
       by bytes (Err fault) first = ends-once nothing_seen _
 
@@ -222,7 +226,7 @@ module _ (P : Ending → Type 0) (files : Files) where
       object-step name _ (λ o range. asks-once (WhetherAccepted o) (on_judged (next o)) (judged-once o)
       (by o range))
     where
-      by : (o : Parts) → IsInRange o → (answer : Option (ℕ × Reason)) → IsJudged o answer
+      by : (o : Parts) → IsInRange o → (answer : Option (ℕ × Reason)) → IsRight (WhetherAccepted o) answer
           → Once (on_judged (next o) answer)
       by o range None accepts = once o range
       by o range (Some refusal) first = ends-once nothing_seen _
@@ -230,22 +234,22 @@ module _ (P : Ending → Type 0) (files : Files) where
   pub assembly-step : (name : List ℕ) (next : Parts → Work) → ((o : Parts) → Once (next o))
       → Once (with_assembly name next)
   assembly-step name next once =
-      reads-once name _ _ (λ text. asks-once (WhichAssembly text) (on_assembly next)
+      reads-once name _ _ (λ text. asks-once (WhichAssembly text) (or_ends BadAssembly next)
       (assembly-once text) (by text))
     where
-      by : (text : List ℕ) (answer : Result Parts AsmError) → IsAssembly text answer
-          → Once (on_assembly next answer)
+      by : (text : List ℕ) (answer : Result Parts AsmError) → IsRight (WhichAssembly text) answer
+          → Once (or_ends BadAssembly next answer)
       by text (Ok o) spells = once o
       by text (Err fault) first = ends-once nothing_seen _
 
   pub inputs-step : (o : Parts) → IsInRange o → (name : List ℕ) (next : List (List ℤ) → Work)
       → ((d : List (List ℤ)) → FitsObject o d → Once (next d)) → Once (with_inputs o name next)
   inputs-step o range name next once =
-      reads-once name input_limit _ (λ json. asks-once (WhichInputs (wants_of o) json) (on_inputs next)
+      reads-once name input_limit _ (λ json. asks-once (WhichInputs (wants_of o) json) (or_ends BadInput next)
       (inputs-once (wants_of o) json) (by json))
     where
       by : (json : List ℕ) (answer : Result (List (List ℤ)) InputFault) → AreInputs (wants_of o) json answer
-          → Once (on_inputs next answer)
+          → Once (or_ends BadInput next answer)
       by json (Ok d) is = once d (inputs_fit (wants_of o) json d (wants_are_variables o range) is)
       by json (Err fault) first = ends-once nothing_seen _
 
@@ -306,7 +310,9 @@ module _ (P : Ending → Type 0) (files : Files) where
   pub bus-once : (pairs : List Pair) (cycles : ℕ) → Once (bus_work pairs cycles)
   bus-once pairs cycles =
       cores-step pairs 0 none_read (shares_bus cycles) none-read
-      (λ r are. halts-steps cycles r.objects r.inputs are.fit _ (λ halts. ends-once _ _))
+      (λ r are. halts-steps cycles r.objects r.inputs are.fit _
+      (λ halts. asks-once (WhatIsJoined r.objects r.inputs cycles) _
+      (one-list _) (λ joined joins. ends-once _ _)))
 
 -- ---- answers
 
@@ -360,7 +366,8 @@ infer-done object output files = object-step is_done files object (infers_to out
     refuses ending why comes done =
         not-done ending _ (of-told files _ ending comes) done (λ e. omega (arith, e)) (λ e. omega (arith, e))
 
-    at : (o : Parts) (a b : Result Parts InferError) → AreFound o a → AreFound o b → (one other : Ending)
+    at : (o : Parts) (a b : Result Parts InferError) → IsRight (WhatIsInferred o) a
+        → IsRight (WhatIsInferred o) b → (one other : Ending)
         → MayEnd (Holds files) (on_inferred output a) one → MayEnd (Holds files) (on_inferred output b) other
         → is_done one → is_done other → one ≡ other
     at o (Ok found) (Ok found') are are' one other first second done done' =
@@ -406,22 +413,24 @@ trace-of files object input o d cycles seed recursive run ending comes =
 
     on-json : (ending : Ending) (json : List ℕ) → json ≡ run.json
         → MayEnd (Holds files)
-        (Asks (WhichInputs (wants_of o) json) (on_inputs (traces_on false recursive cycles seed o))) ending
+        (Asks (WhichInputs (wants_of o) json) (or_ends BadInput (traces_on false recursive cycles seed o))) ending
         → Traces o d cycles ending
     on-json ending json same comes =
         let asked =
-        of-told files (Asks (WhichInputs (wants_of o) json) (on_inputs (traces_on false recursive cycles seed o)))
+        of-told files
+        (Asks (WhichInputs (wants_of o) json) (or_ends BadInput (traces_on false recursive cycles seed o)))
         ending comes in
         let right : AreInputs (wants_of o) json (Ok d) =
         subst (λ (j : List ℕ). AreInputs (wants_of o) j (Ok d)) (sym same) run.read in
         traced ending
         (subst (λ (a : Result (List (List ℤ)) InputFault).
-        MayEnd (Holds files) (on_inputs (traces_on false recursive cycles seed o) a) ending)
+        MayEnd (Holds files) (or_ends BadInput (traces_on false recursive cycles seed o) a) ending)
         (inputs-once (wants_of o) json asked.0 (Ok d) asked.1 right) asked.2)
 
     by-input : (ending : Ending)
         → OfRead files input input_limit
-        (λ json. Asks (WhichInputs (wants_of o) json) (on_inputs (traces_on false recursive cycles seed o))) ending
+        (λ json. Asks (WhichInputs (wants_of o) json)
+        (or_ends BadInput (traces_on false recursive cycles seed o))) ending
         → Traces o d cycles ending
     by-input ending (Lacks none) = none-some (get files input) run.json none run.given
     by-input ending (Exceeds json gives long) =
@@ -433,18 +442,19 @@ trace-of files object input o d cycles seed recursive run ending comes =
 
     on-bytes : (ending : Ending) (bytes : List ℕ) → bytes ≡ run.bytes
         → MayEnd (Holds files)
-        (Asks (WhichObject bytes) (on_object (λ p. Asks (WhetherAccepted p) (on_judged (next p))))) ending
+        (Asks (WhichObject bytes) (or_ends Malformed (λ p. Asks (WhetherAccepted p) (on_judged (next p))))) ending
         → Traces o d cycles ending
     on-bytes ending bytes same comes =
         let asked =
-        of-told files (Asks (WhichObject bytes) (on_object (λ p. Asks (WhetherAccepted p) (on_judged (next p)))))
+        of-told files
+        (Asks (WhichObject bytes) (or_ends Malformed (λ p. Asks (WhetherAccepted p) (on_judged (next p)))))
         ending comes in
-        let right : IsObject bytes (Ok o) =
+        let right : IsRight (WhichObject bytes) (Ok o) =
         subst (λ (b : List ℕ). SpellsObject b o) (sym same) run.spells in
         let accepted =
         of-told files (Asks (WhetherAccepted o) (on_judged (next o))) ending
         (subst (λ (a : Result Parts DecodeError).
-        MayEnd (Holds files) (on_object (λ p. Asks (WhetherAccepted p) (on_judged (next p))) a) ending)
+        MayEnd (Holds files) (or_ends Malformed (λ p. Asks (WhetherAccepted p) (on_judged (next p))) a) ending)
         (object-once bytes asked.0 (Ok o) asked.1 right) asked.2) in
         by-input ending
         (of-told files (next o) ending
@@ -453,7 +463,8 @@ trace-of files object input o d cycles seed recursive run ending comes =
 
     by-object : (ending : Ending)
         → OfRead files object object_limit
-        (λ bytes. Asks (WhichObject bytes) (on_object (λ p. Asks (WhetherAccepted p) (on_judged (next p))))) ending
+        (λ bytes. Asks (WhichObject bytes)
+        (or_ends Malformed (λ p. Asks (WhetherAccepted p) (on_judged (next p))))) ending
         → Traces o d cycles ending
     by-object ending (Lacks none) = none-some (get files object) run.bytes none run.there
     by-object ending (Exceeds bytes gives long) =

@@ -1,5 +1,6 @@
 -- What every call promises follows from what explains it.
 use Rattle.std.proofs.Common.{◌≡◌, ◌≢◌, ◌⊎◌, inl, inr, ℕ, ◌≤◌, Bool, List, Option, Some, None, is_some, refl, sym, ap, ◌∙◌, subst, arith}
+use Rattle.std.specs.Prelude.{MatchOption}
 use Rattle.std.specs.Option.{option_map}
 use Rattle.std.specs.FinMap.{get, remove}
 use Rattle.std.proofs.lemmas.Bool.{cases_eq}
@@ -11,7 +12,7 @@ use Rattle.ghost_cli.specs.declared.replies.Verdict.{Verdict}
 use Rattle.ghost_cli.specs.Texts.{Said, usage, unread, verdict_status}
 use Rattle.ghost_cli.specs.Work.{Work, Ending, IsUnread, IsTooLong, IsVerdict, IsWritten, MayEnd, Holds, said_at, files_at}
 use Rattle.ghost_cli.specs.Outside.{Outside, Gives, PutsSaid, OnlyReads, Unread, Long, Judged, Written, NotWritten, Starved, Explains, NoWork, NoRoom, Worked}
-use Rattle.ghost_cli.specs.Promises.{Answers, NoAnswer, AnswersSo, IsAnswered, IsUnreadable, IsMissing, ReadFailed, WriteFailed, NoMemory, IsCalm, OnlyOutput, StandsAtFour, OfAnswer, UnreadCut, NoMemoryCut, IsDone}
+use Rattle.ghost_cli.specs.Promises.{Answers, NoAnswer, AnswersSo, IsAnswered, IsUnreadable, ReadFailed, WriteFailed, NoMemory, IsCalm, OnlyOutput, StandsAtFour, OfAnswer, UnreadCut, NoMemoryCut, IsDone}
 use Rattle.gr_outside.proofs.WrittenFiles.{remove_with_file}
 use Rattle.ghost_cli.proofs.Endings.{plain, names, ToldTo, Same, Unreadable, told}
 
@@ -104,7 +105,7 @@ unread-of {before = before} {after = after} (Worked work ending comes (Unread na
     }
   where
     missing : (files : Option Files) (reads now : ℕ) (name : List ℕ)
-        → Gives files reads now name None → IsMissing files name ⊎ Rose reads now
+        → Gives files reads now name None → MatchOption files ⊥ (λ told. get told name ≡ None) ⊎ Rose reads now
     missing None reads now name rose = inr rose
     missing (Some files) reads now name none = none
 unread-of (Worked work ending comes (Long name limit same put)) three =

@@ -10,7 +10,8 @@ use Rattle.ghost_cli.specs.Texts.{Said}
 use Rattle.ghost_cli.specs.Objects.{SpellsObject}
 use Rattle.ghost_cli.specs.Questions.{IsRight, WhichObject, WhetherAccepted}
 use Rattle.ghost_cli.specs.Work.{Work, Asks, Ending, MayEnd, Holds, said_at}
-use Rattle.ghost_cli.specs.Steps.{with_accepted, with_inputs, on_object, on_inputs, on_judged}
+use Rattle.ghost_cli.specs.declared.replies.Verdict.TheVariants.{BadInput, Malformed}
+use Rattle.ghost_cli.specs.Steps.{on_judged, or_ends, with_accepted, with_inputs}
 use Rattle.bus_arbiter.specs.declared.errors.BusError.{BusError}
 use Rattle.bus_arbiter.specs.Refusals.{refusal}
 use Rattle.bus_arbiter.specs.Shares.{share_of}
@@ -56,7 +57,7 @@ module _ (files : Files) (object bytes : List ℕ) (there : Holds files object (
       not-done ending _ (behind-it (Holds files) _ ending comes) done (λ e. omega (arith, e)) (λ e. omega (arith, e))
 
   spelled-safe : (next : Parts → Work) (answer : Result Parts DecodeError) → IsRight (WhichObject bytes) answer
-      → MayEnd (Holds files) (on_object (λ o. Asks (WhetherAccepted o) (on_judged (next o))) answer) ending
+      → MayEnd (Holds files) (or_ends Malformed (λ o. Asks (WhetherAccepted o) (on_judged (next o))) answer) ending
       → Checked files object next ending
   spelled-safe next (Ok o) spells comes =
       let judged = behind-it (Holds files) _ ending comes in accepted-safe o next spells judged.0 judged.1 judged.2
@@ -90,7 +91,7 @@ inputs-on files o name next ending comes done =
       ]
     ]
   where
-    by : (answer : Result (List (List ℤ)) InputFault) → MayEnd (Holds files) (on_inputs next answer) ending
+    by : (answer : Result (List (List ℤ)) InputFault) → MayEnd (Holds files) (or_ends BadInput next answer) ending
         → (d : List (List ℤ)) × MayEnd (Holds files) (next d) ending
     by (Ok d) comes = (d, comes)
     by (Err fault) comes =

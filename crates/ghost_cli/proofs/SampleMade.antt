@@ -43,7 +43,8 @@ use Rattle.ghost_cli.specs.Questions.{IsRight, WhichSource, WhichCompiled, Wheth
 use Rattle.ghost_cli.specs.SampleTree.{sample_program}
 use Rattle.ghost_cli.specs.Showing.{nothing_seen}
 use Rattle.ghost_cli.specs.Sources.{SpellsTyped, IsFirstSourceFault, InPieces, InTokens, InProgram, token_fault, program_fault, source_limit}
-use Rattle.ghost_cli.specs.Steps.{on_source, on_judged}
+use Rattle.ghost_cli.specs.declared.replies.Verdict.TheVariants.{BadSource}
+use Rattle.ghost_cli.specs.Steps.{on_judged, or_ends}
 use Rattle.ghost_cli.specs.Texts.{Said, no_memory}
 use Rattle.ghost_cli.specs.Work.{Work, Ends, Writes}
 use Rattle.ghost_cli.proofs.SampleProgram.{sample_typed, sample_within, sample_fits, sample_needs}
@@ -136,16 +137,16 @@ no-first n few shown (InProgram p e spells explains is) =
 -- ---- what is said
 
 source-starved : (n : ℕ) → Within 1 65536 n → (verdict : Verdict) (answer : Result Source SourceFault)
-    → IsRight (WhichSource false (sample_text n)) answer → on_source
+    → IsRight (WhichSource false (sample_text n)) answer → or_ends BadSource
     (λ p. elsewhere) answer ≡ Ends nothing_seen verdict → ⊥
 source-starved n few verdict (Ok p) right ends = not-elsewhere verdict ends
 source-starved n few verdict (Err shown) first ends = no-first n few shown first
 
 -- its text is refused for want of memory alone
 pub text-starved : (n : ℕ) → Within 1 65536 n → (text : List ℕ) → text ≡ sample_text n → (said : Said)
-    → ((next : Source → Work) → EndsWorkWith (WhichSource false text) (on_source next) said) → said ≡ no_memory
+    → ((next : Source → Work) → EndsWorkWith (WhichSource false text) (or_ends BadSource next) said) → said ≡ no_memory
 text-starved n few text is said refuses =
-    elim (subst (λ t. EndsWorkWith (WhichSource false t) (on_source (λ p. elsewhere)) said) is (refuses
+    elim (subst (λ t. EndsWorkWith (WhichSource false t) (or_ends BadSource (λ p. elsewhere)) said) is (refuses
     (λ p. elsewhere))) [
       | inl starved ↦ starved
       | inr why ↦ absurd (source-starved n few why.1 why.0 why.2 why.3)

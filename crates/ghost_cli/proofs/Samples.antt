@@ -18,7 +18,7 @@ use Rattle.ghost_cli.specs.declared.replies.Verdict.TheVariants.{Spent}
 use Rattle.ghost_cli.specs.declared.sample.CountedRun.{CountedRun}
 use Rattle.ghost_cli.specs.declared.sample.SampleFile.{SampleFile}
 use Rattle.ghost_cli.specs.Compiled.{IsCompiledTo}
-use Rattle.ghost_cli.specs.Histogram.{Made, IsMade, figures_of, sample_block_log, sample_profile, sample_cycles, sample_inputs, sample_store, sample_trace, sample_words, sum_left}
+use Rattle.ghost_cli.specs.Histogram.{Made, IsMade, figures_of, sample_profile, sample_cycles, sample_inputs, sample_store, sample_trace, sample_words, sum_left}
 use Rattle.ghost_cli.specs.Outside.{outside, PutsSaid, Explains}
 use Rattle.ghost_cli.specs.Progress.{HasLeft, Stops, WritesOut}
 use Rattle.ghost_cli.specs.Questions.{WhatIsMade, WhenItHalts}
@@ -54,9 +54,10 @@ pub ready-done : (n : ℕ) (p : Source) (o : Parts) (at : ℕ) → SampleIsReady
     → (left : Store) × (meaning p (sample_store p) sample_cycles ≡ Some left)
 ready-done n p o at ready halts =
     let is = compiled-object p sample_profile o ready.in_range ready.compiled in
-    let layout : HasLayout p sample_block_log o = subst (HasLayout p sample_block_log) is ready.compiled.layout in
+    let layout : HasLayout p sample_profile.block_log o =
+    subst (HasLayout p sample_profile.block_log) is ready.compiled.layout in
     let inputs : by_name p o (sample_store p) ≡ sample_inputs (wants_of o) =
-    inputs-wanted p sample_block_log ready.spells.typed.once ready.spells.within ready.compiled.room o layout
+    inputs-wanted p sample_profile.block_log ready.spells.typed.once ready.spells.within ready.compiled.room o layout
     sample_words in
     let runs =
     compiled-runs p sample_profile (spelling o) o ready.spells.typed ready.spells.within ready.compiled

@@ -41,7 +41,7 @@ use Rattle.note_infer.specs.Inferred.{IsWhyNot, NoNotesWouldDo}
 use Rattle.ghost_cli.specs.Infer.{on_inferred}
 use Rattle.ghost_cli.specs.Questions.{WhichObject, WhichAssembly, WhichSource, WhichInputs, WhatIsInferred, Shows}
 use Rattle.ghost_cli.specs.Work.{Work}
-use Rattle.ghost_cli.specs.Steps.{on_object, on_assembly, on_source, on_inputs}
+use Rattle.ghost_cli.specs.Steps.{or_ends}
 use Rattle.ghost_cli.specs.Progress.{EndsWorkWith, SaysObject, SaysText, SaysSource, SaysInputs, SaysNotes}
 use Rattle.processor.specs.Ends.{NoHalt}
 use Rattle.ghost_cli.specs.Runs.{TracesAgree, TextsAgree}
@@ -49,7 +49,7 @@ use Rattle.ghost_cli.specs.Runs.{TracesAgree, TextsAgree}
 -- the line of bytes that are no object names their first fault
 pub no-object : (bytes : List ℕ) (fault : DecodeError) (said : Said)
     → (fault ≢ object.Memory → IsFirstObjectFault bytes fault) → SaysObject fault said
-    → (next : Parts → Work) → EndsWorkWith (WhichObject bytes) (on_object next) said
+    → (next : Parts → Work) → EndsWorkWith (WhichObject bytes) (or_ends Malformed next) said
 no-object bytes object.Memory said fails says next = inl says
 no-object bytes (object.Truncated at) said fails says next =
     inr (Err (object.Truncated at), Malformed (object.Truncated at), fails (λ e. cc), refl, says)
@@ -65,7 +65,7 @@ no-object bytes (object.TrailingBytes at) said fails says next =
 -- a text that gives no program, by a fault of it that is shown
 pub no-source : (procs : Bool) (text : List ℕ) (shown : Option SourceFault) (said : Said)
     → IfSome shown (IsFirstSourceFault procs text) → SaysSource shown said
-    → (next : Source → Work) → EndsWorkWith (WhichSource procs text) (on_source next) said
+    → (next : Source → Work) → EndsWorkWith (WhichSource procs text) (or_ends BadSource next) said
 no-source procs text None said first says next = inl says
 no-source procs text (Some fault) said first says next = inr (Err fault, BadSource fault, first, refl, says)
 
@@ -119,7 +119,7 @@ spells-of true text tokens p splits are = record { tokens = tokens; split = spli
 -- the line of a text that spells no object names its first fault
 pub no-assembly : (bytes : List ℕ) (fault : AsmError) (said : Said)
     → (fault ≢ text.Memory → IsFirstTextFault bytes fault) → SaysText fault said
-    → (next : Parts → Work) → EndsWorkWith (WhichAssembly bytes) (on_assembly next) said
+    → (next : Parts → Work) → EndsWorkWith (WhichAssembly bytes) (or_ends BadAssembly next) said
 no-assembly bytes text.Memory said fails says next = inl says
 no-assembly bytes (text.BadLine n) said fails says next =
     inr (Err (text.BadLine n), BadAssembly (text.BadLine n), fails (λ e. cc), refl, says)
@@ -171,7 +171,7 @@ shown-not (input.NotAWord name) shown shows e = cc
 -- the line of inputs that don't fit names their first fault
 pub no-inputs : (wants : List Want) (bytes : List ℕ) (fault : InputError) (said : Said)
     → (fault ≢ input.Memory → inputs_of wants (json_of bytes) ≡ Err fault) → SaysInputs fault said
-    → (next : List (List ℤ) → Work) → EndsWorkWith (WhichInputs wants bytes) (on_inputs next) said
+    → (next : List (List ℤ) → Work) → EndsWorkWith (WhichInputs wants bytes) (or_ends BadInput next) said
 no-inputs wants bytes fault said fails says next = elim says [
   | inl no_room ↦ inl no_room
   | inr shown ↦

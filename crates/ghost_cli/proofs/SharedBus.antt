@@ -17,7 +17,7 @@ use Rattle.processor.specs.Ends.{EndsAs}
 use Rattle.bus_arbiter.specs.Cores.{Core, LeftIf, RanTo, end_as, trace_to, traces_to}
 use Rattle.bus_arbiter.specs.Laws.{traces_on}
 use Rattle.bus_arbiter.specs.Turns.{AllLeft}
-use Rattle.bus_arbiter.specs.Transfers.{Transfer, joined_of}
+use Rattle.bus_arbiter.specs.Transfers.{Transfer}
 use Rattle.path_oram.specs.Orams.{Oram}
 use Rattle.rand_chacha.specs.ChaCha.{ChaCha}
 use Rattle.ghost_cli.specs.declared.replies.Verdict.TheVariants.{Shared}
@@ -25,12 +25,12 @@ use Rattle.ghost_cli.specs.Beginning.{BankBegins, HasBegun}
 use Rattle.ghost_cli.specs.Bus.{Pair, Read, all_halted, bus_work, shares_bus, with_halts}
 use Rattle.ghost_cli.specs.Outside.{Explains, PutsSaid, outside}
 use Rattle.ghost_cli.specs.Progress.{HasLeft}
-use Rattle.ghost_cli.specs.Questions.{WhenItHalts}
+use Rattle.ghost_cli.specs.Questions.{WhatIsJoined, WhenItHalts}
 use Rattle.ghost_cli.specs.Runs.{HaltOf}
 use Rattle.ghost_cli.specs.Sharing.{AllBegin, AllFit, AreHalts, PutsHalts, PutsJoined, PutsShared, halts_of}
 use Rattle.ghost_cli.specs.Showing.{bus_seen, core_line, core_lines, halt_text, transfer_lines}
 use Rattle.ghost_cli.specs.Texts.{no_memory}
-use Rattle.ghost_cli.specs.Work.{Ends, Work}
+use Rattle.ghost_cli.specs.Work.{Asks, Ends, Work}
 use Rattle.ghost_cli.proofs.Answering.{judged-said, starved-said}
 use Rattle.ghost_cli.proofs.BusWatches.{halt-some}
 use Rattle.ghost_cli.proofs.Progressing.{leads-on}
@@ -265,23 +265,25 @@ tail-text joined halts = ap (λ l. transfer_lines joined ++ l) (sym (append-nil 
 pub shared-put : (before middle after : SinkSeen) (traces : List (List Stamped)) (halts : List (Option ℕ)) (status : ℕ)
     → PutsJoined before middle traces true → AreHalts traces halts → PutsHalts middle after halts status
     → PutsShared before after traces status
-shared-put before middle after traces halts status joined are ended = record {
+shared-put before middle after traces halts status put are ended = record {
+  joined = put.joined;
+  joins = put.joins;
   halts = halts;
   are = are;
   put = elim ended.put [
     | inl done ↦ inl (
       done.0,
-      subst (Adds before.held after.held) (tail-text (joined_of traces) halts)
-          (Adds-then before.held middle.held after.held (transfer_lines (joined_of traces)) (core_lines 0 halts)
-          joined.0 done.1),
-      done.2 ∙ joined.1,
+      subst (Adds before.held after.held) (tail-text put.joined halts)
+          (Adds-then before.held middle.held after.held (transfer_lines put.joined) (core_lines 0 halts)
+          put.put.0 done.1),
+      done.2 ∙ put.put.1,
     )
     | inr cut ↦ inr (
       cut.0,
-      subst (λ n. Rose n after.faults) joined.1 cut.1,
-      subst (AddsLess before.held after.held) (tail-text (joined_of traces) halts)
-          (AddsLess-then before.held middle.held after.held (transfer_lines (joined_of traces)) (core_lines 0 halts)
-          joined.0 (lines-some 0 halts (ended.some cut.0)) cut.2),
+      subst (λ n. Rose n after.faults) put.put.1 cut.1,
+      subst (AddsLess before.held after.held) (tail-text put.joined halts)
+          (AddsLess-then before.held middle.held after.held (transfer_lines put.joined) (core_lines 0 halts)
+          put.put.0 (lines-some 0 halts (ended.some cut.0)) cut.2),
     )
   ];
 }
@@ -291,12 +293,14 @@ pub shared-cut : (before after : SinkSeen) (traces : List (List Stamped)) → Pu
 shared-cut before after traces cut =
     let found = some-halts traces in
     record {
+      joined = cut.joined;
+      joins = cut.joins;
       halts = found.0;
       are = found.1;
       put = inr (
         refl,
-        cut.0,
-        AddsLess-more before.held after.held (transfer_lines (joined_of traces)) (core_lines 0 found.0 ++ []) cut.1,
+        cut.put.0,
+        AddsLess-more before.held after.held (transfer_lines cut.joined) (core_lines 0 found.0 ++ []) cut.put.1,
       );
     }
 
@@ -324,10 +328,12 @@ pub shared-said : (shelf now : ShelfSeen) (before after : SinkSeen) (status : �
 shared-said shelf now before after status pairs cycles read leads same put = elim put [
   | inl shared ↦
       judged-said shelf now before after status (bus_work pairs cycles)
-      (bus_seen (joined_of (traces_on read.objects read.inputs cycles)) shared.halts) (Shared (all_halted shared.halts))
+      (bus_seen shared.joined shared.halts) (Shared (all_halted shared.halts))
+      (leads-on shelf (bus_work pairs cycles) (WhatIsJoined read.objects read.inputs cycles)
+      (λ joined. Ends (bus_seen joined shared.halts) (Shared (all_halted shared.halts))) shared.joined
       (leads-halts shelf (bus_work pairs cycles) cycles read.objects read.inputs shared.halts
-      (λ halts. Ends (bus_seen (joined_of (traces_on read.objects read.inputs cycles)) halts)
-      (Shared (all_halted halts)))
-      leads shared.are) same shared.put
+      (λ halts. Asks (WhatIsJoined read.objects read.inputs cycles)
+      (λ joined. Ends (bus_seen joined halts) (Shared (all_halted halts))))
+      leads shared.are) shared.joins) same shared.put
   | inr starved ↦ starved-said (Some (bus_work pairs cycles)) shelf now before after status same starved
 ]

@@ -24,10 +24,11 @@ use Rattle.ghost_cli.specs.Evaluate.{evaluate_work, evaluates_on, on_left}
 use Rattle.ghost_cli.specs.OneAnswer.{IsDoneBut, IsDoneOnce, OneAnswer}
 use Rattle.ghost_cli.specs.Promises.{Answers, AnswersSo, IsDone, NoAnswer}
 use Rattle.ghost_cli.specs.Texts.{Said, usage}
-use Rattle.ghost_cli.specs.Questions.{AreInputs, IsSource, WhatIsLeft, WhichInputs, WhichSource}
+use Rattle.ghost_cli.specs.Questions.{AreInputs, IsRight, WhatIsLeft, WhichInputs, WhichSource}
 use Rattle.ghost_cli.specs.Showing.{nothing_seen}
 use Rattle.ghost_cli.specs.Sources.{Spells, source_limit}
-use Rattle.ghost_cli.specs.Steps.{input_limit, on_inputs, on_source, with_source, with_variables}
+use Rattle.ghost_cli.specs.declared.replies.Verdict.TheVariants.{BadInput, BadSource}
+use Rattle.ghost_cli.specs.Steps.{input_limit, or_ends, with_source, with_variables}
 use Rattle.ghost_cli.specs.Work.{Asks, Ending, Holds, IsTooLong, IsUnread, IsWritten, MayEnd, Work, files_at, said_at}
 use Rattle.ghost_cli.proofs.Behind.{not-done}
 use Rattle.ghost_cli.proofs.OneAnswers.{Exceeds, Gives, Lacks, OfRead, Once, any, assemble-once, bus-once, check-once, disassemble-once, infer-done, one-answer, run-once, trace-once, answer-of, asks-once, done-once, ends-once, inputs-once, is_done, of-told, ok-once, reads-once, writes-once}
@@ -52,16 +53,17 @@ module _ (files : Files) where
   source-done : (procs : Bool) (name : List ℕ) (next : Source → Work)
       → ((p : Source) → Once is_done files (next p)) → Once is_done files (with_source procs name next)
   source-done procs name next once =
-      reads-once is_done files name source_limit (λ text. Asks (WhichSource procs text) (on_source next)) by
+      reads-once is_done files name source_limit (λ text. Asks (WhichSource procs text) (or_ends BadSource next)) by
     where
       refuses : {X : Type 0} (ending : Ending) (fault : SourceFault)
-          → MayEnd (Holds files) (on_source next (Err fault)) ending → is_done ending → X
+          → MayEnd (Holds files) (or_ends BadSource next (Err fault)) ending → is_done ending → X
       refuses ending fault comes done =
           not-done ending _ (of-told files _ ending comes) done (λ e. omega (arith, e)) (λ e. omega (arith, e))
 
-      at : (text : List ℕ) (a b : Result Source SourceFault) → IsSource procs text a → IsSource procs text b
-          → (one other : Ending) → MayEnd (Holds files) (on_source next a) one
-          → MayEnd (Holds files) (on_source next b) other → is_done one → is_done other → one ≡ other
+      at : (text : List ℕ) (a b : Result Source SourceFault) → IsRight (WhichSource procs text) a
+          → IsRight (WhichSource procs text) b
+          → (one other : Ending) → MayEnd (Holds files) (or_ends BadSource next a) one
+          → MayEnd (Holds files) (or_ends BadSource next b) other → is_done one → is_done other → one ≡ other
       at text (Ok p) (Ok q) spells spells' one other first second done done' =
           once p one other first
           (subst (λ (s : Source). MayEnd (Holds files) (next s) other)
@@ -69,19 +71,19 @@ module _ (files : Files) where
       at text (Ok p) (Err fault) spells fails one other first second done done' = refuses other fault second done'
       at text (Err fault) b fails right one other first second done done' = refuses one fault first done
 
-      by : (text : List ℕ) → Once is_done files (Asks (WhichSource procs text) (on_source next))
+      by : (text : List ℕ) → Once is_done files (Asks (WhichSource procs text) (or_ends BadSource next))
       by text one other first second =
-          let a = of-told files (Asks (WhichSource procs text) (on_source next)) one first in
-          let b = of-told files (Asks (WhichSource procs text) (on_source next)) other second in
+          let a = of-told files (Asks (WhichSource procs text) (or_ends BadSource next)) one first in
+          let b = of-told files (Asks (WhichSource procs text) (or_ends BadSource next)) other second in
           at text a.0 b.0 a.1 b.1 one other a.2 b.2
 
   variables-done : (wants : List Want) (name : List ℕ) (next : List (List ℤ) → Work)
       → ((d : List (List ℤ)) → Once is_done files (next d)) → Once is_done files (with_variables wants name next)
   variables-done wants name next once =
       reads-once is_done files name input_limit _ (λ json. asks-once is_done files (WhichInputs wants json)
-      (on_inputs next) (inputs-once wants json) (λ a right. by a))
+      (or_ends BadInput next) (inputs-once wants json) (λ a right. by a))
     where
-      by : (a : Result (List (List ℤ)) InputFault) → Once is_done files (on_inputs next a)
+      by : (a : Result (List (List ℤ)) InputFault) → Once is_done files (or_ends BadInput next a)
       by (Ok d) = once d
       by (Err fault) = ends-once is_done files nothing_seen _
 
@@ -111,7 +113,7 @@ module _ (files : Files) where
           not-done ending _ (of-told files _ ending comes) done (λ e. omega (arith, e)) (λ e. omega (arith, e))
 
       by-program : (answer : Result Source SourceFault) (ending : Ending)
-          → MayEnd (Holds files) (on_source (compiles_to output profile) answer) ending → is_done ending
+          → MayEnd (Holds files) (or_ends BadSource (compiles_to output profile) answer) ending → is_done ending
           → (bytes : List ℕ) × (ending ≡ IsWritten output bytes Compiled)
       by-program (Ok p) ending comes done =
           let asked = of-told files (compiles_to output profile p) ending comes in
@@ -120,7 +122,8 @@ module _ (files : Files) where
           not-done ending _ (of-told files _ ending comes) done (λ e. omega (arith, e)) (λ e. omega (arith, e))
 
       by-file : (ending : Ending) → OfRead files source source_limit
-          (λ text. Asks (WhichSource procs text) (on_source (compiles_to output profile))) ending → is_done ending
+          (λ text. Asks (WhichSource procs text) (or_ends BadSource (compiles_to output profile))) ending
+          → is_done ending
           → (bytes : List ℕ) × (ending ≡ IsWritten output bytes Compiled)
       by-file ending (Lacks none) done =
           not-done (IsUnread source) (IsUnread source) refl done (λ e. omega (arith, e)) (λ e. omega (arith, e))
@@ -129,7 +132,7 @@ module _ (files : Files) where
           (λ e. omega (arith, e))
       by-file ending (Gives text ending' gives short comes) done =
           let asked =
-          of-told files (Asks (WhichSource procs text) (on_source (compiles_to output profile))) ending comes in
+          of-told files (Asks (WhichSource procs text) (or_ends BadSource (compiles_to output profile))) ending comes in
           by-program asked.0 ending asked.2 done
 
 pub evaluate-done : (source input output : List ℕ) (turns : ℕ) (procs : Bool)

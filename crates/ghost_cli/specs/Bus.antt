@@ -4,15 +4,13 @@ use Rattle.std.specs.Prelude.{ℕ, ◌+◌, ℤ, Bool, true, false, List, [], �
 use Rattle.std.specs.Option.{option_map}
 use Rattle.clap.specs.Words.{App, Row, Text, all_of, first_of}
 use Rattle.lt_isa.specs.Object.{Parts}
-use Rattle.bus_arbiter.specs.Laws.{traces_on}
 use Rattle.bus_arbiter.specs.Refusals.{refusal}
 use Rattle.bus_arbiter.specs.Shares.{share_of}
-use Rattle.bus_arbiter.specs.Transfers.{joined_of}
 use Rattle.bus_arbiter.specs.declared.shares.Share.{Share}
 use Rattle.bus_arbiter.specs.declared.errors.BusError.{BusError}
 use Rattle.bus_arbiter.specs.declared.errors.BusError.TheVariants as bus
 use Rattle.ghost_cli.specs.declared.replies.Verdict.TheVariants.{OffBus, Shared}
-use Rattle.ghost_cli.specs.Questions.{WhenItHalts}
+use Rattle.ghost_cli.specs.Questions.{WhatIsJoined, WhenItHalts}
 use Rattle.ghost_cli.specs.Showing.{bus_seen, nothing_seen}
 use Rattle.ghost_cli.specs.Texts.{Said, comes_to, no_memory}
 use Rattle.ghost_cli.specs.Work.{Work, Asks, Ends}
@@ -84,7 +82,8 @@ all_halted (Some at ∷ halts) = all_halted halts
 abbrev pub shares_bus : ℕ → Read → Work
 shares_bus cycles read =
     with_halts cycles read.objects read.inputs (λ halts.
-    Ends (bus_seen (joined_of (traces_on read.objects read.inputs cycles)) halts) (Shared (all_halted halts)))
+    Asks (WhatIsJoined read.objects read.inputs cycles) (λ joined.
+    Ends (bus_seen joined halts) (Shared (all_halted halts))))
 
 abbrev pub bus_work : List Pair → ℕ → Work
 bus_work pairs cycles = with_cores pairs 0 none_read (shares_bus cycles)

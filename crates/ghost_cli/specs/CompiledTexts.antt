@@ -1,14 +1,14 @@
 -- What is read and written as JSON text for the runs of a compiled object, said of the variables of its program.
-use Rattle.std.specs.Prelude.{◌≡◌, ℕ, ℤ, List, length, Some, Result, Ok, Err}
+use Rattle.std.specs.Prelude.{◌≡◌, ℕ, ℤ, List, length, Some, Ok}
+use Rattle.std.specs.Result.{result_map_both}
 use Rattle.lt_isa.specs.declared.profiles.Profile.{Profile}
 use Rattle.lt_isa.specs.Object.{Parts}
 use Rattle.lt_isa.specs.Runs.{Halts}
 use Rattle.lt_isa.specs.Start.{wants_of}
 use Rattle.run_data.specs.InputsOf.{json_of, inputs_of}
 use Rattle.run_data.specs.OutputText.{output_of}
-use Rattle.run_data.specs.declared.errors.InputError.{InputError}
 use Rattle.src_tree.specs.Limits.{IsWithinLimits}
-use Rattle.src_tree.specs.Meaning.{Store}
+use Rattle.src_tree.specs.Meaning.{Store, meaning}
 use Rattle.src_tree.specs.Trees.{Source}
 use Rattle.src_tree.specs.Typing.{IsTyped}
 use Rattle.flow_types.specs.Wants.{declared_wants}
@@ -16,13 +16,8 @@ use Rattle.code_gen.specs.Implements.{by_name}
 use Rattle.ghost_cli.specs.Compiled.{IsCompiledTo}
 use Rattle.ghost_cli.specs.CompiledRuns.{IsStoreOf}
 use Rattle.ghost_cli.specs.Objects.{SpellsObject}
-use Rattle.ghost_cli.specs.Questions.{AreInputs, IsLeft}
+use Rattle.ghost_cli.specs.Questions.{AreInputs}
 use Rattle.ghost_cli.specs.Runs.{run_outputs}
-
--- a store as inputs of the object, or the fault that there is
-abbrev pub given_by_name : Source → Parts → Result Store InputError → Result (List (List ℤ)) InputError
-given_by_name p o (Ok store) = Ok (by_name p o store)
-given_by_name p o (Err fault) = Err fault
 
 -- A text gives the object, by name, the store that it gives the program, or is refused for both with one fault. What it
 -- gives the program is a store of it. The output text of a store's words by name is that of the store. So where a text
@@ -30,13 +25,13 @@ given_by_name p o (Err fault) = Err fault
 -- once halted, is what `eval` writes for the program: the output text of those values.
 pub record TextsAsMeant (p : Source) (o : Parts) : Type 0 where
   pub given : (text : List ℕ) → inputs_of (wants_of o) (json_of text)
-      ≡ given_by_name p o (inputs_of (declared_wants p.decls) (json_of text))
+      ≡ result_map_both (by_name p o) (λ fault. fault) (inputs_of (declared_wants p.decls) (json_of text))
   pub fits : (text : List ℕ) (store : Store) → AreInputs (declared_wants p.decls) text (Ok store)
       → IsStoreOf p store
   pub shown : (store : Store) → length store ≡ length p.decls
       → output_of (wants_of o) (by_name p o store) ≡ output_of (declared_wants p.decls) store
   pub written : (text : List ℕ) (store left : Store) (inputs : List (List ℤ)) (turns cycles : ℕ)
-      → AreInputs (declared_wants p.decls) text (Ok store) → IsLeft p store turns (Some left)
+      → AreInputs (declared_wants p.decls) text (Ok store) → meaning p store turns ≡ Some left
       → AreInputs (wants_of o) text (Ok inputs) → Halts o inputs cycles
       → run_outputs o inputs cycles ≡ output_of (declared_wants p.decls) left
 

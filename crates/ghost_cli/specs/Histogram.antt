@@ -24,12 +24,9 @@ sample_text n =
     ++ (codes "];\nsecret int c[16];\nsecret int t;\ni = 0;\nwhile (i < " ++ (decimal n
     ++ codes ") { t = a[i] % 16; c[t] = c[t] + 1; i = i + 1; }\n")))
 
--- the logarithm of a block's words
-abbrev pub sample_block_log : ℕ
-sample_block_log = 9
-
+-- blocks of 2^9 words
 abbrev pub sample_profile : Profile
-sample_profile = usual_profile sample_block_log
+sample_profile = usual_profile 9
 
 -- the numbers: x(0) is 1, and each makes the next
 abbrev pub next_number : ℕ → ℕ

@@ -1,5 +1,5 @@
 -- What `infer` finds of an object: the object with its least notes, or why it gets none.
-use Rattle.std.specs.Prelude.{◌≡◌, ◌≢◌, Result, Ok, Err}
+use Rattle.std.specs.Prelude.{◌≡◌, ◌≢◌}
 use Rattle.lt_isa.specs.Object.{Parts}
 use Rattle.lt_isa.specs.Ranges.{IsInRange}
 use Rattle.note_infer.specs.Inferred.{IsInferred, IsWhyNot, NoNotesWouldDo}
@@ -21,7 +21,3 @@ pub record GetsNone (o : Parts) (why : InferError) : Type 0 where
 -- what is found of an object is one object
 abbrev pub InferredOnce : Type 0
 InferredOnce = (o found other : Parts) → GetsNotes o found → GetsNotes o other → found ≡ other
-
-abbrev pub AreFound : Parts → Result Parts InferError → Type 0
-AreFound o (Ok found) = GetsNotes o found
-AreFound o (Err why) = GetsNone o why

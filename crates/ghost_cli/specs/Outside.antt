@@ -40,10 +40,6 @@ abbrev pub OnlyReads : ShelfSeen → ShelfSeen → Type 0
 OnlyReads before after =
     (after ≡ record before { read_faults = after.read_faults }) × (before.read_faults ≤ after.read_faults)
 
--- the file was written, and nothing else changed
-abbrev pub IsWrittenTo : List ℕ → List ℕ → ShelfSeen → ShelfSeen → Type 0
-IsWrittenTo name bytes before after = after ≡ record before { files = option_map (with_file name bytes) before.files }
-
 -- a write was refused: all other files are as they were, and so is the count of failed reads
 pub record RefusedWrite (name : List ℕ) (before after : ShelfSeen) : Type 0 where
   pub others : SameBut name before.files after.files
@@ -51,7 +47,7 @@ pub record RefusedWrite (name : List ℕ) (before after : ShelfSeen) : Type 0 wh
   pub reads : after.read_faults ≡ before.read_faults
 
 -- What is left of an ending, with the status that is answered. A file that couldn't be written is said in place of what
--- was done, and so is want of memory of that write itself.
+-- was done, and so is want of memory of that write itself. Where it is written, nothing else of the shelf changed.
 pub data LeftBy (before after : Outside) (status : ℕ) : Ending → Type 0 where
   Unread : (name : List ℕ) → OnlyReads before.shelf after.shelf → PutsSaid before.sink after.sink (unread name) status
       → LeftBy before after status (IsUnread name)
@@ -61,7 +57,8 @@ pub data LeftBy (before after : Outside) (status : ℕ) : Ending → Type 0 wher
   Judged : (seen : Seen) (verdict : Verdict) → after.shelf ≡ before.shelf
       → PutsSaid before.sink after.sink (said_at (IsVerdict seen verdict)) status
       → LeftBy before after status (IsVerdict seen verdict)
-  Written : (name bytes : List ℕ) (done : Done) → IsWrittenTo name bytes before.shelf after.shelf
+  Written : (name bytes : List ℕ) (done : Done)
+      → after.shelf ≡ record before.shelf { files = option_map (with_file name bytes) before.shelf.files }
       → PutsSaid before.sink after.sink (wrote done) status → LeftBy before after status (IsWritten name bytes done)
   NotWritten : (name bytes : List ℕ) (done : Done) → RefusedWrite name before.shelf after.shelf
       → Rose before.shelf.write_faults after.shelf.write_faults → after.shelf.starved ≡ before.shelf.starved

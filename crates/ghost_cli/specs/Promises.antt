@@ -1,5 +1,5 @@
 -- What every call of the program promises, for the work that its words ask for, if they ask for any.
-use Rattle.std.specs.Prelude.{◌≡◌, ◌≢◌, ◌⊎◌, ℕ, Bool, false, List, ◌++◌, Contains, Option, Some, None, is_some}
+use Rattle.std.specs.Prelude.{◌≡◌, ◌≢◌, ◌⊎◌, ℕ, Bool, false, List, ◌++◌, Contains, Option, Some, None, is_some, MatchOption}
 use Rattle.std.specs.FinMap.{get}
 use Rattle.gr_base.specs.Counts.{Rose}
 use Rattle.gr_base.specs.Added.{Adds, AddsLess}
@@ -62,18 +62,14 @@ pub record IsUnreadable (asked : Option Work) (before after : Outside) (status :
   pub put : Adds before.sink.held after.sink.held (unread name).text
   pub left : OnlyReads before.shelf after.shelf
 
--- told files lack the name
-abbrev pub IsMissing : Option Files → List ℕ → Type 0
-IsMissing None name = ⊥
-IsMissing (Some files) name = get files name ≡ None
-
--- status 3: the line of a file that was to be read is all that was put; the file is missing, or a read failed
+-- status 3: the line of a file that was to be read is all that was put; told files lack it, or a read failed
 pub record ReadFailed (asked : Option Work) (before after : Outside) : Type 0 where
   pub name : List ℕ
   pub read : IsRead asked name
   pub put : Adds before.sink.held after.sink.held (unread name).text
   pub left : OnlyReads before.shelf after.shelf
-  pub cause : IsMissing before.shelf.files name ⊎ Rose before.shelf.read_faults after.shelf.read_faults
+  pub cause : MatchOption before.shelf.files ⊥ (λ files. get files name ≡ None)
+      ⊎ Rose before.shelf.read_faults after.shelf.read_faults
 
 -- a write failed, and its whole line was put
 pub record WriteFailed (asked : Option Work) (before after : Outside) : Type 0 where

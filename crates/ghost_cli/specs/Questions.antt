@@ -1,11 +1,13 @@
 -- What the work of a verb asks of what it has read: the questions, the answers that each may have, and which of them
 -- are right. A verb that asks something new adds it here.
-use Rattle.std.specs.Prelude.{◌≡◌, Bool, true, false, ℕ, ℤ, List, Option, Some, None, Result, Ok, Err}
+use Rattle.std.specs.Prelude.{◌≡◌, Bool, true, false, ℕ, ℤ, List, Option, Result, Ok, Err, MatchOption, MatchResult}
 use Rattle.gr_word.specs.declared.variables.Want.{Want}
 use Rattle.src_tree.specs.Trees.{Source}
 use Rattle.lt_isa.specs.declared.profiles.Profile.{Profile}
 use Rattle.lt_isa.specs.Object.{Parts}
 use Rattle.lt_isa.specs.Start.{trace}
+use Rattle.bus_arbiter.specs.Laws.{traces_on}
+use Rattle.bus_arbiter.specs.Transfers.{IsJoined, Transfer}
 use Rattle.object_file.specs.FirstFaults.{IsFirstObjectFault}
 use Rattle.object_file.specs.declared.errors.DecodeError.{DecodeError}
 use Rattle.lt_assembler.specs.Spelled.{SpellsInText}
@@ -25,7 +27,7 @@ use Rattle.ghost_cli.specs.Objects.{SpellsObject}
 use Rattle.ghost_cli.specs.Sources.{SpellsTyped, IsFirstSourceFault}
 use Rattle.ghost_cli.specs.Compiled.{IsCompiled}
 use Rattle.ghost_cli.specs.Histogram.{Made, IsMade}
-use Rattle.ghost_cli.specs.Inferred.{AreFound}
+use Rattle.ghost_cli.specs.Inferred.{GetsNone, GetsNotes}
 use Rattle.ghost_cli.specs.Paths.{IsShown}
 use Rattle.ghost_cli.specs.RecursivePaths.{IsShownInTrees}
 use Rattle.ghost_cli.specs.Runs.{HaltOf}
@@ -39,6 +41,7 @@ pub data Question : Type 0 where
   WhichInputs : (wants : List Want) (json : List ℕ) → Question
   WhetherAccepted : (o : Parts) → Question
   WhenItHalts : (o : Parts) (inputs : List (List ℤ)) (cycles : ℕ) → Question
+  WhatIsJoined : (objects : List Parts) (inputs : List (List (List ℤ))) (cycles : ℕ) → Question
   WhatIsShown : (recursive : Bool) (o : Parts) (inputs : List (List ℤ)) (cycles seed : ℕ) → Question
   WhatIsLeft : (p : Source) (inputs : List (List ℤ)) (turns : ℕ) → Question
   WhichCompiled : (p : Source) (profile : Profile) → Question
@@ -46,8 +49,9 @@ pub data Question : Type 0 where
   WhatIsInferred : (o : Parts) → Question
 
 -- an object, a program or inputs, or the first fault; the first refusal, if there is one; the cycle of the halt, if
--- there is one; what is shown with its paths; the values that are left, if there are any; an object file of a program,
--- or what lacks room; what is made of so many items; the object with its least notes, or why it gets none
+-- there is one; the joined list of several runs; what is shown with its paths; the values that are left, if there are
+-- any; an object file of a program, or what lacks room; what is made of so many items; the object with its least notes,
+-- or why it gets none
 abbrev pub Answer : Question → Type 0
 Answer (WhichObject bytes) = Result Parts DecodeError
 Answer (WhichAssembly text) = Result Parts AsmError
@@ -55,6 +59,7 @@ Answer (WhichSource procs text) = Result Source SourceFault
 Answer (WhichInputs wants json) = Result (List (List ℤ)) InputFault
 Answer (WhetherAccepted o) = Option (ℕ × Reason)
 Answer (WhenItHalts o inputs cycles) = Option ℕ
+Answer (WhatIsJoined objects inputs cycles) = List Transfer
 Answer (WhatIsShown recursive o inputs cycles seed) = Seen
 Answer (WhatIsLeft p inputs turns) = Option (List (List ℤ))
 Answer (WhichCompiled p profile) = Result (List ℕ) SourceFault
@@ -71,41 +76,24 @@ Shows (error.WrongLength name) shown = shown ≡ fault.Length (name_text name)
 Shows (error.NotAWord name) shown = shown ≡ fault.Word (name_text name)
 Shows error.Memory shown = ⊥
 
-abbrev pub IsObject : List ℕ → Result Parts DecodeError → Type 0
-IsObject bytes (Ok o) = SpellsObject bytes o
-IsObject bytes (Err first) = IsFirstObjectFault bytes first
-
-abbrev pub IsAssembly : List ℕ → Result Parts AsmError → Type 0
-IsAssembly text (Ok o) = SpellsInText text o
-IsAssembly text (Err first) = IsFirstTextFault text first
-
-abbrev pub IsSource : Bool → List ℕ → Result Source SourceFault → Type 0
-IsSource procs text (Ok p) = SpellsTyped procs text p
-IsSource procs text (Err first) = IsFirstSourceFault procs text first
-
 abbrev pub AreInputs : List Want → List ℕ → Result (List (List ℤ)) InputFault → Type 0
 AreInputs wants json (Ok inputs) = inputs_of wants (json_of json) ≡ Ok inputs
 AreInputs wants json (Err shown) =
     (first : InputError) × (inputs_of wants (json_of json) ≡ Err first) × Shows first shown
 
-abbrev pub IsJudged : Parts → Option (ℕ × Reason) → Type 0
-IsJudged o None = Accepts o
-IsJudged o (Some refusal) = FirstRefusal o refusal.0 refusal.1
-
--- the values that a program leaves on inputs, if its loops take no more than so many turns
-abbrev pub IsLeft : Source → List (List ℤ) → ℕ → Option (List (List ℤ)) → Type 0
-IsLeft p inputs turns left = meaning p inputs turns ≡ left
-
+-- Which answer is right: by `MatchResult` what is true of what is found, and then of what is wrong; by `MatchOption`
+-- what is true where there is nothing, and then of what there is.
 abbrev pub IsRight : (question : Question) → Answer question → Type 0
-IsRight (WhichObject bytes) answer = IsObject bytes answer
-IsRight (WhichAssembly text) answer = IsAssembly text answer
-IsRight (WhichSource procs text) answer = IsSource procs text answer
+IsRight (WhichObject bytes) answer = MatchResult answer (SpellsObject bytes) (IsFirstObjectFault bytes)
+IsRight (WhichAssembly text) answer = MatchResult answer (SpellsInText text) (IsFirstTextFault text)
+IsRight (WhichSource procs text) answer = MatchResult answer (SpellsTyped procs text) (IsFirstSourceFault procs text)
 IsRight (WhichInputs wants json) answer = AreInputs wants json answer
-IsRight (WhetherAccepted o) answer = IsJudged o answer
+IsRight (WhetherAccepted o) answer = MatchOption answer (Accepts o) (λ refusal. FirstRefusal o refusal.0 refusal.1)
 IsRight (WhenItHalts o inputs cycles) answer = HaltOf (trace o inputs cycles) answer
+IsRight (WhatIsJoined objects inputs cycles) answer = IsJoined (traces_on objects inputs cycles) answer
 IsRight (WhatIsShown false o inputs cycles seed) answer = IsShown o inputs cycles seed answer
 IsRight (WhatIsShown true o inputs cycles seed) answer = IsShownInTrees o inputs cycles seed answer
-IsRight (WhatIsLeft p inputs turns) answer = IsLeft p inputs turns answer
+IsRight (WhatIsLeft p inputs turns) answer = meaning p inputs turns ≡ answer
 IsRight (WhichCompiled p profile) answer = IsCompiled p profile answer
 IsRight (WhatIsMade items) answer = IsMade items answer
-IsRight (WhatIsInferred o) answer = AreFound o answer
+IsRight (WhatIsInferred o) answer = MatchResult answer (GetsNotes o) (GetsNone o)

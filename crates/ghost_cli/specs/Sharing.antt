@@ -9,7 +9,7 @@ use Rattle.lt_isa.specs.Start.{FitsObject}
 use Rattle.lt_isa.specs.Trace.{Stamped}
 use Rattle.bus_arbiter.specs.Cores.{Core}
 use Rattle.bus_arbiter.specs.Shares.{share_of}
-use Rattle.bus_arbiter.specs.Transfers.{joined_of}
+use Rattle.bus_arbiter.specs.Transfers.{IsJoined, Transfer}
 use Rattle.path_oram.specs.Orams.{Oram}
 use Rattle.rand_chacha.specs.ChaCha.{ChaCha}
 use Rattle.ghost_cli.specs.declared.replies.Verdict.TheVariants.{Shared}
@@ -53,12 +53,16 @@ AreHalts (es ∷ traces) (h ∷ hs) = HaltOf es h × AreHalts traces hs
 abbrev pub halts_of : List (Core (Oram ChaCha)) → List (Option ℕ)
 halts_of cores = map (λ c. c.halted) cores
 
--- the lines of the joined list of some traces were put; or the sink failed
-abbrev pub PutsJoined : SinkSeen → SinkSeen → List (List Stamped) → Bool → Type 0
-PutsJoined before after traces true =
-    Adds before.held after.held (transfer_lines (joined_of traces)) × (after.faults ≡ before.faults)
-PutsJoined before after traces false =
-    Rose before.faults after.faults × AddsLess before.held after.held (transfer_lines (joined_of traces))
+-- a text was put; or the sink failed
+abbrev pub PutsLines : SinkSeen → SinkSeen → List ℕ → Bool → Type 0
+PutsLines before after text true = Adds before.held after.held text × (after.faults ≡ before.faults)
+PutsLines before after text false = Rose before.faults after.faults × AddsLess before.held after.held text
+
+-- so it is with the lines of the joined list of some traces
+pub record PutsJoined (before after : SinkSeen) (traces : List (List Stamped)) (all : Bool) : Type 0 where
+  pub joined : List Transfer
+  pub joins : IsJoined traces joined
+  pub put : PutsLines before after (transfer_lines joined) all
 
 -- the lines of how cores ended were put, and the status that goes with them is the answer; or the sink failed at one
 pub record PutsHalts (before after : SinkSeen) (halts : List (Option ℕ)) (status : ℕ) : Type 0 where
@@ -68,7 +72,9 @@ pub record PutsHalts (before after : SinkSeen) (halts : List (Option ℕ)) (stat
 
 -- the lines of a bus were put, all, or the sink failed
 pub record PutsShared (before after : SinkSeen) (traces : List (List Stamped)) (status : ℕ) : Type 0 where
+  pub joined : List Transfer
+  pub joins : IsJoined traces joined
   pub halts : List (Option ℕ)
   pub are : AreHalts traces halts
   pub put : PutsSaid before after
-      (said_at (IsVerdict (bus_seen (joined_of traces) halts) (Shared (all_halted halts)))) status
+      (said_at (IsVerdict (bus_seen joined halts) (Shared (all_halted halts)))) status

@@ -5,12 +5,9 @@ use Rattle.gr_word.specs.declared.variables.Want.{Want}
 use Rattle.lt_isa.specs.Object.{Parts}
 use Rattle.lt_isa.specs.Start.{wants_of}
 use Rattle.src_tree.specs.Trees.{Source}
-use Rattle.object_file.specs.declared.errors.DecodeError.{DecodeError}
-use Rattle.lt_assembler.specs.declared.errors.AsmError.{AsmError}
 use Rattle.trace_patterns.specs.declared.reasons.Reason.{Reason}
-use Rattle.ghost_cli.specs.declared.replies.InputFault.{InputFault}
+use Rattle.ghost_cli.specs.declared.replies.Verdict.{Verdict}
 use Rattle.ghost_cli.specs.declared.replies.Verdict.TheVariants.{Malformed, Refused, BadSource, BadInput, BadAssembly}
-use Rattle.ghost_cli.specs.declared.source_faults.SourceFault.{SourceFault}
 use Rattle.ghost_cli.specs.Objects.{object_limit}
 use Rattle.ghost_cli.specs.Sources.{source_limit}
 use Rattle.ghost_cli.specs.Questions.{WhichObject, WhichAssembly, WhichSource, WhichInputs, WhetherAccepted}
@@ -24,21 +21,10 @@ input_limit = 67108864
 abbrev pub text_limit : ℕ
 text_limit = 67108864
 
-abbrev pub on_object : (Parts → Work) → Result Parts DecodeError → Work
-on_object next (Ok o) = next o
-on_object next (Err fault) = Ends nothing_seen (Malformed fault)
-
-abbrev pub on_assembly : (Parts → Work) → Result Parts AsmError → Work
-on_assembly next (Ok o) = next o
-on_assembly next (Err fault) = Ends nothing_seen (BadAssembly fault)
-
-abbrev pub on_source : (Source → Work) → Result Source SourceFault → Work
-on_source next (Ok p) = next p
-on_source next (Err fault) = Ends nothing_seen (BadSource fault)
-
-abbrev pub on_inputs : (List (List ℤ) → Work) → Result (List (List ℤ)) InputFault → Work
-on_inputs next (Ok inputs) = next inputs
-on_inputs next (Err fault) = Ends nothing_seen (BadInput fault)
+-- with what was found; else the verb ends with this verdict of what was at fault
+abbrev pub or_ends : {X E : Type 0} → (E → Verdict) → (X → Work) → Result X E → Work
+or_ends verdict next (Ok found) = next found
+or_ends verdict next (Err fault) = Ends nothing_seen (verdict fault)
 
 abbrev pub on_judged : Work → Option (ℕ × Reason) → Work
 on_judged next None = next
@@ -46,7 +32,7 @@ on_judged next (Some refusal) = Ends nothing_seen (Refused refusal.0 refusal.1)
 
 -- with the object that the file of this name spells
 abbrev pub with_object : List ℕ → (Parts → Work) → Work
-with_object name next = Reads name object_limit (λ bytes. Asks (WhichObject bytes) (on_object next))
+with_object name next = Reads name object_limit (λ bytes. Asks (WhichObject bytes) (or_ends Malformed next))
 
 -- with the same, where it is accepted
 abbrev pub with_accepted : List ℕ → (Parts → Work) → Work
@@ -54,15 +40,15 @@ with_accepted name next = with_object name (λ o. Asks (WhetherAccepted o) (on_j
 
 -- with the object that the file of this name spells in assembly
 abbrev pub with_assembly : List ℕ → (Parts → Work) → Work
-with_assembly name next = Reads name text_limit (λ text. Asks (WhichAssembly text) (on_assembly next))
+with_assembly name next = Reads name text_limit (λ text. Asks (WhichAssembly text) (or_ends BadAssembly next))
 
 -- with the well-typed program that the file of this name spells, read with procedures or without
 abbrev pub with_source : Bool → List ℕ → (Source → Work) → Work
-with_source procs name next = Reads name source_limit (λ text. Asks (WhichSource procs text) (on_source next))
+with_source procs name next = Reads name source_limit (λ text. Asks (WhichSource procs text) (or_ends BadSource next))
 
 -- with the inputs that the file of this name gives for variables, and for the symbols of an object
 abbrev pub with_variables : List Want → List ℕ → (List (List ℤ) → Work) → Work
-with_variables wants name next = Reads name input_limit (λ json. Asks (WhichInputs wants json) (on_inputs next))
+with_variables wants name next = Reads name input_limit (λ json. Asks (WhichInputs wants json) (or_ends BadInput next))
 
 abbrev pub with_inputs : Parts → List ℕ → (List (List ℤ) → Work) → Work
 with_inputs o name next = with_variables (wants_of o) name next

@@ -1,11 +1,10 @@
 -- The last lines of the program, and their exit statuses (this project's profile).
 use Rattle.std.specs.Prelude.{ℕ, true, false, List, [], ◌++◌, codes, decimal}
 use Rattle.std.specs.Fmt.{signed_decimal}
-use Rattle.gr_word.specs.declared.variables.Label.{Label}
-use Rattle.gr_word.specs.declared.variables.Label.TheVariants.{Public, Secret}
 use Rattle.object_file.specs.declared.errors.DecodeError.{DecodeError}
 use Rattle.object_file.specs.declared.errors.DecodeError.TheVariants as object
 use Rattle.trace_patterns.specs.Reasons.{reason_number}
+use Rattle.lt_assembler.specs.Words.{label_word}
 use Rattle.lt_assembler.specs.declared.errors.AsmError.{AsmError}
 use Rattle.lt_assembler.specs.declared.errors.AsmError.TheVariants as text
 use Rattle.bus_arbiter.specs.declared.errors.BusError.{BusError}
@@ -53,10 +52,6 @@ limit_name TotalWords = codes "words"
 limit_name Height = codes "height"
 limit_name Weight = codes "weight"
 
-abbrev pub label_text : Label → List ℕ
-label_text Public = codes "public"
-label_text Secret = codes "secret"
-
 abbrev pub source_fault : SourceFault → List ℕ
 source_fault (source.Byte at) = codes "byte " ++ decimal at
 source_fault (source.Number at) = codes "number " ++ decimal at
@@ -72,7 +67,7 @@ source_fault (source.Index n) = codes "index " ++ decimal n
 source_fault (source.Guard n) = codes "guard " ++ decimal n
 source_fault (source.Loop n) = codes "loop " ++ decimal n
 source_fault (source.Limit which n) = codes "limit " ++ limit_name which ++ codes " " ++ decimal n
-source_fault (source.Scalars label) = codes "scalars " ++ label_text label
+source_fault (source.Scalars label) = codes "scalars " ++ label_word label
 source_fault (source.BankFull bank) = codes "bank " ++ decimal bank
 source_fault (source.ProcedureTwice n) = codes "procs twice " ++ decimal n
 source_fault (source.ProcedureUndeclared n) = codes "procs undeclared " ++ decimal n

@@ -3,11 +3,13 @@ ghost use Rattle.gr_word.specs.Fitting.{AreVariables, FitsWants};
 ghost use Rattle.lt_isa.specs.Object.{Parts};
 ghost use Rattle.lt_isa.specs.Ranges.{IsInRange};
 ghost use Rattle.lt_isa.specs.Start.{FitsObject};
+ghost use Rattle.lt_assembler.specs.Spelled.{SpellsInText};
 ghost use Rattle.trace_patterns.specs.Accepts.{Accepts};
 ghost use Rattle.ghost_cli.specs.Objects.{SpellsObject, object_limit};
 ghost use Rattle.ghost_cli.specs.Progress.{HasLeft, EndsWorkWith, SaysInputs, SaysObject, SaysText, Stops};
-ghost use Rattle.ghost_cli.specs.Questions.{AreInputs, IsAssembly, Shows, WhetherAccepted, WhichAssembly, WhichInputs, WhichObject};
-ghost use Rattle.ghost_cli.specs.Steps.{input_limit, on_assembly, on_inputs, on_judged, on_object, text_limit, with_accepted, with_assembly, with_inputs, with_object, with_variables};
+ghost use Rattle.ghost_cli.specs.Questions.{AreInputs, Shows, WhetherAccepted, WhichAssembly, WhichInputs, WhichObject};
+ghost use Rattle.ghost_cli.specs.declared.replies.Verdict.TheVariants.{BadAssembly, BadInput, Malformed};
+ghost use Rattle.ghost_cli.specs.Steps.{input_limit, on_judged, or_ends, text_limit, with_accepted, with_assembly, with_inputs, with_object, with_variables};
 ghost use Rattle.ghost_cli.specs.Texts.{said};
 ghost use Rattle.ghost_cli.specs.Work.{Reads, Work};
 
@@ -174,7 +176,7 @@ fn object_in<'a>(alloc: Global, bytes: &[u8]) -> Result<Object, Reply<'a>>
     requires { length bytes.now ≤ object_limit }
     ensures found { IfOk result (λ o. SpellsObject bytes.now o) }
     ensures refused { IfErr result
-        (λ reply. (next : Parts → Work) → EndsWorkWith (WhichObject bytes.now) (on_object next) (said reply)) }
+        (λ reply. (next : Parts → Work) → EndsWorkWith (WhichObject bytes.now) (or_ends Malformed next) (said reply)) }
 {
     match decode(alloc, bytes) {
         Ok(object) => Ok(object),
@@ -219,9 +221,9 @@ pub(crate) fn checked<'a>(alloc: Global, object: Object) -> Result<Accepted, Rep
 /// The object that the bytes spell in assembly.
 fn assembly_in<'a>(alloc: Global, bytes: &[u8]) -> Result<Object, Reply<'a>>
     requires { length bytes.now ≤ text_limit }
-    ensures found { IfOk result (λ o. IsAssembly bytes.now (Ok o)) }
-    ensures refused { IfErr result
-        (λ reply. (next : Parts → Work) → EndsWorkWith (WhichAssembly bytes.now) (on_assembly next) (said reply)) }
+    ensures found { IfOk result (λ o. SpellsInText bytes.now o) }
+    ensures refused { IfErr result (λ reply. (next : Parts → Work)
+        → EndsWorkWith (WhichAssembly bytes.now) (or_ends BadAssembly next) (said reply)) }
 {
     match assemble(alloc, bytes) {
         Ok(object) => Ok(object),
@@ -249,8 +251,8 @@ fn inputs_in<'a>(alloc: Global, wants: &[Want], bytes: &[u8]) -> Result<Inputs, 
     requires variables { AreVariables wants.now }
     ensures found { IfOk result (λ inputs. AreInputs wants.now bytes.now (Ok inputs)) }
     ensures fits { IfOk result (λ inputs. FitsWants wants.now inputs) }
-    ensures refused { IfErr result (λ reply.
-        (next : List (List ℤ) → Work) → EndsWorkWith (WhichInputs wants.now bytes.now) (on_inputs next) (said reply)) }
+    ensures refused { IfErr result (λ reply. (next : List (List ℤ) → Work)
+        → EndsWorkWith (WhichInputs wants.now bytes.now) (or_ends BadInput next) (said reply)) }
 {
     match read_inputs(alloc, wants, bytes) {
         Ok(inputs) => Ok(inputs),

@@ -1,7 +1,8 @@
 ghost use Rattle.std.specs.Prelude.{◌≡◌, Some};
+ghost use Rattle.lt_assembler.specs.Words.{label_word};
 ghost use Rattle.ghost_cli.specs.Compiled.{room_fault};
 ghost use Rattle.ghost_cli.specs.Sources.{shown_call_fault, piece_fault, program_fault, token_fault};
-ghost use Rattle.ghost_cli.specs.Texts.{label_text, limit_name, source_fault};
+ghost use Rattle.ghost_cli.specs.Texts.{limit_name, source_fault};
 
 use code_gen::CompileError;
 use flow_types::{TypeError, Which};
@@ -134,7 +135,7 @@ pub(crate) fn room_fault(fault: CompileError) -> Option<SourceFault>
 
 /// The word for a label.
 fn label_name(label: Label) -> &'static str
-    ensures { result.now ≡ label_text label }
+    ensures { result.now ≡ label_word label }
 {
     match label {
         Label::Public => "public",

@@ -5,7 +5,8 @@ ghost use Rattle.src_tree.specs.Trees.{Source, source_of};
 ghost use Rattle.ghost_cli.specs.Progress.{HasLeft, EndsWorkWith, SaysSource, Stops};
 ghost use Rattle.ghost_cli.specs.Questions.{WhichSource};
 ghost use Rattle.ghost_cli.specs.Sources.{AreProgram, IsTokensFault, SpellsTyped, source_limit};
-ghost use Rattle.ghost_cli.specs.Steps.{on_source, with_source};
+ghost use Rattle.ghost_cli.specs.declared.replies.Verdict.TheVariants.{BadSource};
+ghost use Rattle.ghost_cli.specs.Steps.{or_ends, with_source};
 ghost use Rattle.ghost_cli.specs.Texts.{said};
 ghost use Rattle.ghost_cli.specs.Work.{Work};
 
@@ -55,7 +56,8 @@ pub(crate) fn source_in<'a>(alloc: Global, text: &[u8], procs: bool) -> Result<T
     requires { length text.now ≤ source_limit }
     ensures found { IfOk result (λ p. SpellsTyped procs text.now (source_of p)) }
     ensures refused { IfErr result
-        (λ reply. (next : Source → Work) → EndsWorkWith (WhichSource procs text.now) (on_source next) (said reply)) }
+        (λ reply. (next : Source → Work)
+        → EndsWorkWith (WhichSource procs text.now) (or_ends BadSource next) (said reply)) }
 {
     match lex(alloc, text) {
         Ok(tokens) => match program_in(alloc, &tokens, procs) {
