@@ -18,7 +18,7 @@ use Rattle.ghost_cli.specs.Trace.{trace_named, trace_row, trace_work}
 use Rattle.ghost_cli.specs.VerbRows.{VerbRow, command_of, row_of_two}
 use Rattle.ghost_cli.specs.Verbs.{asked_for, verb_named, work_of}
 use Rattle.ghost_cli.specs.Windows.{window_given, windowed_profile}
-use Rattle.ghost_cli.specs.WordsAsk.{AskExactly, AsksByOne, AsksByTwo, AsksToCompile, AsksToEvaluate, AsksToRun, AsksToSample, AsksToTrace, Says, WordsAsk, verbs}
+use Rattle.ghost_cli.specs.WordsAsk.{AskExactly, AsksByOne, AsksByTwo, AsksToCompile, AsksToEvaluate, AsksToRun, AsksToSample, AsksToTrace, Says, WordsAsk, verb_names}
 use Rattle.ghost_cli.specs.Work.{Work}
 use Rattle.ghost_cli.proofs.BusWords.{bus-words}
 use Rattle.ghost_cli.proofs.VerbCommands.{IsVerbRow, assemble-verb, check-verb, compile-verb, disassemble-verb, evaluate-verb, infer-verb, run-verb, sample-verb, trace-verb}
@@ -431,7 +431,7 @@ sample-words words work texts = (
 )
 
 -- a word that is no verb
-no-verb : (first : Text) (words : List Text) → (IsAmong verbs first → ⊥) → work_of (first ∷ words) ≡ None
+no-verb : (first : Text) (words : List Text) → (IsAmong verb_names first → ⊥) → work_of (first ∷ words) ≡ None
 unfolding verb_named
 no-verb first words none =
     rw (

@@ -119,8 +119,8 @@ AskExactly verb Asks =
     (words : List Text) (work : Work) → AreTexts words → (work_of (verb ∷ words) ≡ Some work) ↔ Asks words work
 
 -- the verbs
-abbrev pub verbs : List Text
-verbs =
+abbrev pub verb_names : List Text
+verb_names =
     codes "check" ∷ codes "trace" ∷ codes "run" ∷ codes "asm" ∷ codes "dis" ∷ codes "eval" ∷ codes "compile"
     ∷ codes "sample" ∷ codes "bus" ∷ codes "infer" ∷ []
 
@@ -137,4 +137,4 @@ pub record WordsAsk : Type 0 where
   pub bus : AskExactly (codes "bus") AsksForBus
   pub infer : AskExactly (codes "infer") (AsksByTwo infer_work)
   pub no_words : work_of [] ≡ None
-  pub no_verb : (first : Text) (words : List Text) → (IsAmong verbs first → ⊥) → work_of (first ∷ words) ≡ None
+  pub no_verb : (first : Text) (words : List Text) → (IsAmong verb_names first → ⊥) → work_of (first ∷ words) ≡ None
