@@ -88,14 +88,29 @@ fn shown<R: Rng + Drop>(alloc: Global, bank: &mut PathOram<R>, at: u32) -> Resul
     let leaves = [bank.leaf(0), bank.leaf(1), bank.leaf(2)];
     let [first, second, third] = leaves;
     let mut text = format!(in alloc; "{leaf} {word}: {first} {second} {third}, stash {stash}")?;
-    for (level, index) in [(0, 0), (1, 0), (1, 1), (2, 0), (2, 1), (2, 2), (2, 3)] {
-        for block in 0..3 {
-            if holds(bank, level, index, block) {
-                text.push_str(format!(in alloc; ", {block} in {level}.{index}")?.as_str())?;
-            }
-        }
+    for (level, index) in BUCKETS {
+        put_held(alloc, bank, *level, *index, &mut text)?;
     }
     Ok(text)
+}
+
+/// The buckets of four leaves, by level and number.
+const BUCKETS: &[(u32, u32)] = &[(0, 0), (1, 0), (1, 1), (2, 0), (2, 1), (2, 2), (2, 3)];
+
+/// Appends those of three blocks that a bucket holds.
+fn put_held<R: Rng + Drop>(
+    alloc: Global,
+    bank: &PathOram<R>,
+    level: u32,
+    index: u32,
+    text: &mut String,
+) -> Result<(), Fail> {
+    for block in 0..3 {
+        if holds(bank, level, index, block) {
+            text.push_str(format!(in alloc; ", {block} in {level}.{index}")?.as_str())?;
+        }
+    }
+    Ok(())
 }
 
 #[test]

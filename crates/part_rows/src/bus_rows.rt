@@ -140,10 +140,25 @@ fn played(
 {
     let one = reading(alloc, "2000 0 1")?;
     let other = reading(alloc, "2000 1000 1001")?;
-    let mut bus = bus_of(alloc, &one, &other)?;
     let mut watch = watcher_of(alloc, room);
-    let halts = halts_of(alloc, turns, &mut bus, &mut watch)?;
-    Ok((watch.marks, bus.sound(), halts))
+    let (sound, halts) = ends_of(alloc, turns, &one, &other, &mut watch)?;
+    Ok((watch.marks, sound, halts))
+}
+
+/// Whether a bus of these two cores is sound behind its turns, and the halts.
+fn ends_of(
+    alloc: Global,
+    turns: &[Turn],
+    one: &Accepted,
+    other: &Accepted,
+    watch: &mut Marks,
+) -> Result<(bool, [Option<u32>; 2]), Fail>
+    requires turns { All (λ t. (t.core < 2) × (1 ≤ t.to)) turns.now }
+    requires whole { watch.old.whole ≡ true }
+{
+    let mut bus = bus_of(alloc, one, other)?;
+    let halts = halts_of(alloc, turns, &mut bus, watch)?;
+    Ok((bus.sound(), halts))
 }
 
 /// Runs a bus of two cores for 5,000 cycles, or plays the turns, and answers their halts.

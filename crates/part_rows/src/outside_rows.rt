@@ -6,26 +6,43 @@ use std::test::Fail;
 
 #[test]
 fn a_real_file_is_replaced_and_read(rt: HostRuntime) -> Result<(), Fail> {
-    let alloc = rt.alloc();
-    let mut shelf = RealShelf::new(alloc, rt.clone()?);
-    let long = vec![in alloc; 7; 65_539]?;
-    shelf.write("replaced.bin", b"old")?;
-    shelf.write("replaced.bin", long.as_slice())?;
-    assert!(rt; shelf.read("replaced.bin", 131_072)?.as_slice() == long.as_slice());
-    assert_eq!(rt; shelf.read("replaced.bin", 65_537)?.len(), 65_537);
+    let long = vec![in rt.alloc(); 7; 65_539]?;
+    let mut shelf = RealShelf::new(rt.alloc(), rt.clone()?);
+    assert_eq!(rt; replaced(&mut shelf, &long)?, (true, 65_537));
     Ok(())
+}
+
+/// Whether a file that is replaced has these bytes, and how many of them a read with too little room gives.
+fn replaced<F: Shelf>(shelf: &mut F, bytes: &[u8]) -> Result<(bool, usize), Fail> {
+    shelf.write("replaced.bin", b"old")?;
+    shelf.write("replaced.bin", bytes)?;
+    let whole = shelf.read("replaced.bin", 131_072)?;
+    let front = shelf.read("replaced.bin", 65_537)?;
+    Ok((whole.as_slice() == bytes, front.len()))
 }
 
 #[test]
 fn a_real_shelf_refuses_what_is_no_file(rt: HostRuntime) -> Result<(), Fail> {
     let mut shelf = RealShelf::new(rt.alloc(), rt.clone()?);
-    assert_eq!(rt; shelf.read("missing.bin", 9), Err(ShelfError::Missing));
-    assert_eq!(rt; shelf.read(".", 9), Err(ShelfError::Failed));
     assert_eq!(rt;
-        shelf.write("missing/file.bin", b"x"),
-        Err(ShelfError::Failed)
+        refusals(&mut shelf),
+        (
+            Some(ShelfError::Missing),
+            Some(ShelfError::Failed),
+            Some(ShelfError::Failed)
+        )
     );
     Ok(())
+}
+
+type Refusal = Option<ShelfError>;
+
+/// How a missing file and a folder are read, and how a file is written into a missing folder.
+fn refusals<F: Shelf>(shelf: &mut F) -> (Refusal, Refusal, Refusal) {
+    let missing = shelf.read("missing.bin", 9).err();
+    let folder = shelf.read(".", 9).err();
+    let nowhere = shelf.write("missing/file.bin", b"x").err();
+    (missing, folder, nowhere)
 }
 
 /// A writer that never takes a byte.
@@ -44,13 +61,23 @@ impl Write for Stuck {
 
 #[test]
 fn a_stuck_output_is_told_at_a_later_put_or_at_the_end(rt: HostRuntime) -> Result<(), Fail> {
-    let alloc = rt.alloc();
-    let mut sink = RealSink::new(alloc, Stuck)?;
-    assert_eq!(rt; (sink.put(b"a line\n"), sink.mark()), (Ok(()), 7));
-    assert_eq!(rt; sink.flush(), Err(SinkFailed));
-    let long = vec![in alloc; 7; 65_537]?;
-    assert_eq!(rt; sink.put(long.as_slice()), Err(SinkFailed));
+    let long = vec![in rt.alloc(); 7; 65_537]?;
+    let mut sink = RealSink::new(rt.alloc(), Stuck)?;
+    assert_eq!(rt;
+        told(&mut sink, &long),
+        (Ok(()), 7, Err(SinkFailed), Err(SinkFailed))
+    );
     Ok(())
+}
+
+type Put = Result<(), SinkFailed>;
+
+/// What a put comes to, the mark behind it, a flush, and a put of these bytes.
+fn told(sink: &mut RealSink<Stuck>, long: &[u8]) -> (Put, usize, Put, Put) {
+    let first = sink.put(b"a line\n");
+    let mark = sink.mark();
+    let flushed = sink.flush();
+    (first, mark, flushed, sink.put(long))
 }
 
 #[test]

@@ -46,21 +46,27 @@ fn kept_above<R: Rng + Drop>(
     Ok(format!(in alloc; "{lower} {upper}: {leaf} {word}")?)
 }
 
+/// Blocks, and what is kept of each at the start.
+const KEPT: &[(u32, &str)] = &[(0, "3 1: 3 3"), (1, "3 1: 6 6"), (4, "3 1: 5 5")];
+
+/// Blocks that are read, what each read shows, and what is kept of the block behind it.
+const READS: &[(u32, (u8, u32, u32, i64), &str)] = &[
+    (4, (2, 0, 5, 0), "3 1: 2 2"),
+    (4, (2, 1, 2, 0), "3 1: 7 7"),
+    (0, (2, 1, 3, 0), "3 1: 0 0"),
+];
+
 // What each read shows, and that the upper tree keeps the leaves of the lower one.
 #[test]
 fn five_blocks_show_what_the_words_say(rt: HostRuntime) -> Result<(), Fail> {
     let alloc = rt.alloc();
     let mut bank = recursive(alloc, Octal(0o0070210150163), 5)?;
-    for (at, wanted) in [(0, "3 1: 3 3"), (1, "3 1: 6 6"), (4, "3 1: 5 5")] {
-        assert_eq!(rt; kept_above(alloc, &bank, at)?.as_str(), wanted);
+    for (at, wanted) in KEPT {
+        assert_eq!(rt; kept_above(alloc, &bank, *at)?.as_str(), *wanted);
     }
-    for (at, shown, wanted) in [
-        (4, (2, 0, 5, 0), "3 1: 2 2"),
-        (4, (2, 1, 2, 0), "3 1: 7 7"),
-        (0, (2, 1, 3, 0), "3 1: 0 0"),
-    ] {
-        assert_eq!(rt; read(&mut bank, at)?, shown);
-        assert_eq!(rt; kept_above(alloc, &bank, at)?.as_str(), wanted);
+    for (at, shown, wanted) in READS {
+        assert_eq!(rt; read(&mut bank, *at)?, *shown);
+        assert_eq!(rt; kept_above(alloc, &bank, *at)?.as_str(), *wanted);
     }
     Ok(())
 }
