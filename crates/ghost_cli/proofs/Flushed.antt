@@ -1,5 +1,5 @@
 -- A call whose sink can't hand on what it holds back ends with 4, for the same reason as before.
-use Rattle.std.proofs.Common.{◌≡◌, ℕ, ◌≤◌, inl, inr, List, Option, Some, None, refl, sym, subst, ⊎_elim}
+use Rattle.std.proofs.Common.{◌≡◌, ℕ, ◌≤◌, inr, List, Option, Some, None, refl, sym, subst, ⊎_elim}
 use Rattle.gr_base.specs.Added.{AddsLess}
 use Rattle.gr_base.specs.Counts.{Rose}
 use Rattle.gr_base.proofs.Counts.{rose_before}

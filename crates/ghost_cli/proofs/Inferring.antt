@@ -1,8 +1,7 @@
 -- From an object and its least notes to what is said, and what is written by `infer` that is done.
 use Rattle.std.proofs.Common.{◌≡◌, ◌≢◌, inl, inr, Bool, cond, ℕ, ◌<◌, List, length, Option, Some, None, Result, Ok, Err, refl, sym, ap, ◌∙◌, subst, arith}
-use Rattle.std.specs.Ordering.{nat_cmp, eq_by_cmp}
 use Rattle.std.proofs.lemmas.Cmp.{eq_by_cmp_equiv}
-use Rattle.std.specs.Cmp.Lexicographic.{slice_cmp, nat_list_cmp_total}
+use Rattle.std.specs.Cmp.Lexicographic.{nat_list_cmp_total}
 use Rattle.std.specs.FinMap.{get, get-insert}
 use Rattle.gr_outside.specs.Shelf.{Files, ShelfSeen, with_file}
 use Rattle.gr_outside.specs.Sink.{SinkSeen}
@@ -12,7 +11,6 @@ use Rattle.path_oram.proofs.AlikeLeaves.{leaves_alike}
 use Rattle.object_file.specs.Spelling.{spelling}
 use Rattle.object_file.specs.declared.errors.DecodeError.{DecodeError}
 use Rattle.note_infer.specs.declared.faults.InferError.{InferError}
-use Rattle.ghost_cli.specs.declared.replies.Done.{Done}
 use Rattle.ghost_cli.specs.declared.replies.Done.TheVariants.{Inferred}
 use Rattle.ghost_cli.specs.Texts.{Said}
 use Rattle.ghost_cli.specs.Inferred.{GetsNotes}

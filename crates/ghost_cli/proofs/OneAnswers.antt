@@ -39,7 +39,7 @@ use Rattle.ghost_cli.specs.Disassemble.{disassemble_work}
 use Rattle.ghost_cli.specs.Infer.{infer_work, infers_to, on_inferred}
 use Rattle.ghost_cli.specs.OneAnswer.{HasOneAnswer, HoldRun, IsDoneOnce, TraceAgrees}
 use Rattle.ghost_cli.specs.Promises.{Answers, AnswersSo, IsDone, NoAnswer}
-use Rattle.ghost_cli.specs.Texts.{Said, usage}
+use Rattle.ghost_cli.specs.Texts.{Said}
 use Rattle.lt_assembler.specs.Canonical.{canonical}
 use Rattle.note_infer.specs.declared.faults.InferError.{InferError}
 use Rattle.ghost_cli.specs.Objects.{SpellsObject, object_limit}

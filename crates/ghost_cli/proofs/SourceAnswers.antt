@@ -1,7 +1,7 @@
 -- A source text gives one program, so what is done for it is done once, but for the free choice of an object.
 use Rattle.std.proofs.Common.{◌≡◌, ◌∙◌, ℕ, ℤ, Bool, true, false, List, Option, Some, None, Result, Ok, Err, refl, sym, ap, subst, arith}
 use Rattle.std.specs.FinMap.{remove}
-use Rattle.gr_outside.specs.Shelf.{Files, SameBut, with_file}
+use Rattle.gr_outside.specs.Shelf.{Files}
 use Rattle.gr_outside.proofs.WrittenFiles.{remove_with_file}
 use Rattle.gr_word.specs.declared.variables.Want.{Want}
 use Rattle.lt_isa.specs.declared.profiles.Profile.{Profile}
@@ -24,7 +24,7 @@ use Rattle.ghost_cli.specs.Evaluate.{evaluate_work, evaluates_on, on_left}
 use Rattle.ghost_cli.specs.OneAnswer.{IsDoneBut, IsDoneOnce, OneAnswer}
 use Rattle.ghost_cli.specs.Promises.{Answers, AnswersSo, IsDone, NoAnswer}
 use Rattle.ghost_cli.specs.Texts.{Said, usage}
-use Rattle.ghost_cli.specs.Questions.{AreInputs, IsRight, WhatIsLeft, WhichInputs, WhichSource}
+use Rattle.ghost_cli.specs.Questions.{IsRight, WhatIsLeft, WhichInputs, WhichSource}
 use Rattle.ghost_cli.specs.Showing.{nothing_seen}
 use Rattle.ghost_cli.specs.Sources.{Spells, source_limit}
 use Rattle.ghost_cli.specs.declared.replies.Verdict.TheVariants.{BadInput, BadSource}

@@ -32,7 +32,7 @@ pub record Unexpected (tokens : List Token) (at : ℕ) : Type 0 where
   pub token : Token
   pub after : List Token
   pub split : tokens ≡ before ++ token ∷ after
-  pub place : at ≡ token.start
+  pub place : at ≡ token.start  -- in bytes
   pub begins : ProgramBegins limits (token_kinds before)
   pub none : (most : Limits) → ProgramBegins most (token_kinds before ++ token.kind ∷ []) → ⊥
 

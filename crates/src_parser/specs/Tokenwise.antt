@@ -65,7 +65,7 @@ pub record Stray {P : Type 0} (Sentence : Limits → List TokenKind → P → Ty
   pub token : Token
   pub after : List Token
   pub split : tokens ≡ before ++ token ∷ after
-  pub place : at ≡ token.start
+  pub place : at ≡ token.start  -- in bytes
   pub begins : Begins Sentence limits (token_kinds before)
   pub none : (most : Limits) → Begins Sentence most (token_kinds before ++ token.kind ∷ []) → ⊥
 

@@ -79,8 +79,7 @@ fn comparison(kind: &TokenKind) -> Option<Cmp>
     }
 }
 
-// A token before an expression. A tree that isn't kept is dropped by a call, here and below: where it is dropped in line,
-// all that it may hold is proved there.
+// A token before an expression.
 fn lead_on(alloc: Global, part: &mut Part, lead: Lead, kind: &TokenKind) -> PartAdvance
     ensures { part_advance_of result (part_of part.new) ≡ part_advanced limits (lead_of lead) kind.now }
 {
@@ -104,10 +103,7 @@ fn lead_on(alloc: Global, part: &mut Part, lead: Lead, kind: &TokenKind) -> Part
                 );
                 PartAdvance::Moves
             }
-            _ => {
-                drop(index);
-                PartAdvance::Wrong
-            }
+            _ => PartAdvance::Wrong,
         },
         Lead::Guarding(form) => match kind {
             TokenKind::LParen => {
@@ -139,10 +135,7 @@ fn compare(
             );
             PartAdvance::Moves
         }
-        None => {
-            drop(left);
-            PartAdvance::Wrong
-        }
+        None => PartAdvance::Wrong,
     }
 }
 
@@ -161,27 +154,18 @@ fn end(
     match asked {
         Asked::Value(name) => match kind {
             TokenKind::Semi => PartAdvance::Ends(Made::Variable(name, tree)),
-            _ => {
-                drop(tree);
-                PartAdvance::Wrong
-            }
+            _ => PartAdvance::Wrong,
         },
         Asked::Place(name) => match kind {
             TokenKind::RBracket => {
                 put(part, Part::Before(Lead::Placed(name, tree, used)));
                 PartAdvance::Moves
             }
-            _ => {
-                drop(tree);
-                PartAdvance::Wrong
-            }
+            _ => PartAdvance::Wrong,
         },
         Asked::Stored(name, index) => match kind {
             TokenKind::Semi => PartAdvance::Ends(Made::Element(name, index, tree)),
-            _ => {
-                drop((index, tree));
-                PartAdvance::Wrong
-            }
+            _ => PartAdvance::Wrong,
         },
         Asked::Left(form) => compare(alloc, part, form, tree, used, kind),
         Asked::Right(form, cmp, left) => match kind {
@@ -193,10 +177,7 @@ fn end(
                     right: tree,
                 },
             )),
-            _ => {
-                drop((left, tree));
-                PartAdvance::Wrong
-            }
+            _ => PartAdvance::Wrong,
         },
     }
 }
@@ -213,13 +194,11 @@ pub fn read_part(alloc: Global, part: &mut Part, kind: &TokenKind) -> Result<Par
         Part::Inside(asked, reading) => match read(alloc, reading, kind)? {
             TokenStep::Moves => Ok(PartAdvance::Moves),
             TokenStep::Stops => {
+                let asked = mem::replace(asked, Asked::Left(Form::Choice));
                 let used = reading.used;
                 match finish(reading) {
                     None => Ok(PartAdvance::Wrong),
-                    Some(tree) => {
-                        let asked = mem::replace(asked, Asked::Left(Form::Choice));
-                        Ok(end(alloc, part, asked, tree, used, kind))
-                    }
+                    Some(tree) => Ok(end(alloc, part, asked, tree, used, kind)),
                 }
             }
             TokenStep::Deep => Ok(PartAdvance::TooMuch),

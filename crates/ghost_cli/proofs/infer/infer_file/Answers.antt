@@ -1,5 +1,4 @@
-use Rattle.std.proofs.Common.{Ok, ◌∙◌}
-use Rattle.object_file.specs.Spelling.{spelling}
+use Rattle.std.proofs.Common.{◌∙◌}
 use Rattle.ghost_cli.specs.Infer.{infers_to, on_inferred}
 use Rattle.ghost_cli.specs.Questions.{WhatIsInferred}
 use Rattle.ghost_cli.proofs.Answering.{starved-said, stopped-said}
