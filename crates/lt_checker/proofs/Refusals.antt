@@ -20,7 +20,7 @@ use Rattle.lt_checker.specs.ByPlace.{Effect, Refused, Falls, Leaves, Joins, Stuc
 use Rattle.lt_checker.proofs.PlaceRelations.{EffectIs, effect-is, effect-ruled, here-comes, inside-lies, lies-inside, FitsHere, no_refusal, fits-here, comes-here, visited-known, lies-reached}
 
 -- what reaches a place fits its note, by the relations and by the test
-fits_tested : (o : Parts) (p : ℕ) → FitsNote o p → FitsHere o p
+pub fits_tested : (o : Parts) (p : ℕ) → FitsNote o p → FitsHere o p
 fits_tested o p fitting k claimed here at =
     (fits-claim o p k claimed at).1 (fitting k claimed (here-comes o p k here) at)
 
@@ -193,7 +193,8 @@ none_if o p none inside apart = by (refusal_at o p) refl
     by None e = refl
     by (Some r) e = absurd (apart r.0 r.1 (found-refused o p none inside r.0 r.1 e))
 
-none_up_to : (o : Parts) (n : ℕ) → n ≤ length o.code
+-- places of which the relations refuse none have no refusal
+pub none_up_to : (o : Parts) (n : ℕ) → n ≤ length o.code
     → ((p place : ℕ) (reason : Reason) → p < n → ¬ RefusedAt o p place reason) → NoneBelow o n
 none_up_to o zero le apart = λ q lt. absurd (omega arith)
 none_up_to o (suc n) le apart =

@@ -1,6 +1,6 @@
 -- What the check has come to is carried over a stretch that is passed. An object whose code is checked so from its start
 -- up to its last place, at which it is left, is accepted.
-use Rattle.std.proofs.Common.{◌≡◌, ℕ, zero, suc, ◌+◌, ◌-◌, ◌<◌, ◌≤◌, true, false, ℤ, length, Option, Some, None, refl, sym, ap, ◌∙◌, subst, ⊎_elim, arith}
+use Rattle.std.proofs.Common.{◌≡◌, ℕ, ◌+◌, ◌-◌, ◌<◌, ◌≤◌, true, false, ℤ, length, Option, Some, None, refl, sym, ap, ◌∙◌, subst, ⊎_elim, arith}
 use Rattle.std.proofs.lemmas.Bool.{cases_lt}
 use Rattle.lt_isa.specs.Object.{Parts}
 use Rattle.trace_patterns.specs.declared.reasons.Reason.{Reason}
@@ -19,8 +19,8 @@ use Rattle.trace_patterns.proofs.Walks.{crosses-region}
 use Rattle.region_walk.proofs.WalkRelations.{crosses-crossing}
 use Rattle.lt_checker.specs.ByPlace.{Effect, Falls, Leaves, Joins, joined_at, effect_at, Arrival, Unreached, Here, effect_from, arrival_at, reached_at, refusal_in, refusal_at, NoneBelow}
 use Rattle.lt_checker.proofs.Reached.{reached_at-next, effect_from-inside, reached-inside}
-use Rattle.lt_checker.proofs.PlaceRelations.{FitsHere, here-comes, comes-here, visited-known, no_refusal, effect-ruled, falls_on}
-use Rattle.lt_checker.proofs.Refusals.{refused-found, found-refused, none_is_accepted}
+use Rattle.lt_checker.proofs.PlaceRelations.{FitsHere, comes-here, visited-known, no_refusal, effect-ruled, falls_on}
+use Rattle.lt_checker.proofs.Refusals.{fits_tested, none_up_to, refused-found, none_is_accepted}
 
 module _ (o : Parts) where
   unclaimed : {A : Type 0} (p : ℕ) (k : Known) → claimed_at o p ≡ None → claimed_at o p ≡ Some k → A
@@ -34,14 +34,10 @@ module _ (o : Parts) where
   starts-visited p k holds (ByNote k' at fitting) (AsClaimed j claimed noted fit) = Noted p claimed noted
 
   -- what reaches it fits its note
-  fits_reached : (p : ℕ) → FitsNote o p → FitsHere o p
-  fits_reached p fitting k claimed here at =
-      (fits-claim o p k claimed at).1 (fitting k claimed (here-comes o p k here) at)
-
   starts-fits : (p : ℕ) (k holds : Known) → StartsFrom o p k → HoldsAt o p k holds → NoneBelow o p → p < length o.code
       → FitsHere o p
   starts-fits p k holds (ByNote k' noted fitting) there none inside other claim here at =
-      fits_reached p fitting other claim here at
+      fits_tested o p fitting other claim here at
   starts-fits p k holds (ByComing k' comes) (AsItComes j unnoted) none inside other claim here at =
       unclaimed p claim unnoted at
   starts-fits p k holds (ByComing k' comes) (AsClaimed j claimed noted fit) none inside other claim here at =
@@ -135,26 +131,6 @@ module _ (o : Parts) where
       (JoinsAt p holds offset pattern join state (starts-visited p k holds starts here) rules crosses))
       (none_inside p join (known_after state) is none)
 
-  -- the refusals that the check finds are those of the relations
-  none_if : (p : ℕ) (r : Option (ℕ × Reason)) → refusal_at o p ≡ r → NoneBelow o p → p < length o.code
-      → ((place : ℕ) (reason : Reason) → ¬ RefusedAt o p place reason) → refusal_at o p ≡ None
-  none_if p None is none inside apart = is
-  none_if p (Some r) is none inside apart = absurd (apart r.0 r.1 (found-refused o p none inside r.0 r.1 is))
-
-  none_found : (n : ℕ) → n ≤ length o.code
-      → ((q place : ℕ) (reason : Reason) → q < n → ¬ RefusedAt o q place reason) → NoneBelow o n
-  none_found zero le apart = λ q lt. absurd (omega arith)
-  none_found (suc n) le apart =
-      let before = none_found n (omega arith) (λ q place reason lt. apart q place reason (omega arith)) in
-      λ q lt.
-      ⊎_elim
-      (λ (low : q < n). before q low)
-      (λ (high : n ≤ q).
-      let same : n ≡ q = omega arith in
-      subst (λ (r : ℕ). refusal_at o r ≡ None) same
-      (none_if n (refusal_at o n) refl before (omega arith) (λ place reason. apart n place reason (omega arith))))
-      (cases_lt q n)
-
   none-refused : (p : ℕ) → p ≤ length o.code → NoneBelow o p → (q place : ℕ) (reason : Reason) → q < p
       → ¬ RefusedAt o q place reason
   none-refused p le none q place reason lt refused =
@@ -174,14 +150,14 @@ module _ (o : Parts) where
   checked-on p q comes last checked passes inside =
       let on = passes-on p comes q last passes in
       let passed = passes-none p comes q last passes inside checked.starts
-      (none_found p (omega (arith, on)) checked.none_refused) in
+      (none_up_to o p (omega (arith, on)) checked.none_refused) in
       record { none_refused = none-refused q (omega arith) passed.1; starts = passed.0 }
 
   -- an object that is checked up to its last place, which is left, is accepted where no secret lies in plain memory
   pub checked-accepted : (q : ℕ) (k holds : Known) → CheckedUpTo o q k → HoldsAt o q k holds
       → ruling_at o q holds ≡ rule.Leaves → q + 1 ≡ length o.code → has_secret_in_ram o ≡ false → Accepts o
   checked-accepted q k holds checked here leaves last symbols =
-      let none = none_found q (omega arith) checked.none_refused in
+      let none = none_up_to o q (omega arith) checked.none_refused in
       let is : effect_from o q (reached_at o q) ≡ Leaves =
       starts-effect q k holds checked.starts here none (omega arith) ∙ effect-ruled o q holds rule.Leaves leaves in
       none_is_accepted o (subst (NoneBelow o) last (none_more q Leaves is refl none)) symbols
