@@ -15,8 +15,10 @@ pub returns-in-Wrong-clause-refused : goal.returns-in-Wrong-clause-refused
 returns-in-Wrong-clause-refused c =
     let h : taken limits (state_of c.loop-token.state) c.token-item.result.kind ≡ Wrong =
     sym c.in-Ok.ensures ∙ ap (λ t. advance_of t (state_of c.take.new.state)) c.in-Wrong.is in
+    let stray =
     unexpected_at file_laws c.args.tokens.now c.loop-token.token-index c.token-item.result (state_of c.loop-token.state)
-    (omega arith) c.token-item.is c.loop-token.invariant h
+    (omega arith) c.token-item.is c.loop-token.invariant h in
+    stray
 
 pub returns-in-TooMuch-clause-refused : goal.returns-in-TooMuch-clause-refused
 returns-in-TooMuch-clause-refused c =
