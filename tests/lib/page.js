@@ -77,7 +77,8 @@ async function examples() {
       `${name}: run shows outputs`);
     const traced = await press('trace');
     const sums = events ? `${events} events, up to cycle ${cycles}.` : '';
-    says(traced.includes('Both traces are equal') && traced.includes(sums), `${name}: trace`, traced);
+    const alike = ['Both traces are equal', sums, 'tell these runs apart'].every((it) => traced.includes(it));
+    says(alike && await toneOf() === 'good', `${name}: trace`, traced);
     const [one, two] = [await bars(1, kind), await bars(2, kind)];
     const equal = one === two && Number(one) > 0 && (!count || one === count);
     says(equal, `${name}: the picture has equal bars`, `${one} ${two}`);
@@ -115,7 +116,8 @@ async function differing() {
   await set('example', 'findmax.gr');
   await set('two', (await browser.value(`${element('one')}.value`)).replace('"n":10', '"n":9'));
   const told = await press('trace');
-  says(told.includes('first differ at cycle 1, in event 1'), 'traces that differ', told);
+  const apart = ['first differ at cycle 1, in event 1', 'differ in what is public'].every((it) => told.includes(it));
+  says(apart && await toneOf() === 'told', 'traces that differ', told);
   says(await browser.value("document.querySelectorAll('#picture .differ').length") === 1, 'the mark of the difference');
   await click('to-differ');
   await browser.until("document.getElementById('under').innerText.includes('cycle 1:')");
