@@ -6,6 +6,7 @@ ghost use Rattle.ghost_cli.specs.Progress.{LeavesToSay};
 ghost use Rattle.ghost_cli.specs.Texts.{said};
 
 use crate::options::value;
+use crate::putting::say;
 use crate::reading::find_accepted;
 use crate::replies::{Reply, Verdict};
 use crate::verbs::{Argument, VerbWords};
@@ -22,8 +23,8 @@ pub const WORDS: VerbWords<'static> = VerbWords {
     flags: &[],
 };
 
-/// The verb `check OBJ`: tells whether the object of a file is accepted. It is always `Err`, as nothing is put here:
-/// the reply is to be said.
+/// The verb `check OBJ`: says that the object of a file is accepted. `Err` where nothing was put yet: the reply is to be
+/// said.
 pub fn check<'a, F: Shelf, O: Sink>(
     alloc: Global,
     matches: &ArgMatches<'a>,
@@ -40,5 +41,5 @@ pub fn check<'a, F: Shelf, O: Sink>(
         return Err(Reply::Usage);
     };
     find_accepted(alloc, object, shelf)?;
-    Err(Reply::Comes(Verdict::Accepted))
+    Ok(say(alloc, &Reply::Comes(Verdict::Accepted), out))
 }

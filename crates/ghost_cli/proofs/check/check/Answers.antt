@@ -5,7 +5,7 @@ use Rattle.ghost_cli.specs.Check.{check_work}
 use Rattle.ghost_cli.specs.Progress.{WorkStops}
 use Rattle.ghost_cli.specs.Showing.{nothing_seen}
 use Rattle.ghost_cli.specs.Work.{Ends}
-use Rattle.ghost_cli.proofs.Answering.{asked-is, passed-on, unasked}
+use Rattle.ghost_cli.proofs.Answering.{asked-is, left-said, passed-on, unasked}
 use Rattle.ghost_cli.proofs.Progressing.{ends-at}
 use Rattle.ghost_cli.proofs.check.check.Goals as goal
 
@@ -27,9 +27,12 @@ returns-in_err-find_accepted-clause-stopped g c =
     (asked-is _ _ _ _ c.in-Some.is (now-first c.value.result ∙ ap (option_map check_work) c.value.ensures))
     (c.in_err-find_accepted.ensures.stopped (λ o. Ends nothing_seen Accepted)))
 
-pub returns-clause-stopped : goal.returns-clause-stopped
-returns-clause-stopped g c =
-    WorkStops _
+pub returns-clause-done : goal.returns-clause-done
+returns-clause-done g c =
+    left-said (g.F.Shelf.seen c.args.shelf.now) (g.F.Shelf.seen c.find_accepted.new.shelf)
+    (g.O.Sink.seen c.args.out.now) _ (g.O.Sink.seen c.say.new.out) _ _ _
+    (WorkStops _
     (asked-is _ _ _ _ c.in-Some.is (now-first c.value.result ∙ ap (option_map check_work) c.value.ensures))
     (ends-at (g.F.Shelf.seen c.args.shelf.now) (g.F.Shelf.seen c.find_accepted.new.shelf) _ Accepted
-    (c.in_ok-find_accepted.ensures.found (λ o. Ends nothing_seen Accepted)) c.in_ok-find_accepted.ensures.calm)
+    (c.in_ok-find_accepted.ensures.found (λ o. Ends nothing_seen Accepted)) c.in_ok-find_accepted.ensures.calm)) refl
+    c.say.ensures
