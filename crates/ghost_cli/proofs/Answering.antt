@@ -1,5 +1,5 @@
 -- From what is said to why: the exits of a verb.
-use Rattle.std.proofs.Common.{◌≡◌, ◌⊎◌, inl, inr, ℕ, ℤ, Bool, true, false, List, [], ◌∷◌, length, map, Option, Some, None, is_some, refl, sym, ap, ◌∙◌, subst, arith}
+use Rattle.std.proofs.Common.{◌≡◌, ◌⊎◌, inl, inr, ℕ, ℤ, Bool, true, false, List, [], ◌∷◌, length, map, Option, Some, None, is_some, Result, Ok, Err, IfOk, IfErr, OnErr, IsErrAnd, refl, sym, ap, ◌∙◌, subst, arith}
 use Rattle.std.specs.Prelude.{option_and_then}
 use Rattle.std.specs.Borrow.{Bor}
 use Rattle.std.specs.Option.{option_map}
@@ -10,11 +10,12 @@ use Rattle.gr_outside.specs.Sink.{SinkSeen}
 use Rattle.lt_isa.specs.Trace.{HaltsAt}
 use Rattle.ghost_cli.specs.declared.replies.Verdict.{Verdict}
 use Rattle.ghost_cli.specs.declared.replies.Verdict.TheVariants.{Traced, Spent}
+use Rattle.ghost_cli.specs.declared.replies.Reply.{Reply}
 use Rattle.ghost_cli.specs.declared.replies.Done.{Done}
 use Rattle.ghost_cli.specs.declared.replies.Done.TheVariants.{Halted}
-use Rattle.ghost_cli.specs.Texts.{Said, usage, no_memory, comes_to}
+use Rattle.ghost_cli.specs.Texts.{Said, usage, no_memory, comes_to, said}
 use Rattle.ghost_cli.specs.Work.{Work, Ends, Writes, IsVerdict, IsWritten, Ended, Wrote, said_at}
-use Rattle.ghost_cli.specs.Outside.{Outside, outside, PutsSaid, Judged, Explains, NoWork, NoRoom, Worked}
+use Rattle.ghost_cli.specs.Outside.{Outside, outside, PutsSaid, LeftBy, Judged, Explains, NoWork, NoRoom, Worked}
 use Rattle.ghost_cli.specs.Questions.{IsRight, WhatIsShown, WhenItHalts}
 use Rattle.ghost_cli.specs.Showing.{Seen, events_alone, run_seen}
 use Rattle.ghost_cli.proofs.Watches.{kept-all, kept-events}
@@ -27,31 +28,52 @@ use Rattle.ghost_cli.specs.Trace.{trace_work, traces_on, shows_on}
 use Rattle.ghost_cli.specs.Run.{run_work, runs_on, on_halt}
 use Rattle.ghost_cli.specs.Verbs.{work_of}
 use Rattle.ghost_cli.specs.Watched.{PutsTrace, kept}
-use Rattle.ghost_cli.specs.Progress.{HasLeft, Stops, WritesOut}
+use Rattle.ghost_cli.specs.Progress.{HasLeft, Stops, LeavesToSay, NothingAsked, NoRoomYet, WorkStops}
 use Rattle.ghost_cli.proofs.Promised.{same-only}
 use Rattle.ghost_cli.proofs.Progressing.{stopped, leads-on, leads-later, stops-later, ends-at}
 
--- the words ask for no work
-pub no-work-said : (shelf : ShelfSeen) (before after : SinkSeen) (status : ℕ)
-    → PutsSaid before after usage status ⊎ PutsSaid before after no_memory status
-    → Explains (outside shelf before) (outside shelf after) status None
-no-work-said shelf before after status put = elim put [
-  | inl done ↦ NoWork refl done
-  | inr done ↦ NoRoom None (same-only refl) done
-]
+-- ---- what is left to say
+
+-- what a `?` passes on is left to say
+pub passed-on : {T : Type 0} (result : Result T Reply) (reply : Reply) (before after : ShelfSeen) (asked : Option Work)
+    → IsErrAnd result (λ r. r ≡ reply) → LeavesToSay before after asked (said reply)
+    → IfErr result (λ r. LeavesToSay before after asked (said r))
+passed-on (Ok x) reply before after asked is leaves = tt
+passed-on (Err r) reply before after asked is leaves =
+    subst (λ (q : Reply). LeavesToSay before after asked (said q)) (sym is) leaves
 
 -- memory ran out before a file was written
-pub starved-said : (asked : Option Work) (shelf now : ShelfSeen) (before after : SinkSeen) (status : ℕ)
-    → now ≡ shelf → PutsSaid before after no_memory status
-    → Explains (outside shelf before) (outside now after) status asked
-starved-said asked shelf now before after status same put = NoRoom asked (same-only same) put
+pub starved-yet : (result : Result ℕ Reply) (shelf between now : ShelfSeen) (asked : Option Work)
+    → between ≡ shelf → OnErr result (now ≡ between) → IfErr result (λ reply. said reply ≡ no_memory)
+    → IfErr result (λ reply. LeavesToSay shelf now asked (said reply))
+starved-yet (Ok status) shelf between now asked same unwritten starved = tt
+starved-yet (Err reply) shelf between now asked same unwritten starved =
+    NoRoomYet (same-only (unwritten ∙ same)) starved
 
--- the work stopped, and that was said
-pub stopped-said : (shelf now : ShelfSeen) (before after : SinkSeen) (status : ℕ) (work : Work) (said : Said)
-    → Stops shelf now work said → PutsSaid before after said status ⊎ PutsSaid before after no_memory status
-    → Explains (outside shelf before) (outside now after) status (Some work)
-stopped-said shelf now before after status work said stops put =
-    stopped (outside shelf before) (outside now after) status work said stops put
+-- what a call left to say was said, which explains it
+pub left-said : (shelf now : ShelfSeen) (before between after : SinkSeen) (status : ℕ) (asked : Option Work)
+    (what : Said) → LeavesToSay shelf now asked what → between ≡ before
+    → PutsSaid between after what status ⊎ PutsSaid between after no_memory status
+    → Explains (outside shelf before) (outside now after) status asked
+left-said shelf now before between after status asked what leaves unput put =
+    go leaves (subst (λ (s : SinkSeen). PutsSaid s after what status ⊎ PutsSaid s after no_memory status) unput put)
+  where
+    go : LeavesToSay shelf now asked what → PutsSaid before after what status ⊎ PutsSaid before after no_memory status
+        → Explains (outside shelf before) (outside now after) status asked
+    go (NothingAsked none same is) put =
+        subst (Explains (outside shelf before) (outside now after) status) (sym none) (elim put [
+          | inl done ↦ NoWork same (subst (λ s. PutsSaid before after s status) is done)
+          | inr done ↦ NoRoom None (same-only same) done
+        ])
+    go (NoRoomYet only is) put = elim put [
+      | inl done ↦ NoRoom asked only (subst (λ s. PutsSaid before after s status) is done)
+      | inr done ↦ NoRoom asked only done
+    ]
+    go (WorkStops work is stops) put =
+        subst (Explains (outside shelf before) (outside now after) status) (sym is)
+        (stopped (outside shelf before) (outside now after) status work what stops put)
+
+-- ---- what was done
 
 -- the lines of events and a verdict were put
 pub judged-said : (shelf now : ShelfSeen) (before after : SinkSeen) (status : ℕ) (work : Work) (seen : Seen)
@@ -63,53 +85,60 @@ judged-said shelf now before after status work seen verdict leads same put =
     (Judged seen verdict same put)
 
 -- a file was to be written
-pub written-said : (shelf between now : ShelfSeen) (before after : SinkSeen) (status : ℕ) (work : Work)
+pub written-said : (shelf between now : ShelfSeen) (before after : SinkSeen) (result : Result ℕ Reply) (work : Work)
     (name bytes slice : List ℕ) (done : Done) → HasLeft shelf work (Writes name bytes done) → between ≡ shelf
-    → slice ≡ bytes → WritesOut (outside between before) (outside now after) status name slice done
-    → Explains (outside shelf before) (outside now after) status (Some work)
-written-said shelf between now before after status work name bytes slice done leads same is writes =
-    go (subst (λ (s : ShelfSeen). WritesOut (outside s before) (outside now after) status name bytes done) same
-    (subst (λ b. WritesOut (outside between before) (outside now after) status name b done) is writes))
-  where
-    go : WritesOut (outside shelf before) (outside now after) status name bytes done
-        → Explains (outside shelf before) (outside now after) status (Some work)
-    go writes = elim writes [
-      | inl starved ↦ NoRoom (Some work) (same-only starved.0) starved.1
-      | inr left ↦ Worked work (IsWritten name bytes done)
-          (leads now.read_faults (IsWritten name bytes done) (Wrote name bytes done)) left
-    ]
+    → slice ≡ bytes
+    → IfOk result (λ status. LeftBy (outside between before) (outside now after) status (IsWritten name slice done))
+    → IfOk result (λ status. Explains (outside shelf before) (outside now after) status (Some work))
+written-said shelf between now before after (Err reply) work name bytes slice done leads same is left = tt
+written-said shelf between now before after (Ok status) work name bytes slice done leads same is left =
+    Worked work (IsWritten name bytes done) (leads now.read_faults (IsWritten name bytes done) (Wrote name bytes done))
+    (subst (λ (s : ShelfSeen). LeftBy (outside s before) (outside now after) status (IsWritten name bytes done)) same
+    (subst (λ b. LeftBy (outside between before) (outside now after) status (IsWritten name b done)) is left))
 
--- the work that found words ask for was done
+-- ---- the words
+
+-- found words ask for this work
+pub asked-is : {X : Type 0} (f : X → Work) (found : Option X) (x : X) (asked : Option Work)
+    → found ≡ Some x → option_map f found ≡ asked → asked ≡ Some (f x)
+asked-is f found x asked is works = sym works ∙ ap (option_map f) is
+
+-- words that aren't found ask for none
+pub unasked : {X : Type 0} (f : X → Work) (found : Option X) (asked : Option Work) (shelf : ShelfSeen)
+    → found ≡ None → option_map f found ≡ asked → LeavesToSay shelf shelf asked usage
+unasked f found asked shelf is works = NothingAsked (sym works ∙ ap (option_map f) is) refl refl
+
+-- the work that found words ask for was done, or this is left to say of it
 pub asked-done : {X : Type 0} (f : X → Work) (found : Option X) (x : X) (asked : Option Work) (before after : Outside)
-    (status : ℕ) → found ≡ Some x → option_map f found ≡ asked → Explains before after status (Some (f x))
-    → Explains before after status asked
-asked-done f found x asked before after status is works done =
-    subst (Explains before after status) (ap (option_map f) (sym is) ∙ works) done
+    (result : Result ℕ Reply) → found ≡ Some x → option_map f found ≡ asked
+    → IfOk result (λ status. Explains before after status (Some (f x)))
+    → IfOk result (λ status. Explains before after status asked)
+asked-done f found x asked before after result is works done =
+    subst (λ a. IfOk result (λ status. Explains before after status a)) (sym (asked-is f found x asked is works)) done
 
--- the work that was asked for by what was found was done
+pub asked-left : {X : Type 0} (f : X → Work) (found : Option X) (x : X) (asked : Option Work)
+    (before after : ShelfSeen) (result : Result ℕ Reply) → found ≡ Some x → option_map f found ≡ asked
+    → IfErr result (λ reply. LeavesToSay before after (Some (f x)) (said reply))
+    → IfErr result (λ reply. LeavesToSay before after asked (said reply))
+asked-left f found x asked before after result is works left =
+    subst (λ a. IfErr result (λ reply. LeavesToSay before after a (said reply)))
+    (sym (asked-is f found x asked is works)) left
+
+-- the same of what was found, where that asks for work or for none
 pub told-done : {X : Type 0} (f : X → Option Work) (found : Option X) (x : X) (asked : Option Work)
-    (before after : Outside) (status : ℕ) → found ≡ Some x → option_and_then f found ≡ asked
-    → Explains before after status (f x) → Explains before after status asked
-told-done f found x asked before after status is asks done =
-    subst (Explains before after status) (ap (option_and_then f) (sym is) ∙ asks) done
+    (before after : Outside) (result : Result ℕ Reply) → found ≡ Some x → option_and_then f found ≡ asked
+    → IfOk result (λ status. Explains before after status (f x))
+    → IfOk result (λ status. Explains before after status asked)
+told-done f found x asked before after result is asks done =
+    subst (λ a. IfOk result (λ status. Explains before after status a)) (ap (option_and_then f) (sym is) ∙ asks) done
 
--- nothing was found, which asks for no work, and that was said
-pub untold-said : {X : Type 0} (f : X → Option Work) (found : Option X) (asked : Option Work) (shelf : ShelfSeen)
-    (before after : SinkSeen) (status : ℕ) → found ≡ None → option_and_then f found ≡ asked
-    → PutsSaid before after usage status ⊎ PutsSaid before after no_memory status
-    → Explains (outside shelf before) (outside shelf after) status asked
-untold-said f found asked shelf before after status is asks put =
-    subst (Explains (outside shelf before) (outside shelf after) status) (ap (option_and_then f) (sym is) ∙ asks)
-    (no-work-said shelf before after status put)
-
--- words that aren't found ask for no work, which was said
-pub unasked-said : {X : Type 0} (f : X → Work) (found : Option X) (asked : Option Work) (shelf : ShelfSeen)
-    (before after : SinkSeen) (status : ℕ) → found ≡ None → option_map f found ≡ asked
-    → PutsSaid before after usage status ⊎ PutsSaid before after no_memory status
-    → Explains (outside shelf before) (outside shelf after) status asked
-unasked-said f found asked shelf before after status is works put =
-    subst (Explains (outside shelf before) (outside shelf after) status) (ap (option_map f) (sym is) ∙ works)
-    (no-work-said shelf before after status put)
+pub told-left : {X : Type 0} (f : X → Option Work) (found : Option X) (x : X) (asked : Option Work)
+    (before after : ShelfSeen) (result : Result ℕ Reply) → found ≡ Some x → option_and_then f found ≡ asked
+    → IfErr result (λ reply. LeavesToSay before after (f x) (said reply))
+    → IfErr result (λ reply. LeavesToSay before after asked (said reply))
+told-left f found x asked before after result is asks left =
+    subst (λ a. IfErr result (λ reply. LeavesToSay before after a (said reply)))
+    (ap (option_and_then f) (sym is) ∙ asks) left
 
 -- ---- the verbs
 
@@ -124,14 +153,14 @@ given-leads shelf between object input o inputs next found same given =
     (next o inputs) same (found (λ p. with_inputs p input (next p))) (given (next o))
 
 -- no inputs were found of an object that was found
-pub given-stops : (shelf between now : ShelfSeen) (object input : List ℕ) (o : Parts) (said : Said)
+pub given-stops : (shelf between now : ShelfSeen) (object input : List ℕ) (o : Parts) (what : Said)
     (next : Parts → List (List ℤ) → Work)
     → ((n : Parts → Work) → HasLeft shelf (with_accepted object n) (n o)) → between ≡ shelf
-    → ((n : List (List ℤ) → Work) → Stops between now (with_inputs o input n) said)
-    → Stops shelf now (with_accepted object (λ p. with_inputs p input (next p))) said
-given-stops shelf between now object input o said next found same stops =
+    → ((n : List (List ℤ) → Work) → Stops between now (with_inputs o input n) what)
+    → Stops shelf now (with_accepted object (λ p. with_inputs p input (next p))) what
+given-stops shelf between now object input o what next found same stops =
     stops-later shelf between now (with_accepted object (λ p. with_inputs p input (next p)))
-    (with_inputs o input (next o)) said same (found (λ p. with_inputs p input (next p))) (stops (next o))
+    (with_inputs o input (next o)) what same (found (λ p. with_inputs p input (next p))) (stops (next o))
 
 -- the text of a trace was put
 pub traced-said : (shelf now : ShelfSeen) (before after : SinkSeen) (status : ℕ) (object input : List ℕ)
@@ -172,17 +201,19 @@ traced-said shelf now before after status object input cycles seed true recursiv
     (kept-all told) put.put)
 
 -- the outputs of a run that halted were to be written
-pub run-said : (shelf between now : ShelfSeen) (before after : SinkSeen) (status : ℕ) (object input output : List ℕ)
-    (cycles : ℕ) (o : Parts) (inputs : List (List ℤ)) (at : ℕ) (bytes : List ℕ)
+pub run-said : (shelf between now : ShelfSeen) (before after : SinkSeen) (result : Result ℕ Reply)
+    (object input output : List ℕ) (cycles : ℕ) (o : Parts) (inputs : List (List ℤ)) (at : ℕ) (bytes : List ℕ)
     → HasLeft shelf (run_work object input output cycles) (runs_on output cycles o inputs) → between ≡ shelf
     → HaltsAt (trace o inputs cycles) at → bytes ≡ run_outputs o inputs cycles
-    → WritesOut (outside between before) (outside now after) status output bytes (Halted at)
-    → Explains (outside shelf before) (outside now after) status (Some (run_work object input output cycles))
-run-said shelf between now before after status object input output cycles o inputs at bytes leads same halts is writes =
-    written-said shelf between now before after status (run_work object input output cycles) output
+    → IfOk result (λ status.
+    LeftBy (outside between before) (outside now after) status (IsWritten output bytes (Halted at)))
+    → IfOk result (λ status.
+    Explains (outside shelf before) (outside now after) status (Some (run_work object input output cycles)))
+run-said shelf between now before after result object input output cycles o inputs at bytes leads same halts is left =
+    written-said shelf between now before after result (run_work object input output cycles) output
     (run_outputs o inputs cycles) bytes (Halted at)
     (leads-on shelf (run_work object input output cycles) (WhenItHalts o inputs cycles) (on_halt o inputs output cycles)
-    (Some at) leads halts) same is writes
+    (Some at) leads halts) same is left
 
 -- the run didn't halt
 pub spent-stops : (shelf now : ShelfSeen) (object input output : List ℕ) (cycles : ℕ) (o : Parts)

@@ -1,5 +1,5 @@
 -- From a program and the object file that is made of it to what is said.
-use Rattle.std.proofs.Common.{◌≡◌, Bool, inl, inr, ℕ, List, Some, Ok, Err, refl, sym, subst, arith}
+use Rattle.std.proofs.Common.{◌≡◌, Bool, inl, inr, ℕ, List, Some, Result, Ok, Err, IfOk, refl, sym, subst, arith}
 use Rattle.gr_base.specs.Lists.{Within}
 use Rattle.gr_outside.specs.Shelf.{ShelfSeen}
 use Rattle.gr_outside.specs.Sink.{SinkSeen}
@@ -19,14 +19,16 @@ use Rattle.code_gen.specs.Compiles.{IsFor, LatenciesFit, stores_in, ExplainsRoom
 use Rattle.code_gen.specs.Implements.{Implements}
 use Rattle.ghost_cli.specs.declared.replies.Verdict.TheVariants.{BadSource}
 use Rattle.ghost_cli.specs.declared.replies.Done.TheVariants.{Compiled}
+use Rattle.ghost_cli.specs.declared.replies.Reply.{Reply}
 use Rattle.ghost_cli.specs.Texts.{Said}
 use Rattle.ghost_cli.specs.Questions.{WhichCompiled}
 use Rattle.ghost_cli.specs.Compiled.{IsCompiledTo, room_fault}
-use Rattle.ghost_cli.specs.Outside.{outside, Explains}
+use Rattle.ghost_cli.specs.Outside.{outside, LeftBy, Explains}
 use Rattle.ghost_cli.specs.Windows.{WindowFits, windowed_profile}
 use Rattle.ghost_cli.specs.declared.windows.Window.{Window}
 use Rattle.ghost_cli.specs.Compile.{compile_work, compiles_to, on_compiled}
-use Rattle.ghost_cli.specs.Progress.{HasLeft, EndsWorkWith, SaysSource, WritesOut}
+use Rattle.ghost_cli.specs.Progress.{HasLeft, EndsWorkWith, SaysSource}
+use Rattle.ghost_cli.specs.Work.{IsWritten}
 use Rattle.ghost_cli.proofs.Answering.{written-said}
 use Rattle.ghost_cli.proofs.Progressing.{leads-on}
 
@@ -73,17 +75,18 @@ spelling-compiled p profile latencies o usually room ranges accepted implements 
 -- ---- what is said
 
 -- an object file was to be written
-pub compiled-said : (shelf between now : ShelfSeen) (before after : SinkSeen) (status : ℕ) (source output : List ℕ)
-    (profile : Profile) (procs : Bool) (p : Source) (bytes slice : List ℕ)
+pub compiled-said : (shelf between now : ShelfSeen) (before after : SinkSeen) (result : Result ℕ Reply)
+    (source output : List ℕ) (profile : Profile) (procs : Bool) (p : Source) (bytes slice : List ℕ)
     → HasLeft shelf (compile_work source output profile procs) (compiles_to output profile p) → between ≡ shelf
     → IsCompiledTo p profile bytes → slice ≡ bytes
-    → WritesOut (outside between before) (outside now after) status output slice Compiled
-    → Explains (outside shelf before) (outside now after) status (Some (compile_work source output profile procs))
-compiled-said shelf between now before after status source output profile procs p bytes slice leads same done is
-    writes =
-    written-said shelf between now before after status (compile_work source output profile procs) output bytes slice
+    → IfOk result (λ status.
+    LeftBy (outside between before) (outside now after) status (IsWritten output slice Compiled))
+    → IfOk result (λ status.
+    Explains (outside shelf before) (outside now after) status (Some (compile_work source output profile procs)))
+compiled-said shelf between now before after result source output profile procs p bytes slice leads same done is left =
+    written-said shelf between now before after result (compile_work source output profile procs) output bytes slice
     Compiled (leads-on shelf (compile_work source output profile procs) (WhichCompiled p profile) (on_compiled output)
-    (Ok bytes) leads done) same is writes
+    (Ok bytes) leads done) same is left
 
 -- what is said of a program that wasn't compiled ends the work
 pub room-refuses : (p : Source) (profile : Profile) (e : CompileError) (said : Said)

@@ -1,21 +1,22 @@
 -- From a program, its inputs and what it leaves to what is said.
-use Rattle.std.proofs.Common.{◌≡◌, Bool, ℕ, ℤ, List, Some, None, sym, subst}
+use Rattle.std.proofs.Common.{◌≡◌, Bool, ℕ, ℤ, List, Some, None, Result, IfOk, sym, subst}
 use Rattle.gr_word.specs.declared.variables.Want.{Want}
 use Rattle.gr_outside.specs.Shelf.{ShelfSeen}
 use Rattle.gr_outside.specs.Sink.{SinkSeen}
 use Rattle.run_data.specs.OutputText.{output_of}
 use Rattle.src_tree.specs.Trees.{Source}
 use Rattle.flow_types.specs.Wants.{declared_wants}
+use Rattle.ghost_cli.specs.declared.replies.Reply.{Reply}
 use Rattle.ghost_cli.specs.declared.replies.Verdict.TheVariants.{Spent}
 use Rattle.ghost_cli.specs.declared.replies.Done.TheVariants.{Evaluated}
 use Rattle.ghost_cli.specs.Texts.{Said, comes_to}
 use Rattle.src_tree.specs.Meaning.{meaning}
 use Rattle.ghost_cli.specs.Questions.{WhatIsLeft}
-use Rattle.ghost_cli.specs.Work.{Work}
-use Rattle.ghost_cli.specs.Outside.{outside, Explains}
+use Rattle.ghost_cli.specs.Work.{Work, IsWritten}
+use Rattle.ghost_cli.specs.Outside.{outside, LeftBy, Explains}
 use Rattle.ghost_cli.specs.Steps.{with_source, with_variables}
 use Rattle.ghost_cli.specs.Evaluate.{evaluate_work, evaluates_on, on_left}
-use Rattle.ghost_cli.specs.Progress.{HasLeft, Stops, WritesOut}
+use Rattle.ghost_cli.specs.Progress.{HasLeft, Stops}
 use Rattle.ghost_cli.proofs.Answering.{written-said}
 use Rattle.ghost_cli.proofs.Progressing.{leads-on, leads-later, stops-later, ends-at}
 
@@ -53,20 +54,22 @@ variables-stop shelf between now procs source input p wants said next found same
     (stops (next p))
 
 -- the values that are left were to be written
-pub evaluated-said : (shelf between now : ShelfSeen) (before after : SinkSeen) (status : ℕ)
+pub evaluated-said : (shelf between now : ShelfSeen) (before after : SinkSeen) (result : Result ℕ Reply)
     (source input output : List ℕ) (turns : ℕ) (procs : Bool) (p : Source) (inputs left : List (List ℤ))
     (bytes : List ℕ)
     → HasLeft shelf (evaluate_work source input output turns procs) (evaluates_on output turns p inputs)
     → between ≡ shelf
     → meaning p inputs turns ≡ Some left → bytes ≡ output_of (declared_wants p.decls) left
-    → WritesOut (outside between before) (outside now after) status output bytes Evaluated
-    → Explains (outside shelf before) (outside now after) status (Some (evaluate_work source input output turns procs))
-evaluated-said shelf between now before after status source input output turns procs p inputs left bytes leads same is
-    text writes =
-    written-said shelf between now before after status (evaluate_work source input output turns procs) output
+    → IfOk result (λ status.
+    LeftBy (outside between before) (outside now after) status (IsWritten output bytes Evaluated))
+    → IfOk result (λ status.
+    Explains (outside shelf before) (outside now after) status (Some (evaluate_work source input output turns procs)))
+evaluated-said shelf between now before after result source input output turns procs p inputs left bytes leads same is
+    text done =
+    written-said shelf between now before after result (evaluate_work source input output turns procs) output
     (output_of (declared_wants p.decls) left) bytes Evaluated
     (leads-on shelf (evaluate_work source input output turns procs) (WhatIsLeft p inputs turns) (on_left p output turns)
-    (Some left) leads is) same text writes
+    (Some left) leads is) same text done
 
 -- the loops took more turns
 pub turns-spent : (shelf now : ShelfSeen) (source input output : List ℕ) (turns : ℕ) (procs : Bool) (p : Source)

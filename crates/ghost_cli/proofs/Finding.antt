@@ -1,8 +1,9 @@
 -- From the bytes of a file to what they give.
-use Rattle.std.proofs.Common.{◌≡◌, ℕ, List, None, sym, subst}
+use Rattle.std.proofs.Common.{◌≡◌, ℕ, List, None, Result, Ok, Err, IfOk, OnOk, sym, subst}
 use Rattle.gr_outside.specs.Shelf.{ShelfSeen}
 use Rattle.lt_isa.specs.Object.{Parts}
 use Rattle.trace_patterns.specs.Accepts.{Accepts}
+use Rattle.ghost_cli.specs.declared.replies.Reply.{Reply}
 use Rattle.ghost_cli.specs.Texts.{Said}
 use Rattle.ghost_cli.specs.Questions.{Question, Answer, IsRight, WhetherAccepted}
 use Rattle.ghost_cli.specs.Work.{Work, Reads, Asks}
@@ -33,10 +34,12 @@ bytes-refused before after name limit ask next bytes slice said is reads same re
     (reads (λ b. Asks (ask b) (next b))) same (subst (λ b. EndsWorkWith (ask b) (next b) said) is refuses)
 
 -- an object that was found is accepted or refused
-pub accepted-found : (before : ShelfSeen) (name : List ℕ) (o found : Parts)
-    → found ≡ o → ((next : Parts → Work) → HasLeft before (with_object name next) (next o)) → Accepts o
-    → (next : Parts → Work) → HasLeft before (with_accepted name next) (next found)
-accepted-found before name o found is leads accepts next =
+pub accepted-found : (result : Result Parts Reply) (before : ShelfSeen) (name : List ℕ) (o : Parts)
+    → ((next : Parts → Work) → HasLeft before (with_object name next) (next o))
+    → IfOk result (λ found. found ≡ o) → OnOk result (Accepts o)
+    → IfOk result (λ found. (next : Parts → Work) → HasLeft before (with_accepted name next) (next found))
+accepted-found (Err reply) before name o leads is accepts = tt
+accepted-found (Ok found) before name o leads is accepts = λ next.
     subst (λ p. HasLeft before (with_accepted name next) (next p)) (sym is)
     (leads-on before (with_accepted name next) (WhetherAccepted o) (on_judged (next o)) None
     (leads (λ p. Asks (WhetherAccepted p) (on_judged (next p)))) accepts)

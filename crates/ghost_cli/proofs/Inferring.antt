@@ -1,5 +1,5 @@
 -- From an object and its least notes to what is said, and what is written by `infer` that is done.
-use Rattle.std.proofs.Common.{◌≡◌, ◌≢◌, inl, inr, Bool, cond, ℕ, ◌<◌, List, length, Option, Some, None, Result, Ok, Err, refl, sym, ap, ◌∙◌, subst, arith}
+use Rattle.std.proofs.Common.{◌≡◌, ◌≢◌, inl, inr, Bool, cond, ℕ, ◌<◌, List, length, Option, Some, None, Result, Ok, Err, IfOk, refl, sym, ap, ◌∙◌, subst, arith}
 use Rattle.std.proofs.lemmas.Cmp.{eq_by_cmp_equiv}
 use Rattle.std.specs.Cmp.Lexicographic.{nat_list_cmp_total}
 use Rattle.std.specs.FinMap.{get, get-insert}
@@ -12,6 +12,7 @@ use Rattle.object_file.specs.Spelling.{spelling}
 use Rattle.object_file.specs.declared.errors.DecodeError.{DecodeError}
 use Rattle.note_infer.specs.declared.faults.InferError.{InferError}
 use Rattle.ghost_cli.specs.declared.replies.Done.TheVariants.{Inferred}
+use Rattle.ghost_cli.specs.declared.replies.Reply.{Reply}
 use Rattle.ghost_cli.specs.Texts.{Said}
 use Rattle.ghost_cli.specs.Inferred.{GetsNotes}
 use Rattle.ghost_cli.specs.Infer.{infer_work, infers_to, on_inferred}
@@ -19,10 +20,10 @@ use Rattle.ghost_cli.specs.Objects.{SpellsObject}
 use Rattle.ghost_cli.specs.Questions.{IsRight, WhichObject, WhatIsInferred}
 use Rattle.ghost_cli.specs.declared.replies.Verdict.TheVariants.{Malformed}
 use Rattle.ghost_cli.specs.Steps.{or_ends}
-use Rattle.ghost_cli.specs.Work.{Work, Ending, MayEnd, Holds, said_at, files_at}
-use Rattle.ghost_cli.specs.Outside.{Outside, outside, Explains}
+use Rattle.ghost_cli.specs.Work.{Work, Ending, IsWritten, MayEnd, Holds, said_at, files_at}
+use Rattle.ghost_cli.specs.Outside.{Outside, outside, LeftBy, Explains}
 use Rattle.ghost_cli.specs.Promises.{Answers, NoAnswer, AnswersSo, IsInferredFile, IsSafe}
-use Rattle.ghost_cli.specs.Progress.{HasLeft, WritesOut}
+use Rattle.ghost_cli.specs.Progress.{HasLeft}
 use Rattle.ghost_cli.proofs.Answering.{written-said}
 use Rattle.ghost_cli.proofs.Behind.{behind-it, not-done}
 use Rattle.ghost_cli.proofs.Progressing.{leads-on}
@@ -31,18 +32,20 @@ use Rattle.ghost_cli.proofs.Promised.{answers-of}
 -- ---- what is said
 
 -- the object with its least notes was to be written
-pub inferred-said : (shelf between now : ShelfSeen) (before after : SinkSeen) (status : ℕ) (object output : List ℕ)
-    (o found : Parts) (slice : List ℕ) (count : ℕ)
+pub inferred-said : (shelf between now : ShelfSeen) (before after : SinkSeen) (result : Result ℕ Reply)
+    (object output : List ℕ) (o found : Parts) (slice : List ℕ) (count : ℕ)
     → HasLeft shelf (infer_work object output) (infers_to output o) → between ≡ shelf → GetsNotes o found
     → slice ≡ spelling found → count ≡ length found.notes
-    → WritesOut (outside between before) (outside now after) status output slice (Inferred count)
-    → Explains (outside shelf before) (outside now after) status (Some (infer_work object output))
-inferred-said shelf between now before after status object output o found slice count leads same gets is counts writes =
-    written-said shelf between now before after status (infer_work object output) output (spelling found) slice
+    → IfOk result (λ status.
+    LeftBy (outside between before) (outside now after) status (IsWritten output slice (Inferred count)))
+    → IfOk result (λ status.
+    Explains (outside shelf before) (outside now after) status (Some (infer_work object output)))
+inferred-said shelf between now before after result object output o found slice count leads same gets is counts left =
+    written-said shelf between now before after result (infer_work object output) output (spelling found) slice
     (Inferred (length found.notes))
     (leads-on shelf (infer_work object output) (WhatIsInferred o) (on_inferred output) (Ok found) leads gets) same is
-    (subst (λ (n : ℕ). WritesOut (outside between before) (outside now after) status output slice (Inferred n)) counts
-    writes)
+    (subst (λ (n : ℕ). IfOk result (λ status.
+    LeftBy (outside between before) (outside now after) status (IsWritten output slice (Inferred n)))) counts left)
 
 -- ---- what is written
 

@@ -1,5 +1,5 @@
 -- From what is made of a sample to what is said.
-use Rattle.std.proofs.Common.{◌≡◌, ◌⊎◌, inl, inr, ℕ, ℤ, ◌<◌, List, [], ◌∷◌, Option, Some, None, length, refl, sym, ◌∙◌, subst, arith}
+use Rattle.std.proofs.Common.{◌≡◌, ℕ, ℤ, ◌<◌, List, [], ◌∷◌, Some, None, Result, IfOk, length, refl, sym, ◌∙◌, subst, arith}
 use Rattle.gr_outside.specs.Shelf.{ShelfSeen}
 use Rattle.gr_outside.specs.Sink.{SinkSeen}
 use Rattle.gr_word.specs.Fitting.{AreWords, FitsWants, words_at}
@@ -14,20 +14,21 @@ use Rattle.bank_alloc.specs.Layout.{HasLayout}
 use Rattle.code_gen.specs.Implements.{by_name}
 use Rattle.ghost_cli.specs.declared.replies.Done.TheVariants.{Sampled}
 use Rattle.ghost_cli.specs.declared.replies.Figures.{Figures}
+use Rattle.ghost_cli.specs.declared.replies.Reply.{Reply}
 use Rattle.ghost_cli.specs.declared.replies.Verdict.TheVariants.{Spent}
 use Rattle.ghost_cli.specs.declared.sample.CountedRun.{CountedRun}
 use Rattle.ghost_cli.specs.declared.sample.SampleFile.{SampleFile}
 use Rattle.ghost_cli.specs.Compiled.{IsCompiledTo}
 use Rattle.ghost_cli.specs.Histogram.{Made, IsMade, figures_of, sample_profile, sample_cycles, sample_inputs, sample_store, sample_trace, sample_words, sum_left}
-use Rattle.ghost_cli.specs.Outside.{outside, PutsSaid, Explains}
-use Rattle.ghost_cli.specs.Progress.{HasLeft, Stops, WritesOut}
+use Rattle.ghost_cli.specs.Outside.{outside, LeftBy, Explains}
+use Rattle.ghost_cli.specs.Progress.{HasLeft, Stops}
 use Rattle.ghost_cli.specs.Questions.{WhatIsMade, WhenItHalts}
 use Rattle.ghost_cli.specs.Sample.{on_sampled, sample_work, samples_on}
 use Rattle.ghost_cli.specs.Sampled.{IsFileOf, SampleIsReady, SampleIsSpent, RanSo}
 use Rattle.ghost_cli.specs.SampleTree.{sample_decls}
-use Rattle.ghost_cli.specs.Texts.{Said, comes_to, no_memory}
-use Rattle.ghost_cli.specs.Work.{Work}
-use Rattle.ghost_cli.proofs.Answering.{starved-said, written-said}
+use Rattle.ghost_cli.specs.Texts.{comes_to}
+use Rattle.ghost_cli.specs.Work.{Work, IsWritten}
+use Rattle.ghost_cli.proofs.Answering.{written-said}
 use Rattle.ghost_cli.proofs.CompiledRuns.{compiled-runs}
 use Rattle.ghost_cli.proofs.Progressing.{ends-at, leads-on}
 use Rattle.ghost_cli.proofs.SampleInputs.{sample-fit}
@@ -114,19 +115,20 @@ leads-run shelf n output made is =
     (from-first shelf (sample_work n output)) is
 
 -- what is said of the sample
-pub sampled-said : (shelf now : ShelfSeen) (before after : SinkSeen) (status n : ℕ) (output slice : List ℕ)
-    (file : SampleFile) → IsFileOf n file → slice ≡ file.bytes.items
-    → WritesOut (outside shelf before) (outside now after) status output slice (Sampled file.figures)
-    → Explains (outside shelf before) (outside now after) status (Some (sample_work n output))
-sampled-said shelf now before after status n output slice file came is writes =
-    written-said shelf shelf now before after status (sample_work n output) output came.made.bytes slice
+pub sampled-said : (shelf now : ShelfSeen) (before after : SinkSeen) (result : Result ℕ Reply) (n : ℕ)
+    (output slice : List ℕ) (file : SampleFile) → IsFileOf n file → slice ≡ file.bytes.items
+    → IfOk result (λ status.
+    LeftBy (outside shelf before) (outside now after) status (IsWritten output slice (Sampled file.figures)))
+    → IfOk result (λ status. Explains (outside shelf before) (outside now after) status (Some (sample_work n output)))
+sampled-said shelf now before after result n output slice file came is left =
+    written-said shelf shelf now before after result (sample_work n output) output came.made.bytes slice
     (Sampled (figures_of n came.made came.at))
     (leads-on shelf (sample_work n output)
     (WhenItHalts came.made.object (sample_inputs (wants_of came.made.object)) sample_cycles)
     (on_sampled n output came.made) (Some came.at)
     (leads-run shelf n output came.made came.is) came.halts) refl (is ∙ came.spelled)
-    (subst (λ (f : Figures). WritesOut (outside shelf before) (outside now after) status output slice (Sampled f))
-    came.figured writes)
+    (subst (λ (f : Figures). IfOk result (λ status.
+    LeftBy (outside shelf before) (outside now after) status (IsWritten output slice (Sampled f)))) came.figured left)
 
 -- a sample whose run was spent
 pub sample-spent : (shelf : ShelfSeen) (n : ℕ) (output : List ℕ)
@@ -136,14 +138,3 @@ sample-spent shelf n output spent =
     (leads-on shelf (sample_work n output) (WhenItHalts spent.0.object
     (sample_inputs (wants_of spent.0.object)) sample_cycles) (on_sampled n output spent.0) None
     (leads-run shelf n output spent.0 spent.1) spent.2) refl
-
--- what is said in place of a sample is that memory ran out
-pub sample-starved : (asked : Option Work) (shelf : ShelfSeen) (before after : SinkSeen) (status : ℕ) (said : Said)
-    → said ≡ no_memory → PutsSaid before after said status ⊎ PutsSaid before after no_memory status
-    → Explains (outside shelf before) (outside shelf after) status asked
-sample-starved asked shelf before after status said is put = elim put [
-  | inl done ↦
-      starved-said asked shelf shelf before after status refl
-      (subst (λ (s : Said). PutsSaid before after s status) is done)
-  | inr done ↦ starved-said asked shelf shelf before after status refl done
-]

@@ -1,5 +1,5 @@
 -- From the runs of a bus to the lines that are put, and how its work ends.
-use Rattle.std.proofs.Common.{◌≡◌, ◌⊎◌, inl, inr, ℕ, zero, suc, ◌+◌, ◌<◌, ◌≤◌, ℤ, Bool, true, false, ◌&&◌, List, [], ◌∷◌, ◌++◌, length, drop, get_or, map, take, take-append-drop, Option, Some, None, is_some, refl, sym, ap, ap₂, ◌∙◌, subst, arith, append_assoc, length-append}
+use Rattle.std.proofs.Common.{◌≡◌, inl, inr, ℕ, zero, suc, ◌+◌, ◌<◌, ◌≤◌, ℤ, Bool, true, false, ◌&&◌, List, [], ◌∷◌, ◌++◌, length, drop, get_or, map, take, take-append-drop, Option, Some, None, is_some, refl, sym, ap, ap₂, ◌∙◌, subst, arith, append_assoc, length-append}
 use Rattle.std.specs.Prelude.{codes, decimal, slice_get}
 use Rattle.std.proofs.lemmas.List.{append-nil, length-map, length-take-le}
 use Rattle.gr_base.specs.Added.{Adds, AddsLess}
@@ -23,15 +23,14 @@ use Rattle.rand_chacha.specs.ChaCha.{ChaCha}
 use Rattle.ghost_cli.specs.declared.replies.Verdict.TheVariants.{Shared}
 use Rattle.ghost_cli.specs.Beginning.{BankBegins, HasBegun}
 use Rattle.ghost_cli.specs.Bus.{Pair, Read, all_halted, bus_work, shares_bus, with_halts}
-use Rattle.ghost_cli.specs.Outside.{Explains, PutsSaid, outside}
+use Rattle.ghost_cli.specs.Outside.{Explains, outside}
 use Rattle.ghost_cli.specs.Progress.{HasLeft}
 use Rattle.ghost_cli.specs.Questions.{WhatIsJoined, WhenItHalts}
 use Rattle.ghost_cli.specs.Runs.{HaltOf}
 use Rattle.ghost_cli.specs.Sharing.{AllBegin, AllFit, AreHalts, PutsHalts, PutsJoined, PutsShared, halts_of}
 use Rattle.ghost_cli.specs.Showing.{bus_seen, core_line, core_lines, halt_text, transfer_lines}
-use Rattle.ghost_cli.specs.Texts.{no_memory}
 use Rattle.ghost_cli.specs.Work.{Asks, Ends, Work}
-use Rattle.ghost_cli.proofs.Answering.{judged-said, starved-said}
+use Rattle.ghost_cli.proofs.Answering.{judged-said}
 use Rattle.ghost_cli.proofs.BusWatches.{halt-some}
 use Rattle.ghost_cli.proofs.Progressing.{leads-on}
 use Rattle.ghost_cli.proofs.Saying.{halts-or-not}
@@ -319,21 +318,17 @@ leads-halts shelf work n (o ∷ os) (d ∷ ds) (h ∷ halts) next leads are =
     (leads-on shelf work (WhenItHalts o d n) (λ halt. with_halts n os ds (λ more. next (halt ∷ more))) h leads are.0)
     are.1
 
--- the lines were put of what was read, or memory ran out
+-- the lines were put of what was read
 pub shared-said : (shelf now : ShelfSeen) (before after : SinkSeen) (status : ℕ) (pairs : List Pair) (cycles : ℕ)
     (read : Read) → HasLeft shelf (bus_work pairs cycles) (shares_bus cycles read) → now ≡ shelf
     → PutsShared before after (traces_on read.objects read.inputs cycles) status
-    ⊎ PutsSaid before after no_memory status
     → Explains (outside shelf before) (outside now after) status (Some (bus_work pairs cycles))
-shared-said shelf now before after status pairs cycles read leads same put = elim put [
-  | inl shared ↦
-      judged-said shelf now before after status (bus_work pairs cycles)
-      (bus_seen shared.joined shared.halts) (Shared (all_halted shared.halts))
-      (leads-on shelf (bus_work pairs cycles) (WhatIsJoined read.objects read.inputs cycles)
-      (λ joined. Ends (bus_seen joined shared.halts) (Shared (all_halted shared.halts))) shared.joined
-      (leads-halts shelf (bus_work pairs cycles) cycles read.objects read.inputs shared.halts
-      (λ halts. Asks (WhatIsJoined read.objects read.inputs cycles)
-      (λ joined. Ends (bus_seen joined halts) (Shared (all_halted halts))))
-      leads shared.are) shared.joins) same shared.put
-  | inr starved ↦ starved-said (Some (bus_work pairs cycles)) shelf now before after status same starved
-]
+shared-said shelf now before after status pairs cycles read leads same shared =
+    judged-said shelf now before after status (bus_work pairs cycles)
+    (bus_seen shared.joined shared.halts) (Shared (all_halted shared.halts))
+    (leads-on shelf (bus_work pairs cycles) (WhatIsJoined read.objects read.inputs cycles)
+    (λ joined. Ends (bus_seen joined shared.halts) (Shared (all_halted shared.halts))) shared.joined
+    (leads-halts shelf (bus_work pairs cycles) cycles read.objects read.inputs shared.halts
+    (λ halts. Asks (WhatIsJoined read.objects read.inputs cycles)
+    (λ joined. Ends (bus_seen joined halts) (Shared (all_halted halts))))
+    leads shared.are) shared.joins) same shared.put

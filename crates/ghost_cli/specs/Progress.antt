@@ -1,9 +1,8 @@
 -- How far a part of the code has come with the work of a verb. (Only contracts of private functions and proofs say so.)
-use Rattle.std.specs.Prelude.{◌≡◌, ◌⊎◌, ℕ, List, Option, Some, None}
+use Rattle.std.specs.Prelude.{◌≡◌, ◌⊎◌, ℕ, Option, Some, None}
 use Rattle.gr_outside.specs.Shelf.{ShelfSeen}
 use Rattle.ghost_cli.specs.declared.replies.Verdict.{Verdict}
 use Rattle.ghost_cli.specs.declared.replies.Verdict.TheVariants.{Malformed, BadSource, BadInput, BadAssembly, NoNotes}
-use Rattle.ghost_cli.specs.declared.replies.Done.{Done}
 use Rattle.object_file.specs.declared.errors.DecodeError.{DecodeError}
 use Rattle.object_file.specs.declared.errors.DecodeError.TheVariants as object
 use Rattle.lt_assembler.specs.declared.errors.AsmError.{AsmError}
@@ -13,11 +12,11 @@ use Rattle.note_infer.specs.declared.faults.InferError.TheVariants as notes
 use Rattle.ghost_cli.specs.declared.source_faults.SourceFault.{SourceFault}
 use Rattle.ghost_cli.specs.declared.replies.InputFault.{InputFault}
 use Rattle.run_data.specs.declared.errors.InputError.{InputError}
-use Rattle.ghost_cli.specs.Texts.{Said, no_memory, comes_to}
+use Rattle.ghost_cli.specs.Texts.{Said, usage, no_memory, comes_to}
 use Rattle.ghost_cli.specs.Questions.{Question, Answer, IsRight, Shows}
 use Rattle.ghost_cli.specs.Showing.{nothing_seen}
-use Rattle.ghost_cli.specs.Work.{Work, Ends, Ending, IsWritten, MayEnd, said_at}
-use Rattle.ghost_cli.specs.Outside.{Outside, Gives, PutsSaid, OnlyReads, LeavesShelf, LeftBy}
+use Rattle.ghost_cli.specs.Work.{Work, Ends, Ending, MayEnd, said_at}
+use Rattle.ghost_cli.specs.Outside.{Gives, OnlyReads, LeavesShelf}
 
 -- what is left of a work is this one, whatever later reads do to the shelf's count
 abbrev pub HasLeft : ShelfSeen → Work → Work → Type 0
@@ -30,6 +29,13 @@ pub data Stops (before after : ShelfSeen) (work : Work) (said : Said) : Type 0 w
   StopsAt : (ending : Ending)
       → MayEnd (Gives before.files before.read_faults after.read_faults) work ending → LeavesShelf ending before after
       → said ≡ said_at ending → Stops before after work said
+
+-- A call that put nothing leaves this to be said: the words ask for no work, or memory ran out before a write, or the
+-- work ends so without one.
+pub data LeavesToSay (before after : ShelfSeen) (asked : Option Work) (said : Said) : Type 0 where
+  NothingAsked : asked ≡ None → after ≡ before → said ≡ usage → LeavesToSay before after asked said
+  NoRoomYet : OnlyReads before after → said ≡ no_memory → LeavesToSay before after asked said
+  WorkStops : (work : Work) → asked ≡ Some work → Stops before after work said → LeavesToSay before after asked said
 
 -- the right answer to a question ends the work with a verdict, or memory ran out
 abbrev pub EndsWorkWith : (question : Question) → (Answer question → Work) → Said → Type 0
@@ -71,9 +77,3 @@ SaysNotes notes.Memory said = said ≡ no_memory
 SaysNotes (notes.Dead pc) said = said ≡ comes_to (NoNotes (notes.Dead pc))
 SaysNotes (notes.Refused pc reason) said = said ≡ comes_to (NoNotes (notes.Refused pc reason))
 SaysNotes (notes.TooMany count) said = said ≡ comes_to (NoNotes (notes.TooMany count))
-
--- a file was to be written: memory ran out before that, or this is left of it
-abbrev pub WritesOut : Outside → Outside → ℕ → List ℕ → List ℕ → Done → Type 0
-WritesOut before after status name bytes done =
-    ((after.shelf ≡ before.shelf) × PutsSaid before.sink after.sink no_memory status)
-    ⊎ LeftBy before after status (IsWritten name bytes done)

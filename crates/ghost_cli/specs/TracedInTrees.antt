@@ -1,13 +1,11 @@
 -- The lines of a run over recursive banks were put. For the contract of a private function, and for proofs.
-use Rattle.std.specs.Prelude.{◌≡◌, ◌⊎◌, ℕ, ℤ, Bool, List, []}
+use Rattle.std.specs.Prelude.{◌≡◌, ℕ, ℤ, Bool, List, []}
 use Rattle.gr_outside.specs.Sink.{SinkSeen}
 use Rattle.lt_isa.specs.Object.{Parts}
 use Rattle.lt_isa.specs.Start.{trace}
 use Rattle.processor.specs.Watching.{WatcherTold, events_in}
-use Rattle.ghost_cli.specs.Outside.{PutsSaid}
 use Rattle.ghost_cli.specs.RecursivePaths.{IsShownInTrees}
 use Rattle.ghost_cli.specs.Showing.{run_seen}
-use Rattle.ghost_cli.specs.Texts.{no_memory}
 use Rattle.ghost_cli.specs.Watched.{PutsTrace, kept}
 
 pub record TracedInTrees (before after : SinkSeen) (o : Parts) (inputs : List (List ℤ)) (cycles seed : ℕ)
@@ -16,8 +14,3 @@ pub record TracedInTrees (before after : SinkSeen) (o : Parts) (inputs : List (L
   pub events : events_in told ≡ trace o inputs cycles
   pub right : IsShownInTrees o inputs cycles seed (run_seen told [])
   pub put : PutsTrace before after (trace o inputs cycles) (kept paths told) (λ levels. levels ≡ []) status
-
--- they were, or memory ran out before
-abbrev pub TracesOrStarves : SinkSeen → SinkSeen → Parts → List (List ℤ) → ℕ → ℕ → Bool → ℕ → Type 0
-TracesOrStarves before after o inputs cycles seed paths status =
-    PutsSaid before after no_memory status ⊎ TracedInTrees before after o inputs cycles seed paths status

@@ -1,10 +1,11 @@
-ghost use Rattle.std.specs.Prelude.{◌≡◌, Some};
+ghost use Rattle.std.specs.Prelude.{◌≡◌, IfErr, IfOk, OnErr, Some};
 ghost use Rattle.clap.specs.Words.{found_of, rows_of};
 ghost use Rattle.ghost_cli.specs.Assemble.{assemble_row, assemble_work};
 ghost use Rattle.ghost_cli.specs.Outside.{Explains, outside};
+ghost use Rattle.ghost_cli.specs.Progress.{LeavesToSay};
+ghost use Rattle.ghost_cli.specs.Texts.{said};
 
 use crate::options::{TwoNames, two_names, value};
-use crate::putting::{say, say_no_memory};
 use crate::reading::find_assembly;
 use crate::replies::{Done, Reply};
 use crate::verbs::{Argument, VerbWords};
@@ -23,38 +24,40 @@ pub const WORDS: VerbWords<'static> = VerbWords {
     flags: &[],
 };
 
-/// The verb `asm TEXT OUT`: writes the object file of the object that an assembly text spells.
-pub fn assemble<F: Shelf, O: Sink>(
+/// The verb `asm TEXT OUT`: writes the object file of the object that an assembly text spells. `Err` where nothing was
+/// put yet: the reply is to be said.
+pub fn assemble<'a, F: Shelf, O: Sink>(
     alloc: Global,
-    matches: &ArgMatches<'_>,
+    matches: &ArgMatches<'a>,
     shelf: &mut F,
     out: &mut O,
-) -> u8
-    ensures { Explains (outside (F.seen shelf.old) (O.seen out.old))
-        (outside (F.seen shelf.new) (O.seen out.new)) result (assemble_row.asks (rows_of (found_of matches.now))) }
+) -> Result<u8, Reply<'a>>
+    ensures done { IfOk result (λ status. Explains (outside (F.seen shelf.old) (O.seen out.old))
+        (outside (F.seen shelf.new) (O.seen out.new)) status (assemble_row.asks (rows_of (found_of matches.now)))) }
+    ensures stopped { IfErr result (λ reply. LeavesToSay (F.seen shelf.old) (F.seen shelf.new)
+        (assemble_row.asks (rows_of (found_of matches.now))) (said reply)) }
+    ensures unput { OnErr result (O.seen out.new ≡ O.seen out.old) }
 {
-    match two_names(value(matches, "TEXT"), value(matches, "OUT")) {
-        Some(asked) => assemble_file(alloc, asked, shelf, out),
-        None => say(alloc, &Reply::Usage, out),
-    }
+    let Some(asked) = two_names(value(matches, "TEXT"), value(matches, "OUT")) else {
+        return Err(Reply::Usage);
+    };
+    assemble_file(alloc, asked, shelf, out)
 }
 
-fn assemble_file<F: Shelf, O: Sink>(
+fn assemble_file<'a, F: Shelf, O: Sink>(
     alloc: Global,
-    asked: TwoNames<'_>,
+    asked: TwoNames<'a>,
     shelf: &mut F,
     out: &mut O,
-) -> u8
-    ensures { Explains (outside (F.seen shelf.old) (O.seen out.old))
-        (outside (F.seen shelf.new) (O.seen out.new)) result
-        (Some (assemble_work asked.entry.read.now asked.entry.written.now)) }
+) -> Result<u8, Reply<'a>>
+    ensures done { IfOk result (λ status. Explains (outside (F.seen shelf.old) (O.seen out.old))
+        (outside (F.seen shelf.new) (O.seen out.new)) status
+        (Some (assemble_work asked.entry.read.now asked.entry.written.now))) }
+    ensures stopped { IfErr result (λ reply. LeavesToSay (F.seen shelf.old) (F.seen shelf.new)
+        (Some (assemble_work asked.entry.read.now asked.entry.written.now)) (said reply)) }
+    ensures unput { OnErr result (O.seen out.new ≡ O.seen out.old) }
 {
-    let found = match find_assembly(alloc, asked.read, shelf) {
-        Ok(found) => found,
-        Err(reply) => return say(alloc, &reply, out),
-    };
-    match encode(alloc, &found) {
-        Ok(bytes) => write_and_say(alloc, asked.written, &bytes, Done::Assembled, shelf, out),
-        Err(_) => say_no_memory(out),
-    }
+    let found = find_assembly(alloc, asked.read, shelf)?;
+    let bytes = encode(alloc, &found)?;
+    write_and_say(alloc, asked.written, &bytes, Done::Assembled, shelf, out)
 }

@@ -1,4 +1,4 @@
-ghost use Rattle.std.specs.Prelude.{◌≡◌, ◌<◌, ◌≤◌, ◌+◌, ◌⊎◌, [], IfErr, IfOk, IfSome, IsTrue, OnErr, OnOk, Some, false, length, map};
+ghost use Rattle.std.specs.Prelude.{◌≡◌, ◌<◌, ◌≤◌, ◌+◌, [], IfErr, IfOk, IfSome, IsTrue, OnErr, OnOk, Some, false, length, map};
 ghost use Rattle.std.specs.Option.{option_map};
 ghost use Rattle.clap.specs.Words.{found_of, rows_of};
 ghost use Rattle.bus_arbiter.specs.Cores.{traces_to};
@@ -7,16 +7,15 @@ ghost use Rattle.bus_arbiter.specs.Shares.{share_of};
 ghost use Rattle.bus_arbiter.specs.Turns.{AllLeft};
 ghost use Rattle.ghost_cli.specs.Bus.{Read, bus_named, bus_named_on, bus_row, bus_said, bus_work, none_read, pairs_of, with_core, with_cores};
 ghost use Rattle.ghost_cli.specs.Options.{texts};
-ghost use Rattle.ghost_cli.specs.Outside.{Explains, PutsSaid, outside};
-ghost use Rattle.ghost_cli.specs.Progress.{HasLeft, Stops};
+ghost use Rattle.ghost_cli.specs.Outside.{Explains, outside};
+ghost use Rattle.ghost_cli.specs.Progress.{HasLeft, LeavesToSay, Stops};
 ghost use Rattle.ghost_cli.specs.Sharing.{AllBegin, AllFit, AreRead, PutsShared};
-ghost use Rattle.ghost_cli.specs.Texts.{no_memory, said};
+ghost use Rattle.ghost_cli.specs.Texts.{said};
 ghost use Rattle.ghost_cli.specs.Work.{Work};
 
 use crate::bus_run::put_bus;
 use crate::oblivious::{SeededOram, load_seeded};
 use crate::options::{number_given, seed_given, value, values};
-use crate::putting::{say, say_no_memory};
 use crate::reading::{find_accepted, find_inputs};
 use crate::replies::{Reply, Verdict};
 use crate::verbs::{Argument, VerbWords};
@@ -62,27 +61,30 @@ pub struct BusWords<'a> {
 }
 
 /// The verb `bus OBJ INPUT [OBJ INPUT ..] [--cycles n] [--seed s]`: runs each pair's object on its inputs as a core of
-/// one bus, and puts the lines of all transfers and of how each core ended.
-pub fn bus<F: Shelf, O: Sink>(
+/// one bus, and puts the lines of all transfers and of how each core ended. `Err` where nothing was put yet: the reply
+/// is to be said.
+pub fn bus<'a, F: Shelf, O: Sink>(
     alloc: Global,
-    matches: &ArgMatches<'_>,
+    matches: &ArgMatches<'a>,
     shelf: &mut F,
     out: &mut O,
-) -> u8
-    ensures { Explains (outside (F.seen shelf.old) (O.seen out.old))
-        (outside (F.seen shelf.new) (O.seen out.new)) result (bus_row.asks (rows_of (found_of matches.now))) }
+) -> Result<u8, Reply<'a>>
+    ensures done { IfOk result (λ status. Explains (outside (F.seen shelf.old) (O.seen out.old))
+        (outside (F.seen shelf.new) (O.seen out.new)) status (bus_row.asks (rows_of (found_of matches.now)))) }
+    ensures stopped { IfErr result (λ reply. LeavesToSay (F.seen shelf.old) (F.seen shelf.new)
+        (bus_row.asks (rows_of (found_of matches.now))) (said reply)) }
+    ensures unput { OnErr result (O.seen out.new ≡ O.seen out.old) }
 {
-    let asked = words_in(
+    let Some(asked) = words_in(
         alloc,
         values(matches, "NAMES"),
         value(matches, "cycles"),
         value(matches, "seed"),
-    );
-    match asked {
-        Ok(Some(asked)) => bus_files(alloc, asked, shelf, out),
-        Ok(None) => say(alloc, &Reply::Usage, out),
-        Err(_) => say_no_memory(out),
-    }
+    )?
+    else {
+        return Err(Reply::Usage);
+    };
+    bus_files(alloc, asked, shelf, out)
 }
 
 fn words_in<'a>(
@@ -147,42 +149,47 @@ fn pairs_in<'a>(alloc: Global, names: &[&'a str]) -> Result<Option<Vec<NamePair<
     Ok(None)
 }
 
-fn bus_files<F: Shelf, O: Sink>(
+fn bus_files<'a, F: Shelf, O: Sink>(
     alloc: Global,
-    asked: BusWords<'_>,
+    asked: BusWords<'a>,
     shelf: &mut F,
     out: &mut O,
-) -> u8
+) -> Result<u8, Reply<'a>>
     requires some_cycle { 1 ≤ asked.cycles }
     requires most { length asked.pairs.items ≤ 8 }
-    ensures { Explains (outside (F.seen shelf.old) (O.seen out.old))
-        (outside (F.seen shelf.new) (O.seen out.new)) result
-        (Some (bus_work asked.entry.pairs.items asked.entry.cycles)) }
+    ensures done { IfOk result (λ status. Explains (outside (F.seen shelf.old) (O.seen out.old))
+        (outside (F.seen shelf.new) (O.seen out.new)) status
+        (Some (bus_work asked.entry.pairs.items asked.entry.cycles))) }
+    ensures stopped { IfErr result (λ reply. LeavesToSay (F.seen shelf.old) (F.seen shelf.new)
+        (Some (bus_work asked.entry.pairs.items asked.entry.cycles)) (said reply)) }
+    ensures unput { OnErr result (O.seen out.new ≡ O.seen out.old) }
 {
-    match read_cores(alloc, asked.pairs.as_slice(), shelf) {
-        Ok(cores) => share_bus(alloc, cores, asked.cycles, asked.seed, out),
-        Err(reply) => say(alloc, &reply, out),
-    }
+    let cores = read_cores(alloc, asked.pairs.as_slice(), shelf)?;
+    Ok(share_bus(alloc, cores, asked.cycles, asked.seed, out)?)
 }
 
-/// Runs what was read of the pairs, and puts its lines.
-fn share_bus<O: Sink>(alloc: Global, cores: Cores, cycles: u32, seed: u64, out: &mut O) -> u8
+/// Runs what was read of the pairs, and puts its lines. `Err` where nothing was put.
+fn share_bus<O: Sink>(
+    alloc: Global,
+    cores: Cores,
+    cycles: u32,
+    seed: u64,
+    out: &mut O,
+) -> Result<u8, Memory>
     requires some_cycle { 1 ≤ cycles }
     requires read { AreRead cores }
     requires few { length cores.objects ≤ 8 }
-    ensures { PutsShared (O.seen out.old) (O.seen out.new)
-        (traces_on cores.objects cores.inputs cycles) result
-        ⊎ PutsSaid (O.seen out.old) (O.seen out.new) no_memory result }
+    ensures shared { IfOk result
+        (PutsShared (O.seen out.old) (O.seen out.new) (traces_on cores.objects cores.inputs cycles)) }
+    ensures unput { OnErr result (O.seen out.new ≡ O.seen out.old) }
 {
     let Cores {
         plan,
         objects,
         inputs,
     } = cores;
-    match bus_of(alloc, plan, &objects, &inputs, seed) {
-        Ok(mut bus) => put_bus(&mut bus, cycles, out),
-        Err(_) => say_no_memory(out),
-    }
+    let mut bus = bus_of(alloc, plan, &objects, &inputs, seed)?;
+    Ok(put_bus(&mut bus, cycles, out))
 }
 
 /// A bus whose cores are these objects at the start of their runs on these inputs.
@@ -266,24 +273,14 @@ fn read_core<'a, F: Shelf>(
         (said reply)) }
 {
     let core = cores.plan.len();
-    let accepted = match find_accepted(alloc, pair.object, shelf) {
-        Ok(accepted) => accepted,
-        Err(reply) => return Err(reply),
-    };
+    let accepted = find_accepted(alloc, pair.object, shelf)?;
     match cores.plan.add(&accepted) {
         Ok(()) => {}
         Err(cause) => return Err(off_bus(core, cause)),
     }
-    let inputs = match find_inputs(alloc, &accepted, pair.input, shelf) {
-        Ok(inputs) => inputs,
-        Err(reply) => return Err(reply),
-    };
-    let Ok(()) = cores.objects.push(accepted) else {
-        return Err(Reply::NoMemory);
-    };
-    let Ok(()) = cores.inputs.push(inputs) else {
-        return Err(Reply::NoMemory);
-    };
+    let inputs = find_inputs(alloc, &accepted, pair.input, shelf)?;
+    cores.objects.push(accepted)?;
+    cores.inputs.push(inputs)?;
     Ok(())
 }
 

@@ -1,8 +1,8 @@
-ghost use Rattle.std.specs.Prelude.{◌≡◌, Some};
+ghost use Rattle.std.specs.Prelude.{◌≡◌, IfErr, IfOk, OnErr};
 ghost use Rattle.clap.specs.Words.{found_of, rows_of};
-ghost use Rattle.ghost_cli.specs.Check.{check_row, check_work};
+ghost use Rattle.ghost_cli.specs.Check.{check_row};
 ghost use Rattle.ghost_cli.specs.Outside.{Explains, outside};
-ghost use Rattle.ghost_cli.specs.Progress.{Stops};
+ghost use Rattle.ghost_cli.specs.Progress.{LeavesToSay};
 ghost use Rattle.ghost_cli.specs.Texts.{said};
 
 use crate::options::value;
@@ -23,27 +23,23 @@ pub const WORDS: VerbWords<'static> = VerbWords {
     flags: &[],
 };
 
-/// The verb `check OBJ`: says whether the object of a file is accepted.
-pub fn check<F: Shelf, O: Sink>(
+/// The verb `check OBJ`: says that the object of a file is accepted. `Err` where nothing was put yet: the reply is to be
+/// said.
+pub fn check<'a, F: Shelf, O: Sink>(
     alloc: Global,
-    matches: &ArgMatches<'_>,
+    matches: &ArgMatches<'a>,
     shelf: &mut F,
     out: &mut O,
-) -> u8
-    ensures { Explains (outside (F.seen shelf.old) (O.seen out.old))
-        (outside (F.seen shelf.new) (O.seen out.new)) result (check_row.asks (rows_of (found_of matches.now))) }
+) -> Result<u8, Reply<'a>>
+    ensures done { IfOk result (λ status. Explains (outside (F.seen shelf.old) (O.seen out.old))
+        (outside (F.seen shelf.new) (O.seen out.new)) status (check_row.asks (rows_of (found_of matches.now)))) }
+    ensures stopped { IfErr result (λ reply. LeavesToSay (F.seen shelf.old) (F.seen shelf.new)
+        (check_row.asks (rows_of (found_of matches.now))) (said reply)) }
+    ensures unput { OnErr result (O.seen out.new ≡ O.seen out.old) }
 {
-    match value(matches, "OBJ") {
-        Some(object) => say(alloc, &judge(alloc, object, shelf), out),
-        None => say(alloc, &Reply::Usage, out),
-    }
-}
-
-fn judge<'a, F: Shelf>(alloc: Global, object: &'a str, shelf: &mut F) -> Reply<'a>
-    ensures { Stops (F.seen shelf.old) (F.seen shelf.new) (check_work object.now) (said result) }
-{
-    match find_accepted(alloc, object, shelf) {
-        Ok(_) => Reply::Comes(Verdict::Accepted),
-        Err(reply) => reply,
-    }
+    let Some(object) = value(matches, "OBJ") else {
+        return Err(Reply::Usage);
+    };
+    find_accepted(alloc, object, shelf)?;
+    Ok(say(alloc, &Reply::Comes(Verdict::Accepted), out))
 }

@@ -1,4 +1,4 @@
-ghost use Rattle.std.specs.Prelude.{◌≡◌, IfErr, IfOk, IfSome, List, ℕ, Some};
+ghost use Rattle.std.specs.Prelude.{◌≡◌, IfErr, IfOk, IfSome, List, OnErr, Some, ℕ};
 ghost use Rattle.std.specs.Option.{option_map};
 ghost use Rattle.lt_isa.specs.Ranges.{IsInRange, ProfileFits};
 ghost use Rattle.object_file.specs.Spelling.{spelling};
@@ -7,12 +7,11 @@ ghost use Rattle.clap.specs.Words.{found_of, rows_of};
 ghost use Rattle.ghost_cli.specs.Compile.{compile_named, compile_row, compile_work, on_compiled};
 ghost use Rattle.ghost_cli.specs.Compiled.{IsCompiledTo, room_fault};
 ghost use Rattle.ghost_cli.specs.Outside.{Explains, outside};
-ghost use Rattle.ghost_cli.specs.Progress.{EndsWorkWith, SaysSource};
+ghost use Rattle.ghost_cli.specs.Progress.{EndsWorkWith, LeavesToSay, SaysSource};
 ghost use Rattle.ghost_cli.specs.Questions.{WhichCompiled};
 ghost use Rattle.ghost_cli.specs.Texts.{said};
 
 use crate::options::{block_log_given, flag_given, value};
-use crate::putting::say;
 use crate::replies::{Done, Reply, Verdict};
 use crate::source_faults::room_fault;
 use crate::sources::find_source;
@@ -47,27 +46,29 @@ pub struct CompileWords<'a> {
 }
 
 /// The verb `compile SRC OUT [--block-log w] [--window P:O:C] [--procs]`: writes the object file of the program that a
-/// source text spells.
-pub fn compile<F: Shelf, O: Sink>(
+/// source text spells. `Err` where nothing was put yet: the reply is to be said.
+pub fn compile<'a, F: Shelf, O: Sink>(
     alloc: Global,
-    matches: &ArgMatches<'_>,
+    matches: &ArgMatches<'a>,
     shelf: &mut F,
     out: &mut O,
-) -> u8
-    ensures { Explains (outside (F.seen shelf.old) (O.seen out.old))
-        (outside (F.seen shelf.new) (O.seen out.new)) result (compile_row.asks (rows_of (found_of matches.now))) }
+) -> Result<u8, Reply<'a>>
+    ensures done { IfOk result (λ status. Explains (outside (F.seen shelf.old) (O.seen out.old))
+        (outside (F.seen shelf.new) (O.seen out.new)) status (compile_row.asks (rows_of (found_of matches.now)))) }
+    ensures stopped { IfErr result (λ reply. LeavesToSay (F.seen shelf.old) (F.seen shelf.new)
+        (compile_row.asks (rows_of (found_of matches.now))) (said reply)) }
+    ensures unput { OnErr result (O.seen out.new ≡ O.seen out.old) }
 {
-    let asked = words_in(
+    let Some(asked) = words_in(
         value(matches, "SRC"),
         value(matches, "OUT"),
         value(matches, "block-log"),
         value(matches, "window"),
         value(matches, "procs"),
-    );
-    match asked {
-        Some(asked) => compile_file(alloc, asked, shelf, out),
-        None => say(alloc, &Reply::Usage, out),
-    }
+    ) else {
+        return Err(Reply::Usage);
+    };
+    compile_file(alloc, asked, shelf, out)
 }
 
 fn words_in<'a>(
@@ -91,25 +92,24 @@ fn words_in<'a>(
     })
 }
 
-fn compile_file<F: Shelf, O: Sink>(
+fn compile_file<'a, F: Shelf, O: Sink>(
     alloc: Global,
-    asked: CompileWords<'_>,
+    asked: CompileWords<'a>,
     shelf: &mut F,
     out: &mut O,
-) -> u8
+) -> Result<u8, Reply<'a>>
     requires { ProfileFits asked.profile }
-    ensures { Explains (outside (F.seen shelf.old) (O.seen out.old))
-        (outside (F.seen shelf.new) (O.seen out.new)) result
-        (Some (compile_work asked.entry.source.now asked.entry.output.now asked.entry.profile asked.entry.procs)) }
+    ensures done { IfOk result (λ status. Explains (outside (F.seen shelf.old) (O.seen out.old))
+        (outside (F.seen shelf.new) (O.seen out.new)) status
+        (Some (compile_work asked.entry.source.now asked.entry.output.now asked.entry.profile asked.entry.procs))) }
+    ensures stopped { IfErr result (λ reply. LeavesToSay (F.seen shelf.old) (F.seen shelf.new)
+        (Some (compile_work asked.entry.source.now asked.entry.output.now asked.entry.profile asked.entry.procs))
+        (said reply)) }
+    ensures unput { OnErr result (O.seen out.new ≡ O.seen out.old) }
 {
-    let program = match find_source(alloc, asked.source, asked.procs, shelf) {
-        Ok(program) => program,
-        Err(reply) => return say(alloc, &reply, out),
-    };
-    match object_bytes(alloc, &program, &asked.profile) {
-        Ok(bytes) => write_and_say(alloc, asked.output, &bytes, Done::Compiled, shelf, out),
-        Err(reply) => say(alloc, &reply, out),
-    }
+    let program = find_source(alloc, asked.source, asked.procs, shelf)?;
+    let bytes = object_bytes(alloc, &program, &asked.profile)?;
+    write_and_say(alloc, asked.output, &bytes, Done::Compiled, shelf, out)
 }
 
 /// The bytes of the program's object file, for a machine of this profile, or what is said where it has none.
@@ -119,13 +119,8 @@ fn object_bytes<'a>(alloc: Global, program: &Typed, profile: &Profile) -> Result
     ensures refused { IfErr result (λ reply. (output : List ℕ)
         → EndsWorkWith (WhichCompiled (source_of program.now) profile.now) (on_compiled output) (said reply)) }
 {
-    match object_of(alloc, program, profile) {
-        Ok(object) => match encode(alloc, &object) {
-            Ok(bytes) => Ok(bytes),
-            Err(_) => Err(Reply::NoMemory),
-        },
-        Err(reply) => Err(reply),
-    }
+    let object = object_of(alloc, program, profile)?;
+    Ok(encode(alloc, &object)?)
 }
 
 /// The program's object for a machine of this profile, or what is said where it has none.

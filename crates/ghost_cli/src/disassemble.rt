@@ -1,10 +1,11 @@
-ghost use Rattle.std.specs.Prelude.{◌≡◌, Some};
+ghost use Rattle.std.specs.Prelude.{◌≡◌, IfErr, IfOk, OnErr, Some};
 ghost use Rattle.clap.specs.Words.{found_of, rows_of};
 ghost use Rattle.ghost_cli.specs.Disassemble.{disassemble_row, disassemble_work};
 ghost use Rattle.ghost_cli.specs.Outside.{Explains, outside};
+ghost use Rattle.ghost_cli.specs.Progress.{LeavesToSay};
+ghost use Rattle.ghost_cli.specs.Texts.{said};
 
 use crate::options::{TwoNames, two_names, value};
-use crate::putting::{say, say_no_memory};
 use crate::reading::find_object;
 use crate::replies::{Done, Reply};
 use crate::verbs::{Argument, VerbWords};
@@ -23,38 +24,40 @@ pub const WORDS: VerbWords<'static> = VerbWords {
     flags: &[],
 };
 
-/// The verb `dis OBJ OUT`: writes the assembly text of the object that a file spells.
-pub fn disassemble<F: Shelf, O: Sink>(
+/// The verb `dis OBJ OUT`: writes the assembly text of the object that a file spells. `Err` where nothing was put yet:
+/// the reply is to be said.
+pub fn disassemble<'a, F: Shelf, O: Sink>(
     alloc: Global,
-    matches: &ArgMatches<'_>,
+    matches: &ArgMatches<'a>,
     shelf: &mut F,
     out: &mut O,
-) -> u8
-    ensures { Explains (outside (F.seen shelf.old) (O.seen out.old))
-        (outside (F.seen shelf.new) (O.seen out.new)) result (disassemble_row.asks (rows_of (found_of matches.now))) }
+) -> Result<u8, Reply<'a>>
+    ensures done { IfOk result (λ status. Explains (outside (F.seen shelf.old) (O.seen out.old))
+        (outside (F.seen shelf.new) (O.seen out.new)) status (disassemble_row.asks (rows_of (found_of matches.now)))) }
+    ensures stopped { IfErr result (λ reply. LeavesToSay (F.seen shelf.old) (F.seen shelf.new)
+        (disassemble_row.asks (rows_of (found_of matches.now))) (said reply)) }
+    ensures unput { OnErr result (O.seen out.new ≡ O.seen out.old) }
 {
-    match two_names(value(matches, "OBJ"), value(matches, "OUT")) {
-        Some(asked) => disassemble_file(alloc, asked, shelf, out),
-        None => say(alloc, &Reply::Usage, out),
-    }
+    let Some(asked) = two_names(value(matches, "OBJ"), value(matches, "OUT")) else {
+        return Err(Reply::Usage);
+    };
+    disassemble_file(alloc, asked, shelf, out)
 }
 
-fn disassemble_file<F: Shelf, O: Sink>(
+fn disassemble_file<'a, F: Shelf, O: Sink>(
     alloc: Global,
-    asked: TwoNames<'_>,
+    asked: TwoNames<'a>,
     shelf: &mut F,
     out: &mut O,
-) -> u8
-    ensures { Explains (outside (F.seen shelf.old) (O.seen out.old))
-        (outside (F.seen shelf.new) (O.seen out.new)) result
-        (Some (disassemble_work asked.entry.read.now asked.entry.written.now)) }
+) -> Result<u8, Reply<'a>>
+    ensures done { IfOk result (λ status. Explains (outside (F.seen shelf.old) (O.seen out.old))
+        (outside (F.seen shelf.new) (O.seen out.new)) status
+        (Some (disassemble_work asked.entry.read.now asked.entry.written.now))) }
+    ensures stopped { IfErr result (λ reply. LeavesToSay (F.seen shelf.old) (F.seen shelf.new)
+        (Some (disassemble_work asked.entry.read.now asked.entry.written.now)) (said reply)) }
+    ensures unput { OnErr result (O.seen out.new ≡ O.seen out.old) }
 {
-    let found = match find_object(alloc, asked.read, shelf) {
-        Ok(found) => found,
-        Err(reply) => return say(alloc, &reply, out),
-    };
-    match text_of(alloc, &found) {
-        Ok(bytes) => write_and_say(alloc, asked.written, &bytes, Done::Disassembled, shelf, out),
-        Err(_) => say_no_memory(out),
-    }
+    let found = find_object(alloc, asked.read, shelf)?;
+    let bytes = text_of(alloc, &found)?;
+    write_and_say(alloc, asked.written, &bytes, Done::Disassembled, shelf, out)
 }

@@ -1,4 +1,4 @@
-ghost use Rattle.std.specs.Prelude.{◌≡◌, IfOk, Some};
+ghost use Rattle.std.specs.Prelude.{◌≡◌, IfErr, IfOk, OnErr, Some};
 ghost use Rattle.std.specs.Option.{option_map};
 ghost use Rattle.gr_word.specs.Fitting.{FitsWants};
 ghost use Rattle.src_tree.specs.Trees.{source_of};
@@ -7,9 +7,10 @@ ghost use Rattle.clap.specs.Words.{found_of, rows_of};
 ghost use Rattle.ghost_cli.specs.Evaluate.{evaluate_named, evaluate_row, evaluate_work};
 ghost use Rattle.ghost_cli.specs.Evaluated.{LeavesText};
 ghost use Rattle.ghost_cli.specs.Outside.{Explains, outside};
+ghost use Rattle.ghost_cli.specs.Progress.{LeavesToSay};
+ghost use Rattle.ghost_cli.specs.Texts.{said};
 
 use crate::options::{flag_given, number_given, value};
-use crate::putting::{say, say_no_memory};
 use crate::reading::find_variables;
 use crate::replies::{Done, Reply, Verdict};
 use crate::sources::find_source;
@@ -44,27 +45,29 @@ pub struct EvaluateWords<'a> {
 }
 
 /// The verb `eval SRC INPUT OUT [--turns n] [--procs]`: evaluates a program on inputs, and writes the values that it
-/// leaves.
-pub fn evaluate<F: Shelf, O: Sink>(
+/// leaves. `Err` where nothing was put yet: the reply is to be said.
+pub fn evaluate<'a, F: Shelf, O: Sink>(
     alloc: Global,
-    matches: &ArgMatches<'_>,
+    matches: &ArgMatches<'a>,
     shelf: &mut F,
     out: &mut O,
-) -> u8
-    ensures { Explains (outside (F.seen shelf.old) (O.seen out.old))
-        (outside (F.seen shelf.new) (O.seen out.new)) result (evaluate_row.asks (rows_of (found_of matches.now))) }
+) -> Result<u8, Reply<'a>>
+    ensures done { IfOk result (λ status. Explains (outside (F.seen shelf.old) (O.seen out.old))
+        (outside (F.seen shelf.new) (O.seen out.new)) status (evaluate_row.asks (rows_of (found_of matches.now)))) }
+    ensures stopped { IfErr result (λ reply. LeavesToSay (F.seen shelf.old) (F.seen shelf.new)
+        (evaluate_row.asks (rows_of (found_of matches.now))) (said reply)) }
+    ensures unput { OnErr result (O.seen out.new ≡ O.seen out.old) }
 {
-    let asked = words_in(
+    let Some(asked) = words_in(
         value(matches, "SRC"),
         value(matches, "INPUT"),
         value(matches, "OUT"),
         value(matches, "turns"),
         value(matches, "procs"),
-    );
-    match asked {
-        Some(asked) => evaluate_files(alloc, asked, shelf, out),
-        None => say(alloc, &Reply::Usage, out),
-    }
+    ) else {
+        return Err(Reply::Usage);
+    };
+    evaluate_files(alloc, asked, shelf, out)
 }
 
 fn words_in<'a>(
@@ -88,39 +91,27 @@ fn words_in<'a>(
     })
 }
 
-fn evaluate_files<F: Shelf, O: Sink>(
+fn evaluate_files<'a, F: Shelf, O: Sink>(
     alloc: Global,
-    asked: EvaluateWords<'_>,
+    asked: EvaluateWords<'a>,
     shelf: &mut F,
     out: &mut O,
-) -> u8
-    ensures { Explains (outside (F.seen shelf.old) (O.seen out.old))
-        (outside (F.seen shelf.new) (O.seen out.new)) result
+) -> Result<u8, Reply<'a>>
+    ensures done { IfOk result (λ status. Explains (outside (F.seen shelf.old) (O.seen out.old))
+        (outside (F.seen shelf.new) (O.seen out.new)) status
         (Some (evaluate_work asked.entry.source.now asked.entry.input.now asked.entry.output.now asked.entry.turns
-        asked.entry.procs)) }
+        asked.entry.procs))) }
+    ensures stopped { IfErr result (λ reply. LeavesToSay (F.seen shelf.old) (F.seen shelf.new)
+        (Some (evaluate_work asked.entry.source.now asked.entry.input.now asked.entry.output.now asked.entry.turns
+        asked.entry.procs)) (said reply)) }
+    ensures unput { OnErr result (O.seen out.new ≡ O.seen out.old) }
 {
-    let program = match find_source(alloc, asked.source, asked.procs, shelf) {
-        Ok(program) => program,
-        Err(reply) => return say(alloc, &reply, out),
-    };
-    let Ok(wants) = program.wants(alloc) else {
-        return say_no_memory(out);
-    };
-    let inputs = match find_variables(alloc, &wants, asked.input, shelf) {
-        Ok(inputs) => inputs,
-        Err(reply) => return say(alloc, &reply, out),
-    };
-    match evaluate_to_end(alloc, &program, &wants, inputs, asked.turns) {
-        Ok(Left::Done(text)) => write_and_say(
-            alloc,
-            asked.output,
-            &text,
-            Done::Evaluated,
-            shelf,
-            out,
-        ),
-        Ok(Left::Spent) => say(alloc, &Reply::Comes(Verdict::Spent(asked.turns)), out),
-        Err(_) => say_no_memory(out),
+    let program = find_source(alloc, asked.source, asked.procs, shelf)?;
+    let wants = program.wants(alloc)?;
+    let inputs = find_variables(alloc, &wants, asked.input, shelf)?;
+    match evaluate_to_end(alloc, &program, &wants, inputs, asked.turns)? {
+        Left::Done(text) => write_and_say(alloc, asked.output, &text, Done::Evaluated, shelf, out),
+        Left::Spent => Err(Reply::Comes(Verdict::Spent(asked.turns))),
     }
 }
 

@@ -29,13 +29,8 @@ pub(crate) fn sample_program<'a>(alloc: Global, items: u32) -> Result<Typed, Rep
     ensures spells { IfOk result (λ p. SpellsTyped false (sample_text items) (source_of p)) }
     ensures starved { IfErr result (λ reply. said reply ≡ no_memory) }
 {
-    match text_of(alloc, items) {
-        Ok(text) => match source_in(alloc, text.as_bytes(), false) {
-            Ok(program) => Ok(program),
-            Err(reply) => Err(reply),
-        },
-        Err(_) => Err(Reply::NoMemory),
-    }
+    let text = text_of(alloc, items)?;
+    source_in(alloc, text.as_bytes(), false)
 }
 
 #[tactic(auto, unfolding(crate::specs::Histogram::sample_text))]

@@ -1,15 +1,14 @@
-ghost use Rattle.std.specs.Prelude.{◌≡◌, IfErr, IfOk, List, ℕ, Some, length};
+ghost use Rattle.std.specs.Prelude.{◌≡◌, IfErr, IfOk, List, OnErr, Some, ℕ, length};
 ghost use Rattle.clap.specs.Words.{found_of, rows_of};
 ghost use Rattle.lt_isa.specs.Ranges.{IsInRange};
 ghost use Rattle.note_infer.specs.Inferred.{IsInferred};
 ghost use Rattle.ghost_cli.specs.Infer.{infer_row, infer_work, on_inferred};
 ghost use Rattle.ghost_cli.specs.Outside.{Explains, outside};
-ghost use Rattle.ghost_cli.specs.Progress.{EndsWorkWith, SaysNotes};
+ghost use Rattle.ghost_cli.specs.Progress.{EndsWorkWith, LeavesToSay, SaysNotes};
 ghost use Rattle.ghost_cli.specs.Questions.{WhatIsInferred};
 ghost use Rattle.ghost_cli.specs.Texts.{said};
 
 use crate::options::{TwoNames, two_names, value};
-use crate::putting::{say, say_no_memory};
 use crate::reading::find_object;
 use crate::replies::{Done, Reply, Verdict};
 use crate::verbs::{Argument, VerbWords};
@@ -30,52 +29,51 @@ pub const WORDS: VerbWords<'static> = VerbWords {
     flags: &[],
 };
 
-/// The verb `infer OBJ OUT`: writes the object file of an object with its least notes in place of its own.
-pub fn infer<F: Shelf, O: Sink>(
+/// The verb `infer OBJ OUT`: writes the object file of an object with its least notes in place of its own. `Err` where
+/// nothing was put yet: the reply is to be said.
+pub fn infer<'a, F: Shelf, O: Sink>(
     alloc: Global,
-    matches: &ArgMatches<'_>,
+    matches: &ArgMatches<'a>,
     shelf: &mut F,
     out: &mut O,
-) -> u8
-    ensures { Explains (outside (F.seen shelf.old) (O.seen out.old))
-        (outside (F.seen shelf.new) (O.seen out.new)) result (infer_row.asks (rows_of (found_of matches.now))) }
+) -> Result<u8, Reply<'a>>
+    ensures done { IfOk result (λ status. Explains (outside (F.seen shelf.old) (O.seen out.old))
+        (outside (F.seen shelf.new) (O.seen out.new)) status (infer_row.asks (rows_of (found_of matches.now)))) }
+    ensures stopped { IfErr result (λ reply. LeavesToSay (F.seen shelf.old) (F.seen shelf.new)
+        (infer_row.asks (rows_of (found_of matches.now))) (said reply)) }
+    ensures unput { OnErr result (O.seen out.new ≡ O.seen out.old) }
 {
-    match two_names(value(matches, "OBJ"), value(matches, "OUT")) {
-        Some(asked) => infer_file(alloc, asked, shelf, out),
-        None => say(alloc, &Reply::Usage, out),
-    }
+    let Some(asked) = two_names(value(matches, "OBJ"), value(matches, "OUT")) else {
+        return Err(Reply::Usage);
+    };
+    infer_file(alloc, asked, shelf, out)
 }
 
-fn infer_file<F: Shelf, O: Sink>(
+fn infer_file<'a, F: Shelf, O: Sink>(
     alloc: Global,
-    asked: TwoNames<'_>,
+    asked: TwoNames<'a>,
     shelf: &mut F,
     out: &mut O,
-) -> u8
-    ensures { Explains (outside (F.seen shelf.old) (O.seen out.old))
-        (outside (F.seen shelf.new) (O.seen out.new)) result
-        (Some (infer_work asked.entry.read.now asked.entry.written.now)) }
+) -> Result<u8, Reply<'a>>
+    ensures done { IfOk result (λ status. Explains (outside (F.seen shelf.old) (O.seen out.old))
+        (outside (F.seen shelf.new) (O.seen out.new)) status
+        (Some (infer_work asked.entry.read.now asked.entry.written.now))) }
+    ensures stopped { IfErr result (λ reply. LeavesToSay (F.seen shelf.old) (F.seen shelf.new)
+        (Some (infer_work asked.entry.read.now asked.entry.written.now)) (said reply)) }
+    ensures unput { OnErr result (O.seen out.new ≡ O.seen out.old) }
 {
-    let object = match find_object(alloc, asked.read, shelf) {
-        Ok(object) => object,
-        Err(reply) => return say(alloc, &reply, out),
-    };
-    let found = match with_notes(alloc, &object) {
-        Ok(found) => found,
-        Err(reply) => return say(alloc, &reply, out),
-    };
+    let object = find_object(alloc, asked.read, shelf)?;
+    let found = with_notes(alloc, &object)?;
     let count = note_count(&found);
-    match encode(alloc, &found) {
-        Ok(bytes) => write_and_say(
-            alloc,
-            asked.written,
-            &bytes,
-            Done::Inferred(count),
-            shelf,
-            out,
-        ),
-        Err(_) => say_no_memory(out),
-    }
+    let bytes = encode(alloc, &found)?;
+    write_and_say(
+        alloc,
+        asked.written,
+        &bytes,
+        Done::Inferred(count),
+        shelf,
+        out,
+    )
 }
 
 /// The object with its least notes, or what is said where it gets none.

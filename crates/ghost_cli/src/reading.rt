@@ -72,13 +72,8 @@ pub fn find_object<'a, F: Shelf>(
     ensures stopped { IfErr result (λ reply.
         (next : Parts → Work) → Stops (F.seen shelf.old) (F.seen shelf.new) (with_object name.now next) (said reply)) }
 {
-    match read_whole(name, OBJECT_BYTES, shelf) {
-        Ok(bytes) => match object_in(alloc, &bytes) {
-            Ok(object) => Ok(object),
-            Err(reply) => Err(reply),
-        },
-        Err(reply) => Err(reply),
-    }
+    let bytes = read_whole(name, OBJECT_BYTES, shelf)?;
+    object_in(alloc, &bytes)
 }
 
 /// The accepted object that the file of this name spells, or what is said where it spells none.
@@ -94,13 +89,8 @@ pub fn find_accepted<'a, F: Shelf>(
     ensures stopped { IfErr result (λ reply. (next : Parts → Work)
         → Stops (F.seen shelf.old) (F.seen shelf.new) (with_accepted name.now next) (said reply)) }
 {
-    match find_object(alloc, name, shelf) {
-        Ok(object) => match checked(alloc, object) {
-            Ok(accepted) => Ok(accepted),
-            Err(reply) => Err(reply),
-        },
-        Err(reply) => Err(reply),
-    }
+    let object = find_object(alloc, name, shelf)?;
+    checked(alloc, object)
 }
 
 /// The object that the file of this name spells in assembly, or what is said where it spells none.
@@ -115,13 +105,8 @@ pub fn find_assembly<'a, F: Shelf>(
     ensures stopped { IfErr result (λ reply. (next : Parts → Work)
         → Stops (F.seen shelf.old) (F.seen shelf.new) (with_assembly name.now next) (said reply)) }
 {
-    match read_whole(name, TEXT_BYTES, shelf) {
-        Ok(bytes) => match assembly_in(alloc, &bytes) {
-            Ok(object) => Ok(object),
-            Err(reply) => Err(reply),
-        },
-        Err(reply) => Err(reply),
-    }
+    let bytes = read_whole(name, TEXT_BYTES, shelf)?;
+    assembly_in(alloc, &bytes)
 }
 
 /// The inputs of an object that the file of this name gives, or what is said where it gives none.
@@ -138,13 +123,8 @@ pub fn find_inputs<'a, F: Shelf>(
     ensures stopped { IfErr result (λ reply. (next : List (List ℤ) → Work)
         → Stops (F.seen shelf.old) (F.seen shelf.new) (with_inputs accepted.now name.now next) (said reply)) }
 {
-    let Ok(wants) = accepted.object().wants(alloc) else {
-        return Err(Reply::NoMemory);
-    };
-    match find_variables(alloc, &wants, name, shelf) {
-        Ok(inputs) => Ok(inputs),
-        Err(reply) => Err(reply),
-    }
+    let wants = accepted.object().wants(alloc)?;
+    find_variables(alloc, &wants, name, shelf)
 }
 
 /// The inputs that the file of this name gives for variables, or what is said where it gives none.
@@ -162,13 +142,8 @@ pub fn find_variables<'a, F: Shelf>(
     ensures stopped { IfErr result (λ reply. (next : List (List ℤ) → Work)
         → Stops (F.seen shelf.old) (F.seen shelf.new) (with_variables wants.now name.now next) (said reply)) }
 {
-    match read_whole(name, INPUT_BYTES, shelf) {
-        Ok(bytes) => match inputs_in(alloc, wants, &bytes) {
-            Ok(inputs) => Ok(inputs),
-            Err(reply) => Err(reply),
-        },
-        Err(reply) => Err(reply),
-    }
+    let bytes = read_whole(name, INPUT_BYTES, shelf)?;
+    inputs_in(alloc, wants, &bytes)
 }
 
 /// The object that the bytes spell, accepted or not.

@@ -1,16 +1,18 @@
 ghost use Rattle.std.specs.Prelude.{◌≡◌, IfOk, Some};
 ghost use Rattle.ghost_cli.specs.NameText.{name_text};
+ghost use Rattle.ghost_cli.specs.declared.replies.Reply.TheVariants.{NoMemory};
 ghost use Rattle.ghost_cli.specs.Texts.{bus_fault, done_text, figures_text, input_fault, notes_fault, object_fault, said, text_fault, verdict_status, verdict_text};
 
 use crate::name_text::without_late_controls;
 use crate::source_faults::SourceFault;
 use bus_arbiter::BusError;
+use gr_base::Memory;
 use lt_assembler::AsmError;
 use lt_checker::Reason;
 use note_infer::InferError;
 use object_file::DecodeError;
 use serde_json::Value;
-use std::alloc::{AllocError, Global};
+use std::alloc::{AllocError, AllocFailed, Global};
 use std::fmt;
 use std::marker::Model;
 
@@ -138,6 +140,22 @@ pub enum Reply<'a> {
     Comes(Verdict),
     /// The verb wrote its file.
     Wrote(Done),
+}
+
+impl<'a> From<Memory> for Reply<'a> {
+    ghost from_gives = { λ _ reply. reply ≡ NoMemory };
+
+    fn from(_error: Memory) -> Reply<'a> {
+        Reply::NoMemory
+    }
+}
+
+impl<'a, T: Drop> From<AllocFailed<T>> for Reply<'a> {
+    ghost from_gives = { λ _ reply. reply ≡ NoMemory };
+
+    fn from(_error: AllocFailed<T>) -> Reply<'a> {
+        Reply::NoMemory
+    }
 }
 
 impl Reply<'_> {

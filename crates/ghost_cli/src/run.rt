@@ -1,4 +1,4 @@
-ghost use Rattle.std.specs.Prelude.{◌≡◌, ◌≤◌, IfOk, IfSome, Some};
+ghost use Rattle.std.specs.Prelude.{◌≡◌, ◌≤◌, IfErr, IfOk, IfSome, OnErr, Some};
 ghost use Rattle.std.specs.Option.{option_map};
 ghost use Rattle.lt_isa.specs.Outputs.{outputs};
 ghost use Rattle.lt_isa.specs.Ranges.{IsInRange};
@@ -6,12 +6,13 @@ ghost use Rattle.lt_isa.specs.Start.{FitsObject, wants_of};
 ghost use Rattle.run_data.specs.OutputText.{output_of};
 ghost use Rattle.clap.specs.Words.{found_of, rows_of};
 ghost use Rattle.ghost_cli.specs.Outside.{Explains, outside};
+ghost use Rattle.ghost_cli.specs.Progress.{LeavesToSay};
 ghost use Rattle.ghost_cli.specs.Ran.{RanTo};
 ghost use Rattle.ghost_cli.specs.Run.{run_named, run_row, run_work};
+ghost use Rattle.ghost_cli.specs.Texts.{said};
 
 use crate::oblivious::{Seeded, SeededOram, SeededRecursive, load_seeded};
 use crate::options::{flag_given, number_given, seed_given, value};
-use crate::putting::{say, say_no_memory};
 use crate::reading::{find_accepted, find_inputs};
 use crate::replies::{Done, Reply, Verdict};
 use crate::verbs::{Argument, VerbWords};
@@ -47,28 +48,30 @@ pub struct RunWords<'a> {
 }
 
 /// The verb `run OBJ INPUT OUT [--cycles n] [--seed s] [--recursive]`: runs an object on inputs, and writes its
-/// outputs.
-pub fn run<F: Shelf, O: Sink>(
+/// outputs. `Err` where nothing was put yet: the reply is to be said.
+pub fn run<'a, F: Shelf, O: Sink>(
     alloc: Global,
-    matches: &ArgMatches<'_>,
+    matches: &ArgMatches<'a>,
     shelf: &mut F,
     out: &mut O,
-) -> u8
-    ensures { Explains (outside (F.seen shelf.old) (O.seen out.old))
-        (outside (F.seen shelf.new) (O.seen out.new)) result (run_row.asks (rows_of (found_of matches.now))) }
+) -> Result<u8, Reply<'a>>
+    ensures done { IfOk result (λ status. Explains (outside (F.seen shelf.old) (O.seen out.old))
+        (outside (F.seen shelf.new) (O.seen out.new)) status (run_row.asks (rows_of (found_of matches.now)))) }
+    ensures stopped { IfErr result (λ reply. LeavesToSay (F.seen shelf.old) (F.seen shelf.new)
+        (run_row.asks (rows_of (found_of matches.now))) (said reply)) }
+    ensures unput { OnErr result (O.seen out.new ≡ O.seen out.old) }
 {
-    let asked = words_in(
+    let Some(asked) = words_in(
         value(matches, "OBJ"),
         value(matches, "INPUT"),
         value(matches, "OUT"),
         value(matches, "cycles"),
         value(matches, "seed"),
         value(matches, "recursive"),
-    );
-    match asked {
-        Some(asked) => run_files(alloc, asked, shelf, out),
-        None => say(alloc, &Reply::Usage, out),
-    }
+    ) else {
+        return Err(Reply::Usage);
+    };
+    run_files(alloc, asked, shelf, out)
 }
 
 fn words_in<'a>(
@@ -95,27 +98,25 @@ fn words_in<'a>(
     })
 }
 
-fn run_files<F: Shelf, O: Sink>(
+fn run_files<'a, F: Shelf, O: Sink>(
     alloc: Global,
-    asked: RunWords<'_>,
+    asked: RunWords<'a>,
     shelf: &mut F,
     out: &mut O,
-) -> u8
+) -> Result<u8, Reply<'a>>
     requires { 1 ≤ asked.cycles }
-    ensures { Explains (outside (F.seen shelf.old) (O.seen out.old))
-        (outside (F.seen shelf.new) (O.seen out.new)) result
-        (Some (run_work asked.entry.object.now asked.entry.input.now asked.entry.output.now asked.entry.cycles)) }
+    ensures done { IfOk result (λ status. Explains (outside (F.seen shelf.old) (O.seen out.old))
+        (outside (F.seen shelf.new) (O.seen out.new)) status
+        (Some (run_work asked.entry.object.now asked.entry.input.now asked.entry.output.now asked.entry.cycles))) }
+    ensures stopped { IfErr result (λ reply. LeavesToSay (F.seen shelf.old) (F.seen shelf.new)
+        (Some (run_work asked.entry.object.now asked.entry.input.now asked.entry.output.now asked.entry.cycles))
+        (said reply)) }
+    ensures unput { OnErr result (O.seen out.new ≡ O.seen out.old) }
 {
-    let accepted = match find_accepted(alloc, asked.object, shelf) {
-        Ok(accepted) => accepted,
-        Err(reply) => return say(alloc, &reply, out),
-    };
-    let inputs = match find_inputs(alloc, &accepted, asked.input, shelf) {
-        Ok(inputs) => inputs,
-        Err(reply) => return say(alloc, &reply, out),
-    };
-    match run_asked(alloc, &accepted, &inputs, asked) {
-        Ok(Ran::Halted(at, text)) => write_and_say(
+    let accepted = find_accepted(alloc, asked.object, shelf)?;
+    let inputs = find_inputs(alloc, &accepted, asked.input, shelf)?;
+    match run_asked(alloc, &accepted, &inputs, asked)? {
+        Ran::Halted(at, text) => write_and_say(
             alloc,
             asked.output,
             &text,
@@ -123,8 +124,7 @@ fn run_files<F: Shelf, O: Sink>(
             shelf,
             out,
         ),
-        Ok(Ran::Spent) => say(alloc, &Reply::Comes(Verdict::Spent(asked.cycles)), out),
-        Err(_) => say_no_memory(out),
+        Ran::Spent => Err(Reply::Comes(Verdict::Spent(asked.cycles))),
     }
 }
 

@@ -1,4 +1,4 @@
-ghost use Rattle.std.specs.Prelude.{◌≡◌, IfErr, IfOk, IfSome, Some, ℕ};
+ghost use Rattle.std.specs.Prelude.{◌≡◌, IfErr, IfOk, IfSome, OnErr, Some, ℕ};
 ghost use Rattle.std.specs.Option.{option_map};
 ghost use Rattle.gr_base.specs.Lists.{Within};
 ghost use Rattle.lt_isa.specs.Ranges.{IsInRange};
@@ -7,6 +7,7 @@ ghost use Rattle.src_tree.specs.Trees.{source_of};
 ghost use Rattle.clap.specs.Words.{found_of, rows_of};
 ghost use Rattle.ghost_cli.specs.Histogram.{sample_cycles, sample_store, sum_left};
 ghost use Rattle.ghost_cli.specs.Outside.{Explains, outside};
+ghost use Rattle.ghost_cli.specs.Progress.{LeavesToSay};
 ghost use Rattle.ghost_cli.specs.Sample.{sample_named, sample_row, sample_work};
 ghost use Rattle.ghost_cli.specs.Sampled.{SampleCameTo, SampleIsReady, RanCounted};
 ghost use Rattle.ghost_cli.specs.SampleTree.{sample_program};
@@ -19,7 +20,6 @@ use crate::histogram::{
 };
 use crate::oblivious::{SeededOram, load_seeded};
 use crate::options::{items_given, seed_given, value};
-use crate::putting::say;
 use crate::reading::checked;
 use crate::replies::{Done, Figures, Reply, Verdict};
 use crate::verbs::{Argument, VerbWords};
@@ -53,25 +53,28 @@ pub struct SampleWords<'a> {
 }
 
 /// The verb `sample N OUT [--seed s]`: compiles, checks and runs a program that counts remainders among N numbers,
-/// writes its object file, and puts how many accesses the run made.
-pub fn sample<F: Shelf, O: Sink>(
+/// writes its object file, and puts how many accesses the run made. `Err` where nothing was put yet: the reply is to be
+/// said.
+pub fn sample<'a, F: Shelf, O: Sink>(
     alloc: Global,
-    matches: &ArgMatches<'_>,
+    matches: &ArgMatches<'a>,
     shelf: &mut F,
     out: &mut O,
-) -> u8
-    ensures { Explains (outside (F.seen shelf.old) (O.seen out.old))
-        (outside (F.seen shelf.new) (O.seen out.new)) result (sample_row.asks (rows_of (found_of matches.now))) }
+) -> Result<u8, Reply<'a>>
+    ensures done { IfOk result (λ status. Explains (outside (F.seen shelf.old) (O.seen out.old))
+        (outside (F.seen shelf.new) (O.seen out.new)) status (sample_row.asks (rows_of (found_of matches.now)))) }
+    ensures stopped { IfErr result (λ reply. LeavesToSay (F.seen shelf.old) (F.seen shelf.new)
+        (sample_row.asks (rows_of (found_of matches.now))) (said reply)) }
+    ensures unput { OnErr result (O.seen out.new ≡ O.seen out.old) }
 {
-    let asked = words_in(
+    let Some(asked) = words_in(
         value(matches, "N"),
         value(matches, "OUT"),
         value(matches, "seed"),
-    );
-    match asked {
-        Some(asked) => sample_file(alloc, asked, shelf, out),
-        None => say(alloc, &Reply::Usage, out),
-    }
+    ) else {
+        return Err(Reply::Usage);
+    };
+    sample_file(alloc, asked, shelf, out)
 }
 
 fn words_in<'a>(
@@ -91,19 +94,22 @@ fn words_in<'a>(
     })
 }
 
-fn sample_file<F: Shelf, O: Sink>(
+fn sample_file<'a, F: Shelf, O: Sink>(
     alloc: Global,
-    asked: SampleWords<'_>,
+    asked: SampleWords<'a>,
     shelf: &mut F,
     out: &mut O,
-) -> u8
+) -> Result<u8, Reply<'a>>
     requires { Within 1 65536 asked.items }
-    ensures { Explains (outside (F.seen shelf.old) (O.seen out.old))
-        (outside (F.seen shelf.new) (O.seen out.new)) result
-        (Some (sample_work asked.entry.items asked.entry.output.now)) }
+    ensures done { IfOk result (λ status. Explains (outside (F.seen shelf.old) (O.seen out.old))
+        (outside (F.seen shelf.new) (O.seen out.new)) status
+        (Some (sample_work asked.entry.items asked.entry.output.now))) }
+    ensures stopped { IfErr result (λ reply. LeavesToSay (F.seen shelf.old) (F.seen shelf.new)
+        (Some (sample_work asked.entry.items asked.entry.output.now)) (said reply)) }
+    ensures unput { OnErr result (O.seen out.new ≡ O.seen out.old) }
 {
-    match made(alloc, asked.items, asked.seed) {
-        Ok(Some(file)) => write_and_say(
+    match made(alloc, asked.items, asked.seed)? {
+        Some(file) => write_and_say(
             alloc,
             asked.output,
             &file.bytes,
@@ -111,8 +117,7 @@ fn sample_file<F: Shelf, O: Sink>(
             shelf,
             out,
         ),
-        Ok(None) => say(alloc, &Reply::Comes(Verdict::Spent(SAMPLE_CYCLES)), out),
-        Err(reply) => say(alloc, &reply, out),
+        None => Err(Reply::Comes(Verdict::Spent(SAMPLE_CYCLES))),
     }
 }
 
@@ -143,19 +148,11 @@ fn made<'a>(alloc: Global, items: u32, seed: u64) -> Result<Option<SampleFile>, 
     ensures done { IfOk result (SampleCameTo items) }
     ensures starved { IfErr result (λ reply. said reply ≡ no_memory) }
 {
-    let ready = match ready(alloc, items) {
-        Ok(ready) => ready,
-        Err(reply) => return Err(reply),
+    let ready = ready(alloc, items)?;
+    let Some(run) = counted_run(alloc, &ready.accepted, seed)? else {
+        return Ok(None);
     };
-    let run = match counted_run(alloc, &ready.accepted, seed) {
-        Ok(Some(run)) => run,
-        Ok(None) => return Ok(None),
-        Err(_) => return Err(Reply::NoMemory),
-    };
-    match sample_of_run(alloc, &ready, items, run) {
-        Ok(file) => Ok(Some(file)),
-        Err(_) => Err(Reply::NoMemory),
-    }
+    Ok(Some(sample_of_run(alloc, &ready, items, run)?))
 }
 
 /// Compiles the sample's program of so many items, and checks its object.
@@ -164,18 +161,10 @@ fn ready<'a>(alloc: Global, items: u32) -> Result<ReadySample, Reply<'a>>
     ensures ready { IfOk result (λ ready. SampleIsReady items (source_of ready.program) ready.accepted) }
     ensures starved { IfErr result (λ reply. said reply ≡ no_memory) }
 {
-    let program = match sample_program(alloc, items) {
-        Ok(program) => program,
-        Err(reply) => return Err(reply),
-    };
-    let object = match object_of(alloc, &program, &windowed(SAMPLE_BLOCK_LOG, ALWAYS_OPEN)) {
-        Ok(object) => object,
-        Err(reply) => return Err(reply),
-    };
-    match checked(alloc, object) {
-        Ok(accepted) => Ok(ReadySample { program, accepted }),
-        Err(reply) => Err(reply),
-    }
+    let program = sample_program(alloc, items)?;
+    let object = object_of(alloc, &program, &windowed(SAMPLE_BLOCK_LOG, ALWAYS_OPEN))?;
+    let accepted = checked(alloc, object)?;
+    Ok(ReadySample { program, accepted })
 }
 
 /// Runs an object on the sample's input, or answers none where its cycles are spent.

@@ -42,13 +42,8 @@ pub fn find_source<'a, F: Shelf>(
     ensures stopped { IfErr result (λ reply. (next : Source → Work)
         → Stops (F.seen shelf.old) (F.seen shelf.new) (with_source procs name.now next) (said reply)) }
 {
-    match read_whole(name, SOURCE_BYTES, shelf) {
-        Ok(bytes) => match source_in(alloc, &bytes, procs) {
-            Ok(typed) => Ok(typed),
-            Err(reply) => Err(reply),
-        },
-        Err(reply) => Err(reply),
-    }
+    let bytes = read_whole(name, SOURCE_BYTES, shelf)?;
+    source_in(alloc, &bytes, procs)
 }
 
 /// The well-typed program that the text spells, read with procedures or without.

@@ -1,6 +1,9 @@
+ghost use Rattle.std.specs.Prelude.{◌≡◌, IfErr, IfOk, OnErr};
 ghost use Rattle.ghost_cli.specs.Options.{texts};
 ghost use Rattle.ghost_cli.specs.Outside.{Explains, outside};
+ghost use Rattle.ghost_cli.specs.Progress.{LeavesToSay};
 ghost use Rattle.ghost_cli.specs.Promises.{Promises};
+ghost use Rattle.ghost_cli.specs.Texts.{said};
 ghost use Rattle.ghost_cli.specs.Verbs.{asked_of, row_of, work_of};
 ghost use Rattle.clap.specs.Words.{found_of, rows_of};
 
@@ -11,7 +14,7 @@ use crate::compile::compile;
 use crate::disassemble::disassemble;
 use crate::evaluate::evaluate;
 use crate::infer::infer;
-use crate::putting::{NOT_PUT, say, say_no_memory};
+use crate::putting::{NOT_PUT, say};
 use crate::replies::Reply;
 use crate::run::run;
 use crate::sample::sample;
@@ -55,43 +58,68 @@ fn explained<F: Shelf, O: Sink>(alloc: Global, words: &[&str], shelf: &mut F, ou
     ensures { Explains (outside (F.seen shelf.old) (O.seen out.old))
         (outside (F.seen shelf.new) (O.seen out.new)) result (work_of (texts words.now)) }
 {
+    match answered(alloc, words, shelf, out) {
+        Ok(status) => status,
+        Err(reply) => say(alloc, &reply, out),
+    }
+}
+
+/// Does what the words ask for, and answers the status. `Err` where nothing was put yet: the reply is to be said.
+fn answered<'a, F: Shelf, O: Sink>(
+    alloc: Global,
+    words: &'a [&'a str],
+    shelf: &mut F,
+    out: &mut O,
+) -> Result<u8, Reply<'a>>
+    ensures done { IfOk result (λ status. Explains (outside (F.seen shelf.old) (O.seen out.old))
+        (outside (F.seen shelf.new) (O.seen out.new)) status (work_of (texts words.now))) }
+    ensures stopped { IfErr result (λ reply. LeavesToSay (F.seen shelf.old) (F.seen shelf.new)
+        (work_of (texts words.now)) (said reply)) }
+    ensures unput { OnErr result (O.seen out.new ≡ O.seen out.old) }
+{
     if words.len() == 0 {
-        return say(alloc, &Reply::Usage, out);
+        return Err(Reply::Usage);
     }
     perform(alloc, words[0], words, shelf, out)
 }
 
-/// Does what the words ask for, by the verb of this name.
-fn perform<F: Shelf, O: Sink>(
+/// Does what the words ask for, by the verb of this name. `Err` is as in [`answered`].
+fn perform<'a, F: Shelf, O: Sink>(
     alloc: Global,
     name: &str,
-    words: &[&str],
+    words: &'a [&'a str],
     shelf: &mut F,
     out: &mut O,
-) -> u8
-    ensures { Explains (outside (F.seen shelf.old) (O.seen out.old))
-        (outside (F.seen shelf.new) (O.seen out.new)) result (asked_of name.now (texts words.now)) }
+) -> Result<u8, Reply<'a>>
+    ensures done { IfOk result (λ status. Explains (outside (F.seen shelf.old) (O.seen out.old))
+        (outside (F.seen shelf.new) (O.seen out.new)) status (asked_of name.now (texts words.now))) }
+    ensures stopped { IfErr result (λ reply. LeavesToSay (F.seen shelf.old) (F.seen shelf.new)
+        (asked_of name.now (texts words.now)) (said reply)) }
+    ensures unput { OnErr result (O.seen out.new ≡ O.seen out.old) }
 {
     let Some(verb) = verb_named(name) else {
-        return say(alloc, &Reply::Usage, out);
+        return Err(Reply::Usage);
     };
-    match matches_of(alloc, verb, words) {
-        Ok(Some(matches)) => work(alloc, verb, &matches, shelf, out),
-        Ok(None) => say(alloc, &Reply::Usage, out),
-        Err(_) => say_no_memory(out),
-    }
+    let Some(matches) = matches_of(alloc, verb, words)? else {
+        return Err(Reply::Usage);
+    };
+    work(alloc, verb, &matches, shelf, out)
 }
 
-/// Does the work of a verb on what was found in the words: the list that a new verb is added to.
-fn work<F: Shelf, O: Sink>(
+/// Does the work of a verb on what was found in the words: the list that a new verb is added to. `Err` is as in
+/// [`answered`].
+fn work<'a, F: Shelf, O: Sink>(
     alloc: Global,
     verb: Verb,
-    matches: &ArgMatches<'_>,
+    matches: &ArgMatches<'a>,
     shelf: &mut F,
     out: &mut O,
-) -> u8
-    ensures { Explains (outside (F.seen shelf.old) (O.seen out.old))
-        (outside (F.seen shelf.new) (O.seen out.new)) result ((row_of verb).asks (rows_of (found_of matches.now))) }
+) -> Result<u8, Reply<'a>>
+    ensures done { IfOk result (λ status. Explains (outside (F.seen shelf.old) (O.seen out.old))
+        (outside (F.seen shelf.new) (O.seen out.new)) status ((row_of verb).asks (rows_of (found_of matches.now)))) }
+    ensures stopped { IfErr result (λ reply. LeavesToSay (F.seen shelf.old) (F.seen shelf.new)
+        ((row_of verb).asks (rows_of (found_of matches.now))) (said reply)) }
+    ensures unput { OnErr result (O.seen out.new ≡ O.seen out.old) }
 {
     match verb {
         Verb::Check => check(alloc, matches, shelf, out),

@@ -1,13 +1,14 @@
-ghost use Rattle.std.specs.Prelude.{◌≡◌, ◌≢◌, ◌≤◌, [], length, IfSome, IsTrue, Some, false, true};
+ghost use Rattle.std.specs.Prelude.{◌≡◌, ◌≢◌, ◌≤◌, [], IfErr, IfOk, IfSome, IsTrue, OnErr, Some, false, length, true};
 ghost use Rattle.std.specs.Option.{option_map};
 ghost use Rattle.clap.specs.Words.{found_of, rows_of};
 ghost use Rattle.banks.specs.Accesses.{accesses_from};
 ghost use Rattle.ghost_cli.specs.Outside.{Explains, outside};
-ghost use Rattle.ghost_cli.specs.Texts.{comes_to};
+ghost use Rattle.ghost_cli.specs.Progress.{LeavesToSay};
+ghost use Rattle.ghost_cli.specs.Texts.{comes_to, said};
 ghost use Rattle.ghost_cli.specs.Trace.{trace_named, trace_row, trace_work};
 ghost use Rattle.ghost_cli.specs.Levels.{AreBehind, MayRun, PutsLast};
 ghost use Rattle.ghost_cli.specs.Watched.{HoldsLines, PutsShown, PutsTrace, kept};
-ghost use Rattle.ghost_cli.specs.TracedInTrees.{TracesOrStarves};
+ghost use Rattle.ghost_cli.specs.TracedInTrees.{TracedInTrees};
 ghost use Rattle.lt_isa.specs.Ranges.{IsInRange};
 ghost use Rattle.lt_isa.specs.Start.{FitsObject};
 ghost use Rattle.lt_isa.specs.Trace.{trace_from};
@@ -20,12 +21,13 @@ ghost use Rattle.ghost_cli.specs.declared.replies.Verdict.TheVariants.{Traced};
 use crate::levels::put_levels;
 use crate::oblivious::{SeededOram, SeededRecursive, load_seeded};
 use crate::options::{flag_given, number_given, seed_given, value};
-use crate::putting::{NOT_PUT, line_of, put_text, say, say_no_memory};
+use crate::putting::{NOT_PUT, line_of, put_text};
 use crate::reading::{find_accepted, find_inputs};
 use crate::replies::{Reply, Verdict};
 use crate::trace_watch::TraceWatch;
 use crate::verbs::{Argument, VerbWords};
 use clap::ArgMatches;
+use gr_base::Memory;
 use gr_outside::{Shelf, Sink};
 use gr_word::Inputs;
 use lt_checker::Accepted;
@@ -54,28 +56,30 @@ pub struct TraceWords<'a> {
 }
 
 /// The verb `trace OBJ INPUT [--cycles n] [--seed s] [--paths] [--recursive]`: runs an object on inputs, and puts the
-/// lines of its trace.
-pub fn trace<F: Shelf, O: Sink>(
+/// lines of its trace. `Err` where nothing was put yet: the reply is to be said.
+pub fn trace<'a, F: Shelf, O: Sink>(
     alloc: Global,
-    matches: &ArgMatches<'_>,
+    matches: &ArgMatches<'a>,
     shelf: &mut F,
     out: &mut O,
-) -> u8
-    ensures { Explains (outside (F.seen shelf.old) (O.seen out.old))
-        (outside (F.seen shelf.new) (O.seen out.new)) result (trace_row.asks (rows_of (found_of matches.now))) }
+) -> Result<u8, Reply<'a>>
+    ensures done { IfOk result (λ status. Explains (outside (F.seen shelf.old) (O.seen out.old))
+        (outside (F.seen shelf.new) (O.seen out.new)) status (trace_row.asks (rows_of (found_of matches.now)))) }
+    ensures stopped { IfErr result (λ reply. LeavesToSay (F.seen shelf.old) (F.seen shelf.new)
+        (trace_row.asks (rows_of (found_of matches.now))) (said reply)) }
+    ensures unput { OnErr result (O.seen out.new ≡ O.seen out.old) }
 {
-    let asked = words_in(
+    let Some(asked) = words_in(
         value(matches, "OBJ"),
         value(matches, "INPUT"),
         value(matches, "cycles"),
         value(matches, "seed"),
         value(matches, "paths"),
         value(matches, "recursive"),
-    );
-    match asked {
-        Some(asked) => trace_files(alloc, asked, shelf, out),
-        None => say(alloc, &Reply::Usage, out),
-    }
+    ) else {
+        return Err(Reply::Usage);
+    };
+    trace_files(alloc, asked, shelf, out)
 }
 
 fn words_in<'a>(
@@ -103,34 +107,28 @@ fn words_in<'a>(
     })
 }
 
-fn trace_files<F: Shelf, O: Sink>(
+fn trace_files<'a, F: Shelf, O: Sink>(
     alloc: Global,
-    asked: TraceWords<'_>,
+    asked: TraceWords<'a>,
     shelf: &mut F,
     out: &mut O,
-) -> u8
+) -> Result<u8, Reply<'a>>
     requires { 1 ≤ asked.cycles }
-    ensures { Explains (outside (F.seen shelf.old) (O.seen out.old))
-        (outside (F.seen shelf.new) (O.seen out.new)) result
+    ensures done { IfOk result (λ status. Explains (outside (F.seen shelf.old) (O.seen out.old))
+        (outside (F.seen shelf.new) (O.seen out.new)) status
         (Some (trace_work asked.entry.object.now asked.entry.input.now asked.entry.cycles
-        asked.entry.seed asked.entry.paths asked.entry.recursive)) }
+        asked.entry.seed asked.entry.paths asked.entry.recursive))) }
+    ensures stopped { IfErr result (λ reply. LeavesToSay (F.seen shelf.old) (F.seen shelf.new)
+        (Some (trace_work asked.entry.object.now asked.entry.input.now asked.entry.cycles
+        asked.entry.seed asked.entry.paths asked.entry.recursive)) (said reply)) }
+    ensures unput { OnErr result (O.seen out.new ≡ O.seen out.old) }
 {
-    let accepted = match find_accepted(alloc, asked.object, shelf) {
-        Ok(accepted) => accepted,
-        Err(reply) => return say(alloc, &reply, out),
-    };
-    let inputs = match find_inputs(alloc, &accepted, asked.input, shelf) {
-        Ok(inputs) => inputs,
-        Err(reply) => return say(alloc, &reply, out),
-    };
-    let Ok(halted) = line_of(alloc, &Reply::Comes(Verdict::Traced(true))) else {
-        return say_no_memory(out);
-    };
-    let Ok(spent) = line_of(alloc, &Reply::Comes(Verdict::Traced(false))) else {
-        return say_no_memory(out);
-    };
+    let accepted = find_accepted(alloc, asked.object, shelf)?;
+    let inputs = find_inputs(alloc, &accepted, asked.input, shelf)?;
+    let halted = line_of(alloc, &Reply::Comes(Verdict::Traced(true)))?;
+    let spent = line_of(alloc, &Reply::Comes(Verdict::Traced(false)))?;
     if asked.recursive {
-        return trace_in_trees(
+        return Ok(trace_in_trees(
             alloc,
             &accepted,
             &inputs,
@@ -138,20 +136,18 @@ fn trace_files<F: Shelf, O: Sink>(
             halted.as_bytes(),
             spent.as_bytes(),
             out,
-        );
+        )?);
     }
     let banks = accepted.object().banks().len() as u8;
-    match load_seeded::<SeededOram>(alloc, &accepted, &inputs, asked.seed, 0) {
-        Ok(mut machine) => put_trace(
-            &mut machine,
-            banks,
-            asked,
-            halted.as_bytes(),
-            spent.as_bytes(),
-            out,
-        ),
-        Err(_) => say_no_memory(out),
-    }
+    let mut machine = load_seeded::<SeededOram>(alloc, &accepted, &inputs, asked.seed, 0)?;
+    Ok(put_trace(
+        &mut machine,
+        banks,
+        asked,
+        halted.as_bytes(),
+        spent.as_bytes(),
+        out,
+    ))
 }
 
 /// Puts the lines of a run, and the last line with what stands behind it, which were made before: nothing here wants
@@ -184,7 +180,8 @@ fn put_trace<O: Sink>(
     }
 }
 
-/// Runs an object over recursive banks, and puts the lines of the run with a last line that was made before.
+/// Runs an object over recursive banks, and puts the lines of the run with a last line that was made before. `Err`
+/// where nothing was put.
 fn trace_in_trees<O: Sink>(
     alloc: Global,
     accepted: &Accepted,
@@ -193,19 +190,18 @@ fn trace_in_trees<O: Sink>(
     halted: &[u8],
     spent: &[u8],
     out: &mut O,
-) -> u8
+) -> Result<u8, Memory>
     requires in_range { IsInRange accepted.now }
     requires fits { FitsObject accepted.now inputs.now }
     requires some_cycle { 1 ≤ asked.cycles }
     requires halted_line { halted.now ≡ (comes_to (Traced true)).text }
     requires spent_line { spent.now ≡ (comes_to (Traced false)).text }
-    ensures { TracesOrStarves (O.seen out.old) (O.seen out.new) accepted.now inputs.now asked.entry.cycles
-        asked.entry.seed asked.entry.paths result }
+    ensures traced { IfOk result (TracedInTrees (O.seen out.old) (O.seen out.new) accepted.now inputs.now
+        asked.entry.cycles asked.entry.seed asked.entry.paths) }
+    ensures unput { OnErr result (O.seen out.new ≡ O.seen out.old) }
 {
-    match load_seeded::<SeededRecursive>(alloc, accepted, inputs, asked.seed, 0) {
-        Ok(mut machine) => put_lines(&mut machine, asked, halted, spent, out),
-        Err(_) => say_no_memory(out),
-    }
+    let mut machine = load_seeded::<SeededRecursive>(alloc, accepted, inputs, asked.seed, 0)?;
+    Ok(put_lines(&mut machine, asked, halted, spent, out))
 }
 
 /// Puts the lines of a run, and the last line, which were made before: nothing here wants memory.

@@ -1,4 +1,5 @@
 use Rattle.std.proofs.Common.{◌≡◌, ◌⊎◌, ℤ, List, [], ◌∷◌, ◌++◌, Some, None, length, sym, ap, ◌∙◌, subst}
+use Rattle.std.proofs.lemmas.Result.{err_from_is_err_and}
 use Rattle.lt_isa.specs.Object.{Parts}
 use Rattle.bus_arbiter.specs.Refusals.{refusal}
 use Rattle.bus_arbiter.specs.Shares.{share_of}
@@ -12,22 +13,24 @@ use Rattle.ghost_cli.specs.Texts.{said}
 use Rattle.ghost_cli.proofs.Pairing.{core-leads, core-off, core-stops, one-read, read-is, refused-worked, taken-worked}
 use Rattle.ghost_cli.proofs.bus.read_core.Goals as goal
 
+pub returns-in_err-accepted-clause-stopped : goal.returns-in_err-accepted-clause-stopped
+returns-in_err-accepted-clause-stopped g c =
+    let read : Read = c.args.cores.now in
+    let k = length read.plan in
+    let passed = err_from_is_err_and c.from_residual.result c.from_residual.ensures.1 in
+    rw (passed.1, passed.2) (λ next.
+    subst (λ (p : Pair). Stops (g.F.Shelf.seen c.args.shelf.now) (g.F.Shelf.seen c.find_accepted.new.shelf)
+    (with_core p k read next) (said c.in_err-accepted.field-0.0)) c.pair.view_is
+    (c.in_err-accepted.ensures.stopped (λ o. on_plan k (refusal read.plan (share_of o))
+    (with_inputs o c.pair.inside.input.now (λ d. next (one_read read o d))))))
+
 pub returns-in-Err-clause-stopped : goal.returns-in-Err-clause-stopped
 returns-in-Err-clause-stopped g c next =
     let read : Read = c.args.cores.now in
     let k = length read.plan in
-    subst (λ (p : Pair). Stops (g.F.Shelf.seen c.args.shelf.now) (g.F.Shelf.seen c.find_accepted.new.shelf)
-    (with_core p k read next) (said c.in-Err.reply)) c.pair.view_is
-    (c.in-Err.ensures.stopped (λ o. on_plan k (refusal read.plan (share_of o))
-    (with_inputs o c.pair.inside.input.now (λ d. next (one_read read o d)))))
-
-pub returns-in-Err-add-clause-stopped : goal.returns-in-Err-add-clause-stopped
-returns-in-Err-add-clause-stopped g c next =
-    let read : Read = c.args.cores.now in
-    let k = length read.plan in
-    let o = c.in-Ok.accepted in
+    let o = c.in_ok-accepted.accepted in
     let pair : Pair = record { object = c.pair.inside.object.now; input = c.pair.inside.input.now } in
-    let cause = c.in-Err-add.cause in
+    let cause = c.in-Err.cause in
     let plan = ap (λ (r : Read). r.plan) c.cores.view_is in
     let before = g.F.Shelf.seen c.args.shelf.now in
     let after = g.F.Shelf.seen c.find_accepted.new.shelf in
@@ -35,58 +38,60 @@ returns-in-Err-add-clause-stopped g c next =
     subst (λ s. Stops before after (with_core c.args.pair.now k read next) s)
     (sym (c.off_bus.ensures ∙ ap (λ n. bus_said n cause) core))
     (subst (λ (p : Pair). Stops before after (with_core p k read next) (bus_said k cause)) c.pair.view_is
-    (core-off before pair k read next o c.in-Ok.ensures.found after cause c.in-Ok.ensures.calm
+    (core-off before pair k read next o c.in_ok-accepted.ensures.found after cause c.in_ok-accepted.ensures.calm
     (subst (λ l. (cause ≡ bus.Memory) ⊎ (refusal l (share_of o) ≡ Some cause)) plan
-    (refused-worked _ o cause c.len-core.ensures.plan c.in-Ok.ensures.in_range c.in-Err-add.ensures.refused))))
+    (refused-worked _ o cause c.len-core.ensures.plan c.in_ok-accepted.ensures.in_range c.in-Err.ensures.refused))))
 
-pub returns-in-Err-find_inputs-clause-stopped : goal.returns-in-Err-find_inputs-clause-stopped
-returns-in-Err-find_inputs-clause-stopped g c next =
+pub returns-in_err-inputs-clause-stopped : goal.returns-in_err-inputs-clause-stopped
+returns-in_err-inputs-clause-stopped g c =
     let read : Read = c.args.cores.now in
     let k = length read.plan in
-    let o = c.in-Ok.accepted in
+    let o = c.in_ok-accepted.accepted in
     let pair : Pair = record { object = c.pair.inside.object.now; input = c.pair.inside.input.now } in
     let plan = ap (λ (r : Read). r.plan) c.cores.view_is in
     let before = g.F.Shelf.seen c.args.shelf.now in
     let after = g.F.Shelf.seen c.find_inputs.new.shelf in
-    subst (λ (p : Pair). Stops before after (with_core p k read next) (said c.in-Err-find_inputs.reply)) c.pair.view_is
-    (core-stops before pair k read next o c.in-Ok.ensures.found (g.F.Shelf.seen c.find_accepted.new.shelf)
-    c.in-Ok.ensures.calm (subst (λ l. refusal l (share_of o) ≡ None) plan
-    (taken-worked _ o c.len-core.ensures.plan c.in-Ok.ensures.in_range c.in-Ok-add.ensures.fits)) after
-    (said c.in-Err-find_inputs.reply) c.in-Err-find_inputs.ensures.stopped)
+    let passed = err_from_is_err_and c.from_residual-in_err-inputs.result c.from_residual-in_err-inputs.ensures.1 in
+    rw (passed.1, passed.2) (λ next.
+    subst (λ (p : Pair). Stops before after (with_core p k read next) (said c.in_err-inputs.field-0.0)) c.pair.view_is
+    (core-stops before pair k read next o c.in_ok-accepted.ensures.found (g.F.Shelf.seen c.find_accepted.new.shelf)
+    c.in_ok-accepted.ensures.calm (subst (λ l. refusal l (share_of o) ≡ None) plan
+    (taken-worked _ o c.len-core.ensures.plan c.in_ok-accepted.ensures.in_range c.in-Ok.ensures.fits)) after
+    (said c.in_err-inputs.field-0.0) c.in_err-inputs.ensures.stopped))
 
 pub returns-clause-read : goal.returns-clause-read
 returns-clause-read g c =
     let read : Read = c.args.cores.now in
-    let o = c.in-Ok.accepted in
-    let d = c.in-Ok-find_inputs.inputs in
+    let o = c.in_ok-accepted.accepted in
+    let d = c.in_ok-inputs.inputs in
     subst AreRead
     (read-is read o d c.add.new.self c.push.new.self.items c.push-2.new.self.items
-    (c.in-Ok-add.ensures.added
+    (c.in-Ok.ensures.added
     ∙ ap (λ (l : List Share). l ++ share_of o ∷ []) (ap (λ (r : Read). r.plan) c.cores.view_is))
-    (c.in-Ok-push.ensures.items
+    (c.in_ok-push.ensures.items
     ∙ ap (λ (l : List Parts). l ++ o ∷ []) (ap (λ (r : Read). r.objects) c.cores.view_is))
-    (c.in-Ok-push-2.ensures.items
+    (c.in_ok-push-2.ensures.items
     ∙ ap (λ (l : List (List (List ℤ))). l ++ d ∷ []) (ap (λ (r : Read). r.inputs) c.cores.view_is)))
-    (one-read read o d c.requires.read c.in-Ok.ensures.in_range c.in-Ok-find_inputs.ensures.fits)
+    (one-read read o d c.requires.read c.in_ok-accepted.ensures.in_range c.in_ok-inputs.ensures.fits)
 
 pub returns-clause-found : goal.returns-clause-found
 returns-clause-found g c next =
     let read : Read = c.args.cores.now in
     let k = length read.plan in
-    let o = c.in-Ok.accepted in
-    let d = c.in-Ok-find_inputs.inputs in
+    let o = c.in_ok-accepted.accepted in
+    let d = c.in_ok-inputs.inputs in
     let pair : Pair = record { object = c.pair.inside.object.now; input = c.pair.inside.input.now } in
     let plan = ap (λ (r : Read). r.plan) c.cores.view_is in
     let before = g.F.Shelf.seen c.args.shelf.now in
     subst (λ (r : Read). HasLeft before (with_core c.args.pair.now k read next) (next r))
     (read-is read o d c.add.new.self c.push.new.self.items c.push-2.new.self.items
-    (c.in-Ok-add.ensures.added ∙ ap (λ (l : List Share). l ++ share_of o ∷ []) plan)
-    (c.in-Ok-push.ensures.items
+    (c.in-Ok.ensures.added ∙ ap (λ (l : List Share). l ++ share_of o ∷ []) plan)
+    (c.in_ok-push.ensures.items
     ∙ ap (λ (l : List Parts). l ++ o ∷ []) (ap (λ (r : Read). r.objects) c.cores.view_is))
-    (c.in-Ok-push-2.ensures.items
+    (c.in_ok-push-2.ensures.items
     ∙ ap (λ (l : List (List (List ℤ))). l ++ d ∷ []) (ap (λ (r : Read). r.inputs) c.cores.view_is)))
     (subst (λ (p : Pair). HasLeft before (with_core p k read next) (next (one_read read o d))) c.pair.view_is
-    (core-leads before pair k read next o c.in-Ok.ensures.found (g.F.Shelf.seen c.find_accepted.new.shelf)
-    c.in-Ok.ensures.calm (subst (λ l. refusal l (share_of o) ≡ None) plan
-    (taken-worked _ o c.len-core.ensures.plan c.in-Ok.ensures.in_range c.in-Ok-add.ensures.fits)) d
-    c.in-Ok-find_inputs.ensures.found))
+    (core-leads before pair k read next o c.in_ok-accepted.ensures.found (g.F.Shelf.seen c.find_accepted.new.shelf)
+    c.in_ok-accepted.ensures.calm (subst (λ l. refusal l (share_of o) ≡ None) plan
+    (taken-worked _ o c.len-core.ensures.plan c.in_ok-accepted.ensures.in_range c.in-Ok.ensures.fits)) d
+    c.in_ok-inputs.ensures.found))

@@ -1,7 +1,12 @@
 use Rattle.std.proofs.Common.{◌≡◌, ◌∙◌, List, ℕ, Option, Some, None, Bor, ap, refl}
 use Rattle.std.specs.Option.{option_map}
+use Rattle.ghost_cli.specs.declared.replies.Verdict.TheVariants.{Accepted}
 use Rattle.ghost_cli.specs.Check.{check_work}
-use Rattle.ghost_cli.proofs.Answering.{asked-done, unasked-said, stopped-said}
+use Rattle.ghost_cli.specs.Progress.{WorkStops}
+use Rattle.ghost_cli.specs.Showing.{nothing_seen}
+use Rattle.ghost_cli.specs.Work.{Ends}
+use Rattle.ghost_cli.proofs.Answering.{asked-is, left-said, passed-on, unasked}
+use Rattle.ghost_cli.proofs.Progressing.{ends-at}
 use Rattle.ghost_cli.proofs.check.check.Goals as goal
 
 now-first : (value : Option (Bor (List ℕ)))
@@ -10,14 +15,24 @@ now-first : (value : Option (Bor (List ℕ)))
 now-first None = refl
 now-first (Some t) = refl
 
-pub returns-in-Some : goal.returns-in-Some
-returns-in-Some g c =
-    asked-done _ _ _ _ _ _ _ c.in-Some.is (now-first c.value.result ∙ ap (option_map check_work) c.value.ensures)
-    (stopped-said (g.F.Shelf.seen c.args.shelf.now) (g.F.Shelf.seen c.judge.new.shelf) (g.O.Sink.seen c.args.out.now)
-    (g.O.Sink.seen c.say.new.out) _ _ _ c.judge.ensures c.say.ensures)
+pub returns-in_default-clause-stopped : goal.returns-in_default-clause-stopped
+returns-in_default-clause-stopped g c =
+    unasked _ _ _ (g.F.Shelf.seen c.args.shelf.now) c.in_default.is
+    (now-first c.value.result ∙ ap (option_map check_work) c.value.ensures)
 
-pub returns-in-None : goal.returns-in-None
-returns-in-None g c =
-    unasked-said _ _ _ (g.F.Shelf.seen c.args.shelf.now) (g.O.Sink.seen c.args.out.now)
-    (g.O.Sink.seen c.say-in-None.new.out) _ c.in-None.is
-    (now-first c.value.result ∙ ap (option_map check_work) c.value.ensures) c.say-in-None.ensures
+pub returns-in_err-find_accepted-clause-stopped : goal.returns-in_err-find_accepted-clause-stopped
+returns-in_err-find_accepted-clause-stopped g c =
+    passed-on c.from_residual.result _ _ _ _ c.from_residual.ensures.1
+    (WorkStops _
+    (asked-is _ _ _ _ c.in-Some.is (now-first c.value.result ∙ ap (option_map check_work) c.value.ensures))
+    (c.in_err-find_accepted.ensures.stopped (λ o. Ends nothing_seen Accepted)))
+
+pub returns-clause-done : goal.returns-clause-done
+returns-clause-done g c =
+    left-said (g.F.Shelf.seen c.args.shelf.now) (g.F.Shelf.seen c.find_accepted.new.shelf)
+    (g.O.Sink.seen c.args.out.now) _ (g.O.Sink.seen c.say.new.out) _ _ _
+    (WorkStops _
+    (asked-is _ _ _ _ c.in-Some.is (now-first c.value.result ∙ ap (option_map check_work) c.value.ensures))
+    (ends-at (g.F.Shelf.seen c.args.shelf.now) (g.F.Shelf.seen c.find_accepted.new.shelf) _ Accepted
+    (c.in_ok-find_accepted.ensures.found (λ o. Ends nothing_seen Accepted)) c.in_ok-find_accepted.ensures.calm)) refl
+    c.say.ensures

@@ -1,4 +1,5 @@
 use Rattle.std.proofs.Common.{◌≡◌, false, ◌≤◌, ◌∙◌, length, subst, ℕ, List, sym}
+use Rattle.std.proofs.lemmas.Result.{IfErr-weaker, IfOk-weaker}
 use Rattle.src_tree.specs.Trees.{source_of}
 use Rattle.ghost_cli.specs.Histogram.{sample_text}
 use Rattle.ghost_cli.specs.Sources.{SpellsTyped}
@@ -7,15 +8,17 @@ use Rattle.ghost_cli.proofs.histogram.sample_program.Goals as goal
 
 pub source_in-requires : goal.source_in-requires
 source_in-requires c =
-    let is : c.as_bytes.result.now ≡ sample_text c.args.items = c.as_bytes.ensures.value ∙ c.in-Ok.ensures in
+    let is : c.as_bytes.result.now ≡ sample_text c.args.items = c.as_bytes.ensures.value ∙ c.in_ok-text.ensures in
     subst (λ (t : List ℕ). length t ≤ 1048576) (sym is) (sample-short c.args.items c.requires.1)
 
-pub returns-in-Ok-source_in-clause-spells : goal.returns-in-Ok-source_in-clause-spells
-returns-in-Ok-source_in-clause-spells c =
-    subst (λ (t : List ℕ). SpellsTyped false t (source_of c.in-Ok-source_in.program))
-    (c.as_bytes.ensures.value ∙ c.in-Ok.ensures) c.in-Ok-source_in.ensures.found
+pub returns-clause-spells : goal.returns-clause-spells
+returns-clause-spells c =
+    IfOk-weaker c.source_in.result _ _
+    (λ p. subst (λ (t : List ℕ). SpellsTyped false t (source_of p)) (c.as_bytes.ensures.value ∙ c.in_ok-text.ensures))
+    c.source_in.ensures.found
 
-pub returns-in-Ok-clause-starved : goal.returns-in-Ok-clause-starved
-returns-in-Ok-clause-starved c =
-    text-starved c.args.items c.requires _
-    (c.as_bytes.ensures.value ∙ c.in-Ok.ensures) _ c.in-Err-source_in.ensures.refused
+pub returns-clause-starved : goal.returns-clause-starved
+returns-clause-starved c =
+    IfErr-weaker c.source_in.result _ _
+    (λ reply. text-starved c.args.items c.requires _ (c.as_bytes.ensures.value ∙ c.in_ok-text.ensures) _)
+    c.source_in.ensures.refused

@@ -1,15 +1,22 @@
 use Rattle.std.proofs.Common.{◌∙◌}
 use Rattle.ghost_cli.specs.Infer.{infer_work}
 use Rattle.ghost_cli.specs.Options.{two_named}
-use Rattle.ghost_cli.proofs.Answering.{asked-done, unasked-said}
+use Rattle.ghost_cli.proofs.Answering.{asked-done, asked-left, unasked}
 use Rattle.ghost_cli.proofs.infer.infer.Goals as goal
 
-pub returns-in-Some : goal.returns-in-Some
-returns-in-Some g c =
-    asked-done _ _ _ _ _ _ _ c.in-Some.is
-    (c.two_names.ensures infer_work ∙ (λ k. two_named infer_work (c.value.ensures k) (c.value-2.ensures k))) c.infer_file.ensures
+pub returns-in_default-clause-stopped : goal.returns-in_default-clause-stopped
+returns-in_default-clause-stopped g c =
+    unasked _ _ _ (g.F.Shelf.seen c.args.shelf.now) c.in_default.is
+    (c.two_names.ensures infer_work ∙ (λ k. two_named infer_work (c.value.ensures k) (c.value-2.ensures k)))
 
-pub returns-in-None : goal.returns-in-None
-returns-in-None g c =
-    unasked-said _ _ _ (g.F.Shelf.seen c.args.shelf.now) (g.O.Sink.seen c.args.out.now) (g.O.Sink.seen c.say.new.out) _
-    c.in-None.is (c.two_names.ensures infer_work ∙ (λ k. two_named infer_work (c.value.ensures k) (c.value-2.ensures k))) c.say.ensures
+pub returns-clause-done : goal.returns-clause-done
+returns-clause-done g c =
+    asked-done _ _ _ _ _ _ c.infer_file.result c.in-Some.is
+    (c.two_names.ensures infer_work ∙ (λ k. two_named infer_work (c.value.ensures k) (c.value-2.ensures k)))
+    c.infer_file.ensures.done
+
+pub returns-clause-stopped : goal.returns-clause-stopped
+returns-clause-stopped g c =
+    asked-left _ _ _ _ _ _ c.infer_file.result c.in-Some.is
+    (c.two_names.ensures infer_work ∙ (λ k. two_named infer_work (c.value.ensures k) (c.value-2.ensures k)))
+    c.infer_file.ensures.stopped

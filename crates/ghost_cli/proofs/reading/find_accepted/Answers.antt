@@ -1,19 +1,23 @@
+use Rattle.std.proofs.lemmas.Result.{IfErr-weaker, err_from_is_err_and}
 use Rattle.ghost_cli.specs.Work.{Asks}
 use Rattle.ghost_cli.specs.Steps.{on_judged}
 use Rattle.ghost_cli.specs.Questions.{WhetherAccepted}
 use Rattle.ghost_cli.proofs.Finding.{accepted-found, accepted-refused}
 use Rattle.ghost_cli.proofs.reading.find_accepted.Goals as goal
 
-pub returns-in-Ok-checked-clause-found : goal.returns-in-Ok-checked-clause-found
-returns-in-Ok-checked-clause-found g c =
-    accepted-found (g.F.Shelf.seen c.args.shelf.now) _ c.in-Ok.object c.in-Ok-checked.accepted
-    c.in-Ok-checked.ensures.same c.in-Ok.ensures.found c.in-Ok-checked.ensures.accepts
+pub returns-in_err-object-clause-stopped : goal.returns-in_err-object-clause-stopped
+returns-in_err-object-clause-stopped g c =
+    let passed = err_from_is_err_and c.from_residual.result c.from_residual.ensures.1 in
+    rw (passed.1, passed.2)
+    (λ next. c.in_err-object.ensures.stopped (λ o. Asks (WhetherAccepted o) (on_judged (next o))))
 
-pub returns-in-Err-checked-clause-stopped : goal.returns-in-Err-checked-clause-stopped
-returns-in-Err-checked-clause-stopped g c =
-    accepted-refused (g.F.Shelf.seen c.args.shelf.now) _ _ c.in-Ok.object _ c.in-Ok.ensures.found c.in-Ok.ensures.calm
-    c.in-Err-checked.ensures.refused
+pub returns-clause-found : goal.returns-clause-found
+returns-clause-found g c =
+    accepted-found c.checked.result (g.F.Shelf.seen c.args.shelf.now) _ c.in_ok-object.object
+    c.in_ok-object.ensures.found c.checked.ensures.same c.checked.ensures.accepts
 
-pub returns-in-Err-clause-stopped : goal.returns-in-Err-clause-stopped
-returns-in-Err-clause-stopped g c =
-    λ next. c.in-Err.ensures.stopped (λ o. Asks (WhetherAccepted o) (on_judged (next o)))
+pub returns-clause-stopped : goal.returns-clause-stopped
+returns-clause-stopped g c =
+    IfErr-weaker c.checked.result _ _ (λ reply.
+    accepted-refused (g.F.Shelf.seen c.args.shelf.now) _ _ c.in_ok-object.object _ c.in_ok-object.ensures.found
+    c.in_ok-object.ensures.calm) c.checked.ensures.refused

@@ -1,4 +1,5 @@
 use Rattle.std.proofs.Common.{Ok}
+use Rattle.std.proofs.lemmas.Result.{IfErr-weaker, IfOk-weaker, err_from_is_err_and}
 use Rattle.ghost_cli.specs.Work.{Asks}
 use Rattle.ghost_cli.specs.declared.replies.Verdict.TheVariants.{BadInput}
 use Rattle.ghost_cli.specs.Steps.{input_limit, or_ends}
@@ -6,19 +7,24 @@ use Rattle.ghost_cli.specs.Questions.{WhichInputs}
 use Rattle.ghost_cli.proofs.Finding.{bytes-found, bytes-refused}
 use Rattle.ghost_cli.proofs.reading.find_variables.Goals as goal
 
-pub returns-in-Ok-inputs_in-clause-found : goal.returns-in-Ok-inputs_in-clause-found
-returns-in-Ok-inputs_in-clause-found g c = λ next.
-    bytes-found (g.F.Shelf.seen c.args.shelf.now) _ input_limit (WhichInputs c.args.wants.now)
-    (λ b. or_ends BadInput next) _
-    _ (λ b. Ok c.in-Ok-inputs_in.inputs)
-    c.deref.ensures.value c.in-Ok.ensures.found c.in-Ok-inputs_in.ensures.found
+pub returns-in_err-bytes-clause-stopped : goal.returns-in_err-bytes-clause-stopped
+returns-in_err-bytes-clause-stopped g c =
+    let passed = err_from_is_err_and c.from_residual.result c.from_residual.ensures.1 in
+    rw (passed.1, passed.2)
+    (λ next. c.in_err-bytes.ensures.stopped
+    (λ bytes. Asks (WhichInputs c.args.wants.now bytes) (or_ends BadInput next)))
 
-pub returns-in-Ok-clause-stopped : goal.returns-in-Ok-clause-stopped
-returns-in-Ok-clause-stopped g c = λ next.
-    bytes-refused (g.F.Shelf.seen c.args.shelf.now) _ _ input_limit (WhichInputs c.args.wants.now)
-    (λ b. or_ends BadInput next) _ _ _ c.deref.ensures.value
-    c.in-Ok.ensures.found c.in-Ok.ensures.calm (c.in-Err-inputs_in.ensures.refused next)
+pub returns-clause-found : goal.returns-clause-found
+returns-clause-found g c =
+    IfOk-weaker c.inputs_in.result _ _ (λ inputs found next.
+    bytes-found (g.F.Shelf.seen c.args.shelf.now) _ input_limit (WhichInputs c.args.wants.now)
+    (λ b. or_ends BadInput next) _ _ (λ b. Ok inputs) c.deref.ensures.value c.in_ok-bytes.ensures.found found)
+    c.inputs_in.ensures.found
 
 pub returns-clause-stopped : goal.returns-clause-stopped
 returns-clause-stopped g c =
-    λ next. c.in-Err.ensures.stopped (λ bytes. Asks (WhichInputs c.args.wants.now bytes) (or_ends BadInput next))
+    IfErr-weaker c.inputs_in.result _ _ (λ reply refused next.
+    bytes-refused (g.F.Shelf.seen c.args.shelf.now) _ _ input_limit (WhichInputs c.args.wants.now)
+    (λ b. or_ends BadInput next) _ _ _ c.deref.ensures.value c.in_ok-bytes.ensures.found c.in_ok-bytes.ensures.calm
+    (refused next))
+    c.inputs_in.ensures.refused

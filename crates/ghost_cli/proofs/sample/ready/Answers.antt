@@ -1,4 +1,5 @@
 use Rattle.std.proofs.Common.{sym, subst}
+use Rattle.std.proofs.lemmas.Result.{err_from_is_err_and}
 use Rattle.lt_isa.specs.Object.{Parts}
 use Rattle.src_tree.specs.Trees.{source_of}
 use Rattle.lt_isa.specs.declared.profiles.Profile.{Profile}
@@ -12,27 +13,32 @@ use Rattle.ghost_cli.specs.Sampled.{SampleIsReady}
 use Rattle.ghost_cli.proofs.SampleMade.{compile-starved, check-starved, compiled-accepted}
 use Rattle.ghost_cli.proofs.sample.ready.Goals as goal
 
-pub returns-in-Err-object_of-clause-starved : goal.returns-in-Err-object_of-clause-starved
-returns-in-Err-object_of-clause-starved c =
-    compile-starved c.args.items c.requires.1
-    (source_of c.in-Ok.program) c.in-Ok.ensures.spells _
+pub returns-in_err-object-clause-starved : goal.returns-in_err-object-clause-starved
+returns-in_err-object-clause-starved c =
+    let p = err_from_is_err_and c.from_residual-in_err-object.result c.from_residual-in_err-object.ensures.1 in
+    rw (p.1, p.2)
+    (compile-starved c.args.items c.requires.1
+    (source_of c.in_ok-program.program) c.in_ok-program.ensures.spells _
     (λ output. subst
-    (λ (q : Profile). EndsWorkWith (WhichCompiled (source_of c.in-Ok.program) q) (on_compiled output)
-    (said c.in-Err-object_of.reply)) c.windowed.ensures.value (c.in-Err-object_of.ensures.refused output))
+    (λ (q : Profile). EndsWorkWith (WhichCompiled (source_of c.in_ok-program.program) q) (on_compiled output)
+    (said c.in_err-object.field-0.0)) c.windowed.ensures.value (c.in_err-object.ensures.refused output)))
 
-pub returns-in-Ok-checked-clause-ready : goal.returns-in-Ok-checked-clause-ready
-returns-in-Ok-checked-clause-ready c =
-    subst (λ (o : Parts). SampleIsReady c.args.items (source_of c.in-Ok.program) o) (sym c.in-Ok-checked.ensures.same)
+pub returns-in_err-accepted-clause-starved : goal.returns-in_err-accepted-clause-starved
+returns-in_err-accepted-clause-starved c =
+    let p = err_from_is_err_and c.from_residual-in_err-accepted.result c.from_residual-in_err-accepted.ensures.1 in
+    rw (p.1, p.2)
+    (check-starved c.in_ok-object.object (compiled-accepted (source_of c.in_ok-program.program) c.windowed.result
+    c.in_ok-object.object c.in_ok-object.ensures.in_range
+    c.in_ok-object.ensures.compiled) _ c.in_err-accepted.ensures.refused)
+
+pub returns-clause-ready : goal.returns-clause-ready
+returns-clause-ready c =
+    subst (λ (o : Parts). SampleIsReady c.args.items (source_of c.in_ok-program.program) o)
+    (sym c.in_ok-accepted.ensures.same)
     (record {
-      spells = c.in-Ok.ensures.spells;
-      in_range = c.in-Ok-object_of.ensures.in_range;
+      spells = c.in_ok-program.ensures.spells;
+      in_range = c.in_ok-object.ensures.in_range;
       compiled = subst
-          (λ (q : Profile). IsCompiledTo (source_of c.in-Ok.program) q (spelling c.in-Ok-object_of.object))
-          c.windowed.ensures.value c.in-Ok-object_of.ensures.compiled;
+          (λ (q : Profile). IsCompiledTo (source_of c.in_ok-program.program) q (spelling c.in_ok-object.object))
+          c.windowed.ensures.value c.in_ok-object.ensures.compiled;
     })
-
-pub returns-clause-starved : goal.returns-clause-starved
-returns-clause-starved c =
-    check-starved c.in-Ok-object_of.object (compiled-accepted (source_of c.in-Ok.program) c.windowed.result
-    c.in-Ok-object_of.object c.in-Ok-object_of.ensures.in_range
-    c.in-Ok-object_of.ensures.compiled) _ c.in-Err-checked.ensures.refused

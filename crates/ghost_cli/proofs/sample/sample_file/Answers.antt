@@ -1,25 +1,26 @@
-use Rattle.std.proofs.Common.{subst}
+use Rattle.std.proofs.Common.{refl, subst}
+use Rattle.ghost_cli.specs.Progress.{WorkStops}
 use Rattle.ghost_cli.specs.Sampled.{SampleCameTo}
-use Rattle.ghost_cli.proofs.Answering.{stopped-said}
-use Rattle.ghost_cli.proofs.Samples.{sampled-said, sample-spent, sample-starved}
+use Rattle.ghost_cli.proofs.Answering.{starved-yet}
+use Rattle.ghost_cli.proofs.Samples.{sampled-said, sample-spent}
 use Rattle.ghost_cli.proofs.sample.sample_file.Goals as goal
 
-pub returns-in-Ok-Some : goal.returns-in-Ok-Some
-returns-in-Ok-Some g c =
-    let came = subst (SampleCameTo c.args.asked.items) c.in-Ok-Some.field-0-is c.in-Ok-Some.ensures.done in
+pub returns-in-Some-clause-done : goal.returns-in-Some-clause-done
+returns-in-Some-clause-done g c =
+    let came = subst (SampleCameTo c.args.asked.items) c.in-Some.is c.in_ok-file.ensures.done in
     sampled-said (g.F.Shelf.seen c.args.shelf.now) (g.F.Shelf.seen c.write_and_say.new.shelf)
     (g.O.Sink.seen c.args.out.now)
-    (g.O.Sink.seen c.write_and_say.new.out) _ c.args.asked.items c.args.asked.output.now _ c.in-Ok-Some.file came
-    c.deref.ensures.value c.write_and_say.ensures
+    (g.O.Sink.seen c.write_and_say.new.out) c.write_and_say.result c.args.asked.items c.args.asked.output.now _
+    c.in-Some.file came c.deref.ensures.value c.write_and_say.ensures.left
 
-pub returns-in-Ok-None : goal.returns-in-Ok-None
-returns-in-Ok-None g c =
-    stopped-said (g.F.Shelf.seen c.args.shelf.now) (g.F.Shelf.seen c.args.shelf.now) (g.O.Sink.seen c.args.out.now)
-    (g.O.Sink.seen c.say.new.out) _ _ _
+pub returns-in-Some-clause-stopped : goal.returns-in-Some-clause-stopped
+returns-in-Some-clause-stopped g c =
+    starved-yet c.write_and_say.result (g.F.Shelf.seen c.args.shelf.now) (g.F.Shelf.seen c.args.shelf.now)
+    (g.F.Shelf.seen c.write_and_say.new.shelf) _ refl c.write_and_say.ensures.unwritten
+    c.write_and_say.ensures.starved
+
+pub returns-in-None-clause-stopped : goal.returns-in-None-clause-stopped
+returns-in-None-clause-stopped g c =
+    WorkStops _ refl
     (sample-spent (g.F.Shelf.seen c.args.shelf.now) c.args.asked.items c.args.asked.output.now
-    (subst (SampleCameTo c.args.asked.items) c.in-Ok-None.field-0-is c.in-Ok-None.ensures.done)) c.say.ensures
-
-pub returns-in-Err : goal.returns-in-Err
-returns-in-Err g c =
-    sample-starved _ (g.F.Shelf.seen c.args.shelf.now) (g.O.Sink.seen c.args.out.now)
-    (g.O.Sink.seen c.say-in-Err.new.out) _ _ c.in-Err.ensures.starved c.say-in-Err.ensures
+    (subst (SampleCameTo c.args.asked.items) c.in-None.is c.in_ok-file.ensures.done))

@@ -1,4 +1,5 @@
 use Rattle.std.proofs.Common.{Ok}
+use Rattle.std.proofs.lemmas.Result.{IfErr-weaker, IfOk-weaker, err_from_is_err_and}
 use Rattle.src_tree.specs.Trees.{source_of}
 use Rattle.ghost_cli.specs.Sources.{source_limit}
 use Rattle.ghost_cli.specs.Work.{Asks}
@@ -8,19 +9,23 @@ use Rattle.ghost_cli.specs.Questions.{WhichSource}
 use Rattle.ghost_cli.proofs.Finding.{bytes-found, bytes-refused}
 use Rattle.ghost_cli.proofs.sources.find_source.Goals as goal
 
-pub returns-in-Ok-source_in-clause-found : goal.returns-in-Ok-source_in-clause-found
-returns-in-Ok-source_in-clause-found g c = λ next.
-    bytes-found (g.F.Shelf.seen c.args.shelf.now) _ source_limit (WhichSource c.args.procs)
-    (λ b. or_ends BadSource next) _ _
-    (λ b. Ok (source_of c.in-Ok-source_in.typed))
-    c.deref.ensures.value c.in-Ok.ensures.found c.in-Ok-source_in.ensures.found
+pub returns-in_err-bytes-clause-stopped : goal.returns-in_err-bytes-clause-stopped
+returns-in_err-bytes-clause-stopped g c =
+    let passed = err_from_is_err_and c.from_residual.result c.from_residual.ensures.1 in
+    rw (passed.1, passed.2)
+    (λ next. c.in_err-bytes.ensures.stopped (λ bytes. Asks (WhichSource c.args.procs bytes) (or_ends BadSource next)))
 
-pub returns-in-Ok-clause-stopped : goal.returns-in-Ok-clause-stopped
-returns-in-Ok-clause-stopped g c = λ next.
-    bytes-refused (g.F.Shelf.seen c.args.shelf.now) _ _ source_limit (WhichSource c.args.procs)
-    (λ b. or_ends BadSource next) _ _ _
-    c.deref.ensures.value c.in-Ok.ensures.found c.in-Ok.ensures.calm (c.in-Err-source_in.ensures.refused next)
+pub returns-clause-found : goal.returns-clause-found
+returns-clause-found g c =
+    IfOk-weaker c.source_in.result _ _ (λ p found next.
+    bytes-found (g.F.Shelf.seen c.args.shelf.now) _ source_limit (WhichSource c.args.procs)
+    (λ b. or_ends BadSource next) _ _ (λ b. Ok (source_of p)) c.deref.ensures.value c.in_ok-bytes.ensures.found found)
+    c.source_in.ensures.found
 
 pub returns-clause-stopped : goal.returns-clause-stopped
-returns-clause-stopped g c = λ next. c.in-Err.ensures.stopped (λ text. Asks (WhichSource c.args.procs text)
-    (or_ends BadSource next))
+returns-clause-stopped g c =
+    IfErr-weaker c.source_in.result _ _ (λ reply refused next.
+    bytes-refused (g.F.Shelf.seen c.args.shelf.now) _ _ source_limit (WhichSource c.args.procs)
+    (λ b. or_ends BadSource next) _ _ _ c.deref.ensures.value c.in_ok-bytes.ensures.found c.in_ok-bytes.ensures.calm
+    (refused next))
+    c.source_in.ensures.refused

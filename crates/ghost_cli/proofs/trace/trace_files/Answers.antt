@@ -1,4 +1,4 @@
-use Rattle.std.proofs.Common.{rules, ◌≡◌, Some, [], inl, inr, true, false, ◌∙◌, sym, subst}
+use Rattle.std.proofs.Common.{rules, ◌≡◌, Some, [], true, false, refl, ◌∙◌, sym, subst}
 use Rattle.ghost_cli.specs.Steps.{with_inputs}
 use Rattle.lt_isa.specs.Object.{Parts}
 use Rattle.lt_isa.specs.Machine.{State}
@@ -10,88 +10,73 @@ use Rattle.processor.proofs.TellingPaths.{events_in-with_paths}
 use Rattle.ghost_cli.specs.Outside.{Explains, outside}
 use Rattle.ghost_cli.specs.RecursivePaths.{IsShownInTrees}
 use Rattle.ghost_cli.specs.Levels.{AreBehind, MayRun}
+use Rattle.ghost_cli.specs.Progress.{WorkStops}
 use Rattle.ghost_cli.specs.Showing.{run_seen}
 use Rattle.ghost_cli.specs.Watched.{PutsTrace, kept}
 use Rattle.ghost_cli.proofs.Shown.{is-shown, may-run, shows}
-use Rattle.ghost_cli.proofs.Answering.{given-leads, given-stops, starved-said, stopped-said, traced-said}
+use Rattle.ghost_cli.proofs.Answering.{given-leads, given-stops, passed-on, traced-said}
 use Rattle.ghost_cli.proofs.trace.trace_files.Goals as goal
 
-pub returns-in-Err : goal.returns-in-Err
-returns-in-Err g c =
-    stopped-said (g.F.Shelf.seen c.args.shelf.now) (g.F.Shelf.seen c.find_accepted.new.shelf)
-    (g.O.Sink.seen c.args.out.now) (g.O.Sink.seen c.say.new.out) _ _ _ (c.in-Err.ensures.stopped (λ o.
+pub returns-in_err-accepted-clause-stopped : goal.returns-in_err-accepted-clause-stopped
+returns-in_err-accepted-clause-stopped g c =
+    passed-on c.from_residual.result _ _ _ _ c.from_residual.ensures.1
+    (WorkStops _ refl (c.in_err-accepted.ensures.stopped (λ o.
     with_inputs o c.args.asked.input.now
-    ((traces_on c.args.asked.paths c.args.asked.recursive c.args.asked.cycles c.args.asked.seed) o)))
-    c.say.ensures
+    ((traces_on c.args.asked.paths c.args.asked.recursive c.args.asked.cycles c.args.asked.seed) o))))
 
-pub returns-in-Err-find_inputs : goal.returns-in-Err-find_inputs
-returns-in-Err-find_inputs g c =
-    stopped-said (g.F.Shelf.seen c.args.shelf.now) (g.F.Shelf.seen c.find_inputs.new.shelf)
-    (g.O.Sink.seen c.args.out.now) (g.O.Sink.seen c.say-in-Err-find_inputs.new.out) _ _ _
+pub returns-in_err-inputs-clause-stopped : goal.returns-in_err-inputs-clause-stopped
+returns-in_err-inputs-clause-stopped g c =
+    passed-on c.from_residual-in_err-inputs.result _ _ _ _ c.from_residual-in_err-inputs.ensures.1
+    (WorkStops _ refl
     (given-stops (g.F.Shelf.seen c.args.shelf.now) (g.F.Shelf.seen c.find_accepted.new.shelf)
-    (g.F.Shelf.seen c.find_inputs.new.shelf) _ _ c.in-Ok.accepted _ (traces_on c.args.asked.paths c.args.asked.recursive
-    c.args.asked.cycles c.args.asked.seed) c.in-Ok.ensures.found c.in-Ok.ensures.calm
-    c.in-Err-find_inputs.ensures.stopped)
-    c.say-in-Err-find_inputs.ensures
-
-pub returns-in_default : goal.returns-in_default
-returns-in_default g c =
-    starved-said _ (g.F.Shelf.seen c.args.shelf.now) (g.F.Shelf.seen c.find_inputs.new.shelf)
-    (g.O.Sink.seen c.args.out.now) (g.O.Sink.seen c.say_no_memory.new.out) _
-    (c.in-Ok-find_inputs.ensures.calm ∙ c.in-Ok.ensures.calm) c.say_no_memory.ensures
-
-pub returns-in_default-line_of : goal.returns-in_default-line_of
-returns-in_default-line_of g c =
-    starved-said _ (g.F.Shelf.seen c.args.shelf.now) (g.F.Shelf.seen c.find_inputs.new.shelf)
-    (g.O.Sink.seen c.args.out.now) (g.O.Sink.seen c.say_no_memory-in_default-line_of.new.out) _
-    (c.in-Ok-find_inputs.ensures.calm ∙ c.in-Ok.ensures.calm) c.say_no_memory-in_default-line_of.ensures
+    (g.F.Shelf.seen c.find_inputs.new.shelf) _ _ c.in_ok-accepted.accepted _
+    (traces_on c.args.asked.paths c.args.asked.recursive c.args.asked.cycles c.args.asked.seed)
+    c.in_ok-accepted.ensures.found c.in_ok-accepted.ensures.calm c.in_err-inputs.ensures.stopped))
 
 pub put_trace-requires-clause-banks : goal.put_trace-requires-clause-banks
 put_trace-requires-clause-banks g c = search rules
 
 pub put_trace-requires-clause-may_run : goal.put_trace-requires-clause-may_run
 put_trace-requires-clause-may_run g c =
-    let begun = c.in-Ok-load_seeded.ensures in
-    let o = c.in-Ok.accepted in
-    let inputs = c.in-Ok-find_inputs.inputs in
+    let begun = c.in_ok-machine.ensures in
+    let o = c.in_ok-accepted.accepted in
+    let inputs = c.in_ok-inputs.inputs in
     subst (λ (p : Parts).
-    MayRun p c.in-Ok-load_seeded.machine.state c.args.asked.cycles c.in-Ok-load_seeded.machine.orams) (sym begun.object)
-    (subst (λ (s : State). MayRun o s c.args.asked.cycles c.in-Ok-load_seeded.machine.orams) (sym begun.state)
-    (may-run o c.in-Ok.ensures.in_range inputs c.in-Ok-find_inputs.ensures.fits c.args.asked.cycles c.args.asked.seed
-    c.in-Ok-load_seeded.machine.orams begun.count begun.orams))
+    MayRun p c.in_ok-machine.machine.state c.args.asked.cycles c.in_ok-machine.machine.orams) (sym begun.object)
+    (subst (λ (s : State). MayRun o s c.args.asked.cycles c.in_ok-machine.machine.orams) (sym begun.state)
+    (may-run o c.in_ok-accepted.ensures.in_range inputs c.in_ok-inputs.ensures.fits c.args.asked.cycles
+    c.args.asked.seed c.in_ok-machine.machine.orams begun.count begun.orams))
 
-pub returns-then-asked : goal.returns-then-asked
-returns-then-asked g c =
+pub returns-then-asked-clause-done : goal.returns-then-asked-clause-done
+returns-then-asked-clause-done g c =
     let on : c.args.asked.recursive ≡ true = search rules in
-    let o = c.in-Ok.accepted in
-    let inputs = c.in-Ok-find_inputs.inputs in
+    let o = c.in_ok-accepted.accepted in
+    let inputs = c.in_ok-inputs.inputs in
     let n = c.args.asked.cycles in
     let paths = c.args.asked.paths in
-    let calm = c.in-Ok-find_inputs.ensures.calm ∙ c.in-Ok.ensures.calm in
+    let traced = c.in_ok-trace_in_trees.ensures.traced in
     subst (λ r. Explains (outside (g.F.Shelf.seen c.args.shelf.now) (g.O.Sink.seen c.args.out.now))
-    (outside (g.F.Shelf.seen c.find_inputs.new.shelf) (g.O.Sink.seen c.trace_in_trees.new.out)) c.trace_in_trees.result
+    (outside (g.F.Shelf.seen c.find_inputs.new.shelf) (g.O.Sink.seen c.trace_in_trees.new.out))
+    c.in_ok-trace_in_trees.field-0
     (Some (trace_work c.args.asked.object.now c.args.asked.input.now n c.args.asked.seed paths r))) (sym on)
-    (elim c.trace_in_trees.ensures [
-      | inl starved ↦ starved-said _ (g.F.Shelf.seen c.args.shelf.now) (g.F.Shelf.seen c.find_inputs.new.shelf)
-          (g.O.Sink.seen c.args.out.now) (g.O.Sink.seen c.trace_in_trees.new.out) _ calm starved
-      | inr traced ↦ traced-said (g.F.Shelf.seen c.args.shelf.now) (g.F.Shelf.seen c.find_inputs.new.shelf)
-          (g.O.Sink.seen c.args.out.now) (g.O.Sink.seen c.trace_in_trees.new.out) _ _ _ n c.args.asked.seed paths true
-          o inputs traced.told (λ levels. levels ≡ [])
-          (given-leads (g.F.Shelf.seen c.args.shelf.now) (g.F.Shelf.seen c.find_accepted.new.shelf) _ _ o inputs
-          (traces_on paths true n c.args.asked.seed) c.in-Ok.ensures.found c.in-Ok.ensures.calm
-          c.in-Ok-find_inputs.ensures.found) calm traced.events (λ off levels none. none)
-          (λ on levels none. subst
-          (λ l. IsShownInTrees o inputs n c.args.asked.seed (run_seen traced.told l)) (sym none)
-          traced.right) traced.put
-    ])
+    (traced-said (g.F.Shelf.seen c.args.shelf.now) (g.F.Shelf.seen c.find_inputs.new.shelf)
+    (g.O.Sink.seen c.args.out.now) (g.O.Sink.seen c.trace_in_trees.new.out) _ _ _ n c.args.asked.seed paths true
+    o inputs traced.told (λ levels. levels ≡ [])
+    (given-leads (g.F.Shelf.seen c.args.shelf.now) (g.F.Shelf.seen c.find_accepted.new.shelf) _ _ o inputs
+    (traces_on paths true n c.args.asked.seed) c.in_ok-accepted.ensures.found c.in_ok-accepted.ensures.calm
+    c.in_ok-inputs.ensures.found) (c.in_ok-inputs.ensures.calm ∙ c.in_ok-accepted.ensures.calm) traced.events
+    (λ off levels none. none)
+    (λ on levels none. subst
+    (λ l. IsShownInTrees o inputs n c.args.asked.seed (run_seen traced.told l)) (sym none)
+    traced.right) traced.put)
 
-pub returns-in-Ok-load_seeded : goal.returns-in-Ok-load_seeded
-returns-in-Ok-load_seeded g c =
+pub returns-clause-done : goal.returns-clause-done
+returns-clause-done g c =
     let off : c.args.asked.recursive ≡ false = search rules in
-    let begun = c.in-Ok-load_seeded.ensures in
-    let o = c.in-Ok.accepted in
-    let inputs = c.in-Ok-find_inputs.inputs in
-    let machine = c.in-Ok-load_seeded.machine in
+    let begun = c.in_ok-machine.ensures in
+    let o = c.in_ok-accepted.accepted in
+    let inputs = c.in_ok-inputs.inputs in
+    let machine = c.in_ok-machine.machine in
     let n = c.args.asked.cycles in
     let paths = c.args.asked.paths in
     let PutFrom : Parts → State → Type 0 =
@@ -105,20 +90,14 @@ returns-in-Ok-load_seeded g c =
     (run_shown shows o (start_state o inputs) machine.orams n)
     (AreBehind paths o (start_state o inputs) n machine.orams)
     (given-leads (g.F.Shelf.seen c.args.shelf.now) (g.F.Shelf.seen c.find_accepted.new.shelf) _ _ o inputs
-    (traces_on paths false n c.args.asked.seed) c.in-Ok.ensures.found c.in-Ok.ensures.calm
-    c.in-Ok-find_inputs.ensures.found)
-    (c.in-Ok-find_inputs.ensures.calm ∙ c.in-Ok.ensures.calm)
+    (traces_on paths false n c.args.asked.seed) c.in_ok-accepted.ensures.found c.in_ok-accepted.ensures.calm
+    c.in_ok-inputs.ensures.found)
+    (c.in_ok-inputs.ensures.calm ∙ c.in_ok-accepted.ensures.calm)
     (events_in-with_paths _ _)
     (λ off levels are. subst (λ p. AreBehind p o (start_state o inputs) n machine.orams levels) off are)
     (λ on levels are.
-    is-shown o c.in-Ok.ensures.in_range inputs c.in-Ok-find_inputs.ensures.fits n c.args.asked.seed machine.orams
+    is-shown o c.in_ok-accepted.ensures.in_range inputs c.in_ok-inputs.ensures.fits n c.args.asked.seed machine.orams
     begun.count begun.orams levels
     (subst (λ p. AreBehind p o (start_state o inputs) n machine.orams levels) on are))
     (subst (λ (p : Parts). PutFrom p (start_state o inputs)) begun.object
     (subst (λ (s : State). PutFrom machine.object s) begun.state c.put_trace.ensures)))
-
-pub returns : goal.returns
-returns g c =
-    starved-said _ (g.F.Shelf.seen c.args.shelf.now) (g.F.Shelf.seen c.find_inputs.new.shelf)
-    (g.O.Sink.seen c.args.out.now) (g.O.Sink.seen c.say_no_memory-in-Err-load_seeded.new.out) _
-    (c.in-Ok-find_inputs.ensures.calm ∙ c.in-Ok.ensures.calm) c.say_no_memory-in-Err-load_seeded.ensures
