@@ -9,6 +9,9 @@
 //! the other, and add it to the tables in `specs/Verbs.antt`, `src/verbs.rt` and `src/top.rt`, and to
 //! `proofs/VerbRows.antt`. A new question is added to `specs/Questions.antt`, a new line to `src/replies.rt` with
 //! `specs/Texts.antt`. No other verb's files change.
+//!
+//! A verb's function answers the status where it put its own text. Where nothing was put yet, its `Err` is the reply
+//! that is to be said, want of memory among them: so what a step can't do is passed on by `?`, and said in one place.
 #![tactic(auto)]
 
 mod assemble;
