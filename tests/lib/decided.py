@@ -31,24 +31,24 @@ def objects(tool):
         yield 'A note that no instruction follows', said, f'fault 12 assembly {fault}'
     for line, fault in (('stb x', 'number 4'), ('li r1 12345678901234567890', 'number 4'), ('add r1 r2 r99', 'line 4'),
                         ('ldb 0 D1 r1', 'line 4'), ('.note 0 - - - - - - - -', 'line 4')):
-        yield 'in the place of a number', checked(f'{start}{line}\nhalt\n'), f'fault 12 assembly {fault}'
+        yield "in a number's position", checked(f'{start}{line}\nhalt\n'), f'fault 12 assembly {fault}'
     for bank, fault in ('5000 4262', 'number'), ('4 0', 'number'), ('4 4262', 'limit'):
         yield 'An eleventh bank', checked(f'{banks}.bank {bank}\nhalt\n'), f'fault 12 assembly {fault} 12'
     for depth, line in (64, 'accepted'), (65, 'fault 7 refused 67 11'):
-        yield 'where 64 lie around a branch it is refused', checked(f'{head}{nested(depth)}halt\n'), line
+        yield 'a branch that is nested in 64 is refused', checked(f'{head}{nested(depth)}halt\n'), line
     empty = checked(head + 'br eq r2 r1 -> +2\njmp -> +1\nhalt\n')
     yield 'for its unequal arms (reason 10)', empty, 'fault 7 refused 3 10'
     for target, reason in (4, 5), (6, 6):
         yield f'`refused 3 {reason}`', inferred(start + eight.format(target)), f'fault 7 refused 3 {reason}'
     into = 'br eq r1 r1 -> 6\nbr eq r2 r1 -> 7\nnop\njmp -> 8\nnop\nhalt\n'
-    yield 'the check refuses the region for it (reason 11)', inferred(head + into), 'fault 7 refused 4 11'
+    yield 'the check refuses the region for this note (reason 11)', inferred(head + into), 'fault 7 refused 4 11'
     wrong = 'li r1 0\n' + note.replace('00000000', 'ffffffff') + 'ldb 0 D r1\nhalt\n'
-    yield "doesn't look at the notes that an object has", inferred(start + wrong), 'inferred 0'
+    yield 'ignores the notes that an object has', inferred(start + wrong), 'inferred 0'
     unit = start.replace('.object 1 3 1 70 2 3', '.object 2 3 1 70 2 3 1 0 1')
-    yield 'version 1 of the object file alone spells it', checked(unit + 'halt\n'), 'fault 12 assembly number 1'
+    yield 'only version 1 of the object file can encode it', checked(unit + 'halt\n'), 'fault 12 assembly number 1'
     checked(start + 'halt\n')
     said = tool.call('bus', 'made.obj', 'none.json')
-    yield 'A core is refused before its inputs are read', said, 'fault 13 bus window 0'
+    yield 'A core is rejected before its inputs are read', said, 'fault 13 bus window 0'
 
 
 def sources(tool):
@@ -59,14 +59,14 @@ def sources(tool):
     proc = 'public int x; proc f(public int y; public int z) { '
     shared = f"{proc}}} f(x{128 * ' + x'}; x{129 * ' + x'});"
     for words, text, line in (
-            ('Of too many open braces the last is named', opened + 'if (x > 0) { ', f'deep {len(opened) + 11}'),
-            ('is judged by its leading digits first', 'public int x; x = 12a;', 'byte 20'),
-            ('is judged by its leading digits first', 'public int x; x = 99999999999999999999a;', 'number 18'),
-            ('Such a loop is refused before', 'secret int s; public int p; while (s > 0) { p = s; }', 'guard 0'),
-            ('A program is first typed whole', 'public int a[0]; x = 1;', 'undeclared 0'),
-            ('First comes the number of variables', many + 'public int a[0];', 'limit variables 257'),
+            ('If too many braces are open, the error names the last one', opened + 'if (x > 0) { ', f'deep {len(opened) + 11}'),
+            ('the leading digits are examined first', 'public int x; x = 12a;', 'byte 20'),
+            ('the leading digits are examined first', 'public int x; x = 99999999999999999999a;', 'number 18'),
+            ('The error for such a loop comes before', 'secret int s; public int p; while (s > 0) { p = s; }', 'guard 0'),
+            ('A program is first typed completely', 'public int a[0]; x = 1;', 'undeclared 0'),
+            ('the number of variables first', many + 'public int a[0];', 'limit variables 257'),
             ("then each array's length", high + 'public int a[0];', 'limit length 5'),
-            ('then all words together', high + tall, 'limit words 4'),
+            ('then the words of all variables together', high + tall, 'limit words 4'),
             ('the weight is last', tall.replace('x =', 4096 * 'x = 1; ' + 'x =', 1), 'limit height 4096'),
             ('are read from left to right', 'public int x; x[u] = 1;', 'shape 0'),
             ('are read from left to right', 'public int a[3]; a[u] = a;', 'undeclared 0'),
@@ -84,40 +84,40 @@ def sources(tool):
     yield 'is another name**, not a copy', alias, [5, 0]
     for depth, line in (11, 'compiled'), (12, 'fault 8 source limit weight 12285'):
         said = tool.compiled('secret int s; ' + depth * 'if (s > 0) { ' + depth * '} ', '9')
-        yield 'at most 11 stand inside one another', said, line
+        yield 'at most 11 can be nested', said, line
     made = []
     for more in [], ['--procs']:
         tool.compiled('public int x; secret int a[8]; a[x] = x;', '9', *more)
         with open('made.obj', 'rb') as file:
             made.append(file.read())
-    yield 'is read alike with the flag and without', made[0], made[1]
+    yield 'is read the same with the flag and without', made[0], made[1]
 
 
 def calls(tool):
     tool.compiled('public int x; x = 1;', '9', '--window', '2000:0:1')
     tool.write('made.json', '{}')
     said = tool.call('bus', 'made.obj', 'made.json', '--cycles', '9').split('\n')
-    yield 'its status is 10 where one of them is spent', said[-1], 'core 0 spent'
+    yield 'its status is 10 if one of them is spent', said[-1], 'core 0 spent'
     tool.call('dis', 'made.obj', 'made.asm')
     with open('made.asm', encoding='utf-8') as file:
         yield 'The object has the window in its profile', next(file), '.object 2 9 1 70 2 3 2000 0 1\n'
     tool.compiled('secret int s; secret int a[2048]; a[s] = 1;', '9')
     tool.write('made.json', '{}')
     lines = tool.call('trace', 'made.obj', 'made.json', '--paths').split('\n')
-    yield 'Levels stand behind the last line', (lines[-2], lines[-1][:9]), ('end halted', 'levels 2 ')
+    yield 'Levels are printed after the last line', (lines[-2], lines[-1][:9]), ('end halted', 'levels 2 ')
     lines = tool.call('trace', 'made.obj', 'made.json', '--paths', '--recursive').split('\n')
-    yield 'No levels of recursive banks are put', lines[-1], 'end halted'
+    yield 'prints no levels of recursive banks', lines[-1], 'end halted'
     for name, told in ('\x7f', '\\u007f'), ('\x9f', '\\u009f'), ('\xa0', '\xa0'):
         tool.write('made.json', json.dumps({name: 1}, ensure_ascii=False))
         said = tool.call('run', 'made.obj', 'made.json', 'made.out')
         yield 'the characters 127 to 159 are escaped', said, f'fault 9 input unknown "{told}"'
     for words, asked, line in (
-            ('`--paths=true` is refused', ['trace', 'x', 'y', '--paths=true'], 'fault 2 usage'),
+            ('`--paths=true` is a usage error', ['trace', 'x', 'y', '--paths=true'], 'fault 2 usage'),
             ('is a flag without a value** too', ['run', 'x', 'y', 'z', '--recursive=true'], 'fault 2 usage'),
             ('An option that is given twice', ['run', 'x', 'y', 'z', '--seed', '1', '--seed', '1'], 'fault 2 usage'),
-            ('help and version are words', ['check', '--version'], 'fault 2 usage'),
+            ('so are help and version', ['check', '--version'], 'fault 2 usage'),
             ('so a name there may begin with a hyphen', ['check', '--', '-x'], 'fault 3 read -x'),
-            ('is refused with status 4', ['dis', 'made.obj', '/dev/stdout'], 'fault 4 write /dev/stdout'),
+            ('is rejected with status 4', ['dis', 'made.obj', '/dev/stdout'], 'fault 4 write /dev/stdout'),
             ('The null device may be both', ['dis', 'made.obj', '/dev/null'], 'disassembled'),
-            ('ends without a line where a word is no text', ['check', b'\xff'], '')):
+            ("ends without a line if a word isn't text", ['check', b'\xff'], '')):
         yield words, tool.call(*asked), line
