@@ -5,6 +5,7 @@
 const Documents = (() => {
   const GROUPS = ['Programs', 'A leak beside its fix', 'Assembly', 'Opened'];
   const decoder = new TextDecoder('utf-8', { fatal: true, ignoreBOM: true });
+  const MOST_EDITED = 25_000_000;     // bytes of a file that is opened in the editor
   const MOST_KEPT = 2_000_000;        // letters of a text
   const list = [];
 
@@ -77,6 +78,7 @@ const Documents = (() => {
     if (Objects.isObject(bytes)) {
       return readOnly(`${file} is an object file of ${bytes.length.toLocaleString('en-US')} bytes.`);
     }
+    if (bytes.length > MOST_EDITED) return readOnly(`${file} is too long to be edited here. It is judged as it is.`);
     let text;
     try {
       text = decoder.decode(bytes);

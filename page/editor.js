@@ -83,6 +83,13 @@ const Editor = (() => {
     code.scrollIntoView({ line: line - 1, ch: 0 }, 80);
   }
 
+  // moves the cursor to a place, or to the end if the text has no such line any more
+  function goTo({ line, column }) {
+    const words = code.getLine(line - 1) || '';
+    code.setCursor(line - 1, column === null ? 0 : placeOf(words, column));
+    code.focus();
+  }
+
   return {
     make,
     open,
@@ -90,11 +97,6 @@ const Editor = (() => {
     clear,
     textFrom,
     setForm,
-    goTo: ({ line, column }) => {
-      code.setCursor(line - 1, column === null ? 0 : placeOf(code.getLine(line - 1), column));
-      code.focus();
-    },
-    line: (line) => code.getLine(line - 1),
-    focus: () => code.focus(),
+    goTo,
   };
 })();

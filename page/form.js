@@ -34,7 +34,7 @@ const Form = (() => {
     }
 
     members() {
-      return this.texts.map((text) => ghostInputs.read(text.value));
+      return this.texts.map((text) => Inputs.read(text.value));
     }
 
     show(variables) {
@@ -81,7 +81,7 @@ const Form = (() => {
       if (words === null || !members) return;
       const filled = words.concat(Array(variable.length - words.length).fill('0'));
       members.set(variable.name, variable.isArray ? filled : filled[0]);
-      this.texts[run].value = ghostInputs.write(members);
+      this.texts[run].value = Inputs.write(members);
       this.markDisagreements();
       this.changed();
     }
@@ -92,7 +92,7 @@ const Form = (() => {
       for (const { variable, fields } of this.fields) {
         fields.forEach((field, run) => {
           if (field === document.activeElement) return;
-          const words = ghostInputs.wordsOf(members[run], variable);
+          const words = Inputs.wordsOf(members[run], variable);
           const shown = words && (variable.isArray ? trimmed(words) : words);
           const fits = shown !== null && shown.length <= MOST_WORDS;
           field.readOnly = !fits;
@@ -105,7 +105,7 @@ const Form = (() => {
     }
 
     disagreements() {
-      return ghostInputs.disagreements(this.variables, this.members());
+      return Inputs.disagreements(this.variables, this.members());
     }
 
     markDisagreements() {
@@ -119,11 +119,11 @@ const Form = (() => {
       if (!first) return;
       const second = new Map(first);
       for (const variable of this.variables.filter((it) => it.label === 'secret')) {
-        const words = ghostInputs.wordsOf(first, variable) || [];
-        const random = ghostInputs.randomLike(words, variable.length);
+        const words = Inputs.wordsOf(first, variable) || [];
+        const random = Inputs.randomLike(words, variable.length);
         second.set(variable.name, variable.isArray ? random : random[0]);
       }
-      this.texts[1].value = ghostInputs.write(second);
+      this.texts[1].value = Inputs.write(second);
       this.refresh();
       this.changed();
     }

@@ -4,7 +4,7 @@
 
 // ---- JSON whose numbers are kept as text
 
-const ghostInputs = {
+const Inputs = {
   // The members of a JSON object, each a text for a number, a list of such texts, or null for anything else; null if
   // the text isn't a JSON object.
   read(json) {
@@ -39,7 +39,7 @@ const ghostInputs = {
   // the public variables whose inputs differ, with the first word that does
   disagreements(variables, runs) {
     return variables.filter((it) => it.label === 'public').flatMap((variable) => {
-      const words = runs.map((members) => ghostInputs.wordsOf(members, variable));
+      const words = runs.map((members) => Inputs.wordsOf(members, variable));
       if (words.includes(null)) return [];
       const count = Math.max(...words.map((it) => it.length));
       for (let i = 0; i < count; i += 1) {
@@ -63,4 +63,4 @@ const ghostInputs = {
   },
 };
 
-if (typeof module === 'object') module.exports = ghostInputs;
+if (typeof module === 'object') module.exports = Inputs;

@@ -77,11 +77,11 @@ function ghostMarks() {
     for (let x = axis.left; x < axis.right; x += COLUMN) {
       counts.push(placeFrom(stamps, axis.cycleAt(x + COLUMN)) - placeFrom(stamps, axis.cycleAt(x)));
     }
-    const most = Math.log(counts.reduce((high, count) => Math.max(high, count), 1)) || 1;
+    const most = Math.log(counts.reduce((high, count) => Math.max(high, count), 1));
     const bars = [];
     counts.forEach((count, i) => {
       if (!count) return;
-      const level = Math.ceil((Math.log(count) / most) * (LEVELS - 1)) + 1;
+      const level = most ? Math.ceil((Math.log(count) / most) * (LEVELS - 1)) + 1 : LEVELS;
       const from = axis.left + i * COLUMN;
       const last = bars[bars.length - 1];
       if (last && last.to === from && last.level === level) last.to = from + COLUMN;

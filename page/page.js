@@ -102,16 +102,13 @@ function restore() {
 
 // ---- what is kept, and links
 
-const optionsKept = () => Object.fromEntries(['block-log', 'cycles', 'seed-1', 'seed-2'].map((id) => [id, at(id).value])
-  .concat([['paths', at('paths').checked]]));
+const FIELDS = ['block-log', 'cycles', 'seed-1', 'seed-2'];
+
+const optionsKept = () => ({ ...Object.fromEntries(FIELDS.map((id) => [id, at(id).value])), paths: at('paths').checked });
 
 function takeOptions(options = {}) {
-  for (const [id, value] of Object.entries(options)) {
-    const field = at(id);
-    if (!field) continue;
-    if (typeof value === 'boolean') field.checked = value;
-    else field.value = value;
-  }
+  for (const id of FIELDS) if (typeof options[id] === 'string') at(id).value = options[id];
+  at('paths').checked = options.paths === true;
   at('seeds').hidden = !at('paths').checked;
 }
 

@@ -65,8 +65,8 @@ const Results = (() => {
       Difference.show(at('shown'), result);
       if (job.options.paths && result.traces.some((it) => it.paths.leaves.length)) tree = Tree.show(at('shown'), result);
       Costs.show(at('shown'), result.costs);
-      const members = job.inputs.map(ghostInputs.read);
-      const meaning = Difference.meaning(result, ghostInputs.disagreements(result.layout.symbols, members));
+      const members = job.inputs.map(Inputs.read);
+      const meaning = Difference.meaning(result, Inputs.disagreements(result.layout.symbols, members));
       const isEqual = verdict === Difference.VERDICTS.equal;
       return [isEqual ? 'good' : 'told', [`Accepted. ${Difference.summary(result)}`, meaning]];
     },

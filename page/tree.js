@@ -87,7 +87,8 @@ const Tree = (() => {
       const height = heightOf(this.result.layout.banks[path.bank].blocks);
       made(card, 'p', {}, `Run ${run + 1}, cycle ${grouped(cycle)}: oblivious bank ${path.bank}, `
         + `leaf ${path.leaf} of ${grouped(2 ** height)}`);
-      card.append(treeOf(height, path.leaf));
+      if (height) card.append(treeOf(height, path.leaf));
+      else made(card, 'p', {}, 'The bank has one block, so its tree has one node. Smaller blocks under Options give it more.');
     }
   }
 

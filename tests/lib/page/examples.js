@@ -64,8 +64,14 @@ async function paths(user) {
   user.says(/^([1-9]\d*),\1$/.test(dots), 'paths are drawn if they are chosen', dots);
   const trees = await user.value("document.querySelectorAll('#trees svg[data-leaf]').length");
   user.says(trees === 2 && (await user.textOf('shown')).includes('isn’t proved'), 'each run has its tree', trees);
-  await user.chooses('histogram.gr');
+  await user.chooses('heappop.gr');
   await user.presses('trace');
+  user.says((await user.textOf('trees')).includes('one block'), 'a bank of one block has no paths', await user.textOf('trees'));
+  await user.value(`${element('block-log')}.focus()`);
+  await user.browser.key('End');
+  await user.presses('trace');
+  const each = await user.value("document.querySelectorAll('#trees svg[data-leaf]').length");
+  user.says(each === 2, 'smaller blocks give it some', each);
   await user.clicks('#picture');
   await user.browser.key('Home');
   const lit = async () => `${await user.textOf('trees')}`;
@@ -73,6 +79,8 @@ async function paths(user) {
   for (let i = 0; i < 30; i += 1) await user.browser.key('ArrowRight');
   user.says(await lit() !== first, 'the path of the access under the cursor is lit', await lit());
   await user.keeps('paths');
+  await user.value(`${element('block-log')}.focus()`);
+  await user.browser.key('Home');
   await user.clicks('#paths');
   await user.presses('trace');
   const left = await user.value("document.querySelectorAll('#picture path[data-paths]').length");
