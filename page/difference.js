@@ -1,5 +1,5 @@
 'use strict';
-// Words for the events of two traces, and for how the traces differ: which variable, which word, and what both runs have.
+// Words for the events of two traces, and for how the traces differ: which variable and which word, in both runs.
 
 const Difference = (() => {
   const { grouped, counted, lookOf, placeFrom } = Marks;
@@ -85,7 +85,8 @@ const Difference = (() => {
       case VERDICTS.soFar:
         return `Both traces are equal so far: ${events} before cycle ${grouped(costs[0].end)}. Neither run has halted.`;
       default:
-        return `The traces first differ at cycle ${grouped(Marks.differCycle(result))}, in event ${grouped(differ + 1)}.`;
+        return `The traces first differ at cycle ${grouped(Marks.differCycle(result))}, in event `
+          + `${grouped(differ + 1)}.`;
     }
   }
 
@@ -102,7 +103,7 @@ const Difference = (() => {
   function meaning(result, disagreements) {
     switch (verdictOf(result)) {
       case VERDICTS.equal: return 'No one who watches the bus can tell these runs apart.';
-      case VERDICTS.soFar: return 'Nothing is said about later cycles. Allow more cycles under Options to compare further.';
+      case VERDICTS.soFar: return 'Nothing is said about later cycles. To compare further, allow more under Options.';
       default: return causeWords(disagreements);
     }
   }
@@ -136,7 +137,7 @@ const Difference = (() => {
     const rows = sameBlock ? rowsOf(layout, one, two) : [];
     return {
       respect: respect(one, two),
-      events: [one, two].map((event) => (event ? `cycle ${grouped(event.cycle)}: ${placeWords(layout, event)}` : 'no event')),
+      events: [one, two].map((it) => (it ? `cycle ${grouped(it.cycle)}: ${placeWords(layout, it)}` : 'no event')),
       rows: rows.slice(0, MOST_ROWS),
       more: Math.max(0, rows.length - MOST_ROWS),
     };

@@ -77,7 +77,8 @@ const Editor = (() => {
     const length = column === null ? words.trim().length : /^(?:\w+|[^\w\s]|)/.exec(words.slice(from))[0].length;
     const to = Math.max(from + length, from + 1);
     const range = to > words.length ? [Math.max(0, words.length - 1), words.length] : [from, to];
-    const made = code.markText({ line: line - 1, ch: range[0] }, { line: line - 1, ch: range[1] }, { className: 'fault' });
+    const [start, end] = range.map((ch) => ({ line: line - 1, ch }));
+    const made = code.markText(start, end, { className: 'fault' });
     code.addLineClass(handle, 'gutter', 'fault-line');
     marks.push({ mark: made, line: handle });
     code.scrollIntoView({ line: line - 1, ch: 0 }, 80);

@@ -1,6 +1,6 @@
 'use strict';
-// What the wheel, the pointers and the keys do to a picture. The wheel scrolls the page, and zooms with Ctrl only, which
-// a pinch on a touchpad counts as. A finger that moves up or down scrolls the page, sideways it pans.
+// What the wheel, the pointers and the keys do to a picture. The wheel scrolls the page, and zooms only with Ctrl; a
+// pinch on a touchpad counts as that. A finger that moves up or down scrolls the page; sideways it pans.
 
 class PictureInput {
   constructor(view) {

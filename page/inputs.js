@@ -1,6 +1,6 @@
 'use strict';
-// The inputs of both runs: a JSON object each, and a form over them with a row for each variable. The JSON is what runs;
-// the form rewrites it, and numbers stay as they were typed, digit by digit.
+// The inputs of both runs, a JSON object each. The JSON is what runs; the form rewrites it, and numbers stay as they
+// were typed, digit by digit.
 
 // ---- JSON whose numbers are kept as text
 
@@ -8,7 +8,7 @@ const Inputs = {
   // The members of a JSON object, each a text for a number, a list of such texts, or null for anything else; null if
   // the text isn't a JSON object.
   read(json) {
-    const marked = json.replace(/("(?:[^"\\]|\\.)*")|-?\d[\d.eE+-]*/g, (all, text) => text || JSON.stringify(`#${all}`));
+    const marked = json.replace(/("(?:[^"\\]|\\.)*")|-?\d[\d.eE+-]*/g, (all, text) => text || `"#${all}"`);
     let value = null;
     try {
       JSON.parse(json);

@@ -18,7 +18,7 @@ const Jobs = (() => {
     URL.revokeObjectURL(url);
     worker = mine;
     mine.onmessage = (event) => { if (mine === worker) hear(event.data); };
-    mine.onerror = (event) => { if (mine === worker) hear({ kind: 'stopped', name: 'Error', message: event.message }); };
+    mine.onerror = ({ message }) => { if (mine === worker) hear({ kind: 'stopped', name: 'Error', message }); };
     module = module || Store.unpacked(GHOST_MODULE);
     ready = module.then((bytes) => ask({ kind: 'load', bytes }));
     ready.catch(() => {});

@@ -7,11 +7,14 @@ const Layout = (() => {
   const MOST_BOXES = 48;              // of a bank
   const COLOURS = ['plain', 'encrypted'];
   const SHOWN = [
-    'The bus shows the number of each block that is accessed, and its words. Only public variables are here.',
-    'The bus shows the number of each block that is accessed, and hides its words. A secret variable is here if the '
-      + 'program accesses it at public places only.',
-    'The bus shows that the bank is accessed, and neither which block nor its words. An array is here if a secret '
-      + 'chooses the place of an access.',
+    'The bus shows the number of each block that is accessed, and its words.',
+    'The bus shows the number of each block that is accessed, and hides its words.',
+    'The bus shows that the bank is accessed, and hides which block, and its words.',
+  ];
+  const REASONS = [
+    'The compiler places public variables here.',
+    'The compiler places a secret variable here if all its accesses are at public places.',
+    'The compiler places a secret array here if a secret chooses the place of one of its accesses.',
   ];
 
   // the boxes of a bank: blocks with the same variables are one
@@ -41,7 +44,8 @@ const Layout = (() => {
     if (!held.length) made(item, 'span', { class: 'quiet' }, 'free');
   }
 
-  function show(parent, layout) {
+  // shows the banks; only of a compiled object the reasons of the places are known
+  function show(parent, layout, isCompiled) {
     made(parent, 'h2', {}, 'Where the variables are');
     const banks = made(parent, 'div', { id: 'layout' });
     layout.banks.forEach(({ blocks, latency }, bank) => {
@@ -49,7 +53,8 @@ const Layout = (() => {
       const name = Objects.memoryOf(bank);
       made(part, 'h3', {}, `${name[0].toUpperCase()}${name.slice(1)}: ${counted(blocks, 'block')} of `
         + `${layout.blockWords} words, ${grouped(latency)} cycles an access`);
-      made(part, 'p', { class: 'quiet' }, SHOWN[Math.min(bank, 2)]);
+      const words = [SHOWN[bank], ...(isCompiled ? [REASONS[bank]] : [])].join(' ');
+      if (bank < SHOWN.length) made(part, 'p', { class: 'quiet' }, words);
       const boxes = boxesOf(layout, bank);
       const row = made(part, 'ol', { class: 'boxes' });
       for (const it of boxes.slice(0, MOST_BOXES)) box(row, it);

@@ -1,6 +1,6 @@
 'use strict';
 // How traces are drawn, without a document: the marks of each kind of event, where they are on the axis of cycles, and
-// the cycles that each kind costs. The page and bench/picture share it. The colours are in style.css, by the same names.
+// the cycles that each kind costs. The page and bench/picture share it. The colours are in style.css, by these names.
 // Like the engine this is a function, since the worker is made of its text; node takes it as a module.
 
 function ghostMarks() {
@@ -48,7 +48,8 @@ function ghostMarks() {
   function stampsByKind({ kinds, stamps }) {
     const counts = new Map();
     for (const kind of kinds) counts.set(kind, (counts.get(kind) || 0) + 1);
-    const found = new Map([...counts].sort(([a], [b]) => a - b).map(([kind, count]) => [kind, new Float64Array(count)]));
+    const sorted = [...counts].sort(([a], [b]) => a - b);
+    const found = new Map(sorted.map(([kind, count]) => [kind, new Float64Array(count)]));
     const used = new Map();
     kinds.forEach((kind, i) => {
       const place = used.get(kind) || 0;
@@ -93,7 +94,8 @@ function ghostMarks() {
   // An axis has its first and last cycle (from, to), its pixels (left, right), and both ways between them.
   function axisOf(from, to, left, right) {
     const share = (right - left) / (to - from);
-    return { from, to, left, right, x: (cycle) => left + (cycle - from) * share, cycleAt: (x) => from + (x - left) / share };
+    const x = (cycle) => left + (cycle - from) * share;
+    return { from, to, left, right, x, cycleAt: (place) => from + (place - left) / share };
   }
 
   function isDense(stamps, axis) {

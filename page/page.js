@@ -63,7 +63,7 @@ function markEdited() {
     const it = Documents.find(option.value);
     option.textContent = it.original && it.isEdited() ? `${it.name} (edited)` : it.name;
   }
-  at('restore').hidden = !(current.original && current.isEdited());
+  at('restore').classList.toggle('away', !(current.original && current.isEdited()));
 }
 
 function choose(chosen) {
@@ -104,7 +104,8 @@ function restore() {
 
 const FIELDS = ['block-log', 'cycles', 'seed-1', 'seed-2'];
 
-const optionsKept = () => ({ ...Object.fromEntries(FIELDS.map((id) => [id, at(id).value])), paths: at('paths').checked });
+const optionsKept = () => ({
+  ...Object.fromEntries(FIELDS.map((id) => [id, at(id).value])), paths: at('paths').checked });
 
 function takeOptions(options = {}) {
   for (const id of FIELDS) if (typeof options[id] === 'string') at(id).value = options[id];
@@ -159,7 +160,8 @@ function numberIn(id, least, most) {
   at(id).setAttribute('aria-invalid', String(!isGood));
   if (isGood) return words;
   const label = at(id).labels[0].textContent.trim();
-  throw Object.assign(new Error(`${label}: a whole number from ${least} to ${most} is needed, and not “${words}”.`), { id });
+  const message = `${label}: a whole number from ${least} to ${most} is needed, and not “${words}”.`;
+  throw Object.assign(new Error(message), { id });
 }
 
 function optionsOf(verb) {

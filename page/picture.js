@@ -1,8 +1,8 @@
 'use strict';
 // The picture of two traces on one axis of cycles. A bar is an access, at the cycle at which it starts. Its colour and
 // its height show its memory. Reads are above their run's line, writes below it; an access of an oblivious bank, of
-// which the bus doesn't show which it is, is on both sides. If there are more events than pixels, the darker a column is,
-// the more events it has.
+// which the bus doesn't show which it is, is on both sides. If there are more events than pixels, the darker a column
+// is, the more events it has.
 
 const Picture = (() => {
   const { HIGH, lookOf, grouped, counted, placeFrom } = Marks;
@@ -79,8 +79,9 @@ const Picture = (() => {
       const { lines, strip, bottom } = this.heights();
       this.lines = lines;
       const svg = document.createElementNS(SVG, 'svg');
-      for (const [key, value] of Object.entries({ viewBox: `0 0 ${width} ${bottom + 24}`, height: bottom + 24, role: 'img',
-        'aria-label': 'The events of both traces' })) svg.setAttribute(key, value);
+      const look = { viewBox: `0 0 ${width} ${bottom + 24}`, height: bottom + 24, role: 'img',
+        'aria-label': 'The events of both traces' };
+      for (const [key, value] of Object.entries(look)) svg.setAttribute(key, value);
       this.result.traces.forEach((trace, run) => {
         this.drawRun(svg, trace, run, lines[run]);
         if (strip) this.drawPaths(svg, trace, run, lines[run] + HIGH + 6);
@@ -187,7 +188,8 @@ const Picture = (() => {
       this.cursor = event;
       const other = event && this.nearest(1 - event.run, event.cycle);
       const both = event ? [event, ...(other && other.cycle === event.cycle ? [other] : [])] : [];
-      this.say(both.sort((a, b) => a.run - b.run).map((it) => Difference.eventWords(this.result, it.run, it.place)), event);
+      const sorted = both.sort((a, b) => a.run - b.run);
+      this.say(sorted.map(({ run, place }) => Difference.eventWords(this.result, run, place)), event);
       this.told(event);
     }
 
@@ -224,7 +226,8 @@ const Picture = (() => {
     // goes to the next event of either run, or to the one before
     stepTo(direction) {
       const now = this.cursor ? this.cursor.cycle : direction > 0 ? this.from - 1 : this.to + 1;
-      this.goToBest(direction, ({ stamps }) => (direction > 0 ? placeFrom(stamps, now + 1) : placeFrom(stamps, now) - 1));
+      this.goToBest(direction, ({ stamps }) => (
+        direction > 0 ? placeFrom(stamps, now + 1) : placeFrom(stamps, now) - 1));
     }
 
     goToEnd(direction) {

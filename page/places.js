@@ -12,7 +12,8 @@ const Places = (() => {
   // ---- variables
 
   const GAP = '(?:\\s|//[^\\n]*)*';
-  const DECLARATION = new RegExp(`${GAP}(public|secret)\\s+int\\s+([A-Za-z_]\\w*)${GAP}(?:\\[\\s*(\\d+)\\s*\\])?${GAP};`, 'y');
+  const LENGTH = '(?:\\[\\s*(\\d+)\\s*\\])?';
+  const DECLARATION = new RegExp(`${GAP}(public|secret)\\s+int\\s+([A-Za-z_]\\w*)${GAP}${LENGTH}${GAP};`, 'y');
   const SYMBOL = /^[^\S\n]*\.symbol[ \t]+(\w+)[ \t]+(public|secret)[ \t]+(scalar|array)(?:[ \t]+\d+){3}[ \t]+(\d+)/gm;
 
   function declaredIn(text) {
@@ -78,7 +79,8 @@ const Places = (() => {
     if (file !== 'program') return null;
     if (line !== null) return { line, column };
     if (!isAssembly(text)) return null;
-    const own = symbol === null ? instruction !== null && lineOfInstruction(text, instruction) : lineOfSymbol(text, symbol);
+    const own = symbol !== null ? lineOfSymbol(text, symbol)
+      : instruction !== null && lineOfInstruction(text, instruction);
     return own ? { line: own, column: null } : null;
   }
 

@@ -38,20 +38,20 @@ const Results = (() => {
   }
 
   const SHOWS = {
-    check(result) {
-      Layout.show(at('shown'), result.layout);
+    check(result, job) {
+      Layout.show(at('shown'), result.layout, job.form === 'source');
       return ['good', ['Accepted: the memory bus shows only public data in each of its runs.']];
     },
     compile(result, job) {
       heading(`The object as assembly: ${counted(result.listing.starts.length, 'line')}`);
       Listing.show(at('shown'), result.listing, 'listing', 'The object as assembly');
-      Layout.show(at('shown'), result.layout);
+      Layout.show(at('shown'), result.layout, job.form === 'source');
       offer('save-listing', result.listing.bytes, 'text/plain', `${job.base}.asm`, 'Save the assembly');
       return ['good', [`The object has ${grouped(result.object.length)} bytes.`]];
     },
     run(result, job) {
       result.outputs.forEach(({ said, bytes }, run) => {
-        heading(`Run ${run + 1} ${said.replace(/^halted (\d+)$/, (all, cycle) => `halted at cycle ${grouped(Number(cycle))}`)}`);
+        heading(`Run ${run + 1} halted at cycle ${grouped(Number(said.replace('halted ', '')))}`);
         made(at('shown'), 'pre', { id: `output-${run + 1}`, tabindex: 0 }, outputWords(bytes));
         offer(`save-output-${run + 1}`, bytes, 'application/json', `${job.base}-${run + 1}.json`,
           `Save the outputs of run ${run + 1}`);
@@ -63,7 +63,8 @@ const Results = (() => {
       let tree = null;
       Picture.show(at('shown'), result, (event) => tree && tree.select(event));
       Difference.show(at('shown'), result);
-      if (job.options.paths && result.traces.some((it) => it.paths.leaves.length)) tree = Tree.show(at('shown'), result);
+      const hasPaths = result.traces.some((it) => it.paths.leaves.length);
+      if (job.options.paths && hasPaths) tree = Tree.show(at('shown'), result);
       Costs.show(at('shown'), result.costs);
       const members = job.inputs.map(Inputs.read);
       const meaning = Difference.meaning(result, Inputs.disagreements(result.layout.symbols, members));

@@ -51,8 +51,8 @@ const Tree = (() => {
     constructor(parent, result) {
       this.result = result;
       made(parent, 'h2', {}, 'The paths of oblivious banks');
-      made(parent, 'p', {}, 'Each access of an oblivious bank reads and writes one path of its tree, from the root to a '
-        + 'leaf. The leaves are random, so two runs show different paths even if they access the same blocks. It is '
+      made(parent, 'p', {}, 'Each access of an oblivious bank reads and writes one path of its tree, from the root to '
+        + 'a leaf. The leaves are random, so two runs show different paths even if they access the same blocks. It is '
         + 'proved that two runs of an accepted program access the same banks at the same cycles if their public inputs '
         + 'agree, and that a rearrangement of the random words of one run gives the leaves of the other. That all '
         + 'random words are equally likely isn’t proved.');
@@ -88,7 +88,7 @@ const Tree = (() => {
       made(card, 'p', {}, `Run ${run + 1}, cycle ${grouped(cycle)}: oblivious bank ${path.bank}, `
         + `leaf ${path.leaf} of ${grouped(2 ** height)}`);
       if (height) card.append(treeOf(height, path.leaf));
-      else made(card, 'p', {}, 'The bank has one block, so its tree has one node. Smaller blocks under Options give it more.');
+      else made(card, 'p', {}, 'The bank has one block, so its tree has one node. Smaller blocks give it more.');
     }
   }
 

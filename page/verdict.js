@@ -81,8 +81,8 @@ const Verdict = (() => {
   function stopped(error) {
     if (error.name === 'Ended') say('', ['The work was ended.']);
     else if (error.name === 'NoMemory' || error.name === 'RangeError') {
-      say('bad', ['Memory ran out in this browser, which says nothing about the program. Allow fewer cycles, or use the '
-        + 'command.']);
+      say('bad', ['Memory ran out in this browser, which says nothing about the program. Allow fewer cycles, or use '
+        + 'the command.']);
     } else say('bad', ['The program stopped, which says nothing about its inputs.', error.message]);
   }
 

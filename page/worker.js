@@ -46,7 +46,8 @@ function ghostWorker(engine, objects, marks, tell) {
 
     both(what, words, good) {
       const object = this.checked();
-      const steps = [0, 1].map((run) => this.call(`${what} run ${run + 1}`, words(run), object, this.job.inputs[run], good));
+      const steps = this.job.inputs.map((input, run) => (
+        this.call(`${what} run ${run + 1}`, words(run), object, input, good)));
       return { object, steps };
     }
 
@@ -63,7 +64,8 @@ function ghostWorker(engine, objects, marks, tell) {
     run() {
       const { object, steps } = this.both('run',
         () => ['run', 'program', 'input', 'output', '--cycles', this.job.options.cycles]);
-      return { object, outputs: steps.map(({ text, output }) => ({ said: decoder.decode(text).trim(), bytes: output })) };
+      const outputs = steps.map(({ text, output }) => ({ said: decoder.decode(text).trim(), bytes: output }));
+      return { object, outputs };
     }
 
     trace() {

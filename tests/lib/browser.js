@@ -1,6 +1,6 @@
 'use strict';
-// A browser without a window, driven by its own protocol over two pipes. Clicks, keys, wheel and touch are events of the
-// browser, as a user's are.
+// A browser without a window, driven by its own protocol over two pipes. Clicks, keys, wheel and touch are events of
+// the browser, as a user's are.
 const { spawn } = require('child_process');
 const fs = require('fs');
 const os = require('os');
@@ -109,7 +109,8 @@ class Browser {
     const text = control ? '' : KEY_TEXTS[key] || (key.length === 1 ? key : '');
     const code = KEY_CODES[key] || key.toUpperCase().charCodeAt(0);
     const modifiers = (control ? CONTROL : 0) + (shift ? SHIFT : 0);
-    const named = { key, code: key.length === 1 ? `Key${key.toUpperCase()}` : key, windowsVirtualKeyCode: code, modifiers };
+    const place = key.length === 1 ? `Key${key.toUpperCase()}` : key;
+    const named = { key, code: place, windowsVirtualKeyCode: code, modifiers };
     await this.ask('Input.dispatchKeyEvent', { type: text ? 'keyDown' : 'rawKeyDown', ...named, text });
     await this.ask('Input.dispatchKeyEvent', { type: 'keyUp', ...named });
   }

@@ -17,7 +17,8 @@ const SETTINGS = 'user_pref("marionette.port", 0);\nuser_pref("browser.shell.che
 
 // the path of the browser, or null
 function find() {
-  const files = (process.env.PATH || '').split(':').flatMap((folder) => NAMES.map((name) => path.resolve(folder, name)));
+  const folders = (process.env.PATH || '').split(':');
+  const files = folders.flatMap((folder) => NAMES.map((name) => path.resolve(folder, name)));
   return files.find((file) => fs.existsSync(file)) || null;
 }
 

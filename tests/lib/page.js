@@ -40,7 +40,9 @@ async function main() {
   const file = chromium.find();
   if (!file) process.exit(3);
   let failures = 0;
-  if (chosen.join() !== 'firefox') failures += await inBrowser(await chromium.Browser.open(file, '1280,1000'), inChromium);
+  if (chosen.join() !== 'firefox') {
+    failures += await inBrowser(await chromium.Browser.open(file, '1280,1000'), inChromium);
+  }
   const other = firefox.find();
   if (other && (!chosen.length || chosen.includes('firefox'))) {
     failures += await inBrowser(await firefox.Firefox.open(other), (user) => play(user, 'firefox'));

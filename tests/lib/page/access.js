@@ -20,7 +20,8 @@ async function keysAlone(user) {
   await user.value(`${element('check')}.focus()`);
   await user.browser.key('Enter');
   await user.browser.until(READY);
-  user.says((await user.verdict()).startsWith('Accepted') && await user.focus() === 'check', 'the focus stays after a job',
+  user.says((await user.verdict()).startsWith('Accepted') && await user.focus() === 'check',
+    'the focus stays after a job',
     await user.focus());
   await user.value(`${element('source')}.focus()`);
   await user.browser.key('Enter', { control: true });

@@ -16,7 +16,7 @@ async function opens(user) {
   await user.opensAnew();
   user.says(await user.verdict() === 'Ready.', 'the page opens from the file system', await user.verdict());
   const names = await user.value("[...document.querySelectorAll('button, select, textarea, input')].filter((it) => "
-    + "!(it.labels && it.labels.length) && !it.getAttribute('aria-label') && !it.innerText.trim() "
+    + "!(it.labels && it.labels.length) && !it.getAttribute('aria-label') && !it.textContent.trim() "
     + '&& it.offsetParent).length');
   user.says(names === 0, 'each control has a name', names);
 }
@@ -51,7 +51,8 @@ async function leaks(user) {
   user.says(told.includes('first differ') && told.includes('p[0] is'), 'the leak shows, and its cause is named', told);
   await user.chooses('unbalanced.asm');
   const rejected = await user.presses('check');
-  user.says(rejected.startsWith('Rejected') && await user.tone() === 'bad', 'an example of a branch that leaks', rejected);
+  user.says(rejected.startsWith('Rejected') && await user.tone() === 'bad',
+    'an example of a branch that leaks', rejected);
 }
 
 async function paths(user) {
@@ -66,7 +67,8 @@ async function paths(user) {
   user.says(trees === 2 && (await user.textOf('shown')).includes('isn’t proved'), 'each run has its tree', trees);
   await user.chooses('heappop.gr');
   await user.presses('trace');
-  user.says((await user.textOf('trees')).includes('one block'), 'a bank of one block has no paths', await user.textOf('trees'));
+  user.says((await user.textOf('trees')).includes('one block'),
+    'a bank of one block has no paths', await user.textOf('trees'));
   await user.value(`${element('block-log')}.focus()`);
   await user.browser.key('End');
   await user.presses('trace');

@@ -27,13 +27,15 @@ async function opensTexts(user) {
     const verb = name.endsWith('.asm') ? 'asm' : 'compile';
     const { status, text } = program.call([verb, 'program', 'output'], new Uint8Array(Buffer.from(bytes)));
     const line = Buffer.from(text).toString().trim();
-    user.says(status === 0 ? told.startsWith('Accepted') : told.includes(line), `${name}: as by the command`, `${line} ${told}`);
+    user.says(status === 0 ? told.startsWith('Accepted') : told.includes(line), `${name}: as by the command`,
+      `${line} ${told}`);
   }
 }
 
 async function opensObjects(user) {
   await user.opensFile('first.obj', fs.readFileSync(path.join(ROOT, 'examples/first.obj')));
-  user.says((await user.verdict()).includes('first.obj is an object file of'), 'an object is opened', await user.verdict());
+  user.says((await user.verdict()).includes('first.obj is an object file of'),
+    'an object is opened', await user.verdict());
   user.says((await user.presses('check')).startsWith('Accepted'), 'and checked', await user.verdict());
   await user.presses('compile');
   user.says((await user.textOf('listing')).startsWith('.object '), 'and listed');
@@ -52,7 +54,8 @@ async function opensObjects(user) {
 async function procedures(user) {
   const source = fs.readdirSync(path.join(ROOT, 'examples/procedures')).find((it) => it.endsWith('.gr'));
   await user.opensFile(source, fs.readFileSync(path.join(ROOT, 'examples/procedures', source)));
-  user.says((await user.presses('check')).startsWith('Accepted'), `procedures are compiled: ${source}`, await user.verdict());
+  user.says((await user.presses('check')).startsWith('Accepted'),
+    `procedures are compiled: ${source}`, await user.verdict());
 }
 
 async function savesFiles(user) {
@@ -60,14 +63,17 @@ async function savesFiles(user) {
   await user.presses('compile');
   const { name, bytes } = await user.saves('#save');
   const expected = (await engine()).call(['compile', 'program', 'output'], SOURCE).output;
-  user.says(name === 'my own.obj' && Buffer.compare(bytes, Buffer.from(expected)) === 0, 'Save has the name of the file', name);
+  user.says(name === 'my own.obj' && Buffer.compare(bytes, Buffer.from(expected)) === 0,
+    'Save has the name of the file', name);
   const listing = await user.saves('#save-listing');
-  user.says(listing.name === 'my own.asm' && listing.bytes.toString().startsWith('.object '), 'so has the assembly', listing.name);
+  user.says(listing.name === 'my own.asm' && listing.bytes.toString().startsWith('.object '),
+    'so has the assembly', listing.name);
   await user.chooses('findmax.gr');
   await user.presses('run');
   const output = await user.saves('#save-output-2');
   const wanted = fs.readFileSync(path.join(ROOT, 'examples/programs/findmax-2.out'), 'utf8');
-  user.says(output.name === 'findmax-2.json' && output.bytes.toString() === wanted, 'and outputs, as the command writes them',
+  user.says(output.name === 'findmax-2.json' && output.bytes.toString() === wanted,
+    'and outputs, as the command writes them',
     output.bytes.toString());
 }
 
@@ -85,7 +91,8 @@ async function keepsEdits(user) {
   await user.opens();
   await user.value(`choose(Documents.find('sum.gr'))`);
   user.says(await user.program() === mine, 'an example that was edited is as it was left, after a reload too');
-  user.says(await user.value(`${element('example')}.selectedOptions[0].textContent`) === 'sum.gr (edited)', 'and says so');
+  user.says(await user.value(`${element('example')}.selectedOptions[0].textContent`) === 'sum.gr (edited)',
+    'and says so');
   await user.waits(400);
   await user.reloads();
   user.says(await user.program() === mine, 'a reload shows the document that was in the editor');
@@ -105,7 +112,8 @@ async function link(user) {
   await user.opens(url);
   await user.browser.until(`${element('verdict')}.innerText.includes('from the link')`, 5);
   const seen = await user.value(`[${element('one')}.value, ${element('two')}.value, ${element('cycles')}.value].join()`);
-  user.says(await user.program() === mine && seen === '{"x":1},{"x":2},123', 'a link carries text, inputs and options', seen);
+  user.says(await user.program() === mine && seen === '{"x":1},{"x":2},123',
+    'a link carries text, inputs and options', seen);
   user.says(await user.value('location.hash') === '', 'and is taken out of the address');
   await user.opens(`${url.replace(/#.*/, '')}#1=damaged`);
   await user.browser.until(`${element('verdict')}.innerText !== 'Ready.'`, 5);

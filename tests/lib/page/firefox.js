@@ -9,9 +9,11 @@ async function opens(user) {
 
 async function example(user) {
   const checked = await user.presses('check');
-  user.says(checked.startsWith('Accepted') && await user.focus() === 'check', 'Firefox: check, and the focus stays', checked);
+  user.says(checked.startsWith('Accepted') && await user.focus() === 'check',
+    'Firefox: check, and the focus stays', checked);
   const traced = await user.presses('trace');
-  user.says(traced.includes('Both traces are equal: 15 events, and both runs halt at cycle 9,829.'), 'Firefox: trace', traced);
+  user.says(traced.includes('Both traces are equal: 15 events, and both runs halt at cycle 9,829.'),
+    'Firefox: trace', traced);
   const bars = await user.value("document.querySelectorAll('#picture path[data-bars]').length");
   user.says(bars === 10, 'Firefox: the picture', bars);
 }

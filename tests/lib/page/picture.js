@@ -42,10 +42,12 @@ async function difference(user) {
   const told = await user.presses('trace');
   const apart = ['first differ at cycle 1, in event 1', 'n is 10 in run 1 and 9 in run 2'].every((it) => told.includes(it));
   user.says(apart && await user.tone() === 'told', 'traces that differ', told);
-  user.says(await user.value("document.querySelectorAll('#picture .differ').length") === 1, 'the mark of the difference');
+  user.says(await user.value("document.querySelectorAll('#picture .differ').length") === 1,
+    'the mark of the difference');
   await user.clicks('#to-differ');
   await user.browser.until(`${element('under')}.innerText.includes('cycle 1:')`, 5);
-  user.says((await user.textOf('under')).includes('plain memory, read: block 0 (n = 10; i = 0)'), 'what is there is said',
+  user.says((await user.textOf('under')).includes('plain memory, read: block 0 (n = 10; i = 0)'),
+    'what is there is said',
     await user.textOf('under'));
   await user.keeps('differ');
 }
@@ -90,7 +92,8 @@ async function density(user) {
   user.says(bytes < 200000, 'in a small picture', bytes);
   await user.clicks('#picture', [0.5, 0.3]);
   const under = await user.textOf('under');
-  user.says(/run 1, cycles [\d,]+ to [\d,]+: [\d,]+ × encrypted memory, read/.test(under), 'and what is there is counted', under);
+  user.says(/run 1, cycles [\d,]+ to [\d,]+: [\d,]+ × encrypted memory, read/.test(under),
+    'and what is there is counted', under);
   await user.keeps('density');
 }
 
@@ -103,7 +106,8 @@ async function touch(user) {
     + '.getBoundingClientRect(); return [it.left + 1, it.top + it.height / 2]; })()');
   await user.browser.tapAt(...bar);
   const told = await user.textOf('under');
-  user.says(told.includes('run 1, event 2,') && told.includes('encrypted memory, read: block'), 'a tap says what is there', told);
+  user.says(told.includes('run 1, event 2,') && told.includes('encrypted memory, read: block'),
+    'a tap says what is there', told);
   user.says(await user.value("getComputedStyle(document.querySelector('#picture svg')).touchAction") === 'pan-y',
     'a finger scrolls the page');
   await user.browser.show({});

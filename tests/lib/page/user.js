@@ -61,7 +61,10 @@ class User {
     return [box[0] + box[2] * share[0], box[1] + box[3] * share[1]];
   }
 
+  // clicks on an element, as soon as it is seen
   async clicks(selector, share) {
+    await this.browser.until(`(() => { const it = document.querySelector(${JSON.stringify(selector)});
+      return it && it.offsetParent && getComputedStyle(it).visibility === 'visible'; })()`, 10);
     await this.browser.clickAt(...await this.placeOf(selector, share));
   }
 
@@ -79,7 +82,7 @@ class User {
     await this.browser.key('Home');
     for (let i = 0; i < place; i += 1) await this.browser.key('ArrowDown');
     await this.browser.until(`${element('example')}.value === '${name}'`, 5);
-    if (!await this.value(`${element('restore')}.hidden`)) await this.clicks('#restore');
+    if (!await this.value(`${element('restore')}.classList.contains('away')`)) await this.clicks('#restore');
   }
 
   // replaces what a field or the editor has

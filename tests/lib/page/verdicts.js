@@ -27,7 +27,8 @@ async function cutOff(user) {
 async function staleText(user) {
   await user.chooses('findmax.gr');
   const before = await user.presses('check');
-  user.says(before.startsWith('Accepted') && await user.value(`!!${element('save')}`), 'a fresh verdict offers the object');
+  user.says(before.startsWith('Accepted') && await user.value(`!!${element('save')}`),
+    'a fresh verdict offers the object');
   await user.clicks('.CodeMirror-scroll', [0.7, 0.1]);
   await user.browser.key('x');
   user.says(await user.isStale() && (await user.textOf('stale')).includes('was changed after this'),
@@ -97,7 +98,8 @@ async function faults(user) {
     await user.chooses(example || 'sum.gr');
     if (source) await user.writesProgram(source);
     const told = await user.presses('check');
-    user.says(told.includes(says) && told.includes('fault ') && await user.tone() === 'bad', `the fault of ${what}`, told);
+    user.says(told.includes(says) && told.includes('fault ') && await user.tone() === 'bad',
+      `the fault of ${what}`, told);
     const seen = await user.marks();
     user.says(typeof marks === 'string' ? seen === marks : marks.test(seen), 'its place is marked', seen);
     user.says(!COMMAND.test(told), 'in words of the page', told);
@@ -105,7 +107,8 @@ async function faults(user) {
   await user.keeps('fault');
   await user.clicks('#to-fault');
   const line = await user.value("document.querySelector('.CodeMirror').CodeMirror.getCursor().line");
-  user.says(line === 8 && await user.focus() === 'source', 'its place leads into the editor', `${line} ${await user.focus()}`);
+  user.says(line === 8 && await user.focus() === 'source', 'its place leads into the editor',
+    `${line} ${await user.focus()}`);
   await user.browser.insert(' ');
   user.says(await user.marks() === ' ', 'an edit takes the mark away', await user.marks());
 }
@@ -145,7 +148,8 @@ async function options(user) {
   await user.clicks('#paths');
   await user.writesOption('seed-2', '18446744073709551616');
   const told = await user.presses('trace');
-  user.says(told.includes('Seed of run 2: a whole number from 0 to 18446744073709551615'), 'nor a seed of 65 bits', told);
+  user.says(told.includes('Seed of run 2: a whole number from 0 to 18446744073709551615'),
+    'nor a seed of 65 bits', told);
   await user.writesOption('seed-2', '0');
   await user.clicks('#paths');
 }
