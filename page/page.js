@@ -1,231 +1,205 @@
 'use strict';
-// What the buttons do. The work is done in a worker, so the page stays at hand; a worker that is ended, or that
-// stopped, is replaced by a new one.
+// The page: documents, inputs, options and buttons. Each job carries the revision of what it is about, so a result of
+// an earlier text is never shown as one of the text that is in the editor.
 
 const at = (id) => document.getElementById(id);
-const engine = ghostEngine();         // for the lines of traces alone: it is never loaded here
-let opened = null;                    // an object file that was opened, or none where the editor counts
-let marked = null;                    // the line of the editor that is marked, if any
+const VERBS = ['check', 'compile', 'trace', 'run'];
+const NEED_INPUTS = ['trace', 'run'];
+const MOST_SEED = 2n ** 64n - 1n;
+const PAUSE = 250;                    // after a key until the form and the browser's store follow, in milliseconds
 
-// ---- the editor
+const revision = { program: 0, runs: 0 };
+let current = null;                   // the document in the editor
+let shown = null;                     // the job whose result is shown
+let form = null;                      // the form of the inputs
+let isWorking = false;
+let timer = null;
 
-function numberLines() {
-  const count = at('source').value.split('\n').length;
-  const numbers = Array.from({ length: count }, (_, i) => `${i + 1}\n`);
-  if (marked === null || marked > count) {
-    at('lines').textContent = numbers.join('');
-  } else {
-    const mark = Object.assign(document.createElement('b'), { textContent: marked });
-    at('lines').replaceChildren(numbers.slice(0, marked - 1).join(''), mark, `\n${numbers.slice(marked).join('')}`);
+// ---- revisions
+
+const isStale = (job) => job.revision.program !== revision.program
+  || (NEED_INPUTS.includes(job.verb) && job.revision.runs !== revision.runs);
+
+// something was changed of the program, or of the runs
+function changed(part) {
+  revision[part] += 1;
+  if (shown && isStale(shown)) Results.makeStale(shown);
+  clearTimeout(timer);
+  timer = setTimeout(follow, PAUSE);
+}
+
+// what follows an edit after a pause: the form has its variables, the list its marks, and the browser keeps it all
+function follow() {
+  clearTimeout(timer);
+  timer = null;
+  if (!current.bytes) Editor.setForm(current.form());
+  form.show(current.variables());
+  sayDisagreements();
+  markEdited();
+  keep();
+}
+
+function sayDisagreements() {
+  const words = form.disagreements().map(({ variable, index, one, two }) => (
+    `${variable.name}${variable.isArray ? `[${index}]` : ''} (${one} and ${two})`));
+  at('disagree').textContent = words.length
+    ? `The public inputs differ, so the traces may differ: ${words.join(', ')}.` : '';
+}
+
+// ---- documents
+
+function fillList() {
+  const groups = Documents.GROUPS.map((label) => {
+    const group = Object.assign(document.createElement('optgroup'), { label });
+    group.append(...Documents.list.filter((it) => it.group === label).map((it) => new Option(it.name, it.name)));
+    return group;
+  });
+  at('example').replaceChildren(...groups.filter((group) => group.children.length));
+  if (current) at('example').value = current.name;
+}
+
+function markEdited() {
+  for (const option of at('example').options) {
+    const it = Documents.find(option.value);
+    option.textContent = it.original && it.isEdited() ? `${it.name} (edited)` : it.name;
   }
-  at('lines').scrollTop = at('source').scrollTop;
+  at('restore').classList.toggle('away', !(current.original && current.isEdited()));
 }
 
-function markLine(line) {
-  marked = line;
-  if (line !== null) at('source').scrollTop = Math.max(0, (line - 8) * 18);
-  numberLines();
+function choose(chosen) {
+  if (timer !== null) follow();
+  current = chosen;
+  fillList();
+  Editor.open(current.text, current.bytes !== null);
+  ['one', 'two'].forEach((id, run) => { at(id).value = current.inputs[run]; });
+  for (const part of Object.keys(revision)) revision[part] += 1;
+  shown = null;
+  Results.clear();
+  Verdict.say('', [current.note || 'Ready.']);
+  follow();
 }
 
-function setSource(text) {
-  opened = null;
-  at('source').readOnly = false;
-  at('source').value = text;
-  at('source').scrollTop = 0;
-  markLine(null);
-}
-
-function chooseExample() {
-  const { source, one, two } = EXAMPLES[at('example').value];
-  setSource(source);
-  at('one').value = one;
-  at('two').value = two;
-  clear();
-  say('', ['Ready.']);
-}
-
-const OBJECT_MAGIC = [71, 82, 76, 84];
+let opening = 0;                      // counts the files that were opened, since reading one takes a while
 
 async function openFile(file) {
-  const bytes = new Uint8Array(await file.arrayBuffer());
-  clear();
-  if (OBJECT_MAGIC.every((byte, i) => bytes[i] === byte)) {
-    setSource(`; ${file.name}: an object file of ${bytes.length} bytes\n`);
-    at('source').readOnly = true;
-    opened = bytes;
-  } else {
-    setSource(new TextDecoder().decode(bytes));
+  opening += 1;
+  const mine = opening;
+  try {
+    const bytes = new Uint8Array(await file.arrayBuffer());
+    if (mine !== opening) return;
+    const found = Documents.fromFile(file.name, bytes);
+    choose(found);
+    Verdict.say('', [found.note || `${file.name} is open.`]);
+  } catch (error) {
+    Verdict.say('bad', [`${file.name} can’t be read.`, error.message]);
   }
-  say('', [`${file.name} is open.`]);
 }
 
-// ---- what is said and shown
-
-// what it says of a call where no words of the program do
-const ALONE = {
-  3: 'The file couldn’t be read.',
-  4: 'The text has no room.',
-  5: 'Memory ran out, which says nothing of the program.',
-};
-
-function say(tone, sentences, line = '', explained = '') {
-  at('verdict').className = tone;
-  at('verdict').replaceChildren(...sentences.filter(Boolean).map((words) => Object.assign(document.createElement('p'), {
-    textContent: words })));
-  if (explained) {
-    at('verdict').append(Object.assign(document.createElement('pre'), { className: 'explained', textContent: explained }));
-  }
-  if (line) at('verdict').append(Object.assign(document.createElement('p'), { className: 'said', textContent: line }));
+function restore() {
+  current.restore();
+  choose(current);
 }
 
-function clear() {
-  at('shown').replaceChildren();
-  at('save').hidden = true;
-  markLine(null);
+// ---- what is kept, and links
+
+const FIELDS = ['block-log', 'cycles', 'seed-1', 'seed-2'];
+
+const optionsKept = () => ({
+  ...Object.fromEntries(FIELDS.map((id) => [id, at(id).value])), paths: at('paths').checked });
+
+function takeOptions(options = {}) {
+  for (const id of FIELDS) if (typeof options[id] === 'string') at(id).value = options[id];
+  at('paths').checked = options.paths === true;
+  at('seeds').hidden = !at('paths').checked;
 }
 
-function heading(words) {
-  at('shown').append(Object.assign(document.createElement('h2'), { textContent: words }));
+// keeps all in the browser, and says what isn't kept
+function keep() {
+  const saved = Store.save({ current: current.name, drafts: Documents.kept(), options: optionsKept() });
+  const isKept = saved && !current.bytes && current.words().length <= Documents.MOST_KEPT;
+  at('kept').textContent = isKept || !current.isEdited() ? ''
+    : 'The browser can’t keep this text: it is gone if the page is loaded again.';
 }
 
-function preformatted(text, id) {
-  const node = document.createElement('pre');
-  node.id = id;
-  node.tabIndex = 0;
-  node.textContent = text;
-  at('shown').append(node);
-}
-
-function offerObject(object) {
-  const link = at('save');
-  if (link.href) URL.revokeObjectURL(link.href);
-  link.href = URL.createObjectURL(new Blob([object], { type: 'application/octet-stream' }));
-  link.download = `${(at('example').value || 'program').replace(/\.\w+$/, '')}.obj`;
-  link.textContent = `Save the object (${object.length.toLocaleString('en-US')} bytes)`;
-  link.hidden = false;
-}
-
-const commandOf = (step) => `ghostrider ${step.words.join(' ')}`;
-
-function sayFault(step) {
-  const line = step.text.trim();
-  const inInputs = step.status === 9;
-  const place = opened || inInputs ? null : Places.lineOf(at('source').value, line);
-  markLine(place);
-  const about = /run (\d)/.exec(step.what);
-  const where = place === null ? '' : `Line ${place}: ${at('source').value.split('\n')[place - 1].trim()}`;
-  const whose = about && inInputs ? `The inputs of run ${about[1]} are refused.` : '';
-  const explained = (step.explained || '').trimEnd();
-  say('bad', [whose, explained ? '' : ALONE[step.status] || 'The program refused.', where],
-    `${line}   (${commandOf(step)}, status ${step.status})`, explained);
-}
-
-const SHOWS = {
-  check(result) {
-    say('good', ['Accepted: what its runs show on the bus depends on public inputs alone.'], took(result));
-  },
-  compile(result) {
-    say('good', [`The object has ${result.object.length.toLocaleString('en-US')} bytes.`], took(result));
-    heading('The object as assembly');
-    preformatted(result.listing, 'listing');
-  },
-  run(result) {
-    const runs = result.done.filter((step) => step.words[0] === 'run');
-    say('good', ['Both runs are done.'], took(result));
-    runs.forEach((step, run) => {
-      heading(`Run ${run + 1}: ${step.text.trim()}`);
-      preformatted(step.output, `output-${run + 1}`);
-    });
-  },
-  trace(result) {
-    const view = Picture.show(at('shown'), result, engine.lineOf);
-    Picture.table(at('shown'), result.costs);
-    const equal = result.differ === null;
-    const meaning = equal ? 'Whoever watches the bus can’t tell these runs apart.'
-      : 'An accepted program shows what is public alone, so these inputs differ in what is public.';
-    say(equal ? 'good' : 'told', [`Accepted. ${view.summary()}`, meaning], took(result));
-  },
-};
-
-const took = (result) => {
-  const sum = result.done.reduce((total, step) => total + step.milliseconds, 0);
-  const shown = sum < 10 ? sum.toFixed(1) : Math.round(sum);
-  return `${result.done.map((step) => commandOf(step)).join('; ')}   (${shown} ms)`;
-};
-
-function show(verb, result) {
-  clear();
-  if (result.object) offerObject(result.object);
-  if (result.fault) sayFault(result.fault);
-  else SHOWS[verb](result);
-}
-
-// ---- the worker
-
-const WORKER = `${ghostEngine}\n${ghostWorker}\n`
-  + 'const take = ghostWorker(ghostEngine(), (message, whole = []) => postMessage(message, whole));\n'
-  + 'onmessage = (event) => take(event.data);\n';
-let worker = null;
-let ready = null;                     // settled once the worker has its program
-let waiting = null;                   // who waits for the worker's answer
-
-async function unpacked(text) {
-  const packed = Uint8Array.from(atob(text), (letter) => letter.charCodeAt(0));
-  const stream = new Blob([packed]).stream().pipeThrough(new DecompressionStream('gzip'));
-  return new Uint8Array(await new Response(stream).arrayBuffer());
-}
-const program = unpacked(GHOST_MODULE);
-
-function startWorker() {
-  const url = URL.createObjectURL(new Blob([WORKER], { type: 'text/javascript' }));
-  const mine = new Worker(url);
-  URL.revokeObjectURL(url);
-  worker = mine;
-  mine.onmessage = (event) => { if (mine === worker) hear(event.data); };
-  mine.onerror = (event) => { if (mine === worker) hear({ kind: 'stopped', name: 'Error', message: event.message }); };
-  ready = program.then((bytes) => asked({ kind: 'load', bytes }));
-  ready.catch(() => {});
-}
-
-// what the worker answers to a message, or its complaint
-function asked(message) {
-  return new Promise((resolve, reject) => {
-    waiting = { resolve, reject };
-    worker.postMessage(message);
-  });
-}
-
-function hear(message) {
-  if (message.kind === 'step') {
-    at('progress').max = message.of;
-    at('progress').value = message.step;
-    at('step').textContent = `${message.what}, step ${Math.min(message.step + 1, message.of)} of ${message.of}`;
+async function makeLink() {
+  const text = current.bytes ? null : current.words();
+  if (text === null) {
+    Verdict.say('bad', ['A link can’t carry a file that isn’t a text.']);
     return;
   }
-  if (!waiting) return;
-  const { resolve, reject } = waiting;
-  waiting = null;
-  if (message.kind === 'stopped') reject(message);
-  else resolve(message.result);
+  const fragment = await Store.fragmentOf({ name: current.name, text, inputs: current.inputs, options: optionsKept() });
+  const field = at('link');
+  field.value = location.href.replace(/#.*/, '') + fragment;
+  at('link-label').hidden = false;
+  field.focus();
+  field.select();
 }
 
-function replaceWorker() {
-  worker.terminate();
-  waiting = null;
-  startWorker();
+// takes the program that the address carries, if it carries one, and takes it out of the address
+async function takeLink() {
+  if (!location.hash) return;
+  const fragment = location.hash;
+  history.replaceState(null, '', location.href.replace(/#.*/, ''));
+  try {
+    const value = await Store.valueOf(fragment);
+    if (!value) return;
+    takeOptions(value.options);
+    choose(Documents.add(value.name, value.text, value.inputs));
+    Verdict.say('', [`${current.name} is from the link.`]);
+  } catch (error) {
+    Verdict.say('bad', ['The link is damaged, so its program can’t be shown.']);
+  }
 }
 
-function sayStopped(error) {
-  clear();
-  if (error.name === 'Ended') say('', ['The work was ended.']);
-  else if (error.name === 'NoMemory' || error.name === 'RangeError') {
-    say('bad', ['Memory ran out in this browser, which says nothing of the program. Allow fewer cycles, or use '
-      + './ghostrider.']);
-  } else say('bad', ['The program stopped, which says nothing of what it was given.'], error.message);
+// ---- options
+
+// the number in a field, as it was typed; a message if it isn't one between these
+function numberIn(id, least, most) {
+  const words = at(id).value.trim();
+  const isGood = /^\d{1,20}$/.test(words) && BigInt(words) >= least && BigInt(words) <= most;
+  at(id).setAttribute('aria-invalid', String(!isGood));
+  if (isGood) return words;
+  const label = at(id).labels[0].textContent.trim();
+  const message = `${label}: a whole number from ${least} to ${most} is needed, and not “${words}”.`;
+  throw Object.assign(new Error(message), { id });
 }
 
+function optionsOf(verb) {
+  const needsInputs = NEED_INPUTS.includes(verb);
+  const paths = needsInputs && at('paths').checked;
+  return {
+    cycles: needsInputs ? numberIn('cycles', 1n, 4294967295n) : '1',
+    blockLog: at('block-log').value,
+    paths,
+    seeds: paths ? [numberIn('seed-1', 0n, MOST_SEED), numberIn('seed-2', 0n, MOST_SEED)] : [],
+  };
+}
+
+// ---- jobs
+
+function jobOf(verb) {
+  const options = optionsOf(verb);
+  const text = current.bytes ? null : current.words();
+  const kind = current.form();
+  return {
+    verb,
+    name: current.name,
+    base: current.base(),
+    revision: { ...revision },
+    text,
+    program: current.bytes || text,
+    form: kind,
+    inputs: [at('one').value, at('two').value],
+    usages: USAGES,
+    options: { ...options, procedures: kind === 'source' && text !== null && Places.hasProcedures(text) },
+  };
+}
+
+// buttons stay in the order of Tab while a job is under way, so the focus isn't lost
 function setWorking(on) {
-  for (const verb of VERBS) at(verb).disabled = on;
+  isWorking = on;
+  for (const verb of VERBS) at(verb).setAttribute('aria-disabled', String(on));
+  if (!on && at('working').contains(document.activeElement)) at('check').focus();
   at('working').hidden = !on;
   at('progress').removeAttribute('value');
   at('step').textContent = '';
@@ -233,90 +207,126 @@ function setWorking(on) {
   document.body.dataset.state = on ? 'working' : 'ready';
 }
 
-const numberIn = (id, usual) => (/^\d+$/.test(at(id).value.trim()) ? at(id).value.trim() : usual);
-
-function jobOf(verb) {
-  const text = at('source').value;
-  return {
-    verb,
-    program: opened || text,
-    form: opened ? 'object' : Places.formOf(text),
-    inputs: [at('one').value, at('two').value],
-    usages: USAGES,
-    options: {
-      cycles: numberIn('cycles', '10000000'),
-      blockLog: at('block-log').value,
-      procedures: !opened && Places.hasProcedures(text),
-      paths: at('paths').checked,
-      seeds: [numberIn('seed-1', '0'), numberIn('seed-2', '0')],
-    },
-  };
+function sayStep({ step, of, what }) {
+  at('progress').max = of;
+  at('progress').value = step;
+  at('step').textContent = `${what}, step ${Math.min(step + 1, of)} of ${of}`;
 }
 
 async function doWork(verb) {
-  if (document.body.dataset.state === 'working') return;
+  if (isWorking) return;
+  let job;
+  try {
+    job = jobOf(verb);
+  } catch (error) {
+    shown = null;
+    Results.clear();
+    Verdict.say('bad', [error.message]);
+    at('options').open = true;
+    at(error.id).focus();
+    return;
+  }
   setWorking(true);
   const began = performance.now();
   const clock = setInterval(() => {
     at('elapsed').textContent = `${Math.round((performance.now() - began) / 1000)} s`;
   }, 500);
   try {
-    await ready;
-    show(verb, await asked({ kind: 'work', job: jobOf(verb) }));
+    const result = await Jobs.work(job, sayStep);
+    shown = job;
+    Results.show(job, result, isStale(job));
+    if (isStale(job)) Results.makeStale(job);
   } catch (error) {
-    sayStopped(error);
-    if (error.name !== 'Ended') replaceWorker();
+    shown = null;
+    Results.clear();
+    Verdict.stopped(error);
   } finally {
     clearInterval(clock);
     setWorking(false);
+    at('verdict').scrollIntoView({ block: 'nearest' });
   }
-}
-
-function endWork() {
-  const ended = waiting;
-  replaceWorker();
-  if (ended) ended.reject({ name: 'Ended' });
 }
 
 // ---- the start
 
-const VERBS = ['check', 'compile', 'trace', 'run'];
+function listenToInputs() {
+  ['one', 'two'].forEach((id, run) => {
+    at(id).oninput = () => {
+      current.inputs[run] = at(id).value;
+      form.refresh();
+      changed('runs');
+    };
+  });
+  form = new Form.View(at('form'), [at('one'), at('two')], () => {
+    current.inputs = [at('one').value, at('two').value];
+    sayDisagreements();
+    changed('runs');
+  });
+  at('random').onclick = () => form.randomSecrets();
+}
 
-function fill() {
-  const groups = { Programs: [], Assembly: [] };
-  for (const name of Object.keys(EXAMPLES)) groups[name.endsWith('.gr') ? 'Programs' : 'Assembly'].push(name);
-  for (const [label, names] of Object.entries(groups)) {
-    const group = Object.assign(document.createElement('optgroup'), { label });
-    group.append(...names.map((name) => new Option(name, name)));
-    at('example').append(group);
+function listenToOptions() {
+  at('block-log').onchange = () => changed('program');
+  for (const id of ['cycles', 'seed-1', 'seed-2']) {
+    at(id).oninput = () => {
+      at(id).removeAttribute('aria-invalid');
+      changed('runs');
+    };
   }
-  for (let size = 8; size >= 3; size -= 1) at('block-log').add(new Option(2 ** size, size));
-  at('example').value = 'findmax.gr';
+  at('paths').onchange = () => {
+    at('seeds').hidden = !at('paths').checked;
+    changed('runs');
+  };
 }
 
 function listen() {
-  at('example').onchange = chooseExample;
+  at('example').onchange = () => choose(Documents.find(at('example').value));
   at('open').onchange = () => {
     if (at('open').files[0]) openFile(at('open').files[0]);
     at('open').value = '';
   };
-  at('source').oninput = () => markLine(null);
-  at('source').onscroll = () => { at('lines').scrollTop = at('source').scrollTop; };
-  at('paths').onchange = () => { at('seeds').hidden = !at('paths').checked; };
-  at('end').onclick = endWork;
+  at('restore').onclick = restore;
+  at('make-link').onclick = makeLink;
+  at('end').onclick = Jobs.end;
   for (const verb of VERBS) at(verb).onclick = () => doWork(verb);
   document.addEventListener('keydown', (event) => {
     if (event.key === 'Enter' && event.ctrlKey) doWork('trace');
-    if (event.key === 'Escape' && document.body.dataset.state === 'working') endWork();
+    if (event.key === 'Escape' && isWorking) Jobs.end();
   });
+  addEventListener('pagehide', () => { if (timer !== null) follow(); });
+  addEventListener('hashchange', takeLink);
 }
 
-fill();
-listen();
-chooseExample();
-startWorker();
-setWorking(false);
-say('', ['The program is being loaded.']);
-ready.then(() => say('', ['Ready.']), (error) => {
-  say('bad', ['This browser can’t run the program of this page.'], error.message);
-});
+function begin() {
+  for (let size = 8; size >= 3; size -= 1) at('block-log').add(new Option(2 ** size, size));
+  Editor.make(at('editor'), () => changed('program'));
+  Documents.addExamples();
+  listenToInputs();
+  listenToOptions();
+  listen();
+  const kept = Store.load() || {};
+  try {
+    Documents.resume(kept.drafts || []);
+    takeOptions(kept.options);
+  } catch (error) {
+    Verdict.say('bad', ['What the browser kept is damaged, so it isn’t shown.']);
+  }
+  choose(Documents.find(kept.current) || Documents.find('findmax.gr'));
+  setWorking(false);
+}
+
+async function load() {
+  Verdict.say('', ['The program is being loaded.']);
+  document.body.dataset.state = 'loading';
+  try {
+    await Jobs.start();
+    Verdict.say('', [current.note || 'Ready.']);
+    await takeLink();
+  } catch (error) {
+    Verdict.say('bad', ['This browser can’t run the program of this page.', error.message]);
+  }
+  document.body.dataset.state = isWorking ? 'working' : 'ready';
+}
+
+begin();
+load();

@@ -1,133 +1,126 @@
 'use strict';
-// The work of the page, apart from it: what a button asks for, step by step. Each step is one call of the program.
-// Like the engine this is a function, of whose text the page makes its worker.
+// The work of the page, in a thread of its own: the calls of the program that a button asks for, in sequence. Like the
+// engine this is a function, of whose text the page makes its worker.
 
-function ghostWorker(engine, tell) {
+function ghostWorker(engine, objects, marks, tell) {
   const STATUS_SPENT = 10;
+  const STEPS = { check: 2, compile: 2, run: 4, trace: 4 };
+  const MOST_SAID = 4000;             // bytes of a step's text that are passed on
+  const decoder = new TextDecoder();
 
-  // ---- what an object costs
-
-  // the latency of each bank, which stand in the front of an object's file
-  function latenciesOf(bytes) {
-    const view = new DataView(bytes.buffer, bytes.byteOffset, bytes.byteLength);
-    const at = view.getUint16(4, true) === 2 ? 23 : 11;
-    return Array.from({ length: view.getUint8(at) }, (_, bank) => view.getUint32(at + 5 + 8 * bank, true));
-  }
-
-  const bankOf = (kind) => (kind < 2 ? 0 : kind < 4 ? 1 : kind - 10);
-
-  // For each kind of event how many there are and how many cycles they take. The last access of a run that was spent
-  // is cut at its end.
-  function costOf(trace, latencies, cycles) {
-    const kinds = new Map();
-    const last = trace.kinds.length - 1;
-    const halted = last >= 0 && trace.kinds[last] === 4;
-    const end = halted ? trace.stamps[last] : cycles;
-    trace.kinds.forEach((kind, i) => {
-      const row = kinds.get(kind) || { kind, events: 0, cycles: 0 };
-      const latency = kind === 4 ? 0 : latencies[bankOf(kind)];
-      row.events += 1;
-      row.cycles += i === last ? Math.min(latency, end - trace.stamps[i]) : latency;
-      kinds.set(kind, row);
-    });
-    const rows = [...kinds.values()].sort((a, b) => a.kind - b.kind).filter((row) => row.kind !== 4);
-    const taken = rows.reduce((sum, row) => sum + row.cycles, 0);
-    return { rows, halted, end, computing: end - taken };
-  }
-
-  // ---- the steps
-
-  // The steps of a job, of which each has its words and the files that it is handed. The program is an object, or the
-  // text of one, or a source.
-  function work(job) {
-    const { program, form, inputs, options } = job;
-    const done = [];
-    let total = { check: 2, compile: 2, trace: 4, run: 4 }[job.verb];
-    if (form === 'object') total -= 1;
+  // The steps of a job. Each has the words of its call and the two files that it reads. The program is an object, an
+  // assembly text or a source. A step that fails is thrown.
+  class Work {
+    constructor(job) {
+      this.job = job;
+      this.done = [];
+      this.total = STEPS[job.verb] - (job.form === 'object' ? 1 : 0);
+    }
 
     // calls the program; a status that isn't among these ends the job
-    function call(what, words, first, second, goesOn = [0]) {
-      tell({ kind: 'step', what, step: done.length, of: total });
+    call(what, words, first, second, good = [0]) {
+      tell({ kind: 'step', what, step: this.done.length, of: this.total });
       const began = performance.now();
       const { status, text, output } = engine.call(words, first, second);
       const step = { what, words, status, output, text, milliseconds: performance.now() - began };
-      done.push(step);
-      if (goesOn.includes(status)) return step;
-      step.explained = engine.explain(status, job.usages[words[0]] || '', words, first, second);
+      this.done.push(step);
+      if (good.includes(status)) return step;
+      step.explained = engine.explain(status, this.job.usages[words[0]] || '', words, first, second);
       throw step;
     }
-    const made = () => {
+
+    made() {
+      const { form, program, options } = this.job;
       if (form === 'object') return program;
-      if (form === 'assembly') return call('assemble', ['asm', 'program', 'output'], program).output;
+      if (form === 'assembly') return this.call('assemble', ['asm', 'program', 'output'], program).output;
       const size = options.blockLog ? ['--block-log', options.blockLog] : [];
       const procedures = options.procedures ? ['--procs'] : [];
-      return call('compile', ['compile', 'program', 'output', ...size, ...procedures], program).output;
-    };
-    const checked = () => {
-      const object = made();
-      call('check', ['check', 'program'], object);
+      return this.call('compile', ['compile', 'program', 'output', ...size, ...procedures], program).output;
+    }
+
+    checked() {
+      const object = this.made();
+      this.call('check', ['check', 'program'], object);
       return object;
-    };
-    const seeds = (run) => (options.paths && options.seeds[run] ? ['--seed', options.seeds[run]] : []);
-    const both = (what, words, goesOn) => {
-      const object = checked();
-      const steps = [0, 1].map((run) => call(`${what} of run ${run + 1}`, words(run), object, inputs[run], goesOn));
+    }
+
+    both(what, words, good) {
+      const object = this.checked();
+      const steps = this.job.inputs.map((input, run) => (
+        this.call(`${what} run ${run + 1}`, words(run), object, input, good)));
       return { object, steps };
-    };
-    const jobs = {
-      check: () => ({ object: checked() }),
-      compile: () => {
-        const object = made();
-        return { object, listing: call('disassemble', ['dis', 'program', 'output'], object).output };
-      },
-      run: () => both('run', () => ['run', 'program', 'input', 'output', '--cycles', options.cycles]),
-      trace: () => {
-        const words = (run) => ['trace', 'program', 'input', '--cycles', options.cycles,
-          ...(options.paths ? ['--paths'] : []), ...seeds(run)];
-        const { object, steps } = both('trace', words, [0, STATUS_SPENT]);
-        tell({ kind: 'step', what: 'compare', step: total, of: total });
-        const traces = steps.map((step) => engine.traceOf(step.text));
-        const latencies = latenciesOf(object);
-        return {
-          object,
-          traces,
-          differ: engine.firstDifference(...traces),
-          costs: traces.map((trace) => costOf(trace, latencies, Number(options.cycles))),
-        };
-      },
-    };
-    try {
-      return { done, fault: null, ...jobs[job.verb]() };
-    } catch (step) {
-      if (step instanceof Error) throw step;
-      return { done, fault: step };
+    }
+
+    check() {
+      return { object: this.checked() };
+    }
+
+    compile() {
+      const object = this.made();
+      const { output } = this.call('disassemble', ['dis', 'program', 'output'], object);
+      return { object, listing: { bytes: output, starts: startsOf(output) } };
+    }
+
+    run() {
+      const { object, steps } = this.both('run',
+        () => ['run', 'program', 'input', 'output', '--cycles', this.job.options.cycles]);
+      const outputs = steps.map(({ text, output }) => ({ said: decoder.decode(text).trim(), bytes: output }));
+      return { object, outputs };
+    }
+
+    trace() {
+      const { cycles, paths, seeds } = this.job.options;
+      const more = (run) => (paths ? ['--paths', '--seed', seeds[run]] : []);
+      const { object, steps } = this.both('trace',
+        (run) => ['trace', 'program', 'input', '--cycles', cycles, ...more(run)], [0, STATUS_SPENT]);
+      tell({ kind: 'step', what: 'compare', step: this.total, of: this.total });
+      const traces = steps.map((step) => engine.traceOf(step.text));
+      const { banks } = objects.read(object);
+      return {
+        object,
+        traces: traces.map((trace) => ({ ...trace, byKind: marks.stampsByKind(trace) })),
+        differ: engine.firstDifference(...traces),
+        costs: traces.map((trace) => marks.costOf(trace, banks, Number(cycles))),
+      };
     }
   }
 
-  // a job's result as it is handed to the page: texts as texts, and no more than what is shown
-  function plain(result) {
-    const decoder = new TextDecoder();
-    const strip = (step) => ({
-      what: step.what,
-      words: step.words,
-      status: step.status,
-      milliseconds: step.milliseconds,
-      text: decoder.decode(step.text.subarray(0, 4000)),
-      output: step.words[0] === 'run' && step.output ? decoder.decode(step.output) : null,
-      explained: step.explained,
-    });
-    return {
-      ...result,
-      done: result.done.map(strip),
-      steps: undefined,
-      fault: result.fault && strip(result.fault),
-      listing: result.listing && decoder.decode(result.listing),
-    };
+  // where the lines of a text begin
+  function startsOf(bytes) {
+    let count = 1;
+    for (let at = bytes.indexOf(10); at >= 0; at = bytes.indexOf(10, at + 1)) count += 1;
+    const starts = new Uint32Array(count);
+    let at = 0;
+    for (let line = 1; line < count; line += 1) {
+      at = bytes.indexOf(10, at) + 1;
+      starts[line] = at;
+    }
+    return at === bytes.length && count > 1 ? starts.subarray(0, count - 1) : starts;
   }
 
-  // what is handed over whole, and not copied
-  function buffersOf({ traces = [] }) {
-    return traces.flatMap(({ text, stamps, kinds, starts }) => [text, stamps, kinds, starts].map((it) => it.buffer));
+  // a step as it is passed to the page
+  const plainStep = ({ what, words, status, milliseconds, text, explained }) => ({
+    what, words, status, milliseconds, explained, text: decoder.decode(text.subarray(0, MOST_SAID)) });
+
+  function resultOf(job) {
+    const work = new Work(job);
+    let fault = null;
+    let found = {};
+    try {
+      found = work[job.verb]();
+    } catch (step) {
+      if (step instanceof Error) throw step;
+      fault = plainStep(step);
+    }
+    return { ...found, fault, done: work.done.map(plainStep) };
+  }
+
+  // what is passed to the page without a copy
+  function buffersOf({ traces = [], listing, outputs = [] }) {
+    const arrays = traces.flatMap(({ text, stamps, kinds, starts, byKind }) => [text, stamps, kinds, starts,
+      ...byKind.values()]);
+    const texts = [listing && listing.bytes, ...outputs.map((it) => it.bytes)];
+    return [...new Set([...arrays, ...texts].filter(Boolean).map((it) => it.buffer))];
   }
 
   return async function take(message) {
@@ -136,7 +129,7 @@ function ghostWorker(engine, tell) {
         await engine.load(message.bytes);
         tell({ kind: 'loaded' });
       } else {
-        const result = plain(work(message.job));
+        const result = resultOf(message.job);
         tell({ kind: 'done', result }, buffersOf(result));
       }
     } catch (error) {

@@ -1,0 +1,68 @@
+'use strict';
+// Where the variables of an object are: each bank as a row of blocks, with the reason of each place.
+
+const Layout = (() => {
+  const { grouped, counted } = Marks;
+  const { made } = Form;
+  const MOST_BOXES = 48;              // of a bank
+  const COLOURS = ['plain', 'encrypted'];
+  const SHOWN = [
+    'The bus shows the number of each block that is accessed, and its words.',
+    'The bus shows the number of each block that is accessed, and hides its words.',
+    'The bus shows that the bank is accessed, and hides which block, and its words.',
+  ];
+  const REASONS = [
+    'The compiler places public variables here.',
+    'The compiler places a secret variable here if all its accesses are at public places.',
+    'The compiler places a secret array here if a secret chooses the place of one of its accesses.',
+  ];
+
+  // the boxes of a bank: blocks with the same variables are one
+  function boxesOf(layout, bank) {
+    const boxes = [];
+    const edges = new Set([0]);
+    for (const { block, word, length } of layout.symbols.filter((it) => it.bank === bank)) {
+      edges.add(block).add(block + Math.ceil((word + length) / layout.blockWords));
+    }
+    const sorted = [...edges, layout.banks[bank].blocks].sort((a, b) => a - b);
+    for (let i = 0; i + 1 < sorted.length; i += 1) {
+      const [from, to] = [sorted[i], sorted[i + 1]];
+      if (from < to) boxes.push({ from, to, held: Objects.variablesIn(layout, bank, from) });
+    }
+    return boxes;
+  }
+
+  function box(row, { from, to, held }) {
+    const blocks = to - from === 1 ? `block ${grouped(from)}` : `blocks ${grouped(from)} to ${grouped(to - 1)}`;
+    const item = made(row, 'li', { class: held.length ? 'box' : 'box empty' });
+    item.style.flexGrow = String(1 + Math.log2(to - from));
+    made(item, 'span', { class: 'quiet' }, blocks);
+    for (const symbol of held) {
+      const words = symbol.isArray ? `${symbol.name}[${symbol.length}]` : symbol.name;
+      made(item, 'span', { class: symbol.label }, words);
+    }
+    if (!held.length) made(item, 'span', { class: 'quiet' }, 'free');
+  }
+
+  // shows the banks; only of a compiled object the reasons of the places are known
+  function show(parent, layout, isCompiled) {
+    made(parent, 'h2', {}, 'Where the variables are');
+    const banks = made(parent, 'div', { id: 'layout' });
+    layout.banks.forEach(({ blocks, latency }, bank) => {
+      const part = made(banks, 'section', { class: `bank ${COLOURS[bank] || 'oblivious'}-edge` });
+      const name = Objects.memoryOf(bank);
+      made(part, 'h3', {}, `${name[0].toUpperCase()}${name.slice(1)}: ${counted(blocks, 'block')} of `
+        + `${layout.blockWords} words, ${grouped(latency)} cycles an access`);
+      const words = [SHOWN[bank], ...(isCompiled ? [REASONS[bank]] : [])].join(' ');
+      if (bank < SHOWN.length) made(part, 'p', { class: 'quiet' }, words);
+      const boxes = boxesOf(layout, bank);
+      const row = made(part, 'ol', { class: 'boxes' });
+      for (const it of boxes.slice(0, MOST_BOXES)) box(row, it);
+      if (boxes.length > MOST_BOXES) {
+        made(part, 'p', { class: 'quiet' }, `and ${counted(boxes.length - MOST_BOXES, 'more group')} of blocks`);
+      }
+    });
+  }
+
+  return { show };
+})();

@@ -1,0 +1,90 @@
+'use strict';
+// What is said of a job: its verdict, or its fault with the place in the editor.
+
+const Verdict = (() => {
+  const { made } = Form;
+  const { grouped } = Marks;
+  const at = (id) => document.getElementById(id);
+
+  const TITLES = {
+    2: () => 'The program doesn’t take these options.',
+    3: () => 'The file can’t be read.',
+    4: () => 'The text is too long to be shown here.',
+    5: () => 'Memory ran out, which says nothing about the program.',
+    6: () => 'The file isn’t a valid object.',
+    7: () => 'Rejected: the program may show secrets, or the check can’t see that it doesn’t.',
+    8: () => 'The source has an error.',
+    9: (run) => `The inputs of run ${run} don’t fit the program.`,
+    10: (run, { cycles }) => `Run ${run} didn’t halt within ${grouped(Number(cycles))} cycles.`,
+    11: () => 'The program or its inputs are too long.',
+    12: () => 'The assembly text has an error.',
+  };
+
+  // the words of a verdict: a tone for its colour, and sentences
+  function say(tone, sentences, milliseconds = null) {
+    const verdict = at('verdict');
+    verdict.className = tone;
+    verdict.replaceChildren();
+    for (const words of sentences.filter(Boolean)) made(verdict, 'p', {}, words);
+    if (milliseconds === null) {
+      delete verdict.dataset.milliseconds;
+      return;
+    }
+    verdict.dataset.milliseconds = milliseconds;
+    const shown = milliseconds < 10 ? milliseconds.toFixed(1) : Math.round(milliseconds);
+    made(verdict, 'p', { class: 'quiet' }, `It took ${shown} ms.`);
+  }
+
+  // where a fault is, in words
+  function whereWords({ file, line, column, instruction }, run, place) {
+    const inputs = file === 'input' ? `inputs of run ${run}, ` : '';
+    const words = line !== null ? `${inputs}line ${line}, column ${column}`
+      : place !== null && instruction !== null ? `line ${place.line}, instruction ${instruction}`
+        : instruction !== null ? `instruction ${instruction}` : '';
+    return words && `${words[0].toUpperCase()}${words.slice(1)}: `;
+  }
+
+  // lines that show a text are indented, and the others are sentences
+  function sayMore(verdict, lines) {
+    let block = null;
+    for (const line of lines) {
+      if (/^ {4}/.test(line)) {
+        if (block) block.textContent += `\n${line.slice(4)}`;
+        else block = made(verdict, 'pre', { class: 'explained' }, line.slice(4));
+      } else {
+        block = null;
+        made(verdict, 'p', {}, line);
+      }
+    }
+  }
+
+  // says what a step's fault means; the place in the editor is a link
+  function fault(step, job, place) {
+    const found = Places.explained(step.explained || '');
+    const run = Number((/run (\d)/.exec(step.what) || [0, 1])[1]);
+    const title = TITLES[step.status] || (() => 'The program can’t do this.');
+    say('bad', [title(run, job.options)]);
+    const verdict = at('verdict');
+    const where = whereWords(found, run, place);
+    if (found.words) {
+      const line = made(verdict, 'p', {});
+      if (place) made(line, 'button', { type: 'button', class: 'link', id: 'to-fault' }, where.replace(/: $/, ''));
+      else line.append(where.replace(/: $/, ''));
+      line.append(where ? `: ${found.words}` : found.words);
+      if (place) line.querySelector('button').onclick = () => Editor.goTo(place);
+    }
+    sayMore(verdict, found.more);
+    made(verdict, 'p', { class: 'said' }, `${step.text.trim().split('\n')[0]} (status ${step.status})`);
+  }
+
+  // what is said if the worker stopped
+  function stopped(error) {
+    if (error.name === 'Ended') say('', ['The work was ended.']);
+    else if (error.name === 'NoMemory' || error.name === 'RangeError') {
+      say('bad', ['Memory ran out in this browser, which says nothing about the program. Allow fewer cycles, or use '
+        + 'the command.']);
+    } else say('bad', ['The program stopped, which says nothing about its inputs.', error.message]);
+  }
+
+  return { say, fault, stopped };
+})();

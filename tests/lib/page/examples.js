@@ -1,0 +1,92 @@
+'use strict';
+// The buttons on three examples, and the page as it opens.
+const { element } = require('./user.js');
+
+const THREE = [
+  { name: 'findmax.gr', events: 15, cycles: '9,829', kind: 'encrypted memory, read', count: '11', output: '"best":863' },
+  { name: 'permutation.gr', kind: 'oblivious bank 2, accessed', output: '"inverse":[' },
+  { name: 'choose.asm', kind: 'encrypted memory, read', output: '"m":' },
+];
+
+// the bars of a run's events of a kind
+const bars = (user, run, kind) => user.value(`Array.from(document.querySelectorAll(
+  '#picture path[data-run="${run}"][data-kind="${kind}"]'), (it) => Number(it.dataset.bars)).join()`);
+
+async function opens(user) {
+  await user.opensAnew();
+  user.says(await user.verdict() === 'Ready.', 'the page opens from the file system', await user.verdict());
+  const names = await user.value("[...document.querySelectorAll('button, select, textarea, input')].filter((it) => "
+    + "!(it.labels && it.labels.length) && !it.getAttribute('aria-label') && !it.textContent.trim() "
+    + '&& it.offsetParent).length');
+  user.says(names === 0, 'each control has a name', names);
+}
+
+async function examples(user) {
+  for (const { name, events, cycles, kind, count, output } of THREE) {
+    await user.chooses(name);
+    const checked = await user.presses('check');
+    user.says(checked.startsWith('Accepted') && await user.tone() === 'good', `${name}: check`, checked);
+    await user.presses('compile');
+    const listed = (await user.textOf('listing')).startsWith('.object ');
+    user.says(listed && (await user.textOf('save')).startsWith('Save the object'),
+      `${name}: compile shows the assembly and offers the object`);
+    await user.presses('run');
+    user.says((await user.textOf('output-1')).includes(output) && (await user.textOf('shown')).includes('halted at cycle'),
+      `${name}: run shows outputs`, await user.textOf('output-1'));
+    const traced = await user.presses('trace');
+    const sums = events ? `${events} events, and both runs halt at cycle ${cycles}.` : '';
+    const alike = ['Both traces are equal: ', sums, 'tell these runs apart'].every((it) => traced.includes(it));
+    user.says(alike && await user.tone() === 'good', `${name}: trace`, traced);
+    const [one, two] = [await bars(user, 1, kind), await bars(user, 2, kind)];
+    user.says(one === two && Number(one) > 0 && (!count || one === count), `${name}: the picture has equal bars`,
+      `${one} ${two}`);
+    user.says((await user.textOf('costs')).includes('computing and waiting'), `${name}: the table of costs`);
+    await user.keeps(name.replace(/\W/g, '-'));
+  }
+}
+
+async function leaks(user) {
+  await user.chooses('permutation_public.gr');
+  const told = await user.presses('trace');
+  user.says(told.includes('first differ') && told.includes('p[0] is'), 'the leak shows, and its cause is named', told);
+  await user.chooses('unbalanced.asm');
+  const rejected = await user.presses('check');
+  user.says(rejected.startsWith('Rejected') && await user.tone() === 'bad',
+    'an example of a branch that leaks', rejected);
+}
+
+async function paths(user) {
+  await user.chooses('lookup.asm');
+  await user.value(`${element('options')}.open = true`);
+  await user.clicks('#paths');
+  await user.presses('trace');
+  const dots = await user.value("Array.from(document.querySelectorAll('#picture path[data-paths]'), "
+    + '(it) => it.dataset.paths).join()');
+  user.says(/^([1-9]\d*),\1$/.test(dots), 'paths are drawn if they are chosen', dots);
+  const trees = await user.value("document.querySelectorAll('#trees svg[data-leaf]').length");
+  user.says(trees === 2 && (await user.textOf('shown')).includes('isn’t proved'), 'each run has its tree', trees);
+  await user.chooses('heappop.gr');
+  await user.presses('trace');
+  user.says((await user.textOf('trees')).includes('one block'),
+    'a bank of one block has no paths', await user.textOf('trees'));
+  await user.value(`${element('block-log')}.focus()`);
+  await user.browser.key('End');
+  await user.presses('trace');
+  const each = await user.value("document.querySelectorAll('#trees svg[data-leaf]').length");
+  user.says(each === 2, 'smaller blocks give it some', each);
+  await user.clicks('#picture');
+  await user.browser.key('Home');
+  const lit = async () => `${await user.textOf('trees')}`;
+  const first = await lit();
+  for (let i = 0; i < 30; i += 1) await user.browser.key('ArrowRight');
+  user.says(await lit() !== first, 'the path of the access under the cursor is lit', await lit());
+  await user.keeps('paths');
+  await user.value(`${element('block-log')}.focus()`);
+  await user.browser.key('Home');
+  await user.clicks('#paths');
+  await user.presses('trace');
+  const left = await user.value("document.querySelectorAll('#picture path[data-paths]').length");
+  user.says(left === 0, 'and not if they aren’t');
+}
+
+module.exports = [opens, examples, leaks, paths];
