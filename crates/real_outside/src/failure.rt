@@ -56,7 +56,7 @@ impl Failure {
         }
     }
 
-    /// The file's name. `None` if there was no memory to keep it.
+    /// The file's name. `None` if memory ran out when it was to be kept.
     pub fn name(&self) -> Option<&str> {
         match &self.name {
             Some(name) => Some(name.as_str()),

@@ -9,10 +9,10 @@ use std::path::{Path, PathBuf};
 use std::rt::Files;
 use std::{fs, io};
 
-/// How many names are tried for the file that is to take the place of another.
+/// How many names are tried for a new file beside another.
 const TRIES: u32 = 1000;
 
-/// The mode of a new file, of which the umask takes away.
+/// The mode of a new file, before the umask takes bits away.
 const NEW_FILE: u32 = 0o666;
 
 /// Why a file isn't written to standard output.
@@ -29,11 +29,11 @@ struct Target {
 }
 
 /// Makes the name refer to the bytes. If it names a regular file or nothing, the bytes are written to a new file in the
-/// same folder, which only its owner may read. It gets the old file's rights, is synced and takes the name; then the
-/// folder is synced. A link is followed to what it points to. If the name is of anything else or of the system, or if
-/// no new file can be made in the folder or take the name, the bytes are written in place and synced. A name of
-/// standard output fails, since the result line goes there. After a failure the new file is removed, unless that fails
-/// too.
+/// same folder, which only its owner may read, and are synced. The file gets the old one's rights directly before it
+/// takes the name; then both it and the folder are synced. A link is followed to what it points to. If the name is of
+/// anything else or of the system, or if no new file can be made in the folder or take the name, the bytes are written
+/// in place and synced. A name of standard output fails, since the result line goes there. After a failure the new file
+/// is removed, unless that fails too.
 pub(crate) fn replace<R: Files>(rt: &R, alloc: Global, name: &str, bytes: &[u8]) -> io::Result<()>
 where
     R::File: AsFd,
@@ -54,6 +54,7 @@ where
         Err(error) => Err(error),
     };
     if let Ok(true) = done {
+        sync(&file)?;
         return sync_folder_of(rt, path.as_str());
     }
     // If this fails too, the first failure is the one to report.
@@ -64,8 +65,8 @@ where
     }
 }
 
-// Whether a name stands for what standard output is: the bytes and the program's line would mix there. The null device
-// may take both. Where the system doesn't show standard output as a file, this can't be told.
+// Whether a name is of standard output, where the bytes and the result line would mix. The null device may take both.
+// If the system doesn't show standard output as a file, nothing is.
 fn is_standard_output<R: Files>(rt: &R, name: &str) -> bool {
     match fs::metadata(rt, name) {
         Ok(file) => match fs::metadata(rt, "/dev/stdout") {
@@ -76,8 +77,8 @@ fn is_standard_output<R: Files>(rt: &R, name: &str) -> bool {
     }
 }
 
-// Gives a new file the name of another. It may not, where that one is another's file in a sticky folder, or is a mount
-// point: then the other is to be written in place.
+// Gives a new file the name of another, and returns whether the system allowed it. It doesn't if the other one belongs
+// to somebody else in a sticky folder, or is a mount point: then the other one is to be written in place.
 fn take_name<R: Files>(rt: &R, beside: &str, path: &str) -> io::Result<bool> {
     match fs::rename(rt, beside, path) {
         Ok(()) => Ok(true),
@@ -97,7 +98,8 @@ fn mode_at_first(rights: Option<Rights>) -> u32 {
     }
 }
 
-// Writes the bytes to a new file that only its owner may read, which then gets its rights and is synced.
+// Writes the bytes to a new file that only its owner may read, syncs them, and then gives the file its rights: so what
+// a kill leaves is private, unless it comes between the last change of rights and the rename.
 fn fill<F: Write + OpenFile + AsFd>(
     file: &mut F,
     rights: Option<Rights>,
@@ -109,8 +111,8 @@ fn fill<F: Write + OpenFile + AsFd>(
         None => Rights::withheld(file)?,
     };
     file.write_all(bytes)?;
-    rights.give_to(file)?;
-    file.sync_all()
+    file.sync_all()?;
+    rights.give_to(file)
 }
 
 fn write_in_place<R: Files>(rt: &R, name: &str, bytes: &[u8]) -> io::Result<()> {
@@ -131,7 +133,7 @@ fn sync_folder_of<R: Files>(rt: &R, path: &str) -> io::Result<()> {
     }
 }
 
-// Syncs a file. A pipe, a device and the folders of some file systems can't be synced, which is no failure.
+// Syncs a file. Pipes, devices and the folders of some file systems can't be synced, which doesn't count as a failure.
 fn sync<F: OpenFile>(file: &F) -> io::Result<()> {
     match file.sync_all() {
         Err(error) if is_no_sync(error.kind()) => Ok(()),
@@ -146,7 +148,7 @@ fn is_no_sync(kind: ErrorKind) -> bool {
     )
 }
 
-// The regular file to be replaced, or none where the name is to be written in place. A file that may not be written
+// The regular file to be replaced, or `None` if the name is to be written in place. A file that may not be written
 // fails here, as it would in place.
 fn target_of<R: Files>(rt: &R, alloc: Global, name: &str) -> io::Result<Option<Target>> {
     if is_of_the_system(name) {
@@ -189,7 +191,7 @@ fn old_file<R: Files>(rt: &R, path: String) -> io::Result<Option<Target>> {
     Ok(Some(Target { path, rights }))
 }
 
-// A new file in the folder of another, named after it and with this mode, or none if there can be none.
+// A new file in the folder of another, named after it and with this mode, or `None` if it can't be made.
 fn new_beside<R: Files>(
     rt: &R,
     alloc: Global,
@@ -220,7 +222,7 @@ fn is_want_of_room(kind: ErrorKind) -> bool {
     )
 }
 
-// What the system shows as files, as `/dev/stdout`, may be an open regular file: it is to be written, not replaced.
+// A name such as `/dev/stdout` may be of an open regular file, which is to be written, not replaced.
 fn is_of_the_system(path: &str) -> bool {
     path.starts_with("/dev/") || path.starts_with("/proc/")
 }
