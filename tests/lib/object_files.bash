@@ -2,7 +2,7 @@
 # Object files that scripts of tests/ make without the program, and the assembly texts that they are made of. It is read
 # by a script.
 
-# an assembly text of so many instructions that do nothing, and a halt
+# an assembly text of that many instructions without effect, and a halt
 text_of() {
     printf '.object 1 3 1 70 2 3\n.bank 4 634\n.bank 4 662\n'
     yes nop | head -n "$1"
