@@ -16,8 +16,8 @@ use std::{fs, io};
 /// The most bytes that one call of the system reads.
 const CHUNK: usize = 65_536;
 
-/// A shelf over real files. It can't tell its files, so nothing is claimed of their contents. A file that is missing
-/// counts as a failed read. Want of memory is no failure of a read or a write; a write that wants it is counted apart.
+/// A shelf over real files. It can't list its files, so no clause speaks of their contents. A missing file counts as a
+/// failed read. Running out of memory doesn't count as a failure of a read or a write; such writes have their own count.
 /// [`RealShelf::failure`] has the last failure and its cause.
 ///
 /// A regular file is replaced as a whole: if the write is broken off, the name refers to the old bytes or to the new
@@ -60,7 +60,8 @@ impl<R: Files + Drop> RealShelf<R> {
         }
     }
 
-    /// The last read or write that failed, with the file's name and the system's reason. Want of memory is none.
+    /// The last read or write that failed, with the file's name and the system's reason. Running out of memory isn't
+    /// one.
     pub fn failure(&self) -> Option<&Failure>
         ensures { IsSome result ↔ (1 ≤ self.now.read_faults + self.now.write_faults) }
     {
@@ -136,7 +137,7 @@ where
     }
 }
 
-// How a shelf refuses a read that failed for another cause than want of memory.
+// The error of a read that failed for another cause than memory.
 fn refusal_of_read(kind: ErrorKind) -> ShelfError
     ensures { result ≢ ShelfError.Memory }
 {

@@ -11,16 +11,16 @@ use std::alloc::Global;
 use std::io::{Error, ErrorKind, Write};
 use std::marker::Model;
 
-/// How many bytes may wait before they are handed on.
+/// How many bytes may wait before they are passed to the writer.
 const ROOM: usize = 65_536;
 
 /// Why a writer failed that took none of the bytes and named no cause.
 const TAKES_NONE: &str = "it takes no more bytes";
 
-/// A sink over a writer. Up to 64 KiB of what was put wait, and are handed on together; a flush hands on the last of
-/// them. A piece whose put is Ok has been handed on or waits, so that a failure of the writer may be told at a later
-/// put, or at the flush. As a sink it doesn't tell its bytes, since standard output tells none; its own clauses say
-/// what the writer was handed, where the writer tells that. [`RealSink::failure`] has the cause of the last failure.
+/// A sink over a writer. It keeps up to 64 KiB waiting and passes them to the writer together; a flush passes the rest.
+/// If a put is Ok, its bytes were passed on or are waiting, so a failure of the writer may be reported at a later put or
+/// at the flush. As a sink it doesn't report its bytes, since standard output reports none; its own clauses say what
+/// the writer was handed, if the writer reports that. [`RealSink::failure`] has the cause of the last failure.
 #[derive(Drop)]
 pub struct RealSink<W: Write + Drop> {
     writer: W,
@@ -85,7 +85,7 @@ impl<W: Write + Drop> RealSink<W> {
         };
     }
 
-    // Hands on what waits. What the writer doesn't take waits on.
+    // Passes the waiting bytes to the writer. Those that it doesn't take keep waiting.
     fn hand_on(&mut self) -> Result<(), SinkFailed>
         ensures kept { Keeps (gathered self.old) (gathered self.new) }
         ensures nothing_waits { OnOk result (self.new.waiting ≡ []) }
@@ -103,7 +103,7 @@ impl<W: Write + Drop> RealSink<W> {
         }
     }
 
-    // Takes bytes where none wait: those that fit wait, and others are handed on at once.
+    // Takes bytes while none wait: up to 64 KiB of them wait, and more are passed to the writer at once.
     fn put_first(&mut self, bytes: &[u8]) -> Result<(), SinkFailed>
         requires { self.old.waiting ≡ [] }
         ensures taken { OnOk result (Takes self.old self.new bytes.now) }
@@ -162,7 +162,7 @@ impl<W: Write + Drop> Sink for RealSink<W> {
         }
     }
 
-    /// Hands on what waits. What the writer doesn't take waits on.
+    /// Passes the waiting bytes to the writer, and flushes it. Bytes that it doesn't take keep waiting.
     fn flush(&mut self) -> Result<(), SinkFailed>
         ensures kept { Keeps (gathered self.old) (gathered self.new) }
         ensures nothing_waits { OnOk result (self.new.waiting ≡ []) }
