@@ -1,11 +1,14 @@
-//! The real outside of the program: [`RealShelf`] over the files of the system, and [`RealSink`] over a writer, as
-//! standard output is one. They are proved against the traits of `gr_outside`; that the system keeps files and hands
-//! bytes on is not proved.
+//! The real outside of the program: [`RealShelf`] over the files of the system, and [`RealSink`] over a writer, such as
+//! standard output. They are proved against the traits of `gr_outside`; that the system keeps files and passes bytes on
+//! is not proved. After a failure each has the cause in the system's own words: a [`Failure`] of a file, a [`Cause`].
 #![tactic(auto)]
 
+pub mod failure;
 mod replacing;
+mod rights;
 pub mod shelf;
 pub mod sink;
 
+pub use failure::{Cause, Failure};
 pub use shelf::RealShelf;
 pub use sink::RealSink;

@@ -1,67 +1,72 @@
+use crate::rights::{PRIVATE, Rights};
+use crate::shelf::is_one_file;
 use std::alloc::Global;
-use std::fs::{Metadata, OpenFile, OpenOptions, Permissions};
+use std::fs::{OpenFile, OpenOptions};
 use std::io::{Error, ErrorKind, Write};
-use std::os::unix::fs::{MetadataExt, PermissionsExt};
-use std::path::PathBuf;
+use std::os::unix::fs::{MetadataExt, OpenOptionsExt};
+use std::os::unix::io::AsFd;
+use std::path::{Path, PathBuf};
 use std::rt::Files;
 use std::{fs, io};
 
-/// How many names are tried for the file that is to take the place of another.
+/// How many names are tried for a new file beside another.
 const TRIES: u32 = 1000;
+
+/// The mode of a new file, before the umask takes bits away.
+const NEW_FILE: u32 = 0o666;
+
+/// Why a file isn't written to standard output.
+const IS_OUTPUT: &str = "this is standard output, which gets the result line";
 
 /// The number of the null device, which takes any bytes and keeps none.
 const NULL_DEVICE: u64 = 0x103;
 
-/// The bits of a file's mode by which it runs with its owner's or its group's rights.
-const SET_ID_BITS: u32 = 0o6000;
-
-/// What a new file takes over of the one whose name it gets: its permissions, and whose they were.
-#[derive(Drop)]
-struct Kept {
-    permissions: Permissions,
-    owner: u32,
-    group: u32,
-}
-
-/// The regular file that a name stands for, or is to stand for: where it lies, and what is kept of it where it is there.
+/// The regular file that a name refers to or will refer to: its path, and the rights of the file that is there.
 #[derive(Drop)]
 struct Target {
     path: String,
-    kept: Option<Kept>,
+    rights: Option<Rights>,
 }
 
-/// Makes the name stand for the bytes. Where it names a regular file or nothing, the bytes are written to a new file in
-/// the same folder, which is given the old file's permissions, is synced and takes its name; a link is followed to what
-/// it points to. Where it names anything else, or something of the system, or where no new file can be made in the
-/// folder or take the name, the bytes are written in place. A name of standard output is refused, since the program's
-/// line goes there. After a failure the new file is removed, unless that fails too.
-pub(crate) fn replace<R: Files>(rt: &R, alloc: Global, name: &str, bytes: &[u8]) -> io::Result<()> {
+/// Makes the name refer to the bytes. If it names a regular file or nothing, the bytes are written to a new file in the
+/// same folder, which only its owner may read, and are synced. The file gets the old one's rights directly before it
+/// takes the name; then both it and the folder are synced. A link is followed to what it points to. If the name is of
+/// anything else or of the system, or if no new file can be made in the folder or take the name, the bytes are written
+/// in place and synced. A name of standard output fails, since the result line goes there. After a failure the new file
+/// is removed, unless that fails too.
+pub(crate) fn replace<R: Files>(rt: &R, alloc: Global, name: &str, bytes: &[u8]) -> io::Result<()>
+where
+    R::File: AsFd,
+{
     if is_standard_output(rt, name) {
-        return Err(Error::from(ErrorKind::InvalidInput));
+        return Err(Error::new(ErrorKind::InvalidInput, IS_OUTPUT));
     }
-    let Some(Target { path, kept }) = target_of(rt, alloc, name)? else {
-        return fs::write(rt, name, bytes);
+    let Some(target) = target_of(rt, alloc, name)? else {
+        return write_in_place(rt, name, bytes);
     };
-    let Some((mut file, beside)) = new_beside(rt, alloc, path.as_str())? else {
-        return fs::write(rt, name, bytes);
+    let Target { path, rights } = target;
+    let Some((mut file, beside)) = new_beside(rt, alloc, path.as_str(), mode_at_first(rights))?
+    else {
+        return write_in_place(rt, name, bytes);
     };
-    let done = match fill(&mut file, kept, bytes) {
+    let done = match fill(&mut file, rights, bytes) {
         Ok(()) => take_name(rt, beside.as_str(), path.as_str()),
         Err(error) => Err(error),
     };
     if let Ok(true) = done {
-        return Ok(());
+        sync(&file)?;
+        return sync_folder_of(rt, path.as_str());
     }
-    // The first failure is told; that of removing the new file isn't.
+    // If this fails too, the first failure is the one to report.
     let _ = fs::remove_file(rt, beside.as_str());
     match done {
         Err(error) => Err(error),
-        Ok(_) => fs::write(rt, name, bytes),
+        Ok(_) => write_in_place(rt, name, bytes),
     }
 }
 
-// Whether a name stands for what standard output is: the bytes and the program's line would mix there. The null device
-// may take both. Where the system doesn't show standard output as a file, this can't be told.
+// Whether a name is of standard output, where the bytes and the result line would mix. The null device may take both.
+// If the system doesn't show standard output as a file, nothing is.
 fn is_standard_output<R: Files>(rt: &R, name: &str) -> bool {
     match fs::metadata(rt, name) {
         Ok(file) => match fs::metadata(rt, "/dev/stdout") {
@@ -72,12 +77,8 @@ fn is_standard_output<R: Files>(rt: &R, name: &str) -> bool {
     }
 }
 
-fn is_one_file(file: &Metadata, other: &Metadata) -> bool {
-    file.dev() == other.dev() && file.ino() == other.ino()
-}
-
-// Gives a new file the name of another. It may not, where that one is another's file in a sticky folder, or is a mount
-// point: then the other is to be written in place.
+// Gives a new file the name of another, and returns whether the system allowed it. It doesn't if the other one belongs
+// to somebody else in a sticky folder, or is a mount point: then the other one is to be written in place.
 fn take_name<R: Files>(rt: &R, beside: &str, path: &str) -> io::Result<bool> {
     match fs::rename(rt, beside, path) {
         Ok(()) => Ok(true),
@@ -88,28 +89,66 @@ fn take_name<R: Files>(rt: &R, beside: &str, path: &str) -> io::Result<bool> {
     }
 }
 
-// Writes the bytes to a new file, with what it takes over, until they are kept. It may run with its owner's rights only
-// where the owner is the old file's, and its group too.
-fn fill<F: Write + OpenFile>(file: &mut F, kept: Option<Kept>, bytes: &[u8]) -> io::Result<()> {
-    file.write_all(bytes)?;
-    if let Some(
-        Kept {
-            mut permissions,
-            owner,
-            group,
-        },
-    ) = kept
-    {
-        let made = file.metadata()?;
-        if made.uid() != owner || made.gid() != group {
-            permissions.set_mode(permissions.mode() & !SET_ID_BITS);
-        }
-        file.set_permissions(permissions)?;
+// The mode with which a new file is created. Without an old file the system makes the rights of it, by the umask and
+// the folder's default ACL.
+fn mode_at_first(rights: Option<Rights>) -> u32 {
+    match rights {
+        Some(_) => PRIVATE,
+        None => NEW_FILE,
     }
-    file.sync_all()
 }
 
-// The regular file to be replaced, or none where the name is to be written in place. A file that may not be written
+// Writes the bytes to a new file that only its owner may read, syncs them, and then gives the file its rights: so what
+// a kill leaves is private, unless it comes between the last change of rights and the rename.
+fn fill<F: Write + OpenFile + AsFd>(
+    file: &mut F,
+    rights: Option<Rights>,
+    bytes: &[u8],
+) -> io::Result<()> {
+    let rights = match rights {
+        Some(rights) => rights,
+        // Whoever opens the empty file until here may read the whole one later.
+        None => Rights::withheld(file)?,
+    };
+    file.write_all(bytes)?;
+    file.sync_all()?;
+    rights.give_to(file)
+}
+
+fn write_in_place<R: Files>(rt: &R, name: &str, bytes: &[u8]) -> io::Result<()> {
+    let mut file = fs::create(rt, name)?;
+    file.write_all(bytes)?;
+    sync(&file)
+}
+
+// Syncs the folder that a file is in, so that its new name lasts. A folder that may not be read can't be synced.
+fn sync_folder_of<R: Files>(rt: &R, path: &str) -> io::Result<()> {
+    let folder = match Path::new(path).parent() {
+        Some(parent) => parent.as_str(),
+        None => "",
+    };
+    match fs::open(rt, if folder.is_empty() { "." } else { folder }) {
+        Ok(file) => sync(&file),
+        Err(_) => Ok(()),
+    }
+}
+
+// Syncs a file. Pipes, devices and the folders of some file systems can't be synced, which doesn't count as a failure.
+fn sync<F: OpenFile>(file: &F) -> io::Result<()> {
+    match file.sync_all() {
+        Err(error) if is_no_sync(error.kind()) => Ok(()),
+        done => done,
+    }
+}
+
+fn is_no_sync(kind: ErrorKind) -> bool {
+    matches!(
+        kind,
+        ErrorKind::InvalidInput | ErrorKind::Unsupported | ErrorKind::ReadOnlyFilesystem
+    )
+}
+
+// The regular file to be replaced, or `None` if the name is to be written in place. A file that may not be written
 // fails here, as it would in place.
 fn target_of<R: Files>(rt: &R, alloc: Global, name: &str) -> io::Result<Option<Target>> {
     if is_of_the_system(name) {
@@ -120,7 +159,7 @@ fn target_of<R: Files>(rt: &R, alloc: Global, name: &str) -> io::Result<Option<T
         Ok(found) if found.is_file() => old_file(rt, String::from_str(alloc, name)?),
         Err(error) if error.kind() == ErrorKind::NotFound => Ok(Some(Target {
             path: String::from_str(alloc, name)?,
-            kept: None,
+            rights: None,
         })),
         Err(error) if is_want_of_room(error.kind()) => Err(error),
         _ => Ok(None),
@@ -148,26 +187,23 @@ fn pointed_to<R: Files>(rt: &R, alloc: Global, name: &str) -> io::Result<Option<
 
 fn old_file<R: Files>(rt: &R, path: String) -> io::Result<Option<Target>> {
     let file = OpenOptions::new().write(true).open(rt, path.as_str())?;
-    let found = file.metadata()?;
-    let kept = Some(Kept {
-        permissions: found.permissions(),
-        owner: found.uid(),
-        group: found.gid(),
-    });
-    Ok(Some(Target { path, kept }))
+    let rights = Some(Rights::of(&file.metadata()?));
+    Ok(Some(Target { path, rights }))
 }
 
-// A new file in the folder of another, with its name, or none where there can be none.
+// A new file in the folder of another, named after it and with this mode, or `None` if it can't be made.
 fn new_beside<R: Files>(
     rt: &R,
     alloc: Global,
     path: &str,
+    mode: u32,
 ) -> io::Result<Option<(R::File, String)>> {
     for turn in 0..TRIES {
         let beside = format!(in alloc; "{path}.{turn}.new")?;
         match OpenOptions::new()
             .write(true)
             .create_new(true)
+            .mode(mode)
             .open(rt, beside.as_str())
         {
             Ok(file) => return Ok(Some((file, beside))),
@@ -186,7 +222,7 @@ fn is_want_of_room(kind: ErrorKind) -> bool {
     )
 }
 
-// What the system shows as files, as `/dev/stdout`, may be an open regular file: it is to be written, not replaced.
+// A name such as `/dev/stdout` may be of an open regular file, which is to be written, not replaced.
 fn is_of_the_system(path: &str) -> bool {
     path.starts_with("/dev/") || path.starts_with("/proc/")
 }

@@ -1,22 +1,29 @@
-ghost use Rattle.std.specs.Prelude.{◌≤◌, None, IfOk, vec_len};
+ghost use Rattle.std.specs.Prelude.{◌≡◌, ◌≢◌, ◌≤◌, ◌+◌, ◌↔◌, IfOk, IsSome, None, vec_len};
+ghost use Rattle.gr_base.specs.Calls.{one_more};
 
+use crate::failure::Failure;
 use crate::replacing::replace;
 use gr_outside::{Shelf, ShelfError};
 use std::alloc::{AllocError, Global};
-use std::fs;
+use std::fs::Metadata;
 use std::io::{Error, ErrorKind, Read};
 use std::marker::Model;
+use std::os::unix::fs::MetadataExt;
+use std::os::unix::io::AsFd;
 use std::rt::Files;
+use std::{fs, io};
 
 /// The most bytes that one call of the system reads.
 const CHUNK: usize = 65_536;
 
-/// A shelf over real files. It can't tell its files, so nothing is claimed of their contents. A file that is missing
-/// counts as a failed read. Want of memory is no failure of a read or a write; a write that wants it is counted apart.
+/// A shelf over real files. It can't list its files, so no clause speaks of their contents. A missing file counts as a
+/// failed read. Running out of memory doesn't count as a failure of a read or a write; such writes have their own count.
+/// [`RealShelf::failure`] has the last failure and its cause.
 ///
-/// A regular file is replaced as a whole: whenever the write is broken off, the name stands for the old bytes or for
-/// the new ones. What is no regular file is written in place, and so is what no new file can be made beside: the folder
-/// takes none, or none with so long a name, or has the new file's names already.
+/// A regular file is replaced as a whole: if the write is broken off, the name refers to the old bytes or to the new
+/// ones. Nobody may read the new file, nor its parts meanwhile, who might not read the old one, access control lists
+/// left aside. Any other file is written in place, and so is one that no new file can be made beside: the folder takes
+/// none, or none with so long a name, or has the new file's names already.
 #[derive(Drop)]
 pub struct RealShelf<R: Files + Drop> {
     rt: R,
@@ -24,19 +31,21 @@ pub struct RealShelf<R: Files + Drop> {
     read_faults: u64,
     write_faults: u64,
     starved: u64,
+    failure: Option<Failure>,
 }
 
 impl<R: Files + Drop> Model for RealShelf<R> {
+    ghost use Rattle.std.specs.Prelude.{◌+◌, ◌≤◌, ◌↔◌, IsSome};
     ghost use Rattle.real_outside.specs.Counts.{FaultCounts};
 
     ghost Value = { FaultCounts };
 
     ghost view = { λ s. record { read_faults = s.read_faults; write_faults = s.write_faults; starved = s.starved } };
+
+    ghost invariant = { λ s. IsSome s.failure ↔ (1 ≤ s.read_faults + s.write_faults) };
 }
 
 impl<R: Files + Drop> RealShelf<R> {
-    ghost use Rattle.std.specs.Prelude.{◌≡◌};
-
     /// A shelf over the files of the runtime. No read or write has failed yet.
     pub fn new(alloc: Global, rt: R) -> RealShelf<R>
         ensures { result ≡ record { read_faults = 0; write_faults = 0; starved = 0 } }
@@ -47,11 +56,50 @@ impl<R: Files + Drop> RealShelf<R> {
             read_faults: 0,
             write_faults: 0,
             starved: 0,
+            failure: None,
         }
+    }
+
+    /// The last read or write that failed, with the file's name and the system's reason. Running out of memory isn't
+    /// one.
+    pub fn failure(&self) -> Option<&Failure>
+        ensures { IsSome result ↔ (1 ≤ self.now.read_faults + self.now.write_faults) }
+    {
+        self.failure.as_ref()
+    }
+
+    /// Whether both names are of one regular file, by device and number. Links are followed. A name that can't be
+    /// looked at is of no file.
+    pub fn are_one_file(&self, one: &str, other: &str) -> bool {
+        match (fs::metadata(&self.rt, one), fs::metadata(&self.rt, other)) {
+            (Ok(one), Ok(other)) => one.is_file() && is_one_file(&one, &other),
+            _ => false,
+        }
+    }
+
+    // Counts a failed read, and keeps its cause.
+    #[tactic(auto, using(gr_base::proofs::Counts::rose_by_one))]
+    fn read_failed(&mut self, name: &str, error: Error)
+        ensures { self.new ≡ record self.old { read_faults = one_more self.old.read_faults } }
+    {
+        self.read_faults = self.read_faults.saturating_add(1);
+        self.failure = Some(Failure::new(self.alloc, name, error));
+    }
+
+    // Counts a failed write, and keeps its cause.
+    #[tactic(auto, using(gr_base::proofs::Counts::rose_by_one))]
+    fn write_failed(&mut self, name: &str, error: Error)
+        ensures { self.new ≡ record self.old { write_faults = one_more self.old.write_faults } }
+    {
+        self.write_faults = self.write_faults.saturating_add(1);
+        self.failure = Some(Failure::new(self.alloc, name, error));
     }
 }
 
-impl<R: Files + Drop> Shelf for RealShelf<R> {
+impl<R: Files + Drop> Shelf for RealShelf<R>
+where
+    R::File: AsFd,
+{
     ghost use Rattle.gr_outside.specs.Shelf.{ShelfSeen};
 
     ghost seen = { λ s. record {
@@ -65,10 +113,10 @@ impl<R: Files + Drop> Shelf for RealShelf<R> {
     fn read(&mut self, name: &str, most: usize) -> Result<Vec<u8>, ShelfError> {
         match read_front(&self.rt, self.alloc, name, most) {
             Ok(bytes) => Ok(bytes),
-            Err(ShelfError::Memory) => Err(ShelfError::Memory),
+            Err(error) if error.kind() == ErrorKind::OutOfMemory => Err(ShelfError::Memory),
             Err(error) => {
-                self.read_faults = self.read_faults.saturating_add(1);
-                Err(error)
+                self.read_failed(name, error);
+                Err(refusal_of_read(error.kind()))
             }
         }
     }
@@ -81,39 +129,41 @@ impl<R: Files + Drop> Shelf for RealShelf<R> {
                 self.starved = self.starved.saturating_add(1);
                 Err(ShelfError::Memory)
             }
-            Err(_) => {
-                self.write_faults = self.write_faults.saturating_add(1);
+            Err(error) => {
+                self.write_failed(name, error);
                 Err(ShelfError::Failed)
             }
         }
     }
 }
 
+// The error of a read that failed for another cause than memory.
+fn refusal_of_read(kind: ErrorKind) -> ShelfError
+    ensures { result ≢ ShelfError.Memory }
+{
+    if kind == ErrorKind::NotFound {
+        ShelfError::Missing
+    } else {
+        ShelfError::Failed
+    }
+}
+
+/// Whether two files are one, by device and number.
+pub(crate) fn is_one_file(file: &Metadata, other: &Metadata) -> bool {
+    file.dev() == other.dev() && file.ino() == other.ino()
+}
+
 /// The first `most` bytes of a real file.
-fn read_front<R: Files>(
-    rt: &R,
-    alloc: Global,
-    name: &str,
-    most: usize,
-) -> Result<Vec<u8>, ShelfError>
+fn read_front<R: Files>(rt: &R, alloc: Global, name: &str, most: usize) -> io::Result<Vec<u8>>
     ensures { IfOk result (λ bytes. vec_len bytes ≤ most) }
 {
     match fs::open(rt, name) {
         Ok(mut file) => read_chunks(alloc, &mut file, most),
-        Err(error) => Err(cause(&error)),
+        Err(error) => Err(error),
     }
 }
 
-// Why a file couldn't be opened or read.
-fn cause(error: &Error) -> ShelfError {
-    match error.kind() {
-        ErrorKind::NotFound => ShelfError::Missing,
-        ErrorKind::OutOfMemory => ShelfError::Memory,
-        _ => ShelfError::Failed,
-    }
-}
-
-fn read_chunks(alloc: Global, file: &mut impl Read, most: usize) -> Result<Vec<u8>, ShelfError>
+fn read_chunks(alloc: Global, file: &mut impl Read, most: usize) -> io::Result<Vec<u8>>
     ensures { IfOk result (λ bytes. vec_len bytes ≤ most) }
 {
     let mut bytes = Vec::new(alloc);
@@ -124,12 +174,13 @@ fn read_chunks(alloc: Global, file: &mut impl Read, most: usize) -> Result<Vec<u
             Ok(0) => return Ok(bytes),
             Ok(count) => bytes.extend_from_slice(&chunk[..count])?,
             Err(error) if error.kind() == ErrorKind::Interrupted => {}
-            Err(error) => return Err(cause(&error)),
+            Err(error) => return Err(error),
         }
     }
-    Err(ShelfError::Failed)
+    Err(Error::from(ErrorKind::FileTooLarge))
 }
 
+// A function of its own, since `vec!` in a loop's function makes its proof larger.
 fn new_chunk(alloc: Global) -> Result<Vec<u8>, AllocError> {
     vec![in alloc; 0u8; CHUNK]
 }

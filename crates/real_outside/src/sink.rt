@@ -1,32 +1,37 @@
-ghost use Rattle.std.specs.Prelude.{◌≡◌, ◌≤◌, ◌-◌, ◌+◌, ◌^◌, [], ◌++◌, None, IfOk, OnErr, OnOk, drop, length, min, take, vec_capacity, vec_len};
+ghost use Rattle.std.specs.Prelude.{◌≡◌, ◌≤◌, ◌↔◌, ◌-◌, ◌+◌, ◌^◌, [], ◌++◌, None, Some, IfOk, IsSome, MatchOption, OnErr, OnOk, drop, length, min, take, vec_capacity, vec_len};
 ghost use Rattle.std.specs.Io.KnownBytes.{Appends, Keeps};
 ghost use Rattle.gr_base.specs.Calls.{one_more};
 ghost use Rattle.gr_base.specs.Counts.{Rose};
 ghost use Rattle.real_outside.specs.Gathering.{Takes, TakesLess, gathered, most_waiting};
 
+use crate::failure::Cause;
 use gr_base::Memory;
 use gr_outside::{Sink, SinkFailed};
 use std::alloc::Global;
-use std::io::{ErrorKind, Write};
+use std::io::{Error, ErrorKind, Write};
 use std::marker::Model;
 
-/// How many bytes may wait before they are handed on.
+/// How many bytes may wait before they are passed to the writer.
 const ROOM: usize = 65_536;
 
-/// A sink over a writer. Up to 64 KiB of what was put wait, and are handed on together; a flush hands on the last of
-/// them. A piece whose put is Ok has been handed on or waits, so that a failure of the writer may be told at a later
-/// put, or at the flush. As a sink it doesn't tell its bytes, since standard output tells none; its own clauses say
-/// what the writer was handed, where the writer tells that.
+/// Why a writer failed that took none of the bytes and named no cause.
+const TAKES_NONE: &str = "it takes no more bytes";
+
+/// A sink over a writer. It keeps up to 64 KiB waiting and passes them to the writer together; a flush passes the rest.
+/// If a put is Ok, its bytes were passed on or are waiting, so a failure of the writer may be reported at a later put or
+/// at the flush. As a sink it doesn't report its bytes, since standard output reports none; its own clauses say what
+/// the writer was handed, if the writer reports that. [`RealSink::failure`] has the cause of the last failure.
 #[derive(Drop)]
 pub struct RealSink<W: Write + Drop> {
     writer: W,
     waiting: Vec<u8>,
     put: usize,
     faults: u64,
+    cause: Option<Cause>,
 }
 
 impl<W: Write + Drop> Model for RealSink<W> {
-    ghost use Rattle.std.specs.Prelude.{◌≤◌, length, vec_capacity};
+    ghost use Rattle.std.specs.Prelude.{◌≤◌, ◌↔◌, IsSome, length, vec_capacity};
     ghost use Rattle.real_outside.specs.Gathering.{Gathered, most_waiting};
 
     ghost Value = { Gathered };
@@ -38,7 +43,9 @@ impl<W: Write + Drop> Model for RealSink<W> {
       faults = s.faults;
     } };
 
-    ghost invariant = { λ s. (length s.waiting.items ≤ most_waiting) × (most_waiting ≤ vec_capacity s.waiting) };
+    ghost invariant = { λ s. (length s.waiting.items ≤ most_waiting)
+        × (most_waiting ≤ vec_capacity s.waiting)
+        × (IsSome s.cause ↔ (1 ≤ s.faults)) };
 }
 
 impl<W: Write + Drop> RealSink<W> {
@@ -53,7 +60,15 @@ impl<W: Write + Drop> RealSink<W> {
             waiting,
             put: 0,
             faults: 0,
+            cause: None,
         })
+    }
+
+    /// Why the last put or flush that failed did so.
+    pub fn failure(&self) -> Option<Cause>
+        ensures { IsSome result ↔ (1 ≤ self.now.faults) }
+    {
+        self.cause
     }
 
     // Lets the bytes wait.
@@ -70,7 +85,7 @@ impl<W: Write + Drop> RealSink<W> {
         };
     }
 
-    // Hands on what waits. What the writer doesn't take waits on.
+    // Passes the waiting bytes to the writer. Those that it doesn't take keep waiting.
     fn hand_on(&mut self) -> Result<(), SinkFailed>
         ensures kept { Keeps (gathered self.old) (gathered self.new) }
         ensures nothing_waits { OnOk result (self.new.waiting ≡ []) }
@@ -80,13 +95,15 @@ impl<W: Write + Drop> RealSink<W> {
         ensures failed { OnErr result (Rose self.old.faults self.new.faults) }
         ensures count { self.old.faults ≤ self.new.faults }
     {
-        let count = write_front(&mut self.writer, self.waiting.as_slice());
-        let whole = count == self.waiting.len();
+        let Written { count, stopped } = write_front(&mut self.writer, self.waiting.as_slice());
         remove_front(&mut self.waiting, count);
-        if whole { Ok(()) } else { Err(self.failure()) }
+        match stopped {
+            None => Ok(()),
+            Some(error) => Err(self.fail(error)),
+        }
     }
 
-    // Takes bytes where none wait: those that fit wait, and others are handed on at once.
+    // Takes bytes while none wait: up to 64 KiB of them wait, and more are passed to the writer at once.
     fn put_first(&mut self, bytes: &[u8]) -> Result<(), SinkFailed>
         requires { self.old.waiting ≡ [] }
         ensures taken { OnOk result (Takes self.old self.new bytes.now) }
@@ -100,23 +117,23 @@ impl<W: Write + Drop> RealSink<W> {
             self.hold(bytes);
             return Ok(());
         }
-        let count = write_front(&mut self.writer, bytes);
+        let Written { count, stopped } = write_front(&mut self.writer, bytes);
         self.put = self.put.saturating_add(count);
-        if count == bytes.len() {
-            Ok(())
-        } else {
-            Err(self.failure())
+        match stopped {
+            None => Ok(()),
+            Some(error) => Err(self.fail(error)),
         }
     }
 
-    // Counts a failure.
+    // Counts a failure, and keeps its cause.
     #[tactic(auto, using(gr_base::proofs::Counts::rose_by_one))]
-    fn failure(&mut self) -> SinkFailed
+    fn fail(&mut self, error: Error) -> SinkFailed
         ensures after { self.new ≡ record self.old { faults = one_more self.old.faults } }
         ensures rose { Rose self.old.faults self.new.faults }
         ensures count { self.old.faults ≤ self.new.faults }
     {
         self.faults = self.faults.saturating_add(1);
+        self.cause = Some(Cause::new(error));
         SinkFailed
     }
 }
@@ -145,7 +162,7 @@ impl<W: Write + Drop> Sink for RealSink<W> {
         }
     }
 
-    /// Hands on what waits. What the writer doesn't take waits on.
+    /// Passes the waiting bytes to the writer, and flushes it. Bytes that it doesn't take keep waiting.
     fn flush(&mut self) -> Result<(), SinkFailed>
         ensures kept { Keeps (gathered self.old) (gathered self.new) }
         ensures nothing_waits { OnOk result (self.new.waiting ≡ []) }
@@ -161,7 +178,7 @@ impl<W: Write + Drop> Sink for RealSink<W> {
         }
         match self.writer.flush() {
             Ok(()) => Ok(()),
-            Err(_) => Err(self.failure()),
+            Err(error) => Err(self.fail(error)),
         }
     }
 
@@ -173,24 +190,51 @@ impl<W: Write + Drop> Sink for RealSink<W> {
     }
 }
 
-// Writes the bytes until all are written or the writer takes no more, and answers how many it took.
-fn write_front<W: Write>(writer: &mut W, bytes: &[u8]) -> usize
-    ensures most { result ≤ length bytes.now }
-    ensures written { Appends (W.contents writer.old) (W.contents writer.new) (take result bytes.now) }
+/// How many of some bytes a writer took, and why it took no more of them.
+#[derive(Drop)]
+struct Written {
+    count: usize,
+    stopped: Option<Error>,
+}
+
+// Writes the bytes until all are written or the writer takes no more.
+fn write_front<W: Write>(writer: &mut W, bytes: &[u8]) -> Written
+    ensures most { result.count ≤ length bytes.now }
+    ensures whole { MatchOption result.stopped (result.count ≡ length bytes.now)
+        (λ _. result.count ≤ length bytes.now - 1) }
+    ensures written { Appends (W.contents writer.old) (W.contents writer.new) (take result.count bytes.now) }
 {
     let mut count = 0;
     for _turn in 0..u64::MAX {
         if count == bytes.len() {
-            return count;
+            return Written {
+                count,
+                stopped: None,
+            };
         }
         match writer.write(&bytes[count..]) {
-            Ok(0) => return count,
+            Ok(0) => return stopped(count, Error::new(ErrorKind::WriteZero, TAKES_NONE)),
             Ok(more) => count += more,
             Err(error) if error.kind() == ErrorKind::Interrupted => {}
-            Err(_) => return count,
+            Err(error) => return stopped(count, error),
         }
     }
-    count
+    if count == bytes.len() {
+        return Written {
+            count,
+            stopped: None,
+        };
+    }
+    stopped(count, Error::from(ErrorKind::Interrupted))
+}
+
+fn stopped(count: usize, error: Error) -> Written
+    ensures { result ≡ record { count = count; stopped = Some error } }
+{
+    Written {
+        count,
+        stopped: Some(error),
+    }
 }
 
 fn remove_front(bytes: &mut Vec<u8>, count: usize)
