@@ -16,3 +16,4 @@ pub mod Alone
 pub mod JoinedLaws
 pub mod CoresJoined
 pub mod ShareRanges
+pub mod PlannedRuns

@@ -60,8 +60,8 @@ pub some-refuses : (plan : List Share) (s : Share) (found : Option BusError) →
 some-refuses plan s None is = tt
 some-refuses plan s (Some cause) is = is
 
-abbrev AllFit : List Share → Type 0
-AllFit plan = (k : ℕ) → k < length plan → ShareFits (share_at plan k)
+abbrev EachFits : List Share → Type 0
+EachFits plan = (k : ℕ) → k < length plan → ShareFits (share_at plan k)
 
 -- the lowest core from number c on that a share meets
 abbrev OverlapsFrom : ℕ → List Share → Share → Option BusError → Type 0
@@ -88,7 +88,7 @@ overlaps-next c t ts s apart (Some cause) is = (
     all zero within = apart
     all (suc k) within = is.4 k (omega (arith, within))
 
-overlaps : (c : ℕ) (plan : List Share) (s : Share) → AllFit plan → ShareFits s
+overlaps : (c : ℕ) (plan : List Share) (s : Share) → EachFits plan → ShareFits s
     → OverlapsFrom c plan s (of_overlap c plan s)
 overlaps c [] s all fits = λ k within. absurd (omega (arith, within))
 overlaps c (t ∷ ts) s all fits =
@@ -120,7 +120,7 @@ periods-judged (first ∷ rest) s = by (first.period == s.period) refl
     by true is = λ some. sym (eqb-true first.period s.period is)
     by false is = (omega arith, refl, λ same. false≢true (sym is ∙ eq-eqb first.period s.period (sym same)))
 
-module _ (plan : List Share) (s : Share) (all : AllFit plan) (fits : ShareFits s) where
+module _ (plan : List Share) (s : Share) (all : EachFits plan) (fits : ShareFits s) where
   after-short : HasWindow s → HasPeriodOf plan s → EndsInPeriod s → (found : Option BusError)
       → OverlapsFrom 0 plan s found → Judged plan s found
   after-short windowed period short None is =

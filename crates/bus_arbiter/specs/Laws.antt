@@ -4,7 +4,7 @@ use Rattle.lt_isa.specs.Object.{Parts}
 use Rattle.lt_isa.specs.Machine.{State}
 use Rattle.lt_isa.specs.Ranges.{IsInRange}
 use Rattle.lt_isa.specs.Shape.{IsShaped}
-use Rattle.lt_isa.specs.Start.{Agree, trace}
+use Rattle.lt_isa.specs.Start.{Agree, FitsObject, start_state, trace}
 use Rattle.lt_isa.specs.Oblivious.{IsOblivious}
 use Rattle.lt_isa.specs.Trace.{Stamped, trace_from}
 use Rattle.bus_arbiter.specs.Shares.{IsPlan, share_of}
@@ -47,3 +47,16 @@ AllAgree (o ∷ os) (d ∷ ds) (e ∷ es) = Agree o d e × AllAgree os ds es
 abbrev pub AllOblivious : List Parts → Type 0
 AllOblivious [] = Unit {0}
 AllOblivious (o ∷ os) = IsOblivious o × AllOblivious os
+
+-- objects in range, each with inputs that fit it
+abbrev pub AllFit : List Parts → List (List (List ℤ)) → Type 0
+AllFit [] [] = Unit {0}
+AllFit [] (d ∷ ds) = ⊥
+AllFit (o ∷ os) [] = ⊥
+AllFit (o ∷ os) (d ∷ ds) = IsInRange o × FitsObject o d × AllFit os ds
+
+-- the runs of objects on their inputs, from the start
+abbrev pub runs_of : List Parts → List (List (List ℤ)) → List Run
+runs_of [] ds = []
+runs_of (o ∷ os) [] = []
+runs_of (o ∷ os) (d ∷ ds) = record { object = o; state = start_state o d } ∷ runs_of os ds

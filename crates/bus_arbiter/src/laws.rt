@@ -1,9 +1,10 @@
-ghost use Rattle.std.specs.Prelude.{◌≡◌, ◌↔◌, ℕ, ℤ, List, None, Some, map, slice_get};
+ghost use Rattle.std.specs.Prelude.{◌≡◌, ◌↔◌, ◌<◌, ◌++◌, ◌∷◌, [], ℕ, ℤ, List, None, Some, length, map, slice_get};
 ghost use Rattle.lt_isa.specs.Object.{Parts};
+ghost use Rattle.lt_isa.specs.Ranges.{IsInRange};
 ghost use Rattle.lt_isa.specs.Trace.{Stamped};
-ghost use Rattle.bus_arbiter.specs.Laws.{AllAgree, AllOblivious, AreOnBus, NoneOverlap, Run, shown_to, traces_on};
+ghost use Rattle.bus_arbiter.specs.Laws.{AllAgree, AllFit, AllOblivious, AreOnBus, NoneOverlap, Run, runs_of, shown_to, traces_on};
 ghost use Rattle.bus_arbiter.specs.Refusals.{refusal};
-ghost use Rattle.bus_arbiter.specs.Shares.{IsPlan, PlanRefuses, PlanTakes, ShareFits};
+ghost use Rattle.bus_arbiter.specs.Shares.{IsPlan, PlanRefuses, PlanTakes, ShareFits, share_of};
 ghost use Rattle.bus_arbiter.specs.Transfers.{IsJoined, Transfer, joined_of, of_core, transfers_of};
 ghost use Rattle.bus_arbiter.specs.declared.errors.BusError.{BusError};
 ghost use Rattle.bus_arbiter.specs.declared.shares.Share.{Share};
@@ -49,4 +50,25 @@ pub fn bus_laws()
         → ShareFits s
         → (cause : BusError)
         → (refusal plan s ≡ Some cause) ↔ PlanRefuses plan s cause }
+{}
+
+/// Does nothing; its clauses are the laws of a plan. No share is a plan. A plan of at most seven shares that takes one
+/// more is a plan with it. The share of an object in range fits. And if objects have a plan, the transfers of their
+/// runs, each on inputs that fit it, never overlap on the bus.
+pub fn plan_laws()
+    ensures none { IsPlan [] }
+    ensures one_more { (plan : List Share) (s : Share)
+        → IsPlan plan
+        → length plan < 8
+        → ShareFits s
+        → PlanTakes plan s
+        → IsPlan (plan ++ s ∷ []) }
+    ensures own_share { (o : Parts) → IsInRange o → ShareFits (share_of o) }
+    ensures apart { (os : List Parts) (ds : List (List (List ℤ)))
+        → AllFit os ds
+        → IsPlan (map share_of os)
+        → (n : ℕ)
+        → (joined : List Transfer)
+        → IsJoined (traces_on os ds n) joined
+        → NoneOverlap (runs_of os ds) joined }
 {}

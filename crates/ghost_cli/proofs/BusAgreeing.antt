@@ -9,7 +9,7 @@ use Rattle.lt_isa.specs.Step.{step_start}
 use Rattle.lt_isa.specs.Trace.{HaltsAt, seen_at, stamped}
 use Rattle.lt_isa.proofs.Ends.{HasHalted, halted-from_halt, reaches-no_halt, stamped-halt}
 use Rattle.lt_isa.proofs.Starts.{IsShaped-start}
-use Rattle.bus_arbiter.specs.Laws.{traces_on}
+use Rattle.bus_arbiter.specs.Laws.{AllFit, traces_on}
 use Rattle.bus_arbiter.specs.Transfers.{IsJoined, Transfer}
 use Rattle.bus_arbiter.proofs.JoinedLaws.{agreeing, one-list}
 use Rattle.ghost_cli.specs.declared.replies.Verdict.TheVariants.{Shared}
@@ -17,7 +17,7 @@ use Rattle.ghost_cli.specs.Bus.{all_halted, with_halts}
 use Rattle.ghost_cli.specs.Questions.{WhatIsJoined}
 use Rattle.ghost_cli.specs.BusAgrees.{BusAgrees}
 use Rattle.ghost_cli.specs.Runs.{HaltOf}
-use Rattle.ghost_cli.specs.Sharing.{AllFit, AreHalts}
+use Rattle.ghost_cli.specs.Sharing.{AreHalts}
 use Rattle.ghost_cli.specs.Showing.{bus_seen}
 use Rattle.ghost_cli.specs.Work.{Asks, Ending, Ends, Holds, IsVerdict, MayEnd, Work, said_at}
 use Rattle.ghost_cli.proofs.Behind.{behind-it}
@@ -78,14 +78,14 @@ abbrev pub joins-on : ℕ → List Parts → List (List (List ℤ)) → List (Op
 joins-on n os ds halts =
     Asks (WhatIsJoined os ds n) (λ joined. Ends (bus_seen joined halts) (Shared (all_halted halts)))
 
-record Joining (n : ℕ) (os : List Parts) (ds : List (List (List ℤ))) (ending : Ending) : Type 0 where
-  halts : List (Option ℕ)
-  are : AreHalts (traces_on os ds n) halts
-  joined : List Transfer
-  joins : IsJoined (traces_on os ds n) joined
-  is : ending ≡ IsVerdict (bus_seen joined halts) (Shared (all_halted halts))
+pub record Joining (n : ℕ) (os : List Parts) (ds : List (List (List ℤ))) (ending : Ending) : Type 0 where
+  pub halts : List (Option ℕ)
+  pub are : AreHalts (traces_on os ds n) halts
+  pub joined : List Transfer
+  pub joins : IsJoined (traces_on os ds n) joined
+  pub is : ending ≡ IsVerdict (bus_seen joined halts) (Shared (all_halted halts))
 
-joining : (G : List ℕ → Option (List ℕ) → Type 0) (n : ℕ) (os : List Parts) (ds : List (List (List ℤ)))
+pub joining : (G : List ℕ → Option (List ℕ) → Type 0) (n : ℕ) (os : List Parts) (ds : List (List (List ℤ)))
     (ending : Ending) → MayEnd G (with_halts n os ds (joins-on n os ds)) ending → Joining n os ds ending
 joining G n os ds ending comes =
     let left = halting G n os ds (joins-on n os ds) ending comes in

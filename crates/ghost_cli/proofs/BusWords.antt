@@ -11,10 +11,10 @@ use Rattle.clap.specs.Walk.{Row, Rule, Text, all_of, first_of, nothing_held, row
 use Rattle.clap.specs.Simple.{Shape, built, matches_of}
 use Rattle.clap.specs.Faults.{built_fault, fault_of}
 use Rattle.ghost_cli.specs.Bus.{Pair, bus_app, bus_asks, bus_named, bus_named_on, bus_of, bus_work, in_pairs, pairs_of}
-use Rattle.ghost_cli.specs.CommandLines.{AFlag, AName, AnOption, AreOnce, AreTexts, IsAmong, IsLine, Part, StandTogether, names_in, value_in}
+use Rattle.ghost_cli.specs.CommandLines.{AFlag, AName, AnOption, AreOnce, AreTexts, IsAmong, IsLine, Part, Says, StandTogether, names_in, run_options, value_in}
 use Rattle.ghost_cli.specs.Options.{asked_by, none_wrong, number_given, seed_given}
-use Rattle.ghost_cli.specs.Verbs.{asked_for, verb_named}
-use Rattle.ghost_cli.specs.WordsAsk.{AskExactly, AsksForBus, run_options}
+use Rattle.ghost_cli.specs.Verbs.{asked_for, verb_named, work_of}
+use Rattle.ghost_cli.specs.WordsAsk.{AskExactly, AsksForBus}
 use Rattle.ghost_cli.specs.Work.{Work}
 use Rattle.ghost_cli.proofs.BusRead.{runs}
 use Rattle.ghost_cli.proofs.BusTaken.{IsOfNames, Uses, rows-used, takes-uses, uses-of}
@@ -260,15 +260,18 @@ bus-asks words work texts asked =
 
 -- ---- from the work to the words
 
-asks-bus : (words : List Text) (work : Work) → AsksForBus words work → bus_of (codes "bus" ∷ words) ≡ Some work
+-- what words ask for that say these pairs
+said-bus : (words names : List Text) (parts : List Part) (first : Pair) (pairs : List Pair)
+    → Says run_options [] words names parts → StandTogether names parts → pairs_of names ≡ Some (first ∷ pairs)
+    → bus_of (codes "bus" ∷ words)
+    ≡ bus_named_on (first ∷ pairs) (value_in (codes "cycles") parts) (value_in (codes "seed") parts)
 unfolding bus_of asked_by
-asks-bus words work asks =
-    let names = many asks.names asks.first asks.more asks.pairs_are in
-    let parts = asks.parts in
-    let line = asks.says.line in
+said-bus words all parts first pairs says together pairs-are =
+    let names = many all first pairs pairs-are in
+    let line = says.line in
     let st : StandTogether (names.name ∷ names.more) parts =
-    subst (λ (l : List Text). StandTogether l parts) names.are asks.together in
-    let new = uses-new words parts names.name names.more st line asks.says.once in
+    subst (λ (l : List Text). StandTogether l parts) names.are together in
+    let new = uses-new words parts names.name names.more st line says.once in
     let so : Uses shape places run_options bus-command words parts = record { line = line; new = new } in
     let right =
     new-right shape bus-command.plain (runs places parts) [] []
@@ -278,15 +281,31 @@ asks-bus words work asks =
     bus-faults words
     ∙ takes-uses shape places run_options bus-command words parts so right
     (names-given words parts names.name names.more st line) in
-    let paired : pairs_of (names.name ∷ names.more) ≡ Some (asks.first ∷ asks.more) =
-    subst (λ (l : List Text). pairs_of l ≡ Some (asks.first ∷ asks.more)) names.are asks.pairs_are in
+    let paired : pairs_of (names.name ∷ names.more) ≡ Some (first ∷ pairs) =
+    subst (λ (l : List Text). pairs_of l ≡ Some (first ∷ pairs)) names.are pairs-are in
     ap (λ (kinds : Kinds). cond (none_wrong kinds) (bus_asks (matches_of bus_app (codes "bus" ∷ words))) None) none
     ∙ ap bus_asks (bus-rows words ∙ rows-used shape places run_options bus-command words parts so)
     ∙ rows-ask words parts names.name names.more st line
-    ∙ ap (λ (o : Option (List Pair)). option_and_then (λ pairs.
-    bus_named_on pairs (value_in (codes "cycles") parts) (value_in (codes "seed") parts)) o) paired
+    ∙ ap (λ (o : Option (List Pair)). option_and_then (λ ps.
+    bus_named_on ps (value_in (codes "cycles") parts) (value_in (codes "seed") parts)) o) paired
+
+asks-bus : (words : List Text) (work : Work) → AsksForBus words work → bus_of (codes "bus" ∷ words) ≡ Some work
+asks-bus words work asks =
+    said-bus words asks.names asks.parts asks.first asks.more asks.says asks.together asks.pairs_are
     ∙ (λ i. option_and_then (λ n. option_map (λ s. bus_work (asks.first ∷ asks.more) n) (asks.seed_is i))
     (asks.cycles_given i)) ∙ ap Some (sym asks.is)
+
+-- what the options of words give that say these pairs and ask for work
+pub bus-given : (words names : List Text) (parts : List Part) (first : Pair) (pairs : List Pair) (work : Work)
+    → Says run_options [] words names parts → StandTogether names parts → pairs_of names ≡ Some (first ∷ pairs)
+    → work_of (codes "bus" ∷ words) ≡ Some work
+    → (cycles : ℕ) × (seed : ℕ) × (number_given (value_in (codes "cycles") parts) ≡ Some cycles)
+    × (seed_given (value_in (codes "seed") parts) ≡ Some seed) × (work ≡ bus_work (first ∷ pairs) cycles)
+unfolding verb_named asked_for bus_app bus_of
+bus-given words names parts first pairs work says together pairs-are asked =
+    two-given (λ n (s : ℕ). bus_work (first ∷ pairs) n) work (number_given (value_in (codes "cycles") parts))
+    (seed_given (value_in (codes "seed") parts))
+    (sym (said-bus words names parts first pairs says together pairs-are) ∙ asked)
 
 pub bus-words : AskExactly (codes "bus") AsksForBus
 unfolding verb_named asked_for bus_app bus_of

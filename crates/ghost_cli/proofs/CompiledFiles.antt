@@ -1,5 +1,6 @@
 -- What is written by a compilation that is done.
 use Rattle.std.proofs.Common.{◌≡◌, ◌≢◌, inl, inr, Bool, ℕ, ◌<◌, List, Option, Some, None, Result, Ok, Err, sym, ap, ◌∙◌, subst, arith}
+use Rattle.std.specs.FinMap.{get}
 use Rattle.gr_outside.specs.Shelf.{Files}
 use Rattle.lt_isa.specs.declared.profiles.Profile.{Profile}
 use Rattle.src_tree.specs.Trees.{Source}
@@ -15,18 +16,18 @@ use Rattle.ghost_cli.specs.Outside.{Outside, Explains}
 use Rattle.ghost_cli.specs.Promises.{Answers, NoAnswer, AnswersSo, IsCompiledFile}
 use Rattle.ghost_cli.proofs.Calls.{means-its-calls}
 use Rattle.ghost_cli.proofs.Behind.{behind-it, not-done}
+use Rattle.ghost_cli.proofs.DoneWork.{programmed-on}
 use Rattle.ghost_cli.proofs.CompiledRuns.{compiled-runs}
 use Rattle.ghost_cli.proofs.CompiledTexts.{compiled-texts}
 use Rattle.ghost_cli.proofs.Promised.{answers-of}
 
-module _ (files : Files) (source output text : List ℕ) (profile : Profile) (procs : Bool) (there : Holds files source
-    (Some text))
-    (ending : Ending) (done : (said_at ending).status ≡ 0) where
-  bytes-compiled : (p : Source)
+module _ (files : Files) (source output : List ℕ) (profile : Profile) (procs : Bool) (ending : Ending)
+    (done : (said_at ending).status ≡ 0) where
+  bytes-compiled : (text : List ℕ) (p : Source) → get files source ≡ Some text
       → SpellsTyped procs text p → (answer : Result (List ℕ) SourceFault) → IsRight (WhichCompiled p profile) answer
       → MayEnd (Holds files) (on_compiled output answer) ending
       → IsCompiledFile procs files (files_at ending files) source output profile
-  bytes-compiled p spells (Ok bytes) compiled comes = record {
+  bytes-compiled text p there spells (Ok bytes) compiled comes = record {
     text = text;
     there = there;
     file = record {
@@ -40,32 +41,16 @@ module _ (files : Files) (source output text : List ℕ) (profile : Profile) (pr
       calls = means-its-calls procs text p spells.spells;
     };
   }
-  bytes-compiled p spells (Err fault) room comes =
+  bytes-compiled text p there spells (Err fault) room comes =
       not-done ending _ (behind-it (Holds files) _ ending comes) (inl done)
       (λ e. omega (arith, e)) (λ e. omega (arith, e))
 
-  text-compiled : (answer : Result Source SourceFault) → IsRight (WhichSource procs text) answer
-      → MayEnd (Holds files) (or_ends BadSource (compiles_to output profile) answer) ending
+  file-compiled : MayEnd (Holds files) (compile_work source output profile procs) ending
       → IsCompiledFile procs files (files_at ending files) source output profile
-  text-compiled (Ok p) spells comes =
-      let asked = behind-it (Holds files) _ ending comes in bytes-compiled p spells asked.0 asked.1 asked.2
-  text-compiled (Err fault) first comes =
-      not-done ending _ (behind-it (Holds files) _ ending comes) (inl done)
-      (λ e. omega (arith, e)) (λ e. omega (arith, e))
-
-file-compiled : (files : Files) (source output : List ℕ) (profile : Profile) (procs : Bool) (ending : Ending)
-    → MayEnd (Holds files) (compile_work source output profile procs) ending
-    → (said_at ending).status ≡ 0 → IsCompiledFile procs files (files_at ending files) source output profile
-file-compiled files source output profile procs ending comes done =
-    elim (behind-it (Holds files) (compile_work source output profile procs) ending comes) [
-      | inl unread ↦ not-done ending _ unread (inl done) (λ e. omega (arith, e)) (λ e. omega (arith, e))
-      | inr more ↦ elim more [
-        | inl long ↦ not-done ending _ long (inl done) (λ e. omega (arith, e)) (λ e. omega (arith, e))
-        | inr found ↦
-            let read = behind-it (Holds files) _ ending found.2 in
-            text-compiled files source output found.0 profile procs found.1 ending done read.0 read.1 read.2
-      ]
-    ]
+  file-compiled comes =
+      let found = programmed-on files ending (inl done) procs source (compiles_to output profile) comes in
+      let asked = behind-it (Holds files) _ ending found.comes in
+      bytes-compiled found.text found.p found.there found.spells asked.0 asked.1 asked.2
 
 answer-compiled : (files : Files) (source output : List ℕ) (profile : Profile) (procs : Bool) (asked : Option Work)
     (said : Said) (afterwards : Files)
@@ -74,8 +59,8 @@ answer-compiled : (files : Files) (source output : List ℕ) (profile : Profile)
 answer-compiled files source output profile procs asked said afterwards is NoAnswer done =
     absurd (let f : ◌≡◌ {A = Option Work} None (Some (compile_work source output profile procs)) = is in cc)
 answer-compiled files source output profile procs asked said afterwards is (AnswersSo work ending comes) done =
-    file-compiled files source output profile procs ending
-    (subst (λ work. MayEnd (Holds files) work ending) (some-same is) comes) done
+    file-compiled files source output profile procs ending done
+    (subst (λ work. MayEnd (Holds files) work ending) (some-same is) comes)
   where
     some-same : {work other : Work} → Some work ≡ Some other → work ≡ other
     some-same e = let f = e in cc

@@ -26,6 +26,7 @@ use Rattle.ghost_cli.specs.Promises.{Answers, NoAnswer, AnswersSo, IsInferredFil
 use Rattle.ghost_cli.specs.Progress.{HasLeft}
 use Rattle.ghost_cli.proofs.Answering.{written-said}
 use Rattle.ghost_cli.proofs.Behind.{behind-it, not-done}
+use Rattle.ghost_cli.proofs.DoneWork.{spelled-on}
 use Rattle.ghost_cli.proofs.Progressing.{leads-on}
 use Rattle.ghost_cli.proofs.Promised.{answers-of}
 
@@ -50,33 +51,33 @@ inferred-said shelf between now before after result object output o found slice 
 -- ---- what is written
 
 -- a file that was written is there
-written-there : (name bytes : List ℕ) (files : Files) → get (with_file name bytes files) name ≡ Some bytes
+pub written-there : (name bytes : List ℕ) (files : Files) → get (with_file name bytes files) name ≡ Some bytes
 written-there name bytes files =
     get-insert nat_list_cmp_total files name bytes name
     ∙ ap (λ (same : Bool). cond same (Some bytes) (get files name)) ((eq_by_cmp_equiv nat_list_cmp_total).refl name)
 
--- an object that got its notes is safe where it was written
-written-safe : (files : Files) (output : List ℕ) (o found : Parts) → GetsNotes o found
-    → IsSafe (with_file output (spelling found) files) output
-written-safe files output o found gets =
+-- an object that got its notes is safe if it was written
+abbrev written-safe : (files afterwards : Files) (output : List ℕ) (o found : Parts) → GetsNotes o found
+    → afterwards ≡ with_file output (spelling found) files → IsSafe afterwards output
+written-safe files afterwards output o found gets written =
     let oblivious = accepted_is_oblivious found gets.in_range gets.inferred.accepts in
     record {
       bytes = spelling found;
       o = found;
-      there = written-there output (spelling found) files;
+      there = subst (λ (fs : Files). get fs output ≡ Some (spelling found)) (sym written)
+          (written-there output (spelling found) files);
       spells = record { in_range = gets.in_range; spelled = refl };
       accepted = gets.inferred.accepts;
       oblivious = oblivious;
       leaves = leaves_alike found gets.in_range oblivious;
     }
 
-module _ (files : Files) (object output bytes : List ℕ) (there : Holds files object (Some bytes))
-    (ending : Ending) (done : (said_at ending).status ≡ 0) where
-  notes-written : (o : Parts)
+module _ (files : Files) (object output : List ℕ) (ending : Ending) (done : (said_at ending).status ≡ 0) where
+  notes-written : (bytes : List ℕ) (o : Parts) → get files object ≡ Some bytes
       → SpellsObject bytes o → (answer : Result Parts InferError) → IsRight (WhatIsInferred o) answer
       → MayEnd (Holds files) (on_inferred output answer) ending
       → IsInferredFile files (files_at ending files) object output
-  notes-written o spells (Ok found) gets comes =
+  notes-written bytes o there spells (Ok found) gets comes =
       let written = ap (λ e. files_at e files) (behind-it (Holds files) _ ending comes) in
       record {
         bytes = bytes;
@@ -86,34 +87,19 @@ module _ (files : Files) (object output bytes : List ℕ) (there : Holds files o
         found = found;
         notes = gets;
         written = written;
-        safe = subst (λ (fs : Files). IsSafe fs output) (sym written) (written-safe files output o found gets);
+        safe = written-safe files (files_at ending files) output o found gets written;
+        same = refl;
       }
-  notes-written o spells (Err why) none comes =
+  notes-written bytes o there spells (Err why) none comes =
       not-done ending _ (behind-it (Holds files) _ ending comes) (inl done)
       (λ e. omega (arith, e)) (λ e. omega (arith, e))
 
-  object-read : (answer : Result Parts DecodeError) → IsRight (WhichObject bytes) answer
-      → MayEnd (Holds files) (or_ends Malformed (infers_to output) answer) ending
+  file-inferred : MayEnd (Holds files) (infer_work object output) ending
       → IsInferredFile files (files_at ending files) object output
-  object-read (Ok o) spells comes =
-      let asked = behind-it (Holds files) _ ending comes in notes-written o spells asked.0 asked.1 asked.2
-  object-read (Err fault) first comes =
-      not-done ending _ (behind-it (Holds files) _ ending comes) (inl done)
-      (λ e. omega (arith, e)) (λ e. omega (arith, e))
-
-file-inferred : (files : Files) (object output : List ℕ) (ending : Ending)
-    → MayEnd (Holds files) (infer_work object output) ending
-    → (said_at ending).status ≡ 0 → IsInferredFile files (files_at ending files) object output
-file-inferred files object output ending comes done =
-    elim (behind-it (Holds files) (infer_work object output) ending comes) [
-      | inl unread ↦ not-done ending _ unread (inl done) (λ e. omega (arith, e)) (λ e. omega (arith, e))
-      | inr more ↦ elim more [
-        | inl long ↦ not-done ending _ long (inl done) (λ e. omega (arith, e)) (λ e. omega (arith, e))
-        | inr found ↦
-            let read = behind-it (Holds files) _ ending found.2 in
-            object-read files object output found.0 found.1 ending done read.0 read.1 read.2
-      ]
-    ]
+  file-inferred comes =
+      let found = spelled-on files ending (inl done) object (infers_to output) comes in
+      let asked = behind-it (Holds files) _ ending found.comes in
+      notes-written found.bytes found.o found.there found.spells asked.0 asked.1 asked.2
 
 answer-inferred : (files : Files) (object output : List ℕ) (asked : Option Work) (said : Said) (afterwards : Files)
     → asked ≡ Some (infer_work object output) → Answers files asked said afterwards → said.status ≡ 0
@@ -121,8 +107,8 @@ answer-inferred : (files : Files) (object output : List ℕ) (asked : Option Wor
 answer-inferred files object output asked said afterwards is NoAnswer done =
     absurd (let f : ◌≡◌ {A = Option Work} None (Some (infer_work object output)) = is in cc)
 answer-inferred files object output asked said afterwards is (AnswersSo work ending comes) done =
-    file-inferred files object output ending
-    (subst (λ work. MayEnd (Holds files) work ending) (some-same is) comes) done
+    file-inferred files object output ending done
+    (subst (λ work. MayEnd (Holds files) work ending) (some-same is) comes)
   where
     some-same : {work other : Work} → Some work ≡ Some other → work ≡ other
     some-same e = let f = e in cc

@@ -59,3 +59,10 @@ pub mod VerbRows
 pub mod VerbCommands
 pub mod VerbWords
 pub mod SourceAnswers
+pub mod DoneWork
+pub mod HeadlineCalls
+pub mod HeadlineVerbs
+pub mod HeadlineBuses
+pub mod HeadlineOutputs
+pub mod HeadlineAll
+pub mod PureCalls

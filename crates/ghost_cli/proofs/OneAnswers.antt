@@ -23,6 +23,7 @@ use Rattle.run_data.specs.InputsOf.{json_of, inputs_of}
 use Rattle.run_data.specs.declared.errors.InputError.{InputError}
 use Rattle.run_data.specs.declared.errors.InputError.TheVariants as error
 use Rattle.run_data.proofs.ReadWords.{inputs_fit}
+use Rattle.bus_arbiter.specs.Laws.{AllFit}
 use Rattle.bus_arbiter.specs.declared.errors.BusError.{BusError}
 use Rattle.bus_arbiter.specs.Refusals.{refusal}
 use Rattle.bus_arbiter.specs.Shares.{share_of}
@@ -46,7 +47,7 @@ use Rattle.ghost_cli.specs.Objects.{SpellsObject, object_limit}
 use Rattle.ghost_cli.specs.Questions.{Answer, AreInputs, IsRight, Question, Shows, WhatIsInferred, WhatIsJoined, WhenItHalts, WhetherAccepted, WhichAssembly, WhichInputs, WhichObject}
 use Rattle.ghost_cli.specs.Run.{on_halt, run_work, runs_on}
 use Rattle.ghost_cli.specs.Runs.{HaltOf}
-use Rattle.ghost_cli.specs.Sharing.{AllFit, AreRead}
+use Rattle.ghost_cli.specs.Sharing.{AreRead}
 use Rattle.ghost_cli.specs.Showing.{Seen, events_alone, nothing_seen}
 use Rattle.ghost_cli.specs.Steps.{input_limit, on_judged, or_ends, with_accepted, with_assembly, with_inputs, with_object}
 use Rattle.ghost_cli.specs.Trace.{shows_on, trace_work, traces_on}

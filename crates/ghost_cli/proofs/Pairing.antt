@@ -4,6 +4,7 @@ use Rattle.gr_outside.specs.Shelf.{ShelfSeen}
 use Rattle.lt_isa.specs.Object.{Parts}
 use Rattle.lt_isa.specs.Ranges.{IsInRange}
 use Rattle.lt_isa.specs.Start.{FitsObject}
+use Rattle.bus_arbiter.specs.Laws.{AllFit}
 use Rattle.bus_arbiter.specs.declared.errors.BusError.{BusError}
 use Rattle.bus_arbiter.specs.declared.errors.BusError.TheVariants as bus
 use Rattle.bus_arbiter.specs.declared.shares.Share.{Share}
@@ -14,7 +15,7 @@ use Rattle.bus_arbiter.proofs.ShareRanges.{share-fits}
 use Rattle.ghost_cli.specs.declared.replies.Verdict.TheVariants.{OffBus}
 use Rattle.ghost_cli.specs.Bus.{Pair, Read, bus_said, none_read, on_plan, one_read, with_core, with_cores}
 use Rattle.ghost_cli.specs.Progress.{HasLeft, Stops}
-use Rattle.ghost_cli.specs.Sharing.{AllFit, AreRead}
+use Rattle.ghost_cli.specs.Sharing.{AreRead}
 use Rattle.ghost_cli.specs.Showing.{nothing_seen}
 use Rattle.ghost_cli.specs.Steps.{with_accepted, with_inputs}
 use Rattle.ghost_cli.specs.Texts.{Said, comes_to}

@@ -15,7 +15,7 @@ use Rattle.bus_arbiter.specs.Shares.{share_at, share_of}
 use Rattle.lt_isa.specs.Trace.{Stamped, trace_from}
 use Rattle.processor.specs.Ends.{EndsAs}
 use Rattle.bus_arbiter.specs.Cores.{Core, LeftIf, RanTo, end_as, trace_to, traces_to}
-use Rattle.bus_arbiter.specs.Laws.{traces_on}
+use Rattle.bus_arbiter.specs.Laws.{AllFit, traces_on}
 use Rattle.bus_arbiter.specs.Turns.{AllLeft}
 use Rattle.bus_arbiter.specs.Transfers.{Transfer}
 use Rattle.path_oram.specs.Orams.{Oram}
@@ -27,7 +27,7 @@ use Rattle.ghost_cli.specs.Outside.{Explains, outside}
 use Rattle.ghost_cli.specs.Progress.{HasLeft}
 use Rattle.ghost_cli.specs.Questions.{WhatIsJoined, WhenItHalts}
 use Rattle.ghost_cli.specs.Runs.{HaltOf}
-use Rattle.ghost_cli.specs.Sharing.{AllBegin, AllFit, AreHalts, PutsHalts, PutsJoined, PutsShared, halts_of}
+use Rattle.ghost_cli.specs.Sharing.{AllBegin, AreHalts, PutsHalts, PutsJoined, PutsShared, halts_of}
 use Rattle.ghost_cli.specs.Showing.{bus_seen, core_line, core_lines, halt_text, transfer_lines}
 use Rattle.ghost_cli.specs.Work.{Asks, Ends, Work}
 use Rattle.ghost_cli.proofs.Answering.{judged-said}

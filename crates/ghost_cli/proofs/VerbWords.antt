@@ -1,12 +1,12 @@
 -- The words of each verb ask exactly for the work that they say.
-use Rattle.std.proofs.Common.{◌≡◌, ◌∙◌, inl, inr, refl, sym, ap, subst, Bool, false, cond, List, [], ◌∷◌, Option, Some, None}
+use Rattle.std.proofs.Common.{◌≡◌, ◌∙◌, inl, inr, refl, sym, ap, subst, ℕ, Bool, false, cond, List, [], ◌∷◌, Option, Some, None}
 use Rattle.std.specs.Prelude.{codes, option_and_then}
 use Rattle.std.specs.Option.{option_map}
 use Rattle.std.specs.Str.{bytes_eq}
 use Rattle.clap.specs.Walk.{Row, Text, first_of}
 use Rattle.ghost_cli.specs.Assemble.{assemble_work}
 use Rattle.ghost_cli.specs.Check.{check_row, check_work}
-use Rattle.ghost_cli.specs.CommandLines.{AreTexts, IsAmong, Part, has_flag, names_in, value_in}
+use Rattle.ghost_cli.specs.CommandLines.{AreTexts, IsAmong, Part, Says, compile_options, has_flag, names_in, run_options, value_in}
 use Rattle.ghost_cli.specs.Compile.{compile_named, compile_row, compile_work}
 use Rattle.ghost_cli.specs.Disassemble.{disassemble_work}
 use Rattle.ghost_cli.specs.Evaluate.{evaluate_named, evaluate_row, evaluate_work}
@@ -18,8 +18,9 @@ use Rattle.ghost_cli.specs.Trace.{trace_named, trace_row, trace_work}
 use Rattle.ghost_cli.specs.VerbRows.{VerbRow, command_of, row_of_two}
 use Rattle.ghost_cli.specs.Verbs.{asked_for, verb_named, work_of}
 use Rattle.ghost_cli.specs.Windows.{window_given, windowed_profile}
-use Rattle.ghost_cli.specs.WordsAsk.{AskExactly, AsksByOne, AsksByTwo, AsksToCompile, AsksToEvaluate, AsksToRun, AsksToSample, AsksToTrace, Says, WordsAsk, verb_names}
+use Rattle.ghost_cli.specs.WordsAsk.{AskExactly, AsksByOne, AsksByTwo, AsksToCompile, AsksToEvaluate, AsksToRun, AsksToSample, AsksToTrace, WordsAsk, verb_names}
 use Rattle.ghost_cli.specs.Work.{Work}
+use Rattle.ghost_cli.specs.declared.windows.Window.{Window}
 use Rattle.ghost_cli.proofs.BusWords.{bus-words}
 use Rattle.ghost_cli.proofs.VerbCommands.{IsVerbRow, assemble-verb, check-verb, compile-verb, disassemble-verb, evaluate-verb, infer-verb, run-verb, sample-verb, trace-verb}
 use Rattle.ghost_cli.proofs.WordsAsked.{SameLength, SaysAll, asked-says, flag-said, name-said, rows_behind, says-asked, two-given, value-said}
@@ -96,6 +97,11 @@ module _ (row : VerbRow) where
         → asked_behind words ≡ row.asks (found_by parts)
     row-asked words parts says =
         says-asked (command_of row) row.options row.flags row.places row.name is row.asks words parts says
+
+    -- what the row makes of words that say these parts and ask for work
+    row-made : (words : List Text) (parts : List Part) (work : Work) (made : Option Work) → SaysRow words parts
+        → (SaysRow words parts → row.asks (found_by parts) ≡ made) → asked_behind words ≡ Some work → made ≡ Some work
+    row-made words parts work made says makes asked = sym (row-asked words parts says ∙ makes says) ∙ asked
 
     module _ (words : List Text) (parts : List Part) (says : SaysRow words parts) where
       name-of : (names : List Text) → names_in parts ≡ names → (x : Text) → IsAmong row.places x
@@ -216,24 +222,35 @@ trace-asks words parts t u says are =
     ∙ (λ k. option_and_then (λ n. option_map (λ s. trace_work t u n s (paths k) (recursive k))
     (seed_given (value_in (codes "seed") parts))) (number_given (value_in (codes "cycles") parts)))
 
+-- what the options of words give that say two names and ask for work
+pub trace-given : (words : List Text) (object input : Text) (parts : List Part) (work : Work)
+    → Says run_options (codes "paths" ∷ codes "recursive" ∷ []) words (object ∷ input ∷ []) parts
+    → work_of (codes "trace" ∷ words) ≡ Some work
+    → (cycles : ℕ) × (seed : ℕ) × (number_given (value_in (codes "cycles") parts) ≡ Some cycles)
+    × (seed_given (value_in (codes "seed") parts) ≡ Some seed)
+    × (work ≡ trace_work object input cycles seed (has_flag (codes "paths") parts) (has_flag (codes "recursive") parts))
+unfolding verb_named asked_for
+trace-given words object input parts work says asked =
+    two-given (λ n s. trace_work object input n s (has_flag (codes "paths") parts) (has_flag (codes "recursive") parts))
+    work (number_given (value_in (codes "cycles") parts)) (seed_given (value_in (codes "seed") parts))
+    (row-made trace_row trace-verb words parts work _ (says-all trace_row words (object ∷ input ∷ []) parts says tt)
+    (λ all. trace-asks words parts object input all says.are) asked)
+
 trace-words : AskExactly (codes "trace") AsksToTrace
 unfolding verb_named asked_for
 trace-words words work texts = (
   (λ asked.
       let found = asked-row trace_row trace-verb words work texts asked in
       let two = two-names (names_in found.0) (codes "OBJ") (codes "INPUT") found.1.names in
-      let given =
-      two-given (λ n s. trace_work two.0 two.1 n s (has_flag (codes "paths") found.0) (has_flag (codes "recursive")
-      found.0))
-      work (number_given (value_in (codes "cycles") found.0)) (seed_given (value_in (codes "seed") found.0))
-      (sym (trace-asks words found.0 two.0 two.1 found.1 two.2) ∙ found.2) in
+      let says = all-says trace_row words (two.0 ∷ two.1 ∷ []) found.0 found.1 two.2 in
+      let given = trace-given words two.0 two.1 found.0 work says asked in
       record {
         object = two.0;
         input = two.1;
         parts = found.0;
         cycles = given.0;
         seed = given.1;
-        says = all-says trace_row words (two.0 ∷ two.1 ∷ []) found.0 found.1 two.2;
+        says = says;
         cycles_given = given.2;
         seed_is = given.3;
         is = given.4;
@@ -263,16 +280,26 @@ run-asks words parts t u v says are =
     let seed = value-of run_row run-verb words parts says (codes "seed") (inr (inl refl)) in
     λ k. run_named (first k) (second k) (third k) (cycles k) (seed k)
 
+pub run-given : (words : List Text) (object input output : Text) (parts : List Part) (work : Work)
+    → Says run_options (codes "recursive" ∷ []) words (object ∷ input ∷ output ∷ []) parts
+    → work_of (codes "run" ∷ words) ≡ Some work
+    → (cycles : ℕ) × (seed : ℕ) × (number_given (value_in (codes "cycles") parts) ≡ Some cycles)
+    × (seed_given (value_in (codes "seed") parts) ≡ Some seed) × (work ≡ run_work object input output cycles)
+unfolding verb_named asked_for
+run-given words object input output parts work says asked =
+    two-given (λ n (s : ℕ). run_work object input output n) work (number_given (value_in (codes "cycles") parts))
+    (seed_given (value_in (codes "seed") parts))
+    (row-made run_row run-verb words parts work _ (says-all run_row words (object ∷ input ∷ output ∷ []) parts says tt)
+    (λ all. run-asks words parts object input output all says.are) asked)
+
 run-words : AskExactly (codes "run") AsksToRun
 unfolding verb_named asked_for
 run-words words work texts = (
   (λ asked.
       let found = asked-row run_row run-verb words work texts asked in
       let names = three-names (names_in found.0) (codes "OBJ") (codes "INPUT") (codes "OUT") found.1.names in
-      let given =
-      two-given (λ n s. run_work names.0 names.1 names.2 n) work (number_given (value_in (codes "cycles") found.0))
-      (seed_given (value_in (codes "seed") found.0))
-      (sym (run-asks words found.0 names.0 names.1 names.2 found.1 names.3) ∙ found.2) in
+      let says = all-says run_row words (names.0 ∷ names.1 ∷ names.2 ∷ []) found.0 found.1 names.3 in
+      let given = run-given words names.0 names.1 names.2 found.0 work says asked in
       record {
         object = names.0;
         input = names.1;
@@ -280,7 +307,7 @@ run-words words work texts = (
         parts = found.0;
         cycles = given.0;
         seed = given.1;
-        says = all-says run_row words (names.0 ∷ names.1 ∷ names.2 ∷ []) found.0 found.1 names.3;
+        says = says;
         cycles_given = given.2;
         seed_is = given.3;
         is = given.4;
@@ -311,23 +338,34 @@ evaluate-asks words parts t u v says are =
     (λ k. evaluate_named (first k) (second k) (third k) (turns k) (first_of (codes "procs") rows))
     ∙ (λ k. option_map (λ n. evaluate_work t u v n (procs k)) (number_given (value_in (codes "turns") parts)))
 
+pub evaluate-given : (words : List Text) (source input output : Text) (parts : List Part) (work : Work)
+    → Says (codes "turns" ∷ []) (codes "procs" ∷ []) words (source ∷ input ∷ output ∷ []) parts
+    → work_of (codes "eval" ∷ words) ≡ Some work
+    → (turns : ℕ) × (number_given (value_in (codes "turns") parts) ≡ Some turns)
+    × (work ≡ evaluate_work source input output turns (has_flag (codes "procs") parts))
+unfolding verb_named asked_for
+evaluate-given words source input output parts work says asked =
+    one-given (λ n. evaluate_work source input output n (has_flag (codes "procs") parts)) work
+    (number_given (value_in (codes "turns") parts))
+    (row-made evaluate_row evaluate-verb words parts work _
+    (says-all evaluate_row words (source ∷ input ∷ output ∷ []) parts says tt)
+    (λ all. evaluate-asks words parts source input output all says.are) asked)
+
 evaluate-words : AskExactly (codes "eval") AsksToEvaluate
 unfolding verb_named asked_for
 evaluate-words words work texts = (
   (λ asked.
       let found = asked-row evaluate_row evaluate-verb words work texts asked in
       let names = three-names (names_in found.0) (codes "SRC") (codes "INPUT") (codes "OUT") found.1.names in
-      let given =
-      one-given (λ n. evaluate_work names.0 names.1 names.2 n (has_flag (codes "procs") found.0)) work
-      (number_given (value_in (codes "turns") found.0))
-      (sym (evaluate-asks words found.0 names.0 names.1 names.2 found.1 names.3) ∙ found.2) in
+      let says = all-says evaluate_row words (names.0 ∷ names.1 ∷ names.2 ∷ []) found.0 found.1 names.3 in
+      let given = evaluate-given words names.0 names.1 names.2 found.0 work says asked in
       record {
         source = names.0;
         input = names.1;
         output = names.2;
         parts = found.0;
         turns = given.0;
-        says = all-says evaluate_row words (names.0 ∷ names.1 ∷ names.2 ∷ []) found.0 found.1 names.3;
+        says = says;
         turns_given = given.1;
         is = given.2;
       }),
@@ -359,23 +397,35 @@ compile-asks words parts t u says are =
     ∙ (λ k. option_and_then (λ w. option_map (λ at. compile_work t u (windowed_profile w at) (procs k))
     (window_given (value_in (codes "window") parts))) (block_log_given (value_in (codes "block-log") parts)))
 
+pub compile-given : (words : List Text) (source output : Text) (parts : List Part) (work : Work)
+    → Says compile_options (codes "procs" ∷ []) words (source ∷ output ∷ []) parts
+    → work_of (codes "compile" ∷ words) ≡ Some work
+    → (block_log : ℕ) × (window : Window) × (block_log_given (value_in (codes "block-log") parts) ≡ Some block_log)
+    × (window_given (value_in (codes "window") parts) ≡ Some window)
+    × (work ≡ compile_work source output (windowed_profile block_log window) (has_flag (codes "procs") parts))
+unfolding verb_named asked_for
+compile-given words source output parts work says asked =
+    two-given (λ w at. compile_work source output (windowed_profile w at) (has_flag (codes "procs") parts)) work
+    (block_log_given (value_in (codes "block-log") parts)) (window_given (value_in (codes "window") parts))
+    (row-made compile_row compile-verb words parts work _
+    (says-all compile_row words (source ∷ output ∷ []) parts says tt)
+    (λ all. compile-asks words parts source output all says.are) asked)
+
 compile-words : AskExactly (codes "compile") AsksToCompile
 unfolding verb_named asked_for
 compile-words words work texts = (
   (λ asked.
       let found = asked-row compile_row compile-verb words work texts asked in
       let two = two-names (names_in found.0) (codes "SRC") (codes "OUT") found.1.names in
-      let given =
-      two-given (λ w at. compile_work two.0 two.1 (windowed_profile w at) (has_flag (codes "procs") found.0)) work
-      (block_log_given (value_in (codes "block-log") found.0)) (window_given (value_in (codes "window") found.0))
-      (sym (compile-asks words found.0 two.0 two.1 found.1 two.2) ∙ found.2) in
+      let says = all-says compile_row words (two.0 ∷ two.1 ∷ []) found.0 found.1 two.2 in
+      let given = compile-given words two.0 two.1 found.0 work says asked in
       record {
         source = two.0;
         output = two.1;
         parts = found.0;
         block_log = given.0;
         window = given.1;
-        says = all-says compile_row words (two.0 ∷ two.1 ∷ []) found.0 found.1 two.2;
+        says = says;
         block_log_is = given.2;
         window_is = given.3;
         is = given.4;

@@ -3,10 +3,9 @@
 use Rattle.std.specs.Prelude.{◌≡◌, ℕ, ℤ, List}
 use Rattle.gr_outside.specs.Shelf.{Files}
 use Rattle.lt_isa.specs.Object.{Parts}
-use Rattle.bus_arbiter.specs.Laws.{AllAgree, AllOblivious}
+use Rattle.bus_arbiter.specs.Laws.{AllAgree, AllFit, AllOblivious}
 use Rattle.bus_arbiter.specs.declared.shares.Share.{Share}
 use Rattle.ghost_cli.specs.Bus.{shares_bus}
-use Rattle.ghost_cli.specs.Sharing.{AllFit}
 use Rattle.ghost_cli.specs.Work.{Ending, Holds, MayEnd, said_at}
 
 -- Two calls have read oblivious objects, each with inputs, and the inputs of each object agree: they come to the same

@@ -74,6 +74,20 @@ AreOnce before (AName name ∷ parts) = AreOnce before parts
 AreOnce before (AnOption option value ∷ parts) = (IsAmong before option → ⊥) × AreOnce (option ∷ before) parts
 AreOnce before (AFlag flag ∷ parts) = (IsAmong before flag → ⊥) × AreOnce (flag ∷ before) parts
 
+-- The words after a verb say these names and parts, if the verb has these options and flags. Each option and flag is
+-- there at most once.
+pub record Says (options flags words names : List Text) (parts : List Part) : Type 0 where
+  pub line : IsLine options flags words parts
+  pub once : AreOnce [] parts
+  pub are : names_in parts ≡ names
+
+-- the options of verbs that run objects, and of `compile`
+abbrev pub run_options : List Text
+run_options = codes "cycles" ∷ codes "seed" ∷ []
+
+abbrev pub compile_options : List Text
+compile_options = codes "block-log" ∷ codes "window" ∷ []
+
 -- these names stand together: before the first and behind the last stand options and flags, and none between two of them
 pub record StandTogether (names : List Text) (parts : List Part) : Type 0 where
   pub before : List Part

@@ -16,7 +16,6 @@ use Rattle.code_gen.specs.Implements.{by_name}
 use Rattle.ghost_cli.specs.Compiled.{IsCompiledTo}
 use Rattle.ghost_cli.specs.CompiledRuns.{IsStoreOf}
 use Rattle.ghost_cli.specs.Objects.{SpellsObject}
-use Rattle.ghost_cli.specs.Questions.{AreInputs}
 use Rattle.ghost_cli.specs.Runs.{run_outputs}
 
 -- A text gives the object, by name, the store that it gives the program, or is refused for both with one fault. What it
@@ -26,13 +25,14 @@ use Rattle.ghost_cli.specs.Runs.{run_outputs}
 pub record TextsAsMeant (p : Source) (o : Parts) : Type 0 where
   pub given : (text : List ℕ) → inputs_of (wants_of o) (json_of text)
       ≡ result_map_both (by_name p o) (λ fault. fault) (inputs_of (declared_wants p.decls) (json_of text))
-  pub fits : (text : List ℕ) (store : Store) → AreInputs (declared_wants p.decls) text (Ok store)
+  pub fits : (text : List ℕ) (store : Store) → inputs_of (declared_wants p.decls) (json_of text) ≡ Ok store
       → IsStoreOf p store
   pub shown : (store : Store) → length store ≡ length p.decls
       → output_of (wants_of o) (by_name p o store) ≡ output_of (declared_wants p.decls) store
   pub written : (text : List ℕ) (store left : Store) (inputs : List (List ℤ)) (turns cycles : ℕ)
-      → AreInputs (declared_wants p.decls) text (Ok store) → meaning p store turns ≡ Some left
-      → AreInputs (wants_of o) text (Ok inputs) → Halts o inputs cycles
+      → inputs_of (declared_wants p.decls) (json_of text) ≡ Ok store
+      → meaning p store turns ≡ Some left
+      → inputs_of (wants_of o) (json_of text) ≡ Ok inputs → Halts o inputs cycles
       → run_outputs o inputs cycles ≡ output_of (declared_wants p.decls) left
 
 -- whatever object a compiled program's bytes spell reads and writes what the program does

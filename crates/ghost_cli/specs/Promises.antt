@@ -168,11 +168,14 @@ pub record IsInferredFile (files afterwards : Files) (object output : List ℕ) 
   pub notes : GetsNotes o found
   pub written : afterwards ≡ with_file output (spelling found) files
   pub safe : IsSafe afterwards output
+  pub same : safe.o ≡ found
 
+-- What every call promises: the words, want of memory, or what the files gave explain how it ended.
 pub record Promises (asked : Option Work) (before after : Outside) (status : ℕ) : Type 0 where
-  -- Every answer is explained: by the words, by want of memory, or by what the files gave. All other fields follow
-  -- from this one (`PromisesFollow`), so whoever reads them starts here.
   pub explained : Explains before after status asked
+
+-- What follows from that, one law a field (`PromisesFollow`).
+pub record CallLaws (asked : Option Work) (before after : Outside) (status : ℕ) : Type 0 where
   -- Told files: status, text and files are those of an answer, unless a file that is there couldn't be read.
   pub answers : (files : Files) → before.shelf.files ≡ Some files → status ≢ 4 → status ≢ 5
       → IsAnswered asked before after status files ⊎ IsUnreadable asked before after status files
@@ -229,8 +232,8 @@ pub record Promises (asked : Option Work) (before after : Outside) (status : ℕ
       → (files : Files) → before.shelf.files ≡ Some files → (afterwards : Files) × (after.shelf.files ≡ Some afterwards)
       × IsWrittenFor false files afterwards (sample_text items) output sample_profile
 
--- whatever is asked, all that is promised follows from the field `explained` alone
+-- so it is for all work
 abbrev pub PromisesFollow : Type 0
 PromisesFollow =
-    (asked : Option Work) (before after : Outside) (status : ℕ) → Explains before after status asked
-    → Promises asked before after status
+    (asked : Option Work) (before after : Outside) (status : ℕ) → Promises asked before after status
+    → CallLaws asked before after status

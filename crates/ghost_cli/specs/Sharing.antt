@@ -4,10 +4,9 @@ use Rattle.gr_base.specs.Added.{Adds, AddsLess}
 use Rattle.gr_base.specs.Counts.{Rose}
 use Rattle.gr_outside.specs.Sink.{SinkSeen}
 use Rattle.lt_isa.specs.Object.{Parts}
-use Rattle.lt_isa.specs.Ranges.{IsInRange}
-use Rattle.lt_isa.specs.Start.{FitsObject}
 use Rattle.lt_isa.specs.Trace.{Stamped}
 use Rattle.bus_arbiter.specs.Cores.{Core}
+use Rattle.bus_arbiter.specs.Laws.{AllFit}
 use Rattle.bus_arbiter.specs.Shares.{share_of}
 use Rattle.bus_arbiter.specs.Transfers.{IsJoined, Transfer}
 use Rattle.path_oram.specs.Orams.{Oram}
@@ -20,13 +19,6 @@ use Rattle.ghost_cli.specs.Runs.{HaltOf}
 use Rattle.ghost_cli.specs.Showing.{bus_seen, core_lines, transfer_lines}
 use Rattle.ghost_cli.specs.Texts.{verdict_status}
 use Rattle.ghost_cli.specs.Work.{IsVerdict, said_at}
-
--- objects in range, each with inputs that fit it
-abbrev pub AllFit : List Parts → List (List (List ℤ)) → Type 0
-AllFit [] [] = Unit {0}
-AllFit [] (d ∷ ds) = ⊥
-AllFit (o ∷ os) [] = ⊥
-AllFit (o ∷ os) (d ∷ ds) = IsInRange o × FitsObject o d × AllFit os ds
 
 -- the plan is that of the objects, and the inputs are theirs
 pub record AreRead (read : Read) : Type 0 where

@@ -5,7 +5,7 @@ use Rattle.ghost_cli.specs.declared.windows.Window.{Window}
 use Rattle.ghost_cli.specs.Assemble.{assemble_work}
 use Rattle.ghost_cli.specs.Bus.{Pair, bus_work, pairs_of}
 use Rattle.ghost_cli.specs.Check.{check_work}
-use Rattle.ghost_cli.specs.CommandLines.{AreOnce, AreTexts, IsAmong, IsLine, Part, StandTogether, Text, has_flag, names_in, value_in}
+use Rattle.ghost_cli.specs.CommandLines.{AreTexts, IsAmong, Part, Says, StandTogether, Text, compile_options, has_flag, run_options, value_in}
 use Rattle.ghost_cli.specs.Compile.{compile_work}
 use Rattle.ghost_cli.specs.Disassemble.{disassemble_work}
 use Rattle.ghost_cli.specs.Evaluate.{evaluate_work}
@@ -17,13 +17,6 @@ use Rattle.ghost_cli.specs.Trace.{trace_work}
 use Rattle.ghost_cli.specs.Verbs.{work_of}
 use Rattle.ghost_cli.specs.Windows.{window_given, windowed_profile}
 use Rattle.ghost_cli.specs.Work.{Work}
-
--- The words behind a verb say these names and parts, where there are these options and flags. Each of these stands once
--- at most.
-pub record Says (options flags words names : List Text) (parts : List Part) : Type 0 where
-  pub line : IsLine options flags words parts
-  pub once : AreOnce [] parts
-  pub are : names_in parts ≡ names
 
 -- a verb with one name, and with two, that has no options
 pub record AsksByOne (work_on : Text → Work) (words : List Text) (work : Work) : Type 0 where
@@ -38,9 +31,6 @@ pub record AsksByTwo (work_on : Text → Text → Work) (words : List Text) (wor
   pub parts : List Part
   pub says : Says [] [] words (first ∷ second ∷ []) parts
   pub is : work ≡ work_on first second
-
-abbrev pub run_options : List Text
-run_options = codes "cycles" ∷ codes "seed" ∷ []
 
 pub record AsksToTrace (words : List Text) (work : Work) : Type 0 where
   pub object : Text
@@ -82,7 +72,7 @@ pub record AsksToCompile (words : List Text) (work : Work) : Type 0 where
   pub parts : List Part
   pub block_log : ℕ
   pub window : Window
-  pub says : Says (codes "block-log" ∷ codes "window" ∷ []) (codes "procs" ∷ []) words (source ∷ output ∷ []) parts
+  pub says : Says compile_options (codes "procs" ∷ []) words (source ∷ output ∷ []) parts
   pub block_log_is : block_log_given (value_in (codes "block-log") parts) ≡ Some block_log
   pub window_is : window_given (value_in (codes "window") parts) ≡ Some window
   pub is : work ≡ compile_work source output (windowed_profile block_log window) (has_flag (codes "procs") parts)

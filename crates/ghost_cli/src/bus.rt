@@ -2,14 +2,14 @@ ghost use Rattle.std.specs.Prelude.{◌≡◌, ◌<◌, ◌≤◌, ◌+◌, [], 
 ghost use Rattle.std.specs.Option.{option_map};
 ghost use Rattle.clap.specs.Words.{found_of, rows_of};
 ghost use Rattle.bus_arbiter.specs.Cores.{traces_to};
-ghost use Rattle.bus_arbiter.specs.Laws.{traces_on};
+ghost use Rattle.bus_arbiter.specs.Laws.{AllFit, traces_on};
 ghost use Rattle.bus_arbiter.specs.Shares.{share_of};
 ghost use Rattle.bus_arbiter.specs.Turns.{AllLeft};
 ghost use Rattle.ghost_cli.specs.Bus.{Read, bus_named, bus_named_on, bus_row, bus_said, bus_work, none_read, pairs_of, with_core, with_cores};
 ghost use Rattle.ghost_cli.specs.Options.{texts};
 ghost use Rattle.ghost_cli.specs.Outside.{Explains, outside};
 ghost use Rattle.ghost_cli.specs.Progress.{HasLeft, LeavesToSay, Stops};
-ghost use Rattle.ghost_cli.specs.Sharing.{AllBegin, AllFit, AreRead, PutsShared};
+ghost use Rattle.ghost_cli.specs.Sharing.{AllBegin, AreRead, PutsShared};
 ghost use Rattle.ghost_cli.specs.Texts.{said};
 ghost use Rattle.ghost_cli.specs.Work.{Work};
 

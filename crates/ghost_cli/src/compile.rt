@@ -113,7 +113,11 @@ fn compile_file<'a, F: Shelf, O: Sink>(
 }
 
 /// The bytes of the program's object file, for a machine of this profile, or what is said where it has none.
-fn object_bytes<'a>(alloc: Global, program: &Typed, profile: &Profile) -> Result<Vec<u8>, Reply<'a>>
+pub(crate) fn object_bytes<'a>(
+    alloc: Global,
+    program: &Typed,
+    profile: &Profile,
+) -> Result<Vec<u8>, Reply<'a>>
     requires { ProfileFits profile.now }
     ensures compiled { IfOk result (λ bytes. IsCompiledTo (source_of program.now) profile.now bytes.items) }
     ensures refused { IfErr result (λ reply. (output : List ℕ)

@@ -2,6 +2,7 @@ ghost use Rattle.ghost_cli.specs.BusAgrees.{BusAgrees};
 ghost use Rattle.ghost_cli.specs.Calls.{CallsAsMeant};
 ghost use Rattle.ghost_cli.specs.CompiledRuns.{CompiledRuns};
 ghost use Rattle.ghost_cli.specs.CompiledTexts.{CompiledTexts};
+ghost use Rattle.ghost_cli.specs.HeadlineFollows.{HeadlineFollows};
 ghost use Rattle.ghost_cli.specs.Inferred.{InferredOnce};
 ghost use Rattle.ghost_cli.specs.OneAnswer.{OneAnswer, TraceAgrees};
 ghost use Rattle.ghost_cli.specs.Promises.{PromisesFollow};
@@ -65,7 +66,7 @@ pub fn trace_agrees()
     ensures { TraceAgrees }
 {}
 
-/// Does nothing; its clause is a law: all that every call promises follows from why it answers what it answers.
+/// Does nothing; its clause is a law: what follows of every call, since it promises to explain how it ended.
 pub fn promises_follow()
     ensures { PromisesFollow }
 {}
@@ -76,4 +77,10 @@ pub fn promises_follow()
 /// words, and words whose first is no verb, ask for none.
 pub fn words_ask()
     ensures { WordsAsk }
+{}
+
+/// Does nothing; its clause is a law: if the shelf reports its files and the sink its bytes, the headline follows from
+/// what every call promises. It speaks of the words, the files, what was printed and the status only.
+pub fn headline_follows()
+    ensures { HeadlineFollows }
 {}

@@ -30,6 +30,7 @@ mod levels;
 mod name_text;
 mod oblivious;
 mod options;
+pub mod pure;
 mod putting;
 mod reading;
 pub mod replies;
@@ -46,8 +47,9 @@ mod writing;
 
 pub use bus_lines::BusLines;
 pub use laws::{
-    bus_agrees, calls_as_meant, compiled_runs, compiled_texts, inferred_once, one_answer,
-    promises_follow, trace_agrees, trace_alone, traces_agree, words_ask,
+    bus_agrees, calls_as_meant, compiled_runs, compiled_texts, headline_follows, inferred_once,
+    one_answer, promises_follow, trace_agrees, trace_alone, traces_agree, words_ask,
 };
+pub use pure::{checked_bytes, compiled_bytes, run_bytes};
 pub use top::ghostrider;
 pub use trace_watch::TraceWatch;

@@ -147,7 +147,7 @@ pub fn find_variables<'a, F: Shelf>(
 }
 
 /// The object that the bytes spell, accepted or not.
-fn object_in<'a>(alloc: Global, bytes: &[u8]) -> Result<Object, Reply<'a>>
+pub(crate) fn object_in<'a>(alloc: Global, bytes: &[u8]) -> Result<Object, Reply<'a>>
     requires { length bytes.now ≤ object_limit }
     ensures found { IfOk result (λ o. SpellsObject bytes.now o) }
     ensures refused { IfErr result
@@ -221,7 +221,11 @@ fn not_assembled<'a>(fault: AsmError) -> Reply<'a>
 }
 
 /// The inputs that the bytes give for variables.
-fn inputs_in<'a>(alloc: Global, wants: &[Want], bytes: &[u8]) -> Result<Inputs, Reply<'a>>
+pub(crate) fn inputs_in<'a>(
+    alloc: Global,
+    wants: &[Want],
+    bytes: &[u8],
+) -> Result<Inputs, Reply<'a>>
     requires size { length bytes.now ≤ input_limit }
     requires variables { AreVariables wants.now }
     ensures found { IfOk result (λ inputs. AreInputs wants.now bytes.now (Ok inputs)) }

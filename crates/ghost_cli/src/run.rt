@@ -154,7 +154,7 @@ fn run_asked(
 }
 
 /// Runs an accepted object on inputs that fit it. Whatever the seed and the banks are, it comes to the same.
-fn run_to_end<B: Seeded + Drop>(
+pub(crate) fn run_to_end<B: Seeded + Drop>(
     alloc: Global,
     accepted: &Accepted,
     inputs: &Inputs,

@@ -1,4 +1,6 @@
 ghost use Rattle.std.specs.Prelude.{◌≡◌, IfErr, IfOk, OnErr};
+ghost use Rattle.ghost_cli.specs.CommandLines.{AreTexts};
+ghost use Rattle.ghost_cli.specs.HeadlineFollows.{HasHeadline};
 ghost use Rattle.ghost_cli.specs.Options.{texts};
 ghost use Rattle.ghost_cli.specs.Outside.{Explains, outside};
 ghost use Rattle.ghost_cli.specs.Progress.{LeavesToSay};
@@ -45,11 +47,23 @@ pub fn ghostrider<F: Shelf, O: Sink>(
 ) -> u8
     ensures promises { Promises (work_of (texts words.now))
         (outside (F.seen shelf.old) (O.seen out.old)) (outside (F.seen shelf.new) (O.seen out.new)) result }
+    ensures headline { HasHeadline (texts words.now)
+        (outside (F.seen shelf.old) (O.seen out.old)) (outside (F.seen shelf.new) (O.seen out.new)) result }
 {
+    look_at(words);
     let status = explained(alloc, words, shelf, out);
     match out.flush() {
         Ok(()) => status,
         Err(_) => NOT_PUT,
+    }
+}
+
+/// Looks at each word: its type says that it is text, and this says so of all of them.
+fn look_at(words: &[&str])
+    ensures { AreTexts (texts words.now) }
+{
+    'looking: for word in words {
+        let _bytes = word.as_bytes();
     }
 }
 

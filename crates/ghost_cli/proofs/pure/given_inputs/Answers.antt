@@ -1,0 +1,23 @@
+use Rattle.std.proofs.Common.{IfErr, IfOk, ℤ, List, Ok, ap, ◌∙◌, subst}
+use Rattle.gr_word.specs.declared.variables.Want.{Want}
+use Rattle.lt_isa.specs.Start.{wants_of}
+use Rattle.ghost_cli.specs.declared.replies.Verdict.TheVariants.{BadInput}
+use Rattle.ghost_cli.specs.Progress.{EndsWorkWith}
+use Rattle.ghost_cli.specs.Questions.{AreInputs, WhichInputs}
+use Rattle.ghost_cli.specs.Steps.{or_ends}
+use Rattle.ghost_cli.specs.Texts.{said}
+use Rattle.ghost_cli.specs.Work.{Work}
+use Rattle.ghost_cli.proofs.pure.given_inputs.Goals as goal
+
+pub returns-clause-given : goal.returns-clause-given
+returns-clause-given c =
+    subst (λ (ws : List Want). IfOk c.inputs_in.result (λ inputs. AreInputs ws c.args.json.now (Ok inputs)))
+    (c.deref.ensures.value ∙ c.in_ok-wants.ensures.wants ∙ ap wants_of c.object.ensures.object)
+    c.inputs_in.ensures.found
+
+pub returns-clause-refused : goal.returns-clause-refused
+returns-clause-refused c =
+    subst (λ (ws : List Want). IfErr c.inputs_in.result (λ reply. (next : List (List ℤ) → Work)
+    → EndsWorkWith (WhichInputs ws c.args.json.now) (or_ends BadInput next) (said reply)))
+    (c.deref.ensures.value ∙ c.in_ok-wants.ensures.wants ∙ ap wants_of c.object.ensures.object)
+    c.inputs_in.ensures.refused

@@ -1,0 +1,7 @@
+use Rattle.std.proofs.Common.{drop}
+use Rattle.ghost_cli.specs.CommandLines.{AreTexts}
+use Rattle.ghost_cli.specs.Options.{texts}
+use Rattle.ghost_cli.proofs.top.look_at.Given as goal
+
+abbrev pub invariant-looking : goal.invariant-looking
+invariant-looking l = AreTexts (texts (drop l.word-index l.words)) → AreTexts (texts l.words)

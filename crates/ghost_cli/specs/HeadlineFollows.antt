@@ -1,0 +1,27 @@
+-- The headline of a call, if the shelf tells its files and the sink its bytes, follows from what the call promises.
+use Rattle.std.specs.Prelude.{◌≡◌, ℕ, List, ◌++◌, Some}
+use Rattle.gr_outside.specs.Shelf.{Files}
+use Rattle.ghost_cli.specs.CommandLines.{AreTexts, Text}
+use Rattle.ghost_cli.specs.Headline.{Headline}
+use Rattle.ghost_cli.specs.Outside.{Outside}
+use Rattle.ghost_cli.specs.Promises.{Promises}
+use Rattle.ghost_cli.specs.Verbs.{work_of}
+
+-- the files that the shelf told before and after a call, and the bytes that the sink gained
+pub record Tells (files afterwards : Files) (put : List ℕ) (before after : Outside) : Type 0 where
+  pub told : before.shelf.files ≡ Some files
+  pub left : after.shelf.files ≡ Some afterwards
+  pub held : List ℕ
+  pub sank : before.sink.held ≡ Some held
+  pub gained : after.sink.held ≡ Some (held ++ put)
+
+-- whichever these are, they are as the headline says
+abbrev pub HasHeadline : List Text → Outside → Outside → ℕ → Type 0
+HasHeadline words before after status =
+    (files afterwards : Files) (put : List ℕ) → Tells files afterwards put before after
+    → Headline words files afterwards put status
+
+abbrev pub HeadlineFollows : Type 0
+HeadlineFollows =
+    (words : List Text) (before after : Outside) (status : ℕ) → AreTexts words
+    → Promises (work_of words) before after status → HasHeadline words before after status

@@ -1,0 +1,58 @@
+-- What the calls over bytes return: what they found, or why they found nothing. They read no files. (This project's
+-- profile.)
+use Rattle.std.specs.Prelude.{◌≡◌, ℕ, ℤ, Bool, List, Ok, Err}
+use Rattle.lt_isa.specs.Object.{Parts}
+use Rattle.lt_isa.specs.Oblivious.{IsOblivious}
+use Rattle.lt_isa.specs.Start.{wants_of}
+use Rattle.lt_isa.specs.declared.profiles.Profile.{Profile}
+use Rattle.object_file.specs.FirstFaults.{IsFirstObjectFault}
+use Rattle.object_file.specs.declared.errors.DecodeError.{DecodeError}
+use Rattle.run_data.specs.InputsOf.{inputs_of, json_of}
+use Rattle.src_tree.specs.Trees.{Source}
+use Rattle.trace_patterns.specs.Accepts.{FirstRefusal}
+use Rattle.trace_patterns.specs.declared.reasons.Reason.{Reason}
+use Rattle.ghost_cli.specs.declared.replies.InputFault.{InputFault}
+use Rattle.ghost_cli.specs.declared.replies.Verdict.TheVariants.{BadInput, BadSource, Malformed, Refused}
+use Rattle.ghost_cli.specs.declared.run.Ran.{Ran}
+use Rattle.ghost_cli.specs.declared.source_faults.SourceFault.{SourceFault}
+use Rattle.ghost_cli.specs.Compiled.{IsCompiled}
+use Rattle.ghost_cli.specs.Objects.{SpellsObject}
+use Rattle.ghost_cli.specs.Questions.{AreInputs}
+use Rattle.ghost_cli.specs.Ran.{RanTo}
+use Rattle.ghost_cli.specs.Sources.{IsFirstSourceFault, SpellsTyped}
+use Rattle.ghost_cli.specs.Texts.{Said, comes_to, no_memory}
+
+-- Why bytes give no accepted object: memory ran out; or they spell no object, and this is their first fault; or the
+-- check refuses their object, and this is its first refusal.
+pub data NotChecked (bytes : List ℕ) (said : Said) : Type 0 where
+  NoRoom : said ≡ no_memory → NotChecked bytes said
+  NoObject : (fault : DecodeError) → IsFirstObjectFault bytes fault → said ≡ comes_to (Malformed fault)
+      → NotChecked bytes said
+  NotAccepted : (o : Parts) (place : ℕ) (reason : Reason) → SpellsObject bytes o → FirstRefusal o place reason
+      → said ≡ comes_to (Refused place reason) → NotChecked bytes said
+
+-- Why a text gives no object file: memory ran out; or it spells no program, and this is its first fault; or the program
+-- has no room on the machine.
+pub data NotCompiled (procs : Bool) (text : List ℕ) (profile : Profile) (said : Said) : Type 0 where
+  NoRoomLeft : said ≡ no_memory → NotCompiled procs text profile said
+  NoProgram : (fault : SourceFault) → IsFirstSourceFault procs text fault → said ≡ comes_to (BadSource fault)
+      → NotCompiled procs text profile said
+  NoRoomOnMachine : (p : Source) (fault : SourceFault) → SpellsTyped procs text p → IsCompiled p profile (Err fault)
+      → said ≡ comes_to (BadSource fault) → NotCompiled procs text profile said
+
+-- Why an object and inputs give no run: memory ran out; or there is no accepted object; or the bytes give it no inputs,
+-- and this is their first fault.
+pub data NotRun (object input : List ℕ) (said : Said) : Type 0 where
+  NoRoomToRun : said ≡ no_memory → NotRun object input said
+  NotRunnable : NotChecked object said → NotRun object input said
+  NoInputs : (o : Parts) (fault : InputFault) → SpellsObject object o → AreInputs (wants_of o) input (Err fault)
+      → said ≡ comes_to (BadInput fault) → NotRun object input said
+
+-- the bytes give an oblivious object and its inputs, and the run ends so
+pub record RunsTo (object input : List ℕ) (cycles : ℕ) (ran : Ran) : Type 0 where
+  pub o : Parts
+  pub spells : SpellsObject object o
+  pub oblivious : IsOblivious o
+  pub inputs : List (List ℤ)
+  pub given : inputs_of (wants_of o) (json_of input) ≡ Ok inputs
+  pub ends : RanTo o inputs cycles ran

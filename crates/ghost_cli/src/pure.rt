@@ -1,0 +1,93 @@
+ghost use Rattle.std.specs.Prelude.{◌≡◌, ◌≤◌, ℤ, IfErr, IfOk, List, Ok, length};
+ghost use Rattle.lt_isa.specs.Oblivious.{IsOblivious};
+ghost use Rattle.lt_isa.specs.Ranges.{ProfileFits};
+ghost use Rattle.lt_isa.specs.Start.{FitsObject, wants_of};
+ghost use Rattle.ghost_cli.specs.Headline.{IsObjectOf};
+ghost use Rattle.ghost_cli.specs.Objects.{SpellsObject, object_limit};
+ghost use Rattle.ghost_cli.specs.Progress.{EndsWorkWith};
+ghost use Rattle.ghost_cli.specs.Pure.{NotChecked, NotCompiled, NotRun, RunsTo};
+ghost use Rattle.ghost_cli.specs.Questions.{AreInputs, WhichInputs};
+ghost use Rattle.ghost_cli.specs.Sources.{source_limit};
+ghost use Rattle.ghost_cli.specs.Steps.{input_limit, or_ends};
+ghost use Rattle.ghost_cli.specs.Texts.{said};
+ghost use Rattle.ghost_cli.specs.Work.{Work};
+ghost use Rattle.ghost_cli.specs.declared.replies.Verdict.TheVariants.{BadInput};
+
+use crate::compile::object_bytes;
+use crate::oblivious::SeededOram;
+use crate::reading::{checked, inputs_in, object_in};
+use crate::replies::Reply;
+use crate::run::{Ran, run_to_end};
+use crate::sources::source_in;
+use gr_word::Inputs;
+use lt_checker::Accepted;
+use lt_isa::Profile;
+use std::alloc::Global;
+
+/// The accepted object that these bytes spell: `check` over bytes. The bytes are at most 33,554,432.
+///
+/// `Err` if they spell no object, if the check refuses it, or if memory runs out: the reply says which, as the program
+/// would print it.
+pub fn checked_bytes<'a>(alloc: Global, bytes: &[u8]) -> Result<Accepted, Reply<'a>>
+    requires { length bytes.now ≤ object_limit }
+    ensures spelled { IfOk result (λ o. SpellsObject bytes.now o) }
+    ensures oblivious { IfOk result (λ o. IsOblivious o) }
+    ensures refused { IfErr result (λ reply. NotChecked bytes.now (said reply)) }
+{
+    let object = object_in(alloc, bytes)?;
+    checked(alloc, object)
+}
+
+/// The bytes of the object file of the program that this text spells, for a machine of this profile: `compile` over
+/// bytes. With `procs` the text may have procedures. It has at most 1,048,576 bytes.
+///
+/// `Err` if the text spells no program, if the program has no room on the machine, or if memory runs out: the reply
+/// says which, as the program would print it.
+pub fn compiled_bytes<'a>(
+    alloc: Global,
+    text: &[u8],
+    procs: bool,
+    profile: &Profile,
+) -> Result<Vec<u8>, Reply<'a>>
+    requires short { length text.now ≤ source_limit }
+    requires fits { ProfileFits profile.now }
+    ensures compiled { IfOk result (λ bytes. IsObjectOf procs text.now bytes.items) }
+    ensures refused { IfErr result (λ reply. NotCompiled procs text.now profile.now (said reply)) }
+{
+    let program = source_in(alloc, text, procs)?;
+    object_bytes(alloc, &program, profile)
+}
+
+/// Runs the accepted object that the first bytes spell on the inputs that the second give as JSON, for at most that
+/// many cycles: `run` over bytes. The object has at most 33,554,432 bytes, the input 67,108,864.
+///
+/// `Err` if there is no accepted object, if the input gives it no inputs, or if memory runs out: the reply says which,
+/// as the program would print it. A run whose cycles are spent is `Ok`.
+pub fn run_bytes<'a>(
+    alloc: Global,
+    object: &[u8],
+    input: &[u8],
+    cycles: u32,
+) -> Result<Ran, Reply<'a>>
+    requires object { length object.now ≤ object_limit }
+    requires input { length input.now ≤ input_limit }
+    requires some_cycle { 1 ≤ cycles }
+    ensures ran { IfOk result (λ ran. RunsTo object.now input.now cycles ran) }
+    ensures refused { IfErr result (λ reply. NotRun object.now input.now (said reply)) }
+{
+    let accepted = checked_bytes(alloc, object)?;
+    let inputs = given_inputs(alloc, &accepted, input)?;
+    Ok(run_to_end::<SeededOram>(alloc, &accepted, &inputs, cycles, 0)?)
+}
+
+/// The inputs of an object that these bytes give.
+fn given_inputs<'a>(alloc: Global, accepted: &Accepted, json: &[u8]) -> Result<Inputs, Reply<'a>>
+    requires { length json.now ≤ input_limit }
+    ensures given { IfOk result (λ inputs. AreInputs (wants_of accepted.now) json.now (Ok inputs)) }
+    ensures fits { IfOk result (λ inputs. FitsObject accepted.now inputs) }
+    ensures refused { IfErr result (λ reply. (next : List (List ℤ) → Work)
+        → EndsWorkWith (WhichInputs (wants_of accepted.now) json.now) (or_ends BadInput next) (said reply)) }
+{
+    let wants = accepted.object().wants(alloc)?;
+    inputs_in(alloc, &wants, json)
+}
