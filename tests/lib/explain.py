@@ -1,4 +1,4 @@
-"""The work of tests/explain. Words: the program, `explain`, the root, how many damaged files of each kind, and the seed."""
+"""The work of tests/explain. Words: the program, the root, how many damaged files of each kind, and the seed."""
 import os
 import random
 import re
@@ -7,37 +7,26 @@ import subprocess
 import sys
 import tempfile
 
-PROGRAM, EXPLAIN, ROOT = sys.argv[1:4]
-COUNT, SEED = int(sys.argv[4]), int(sys.argv[5])
+PROGRAM, ROOT = sys.argv[1:3]
+COUNT, SEED = int(sys.argv[3]), int(sys.argv[4])
 sys.argv[1:] = [PROGRAM, f'{ROOT}/examples', '0', str(SEED)]
 import fuzz  # noqa: E402  which reads the words above
 import many  # noqa: E402
 from many import place, read, write  # noqa: E402
 
 SECONDS = 60
-USAGE = {}
-with open(f'{ROOT}/program/verbs') as table:
-    for row in table:
-        if not row.startswith(' '):
-            USAGE[row.split()[0]] = row.rstrip('\n')
-
+with open(f'{ROOT}/program/version', 'rb') as number:
+    VERSION = b'ghostrider ' + number.read()
 
 class Failed(Exception):
     """A case that doesn't hold."""
 
 
-def said(status, words, folder):
-    """What explain says of a call."""
-    ran = subprocess.run([EXPLAIN, str(status), USAGE.get(words[0] if words else '', ''), *words], cwd=folder,
-                         stdin=subprocess.DEVNULL, stdout=subprocess.PIPE, stderr=subprocess.PIPE, timeout=SECONDS)
-    if ran.returncode != 0 or ran.stderr:
-        raise Failed(f'explain ends with status {ran.returncode}, {ran.stderr[:200]!r}')
-    return ran.stdout
-
-
-def program(words, folder):
-    ran = subprocess.run([PROGRAM, *words], cwd=folder, stdin=subprocess.DEVNULL, stdout=subprocess.PIPE, timeout=SECONDS)
-    return ran.returncode, ran.stdout
+def called(words, folder):
+    """A call of the program: its status, and what standard output and standard error got."""
+    ran = subprocess.run([PROGRAM, *words], cwd=folder, stdin=subprocess.DEVNULL, stdout=subprocess.PIPE,
+                         stderr=subprocess.PIPE, timeout=SECONDS)
+    return ran.returncode, ran.stdout, ran.stderr
 
 
 # ---- cases
@@ -80,7 +69,7 @@ def play(lines, folder):
             with open(os.path.join(folder, verb), 'ab') as file:
                 file.write(bytes_of(rest))
         elif verb == 'make':
-            if program(['asm', 'asm', parts[0]], folder)[0] != 0:
+            if called(['asm', 'asm', parts[0]], folder)[0] != 0:
                 raise Failed('the text is not assembled')
         elif verb == 'take':
             shutil.copy(f'{ROOT}/examples/{parts[1]}', os.path.join(folder, parts[0]))
@@ -89,11 +78,9 @@ def play(lines, folder):
         elif verb == 'put':
             change(folder, parts[0], lambda data: with_byte(data, int(parts[1]), int(parts[2])))
         elif verb == 'call':
-            asked = parts[0] != '-'
-            status, call = parts[not asked], parts[1 + (not asked):]
-            if asked and program(call, folder)[0] != int(status):
-                raise Failed(f'the program ends with {program(call, folder)}')
-            words = said(status, call, folder)
+            status, text, words = called(parts[1:], folder)
+            if status != int(parts[0]):
+                raise Failed(f'the program ends with {status}, {text!r}')
         elif verb == 'has':
             if rest.encode() not in words:
                 raise Failed(f'{rest!r} is not in {words.decode("latin-1")!r}')
@@ -156,15 +143,12 @@ def attempt(named):
     write('file', data)
     folder, wrong = os.path.dirname(place('file')), []
     for call in CALLS[kind]:
-        status, line = program(call, folder)
-        if status == 0:
-            continue
         try:
-            words = said(status, call, folder)
-        except (Failed, subprocess.TimeoutExpired) as why:
+            status, line, words = called(call, folder)
+        except subprocess.TimeoutExpired as why:
             wrong.append(f'{call}: {why}')
             continue
-        if not words or not lies_within(words, data):
+        if (status == 0) == bool(words) or not lies_within(words, data):
             wrong.append(f'{call}: {line[-80:]!r}: {words[:200]!r}')
     if wrong:
         descriptor, kept = tempfile.mkstemp(prefix='explain-')
@@ -174,65 +158,76 @@ def attempt(named):
     return wrong
 
 
-# ---- the wrapper
+# ---- calls in a shell
 
-def wrapped(copy):
-    """A copy of the wrapper that takes the two programs as those that are shipped."""
-    for name in ('ghostrider', 'crates.txt'):
-        shutil.copy(f'{ROOT}/{name}', copy)
-    shutil.copytree(f'{ROOT}/program', f'{copy}/program')
-    shutil.copytree(f'{ROOT}/examples', f'{copy}/examples')
-    for name, made in (('ghostrider', PROGRAM), ('explain', EXPLAIN)):
-        shutil.copy(made, f'{copy}/program/{name}')
-    for name in ('ghostrider', 'explain'):
-        os.makedirs(f'{copy}/crates/{name}/src')
-    with open(f'{copy}/program/sources', 'wb') as sources:
-        subprocess.run([f'{copy}/program/sum'], stdout=sources, check=True)
-
-
-SHELL = [  # a title, a line of the shell, its status, standard output, and what standard error contains
-    ('a source', './ghostrider compile bad.gr out', 8, b'fault 8 source undeclared 0\n', b'bad.gr:2:5: y is not declared'),
-    ('GHOSTRIDER_EXPLAIN=0', 'GHOSTRIDER_EXPLAIN=0 ./ghostrider compile bad.gr out', 8, b'fault 8 source undeclared 0\n', None),
-    ('standard input', './ghostrider compile - out <bad.gr', 8, b'fault 8 source undeclared 0\n', b':2:5: y is not declared'),
-    ('a pipe', 'cat bad.gr | ./ghostrider compile - out', 8, b'fault 8 source undeclared 0\n', b':2:5: y is not declared'),
-    ('- as OUT', './ghostrider compile bad.gr -', 8, b'', b'y is not declared'),
-    ('an object', './ghostrider check bad.gr', 6, b'fault 6 object magic\n', b'It is a source'),
-    ('a refused object', './ghostrider check examples/leaks.obj', 7, b'fault 7 refused 4 2\n', b'stw r2 0 r1'),
-    ('usage', './ghostrider run x', 2, b'fault 2 usage\n', b'run: the word INPUT is missing'),
-    ('no verb', './ghostrider frob', 2, b'fault 2 usage\n', b'frob is no verb'),
-    ('a success', './ghostrider check examples/first.obj', 0, b'accepted\n', None),
-    ('diff', './ghostrider diff examples/leaks.obj good.json good.json', 7, b'fault 7 refused 4 2\n', b'stw r2 0 r1'),
-    ('diff of too few words', './ghostrider diff examples/sum.obj', 2, b'fault 2 usage\n', b'diff: the word INPUT is missing'),
-    ('layout', './ghostrider layout bad.gr', 8, b'fault 8 source undeclared 0\n', b'y is not declared'),
-    ('spent', './ghostrider run examples/sum.obj good.json out --cycles 5', 10, b'fault 10 spent 5\n', b'--cycles'),
-    ('a missing file', './ghostrider check none.obj', 3, b'fault 3 read none.obj\n', b'No such file or directory'),
-    ('a missing second file', './ghostrider trace examples/sum.obj none.json', 3, b'fault 3 read none.json\n', b'none.json'),
-    ('a folder to read', './ghostrider check .', 3, b'fault 3 read .\n', b'Is a directory'),
-    ('a folder as OUT', './ghostrider compile good.gr examples', 4, b'fault 4 write examples\n', b'Is a directory'),
-    ('a missing folder', './ghostrider compile good.gr none/out', 4, b'fault 4 write none/out\n', b'No such file or directory'),
-    ('standard output as OUT', './ghostrider compile good.gr /dev/stdout', 4, b'fault 4 write /dev/stdout\n',
-     b'is standard output itself'),
-    ('a full device', './ghostrider compile good.gr - >/dev/full', 4, b'', b'standard output takes no more'),
-    ('a file that is too long', 'head -c 1048577 /dev/zero >long && ./ghostrider compile long out', 11,
+SHELL = [  # a title, a line of the shell, its status, standard output, and what standard error contains (None: nothing)
+    ('a source', './gr compile bad.gr out', 8, b'fault 8 source undeclared 0\n', b'bad.gr:2:5: y is not declared'),
+    ('GHOSTRIDER_EXPLAIN=0', 'GHOSTRIDER_EXPLAIN=0 ./gr compile bad.gr out', 8, b'fault 8 source undeclared 0\n', None),
+    ('standard input', './gr compile - out <bad.gr', 8, b'fault 8 source undeclared 0\n', b'-:2:5: y is not declared'),
+    ('a pipe', 'cat bad.gr | ./gr compile - out', 8, b'fault 8 source undeclared 0\n', b'-:2:5: y is not declared'),
+    ('a named pipe is read once', 'mkfifo p && { cat bad.gr >p & } && ./gr compile p out', 8,
+     b'fault 8 source undeclared 0\n', b'p:2:5: y is not declared'),
+    ('- as OUT', './gr compile bad.gr -', 8, b'', b'y is not declared'),
+    ('- as OUT of a good source', './gr compile good.gr - 2>line | cmp - good.obj && cat line', 0, b'compiled\n', None),
+    ('standard input and output', './gr eval - good.json - <good.gr 2>&1', 0, b'{"x":1}\ndone\n', None),
+    ('a file named -', 'cp bad.gr ./- && ./gr compile ./- out', 8, b'fault 8 source undeclared 0\n', b'./-:2:5: y is not'),
+    ('standard input as two files', './gr trace - - <good.obj', 2, b'fault 2 usage\n', b'read as only one file'),
+    ('a closed standard input', './gr compile - out <&-', 3, b'fault 3 read -\n', b'standard input: '),
+    ('OUT is the source', 'cp good.gr own.gr && ./gr compile own.gr own.gr; cmp own.gr good.gr; echo $?', 0,
+     b'fault 2 usage\n0\n', b'OUT is the same file as own.gr'),
+    ('OUT is the source by another name', 'cp good.gr own.gr && ln -sf own.gr link && ./gr compile own.gr link', 2,
+     b'fault 2 usage\n', b'OUT is the same file as own.gr'),
+    ('OUT is the input', './gr eval good.gr good.json good.json', 2, b'fault 2 usage\n', b'same file as good.json'),
+    ('an object', './gr check bad.gr', 6, b'fault 6 object magic\n', b'It is a source'),
+    ('a refused object', './gr check examples/leaks.obj', 7, b'fault 7 refused 4 2\n', b'stw r2 0 r1'),
+    ('usage', './gr run x', 2, b'fault 2 usage\n', b'run: the word INPUT is missing'),
+    ('no verb', './gr frob', 2, b'fault 2 usage\n', b'frob is not a verb'),
+    ('no words', './gr', 2, b'fault 2 usage\n', b'no verb is given'),
+    ('a success', './gr check examples/first.obj', 0, b'accepted\n', None),
+    ('spent', './gr run examples/sum.obj good.json out --cycles 5', 10, b'fault 10 spent 5\n', b'--cycles'),
+    ('a missing file', './gr check none.obj', 3, b'fault 3 read none.obj\n', b'No such file or directory'),
+    ('a missing second file', './gr trace examples/sum.obj none.json', 3, b'fault 3 read none.json\n', b'none.json'),
+    ('a folder to read', './gr check .', 3, b'fault 3 read .\n', b'Is a directory'),
+    ('a folder as OUT', './gr compile good.gr examples', 4, b'fault 4 write examples\n', b'Is a directory'),
+    ('a missing folder', './gr compile good.gr none/out', 4, b'fault 4 write none/out\n', b'No such file or directory'),
+    ('a full device', './gr compile good.gr - >/dev/full', 4, b'', b'standard output: No space left on device'),
+    ('a file that is too long', 'head -c 1048577 /dev/zero >long && ./gr compile long out', 11,
      b'fault 11 long long 1048576\n', b'more than 1048576 bytes'),
+    ('a name with an escape', "./gr check $'a\\e[31m\\rb'", 3, None, b'a\\x1b[31m\\x0db: '),
+    ('a name that turns its text', "./gr check $'a\\u202eb'", 3, None, b'a\\u{202e}b: '),
+    ('a name that is no UTF-8', "./gr check $'a\\xff'", 2, b'fault 2 usage\n', b'is not valid UTF-8'),
+    ('help of a verb', './gr compile x.gr --help | head -n 1', 0,
+     b'ghostrider compile SRC OUT [--block-log W] [--window P:O:C] [--procs]\n', None),
+    ('help is a file after --', './gr check -- --help', 3, b'fault 3 read --help\n', b'--help'),
+    ('help of help', './gr help help | head -n 1', 0, b'ghostrider help [VERB]\n', None),
+    ('help of no verb', './gr help frob', 2, b'fault 2 usage\n', b'frob is not a verb'),
+    ('help with a word too many', './gr help check x', 2, b'fault 2 usage\n', b'unexpected word x'),
+    ('help to a full device', './gr help >/dev/full', 4, b'', b'standard output: No space left on device'),
+    ('help to a closed output', './gr help >&-', 4, b'', b'standard output: '),
+    ('the version to a full device', './gr version >/dev/full', 4, b'', b'standard output: No space left on device'),
+    ('the version', './gr --version | head -n 1', 0, VERSION, None),
+    ('what it was made of', "echo 'sources 0123' >made && ./gr -V | tail -n 1", 0, b'sources 0123\n', None),
+    ('its path', '[ "$(./gr --which)" -ef ./gr ]', 0, b'', None),
     ('nothing is left', 'ls -A tmp', 0, b'', None),
 ]
 
 
-def try_wrapper(folder):
-    copy = os.path.join(folder, 'copy')
-    os.makedirs(f'{copy}/tmp')
-    wrapped(copy)
+def try_shell(folder):
+    """Calls from a shell, of a copy of the program with some files beside it."""
+    shutil.copy(PROGRAM, f'{folder}/gr')
+    shutil.copytree(f'{ROOT}/examples', f'{folder}/examples')
+    os.mkdir(f'{folder}/tmp')
     for name, data in (('bad.gr', b'public int x;\nx = y;\n'), ('good.gr', b'public int x;\nx = 1;\n'), ('good.json', b'{}')):
-        with open(os.path.join(copy, name), 'wb') as file:
+        with open(os.path.join(folder, name), 'wb') as file:
             file.write(data)
+    called(['compile', 'good.gr', 'good.obj'], folder)
     for title, line, status, text, words in SHELL:
-        ran = subprocess.run(['bash', '-c', line], cwd=copy, stdin=subprocess.DEVNULL, stdout=subprocess.PIPE,
+        ran = subprocess.run(['bash', '-c', line], cwd=folder, stdin=subprocess.DEVNULL, stdout=subprocess.PIPE,
                              stderr=subprocess.PIPE, timeout=SECONDS,
-                             env={**os.environ, 'GHOSTRIDER_EXPLAIN': '', 'TMPDIR': f'{copy}/tmp'})
-        holds = ran.returncode == status and ran.stdout == text
+                             env={**os.environ, 'GHOSTRIDER_EXPLAIN': '', 'TMPDIR': f'{folder}/tmp'})
+        holds = ran.returncode == status and text in (None, ran.stdout)
         holds = holds and (words in ran.stderr if words is not None else ran.stderr == b'')
-        yield f'the wrapper: {title}', None if holds else f'{ran.returncode}, {ran.stdout!r}, {ran.stderr!r}'
+        yield f'a call in a shell: {title}', None if holds else f'{ran.returncode}, {ran.stdout!r}, {ran.stderr!r}'
 
 
 # ---- all of it
@@ -250,7 +245,7 @@ def try_cases():
 def main():
     passed, failed = 0, 0
     with tempfile.TemporaryDirectory() as folder:
-        for title, wrong in (*try_cases(), *try_wrapper(folder)):
+        for title, wrong in (*try_cases(), *try_shell(folder)):
             print(f'ok: {title}' if wrong is None else f'FAILED: {title}: {wrong}', flush=True)
             passed += wrong is None
             failed += wrong is not None

@@ -39,7 +39,7 @@ fn reach_of(object: &Object) -> Reach {
 pub(crate) fn explain_bus(cores: &[Core<'_>], out: &mut Words) {
     for (number, core) in cores.iter().enumerate() {
         if let Some(why) = lack_of(cores, number, core) {
-            out.quote(core.name.as_bytes());
+            out.name(core.name);
             out.fill(": core {} has no place on the bus: ", &[number as u64]);
             out.fill(why.words, &why.numbers);
             break;

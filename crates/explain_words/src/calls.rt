@@ -54,18 +54,19 @@ impl Kind {
     }
 }
 
-/// A file that was read again: its name, what it is to be, and its bytes, or one more than any that is right has.
-#[derive(Drop)]
+/// A file that the call read: its name, its kind, and its bytes. Of a file that is too long these are the first, one more
+/// than a valid file may have.
+#[derive(Clone, Copy)]
 pub struct File<'a> {
     pub name: &'a str,
     pub kind: Kind,
-    pub bytes: Vec<u8>,
+    pub bytes: &'a [u8],
 }
 
 /// A call of the program that met a fault.
 #[derive(Drop)]
 pub struct Call<'a, 'b> {
-    status: &'a str,
+    status: u8,
     usage: &'a str,
     words: &'b [&'a str],
     sorted: Sorted<'a>,
@@ -76,7 +77,7 @@ impl<'a, 'b> Call<'a, 'b> {
     /// where there is no such verb.
     pub fn new(
         alloc: Global,
-        status: &'a str,
+        status: u8,
         usage: &'a str,
         words: &'b [&'a str],
     ) -> Result<Call<'a, 'b>, Memory> {
@@ -100,10 +101,10 @@ impl<'a, 'b> Call<'a, 'b> {
         let repeats = is_word_of(self.usage, b"..");
         let kind = Kind::named(places.nth(if repeats { place % 2 } else { place })?)?;
         let is_read = match self.status {
-            "6" | "7" | "13" => matches!(kind, Kind::Object),
-            "8" => matches!(kind, Kind::Source),
-            "12" => matches!(kind, Kind::Assembly),
-            "9" | "11" => true,
+            6 | 7 | 13 => matches!(kind, Kind::Object),
+            8 => matches!(kind, Kind::Source),
+            12 => matches!(kind, Kind::Assembly),
+            9 | 11 => true,
             _ => false,
         };
         if is_read { Some(kind) } else { None }
@@ -143,14 +144,14 @@ impl<'a, 'b> Call<'a, 'b> {
 
     fn explain(&self, alloc: Global, files: &[File<'_>], out: &mut Words) {
         match self.status {
-            "2" => explain_usage(self.usage, self.words, &self.sorted, out),
-            "9" => self.explain_pairs(alloc, files, out),
-            "10" => out.line(if self.verb() == "eval" {
+            2 => explain_usage(self.usage, self.words, &self.sorted, out),
+            9 => self.explain_pairs(alloc, files, out),
+            10 => out.line(if self.verb() == "eval" {
                 "The loops took all turns that they had. Give them more by --turns N, or see that each loop ends."
             } else {
                 "The run took all cycles that it had. Give it more by --cycles N, or see that each loop ends."
             }),
-            "13" => match cores_of(alloc, files) {
+            13 => match cores_of(alloc, files) {
                 Ok(cores) => explain_bus(&cores, out),
                 Err(_) => out.starve(),
             },
@@ -165,18 +166,18 @@ impl<'a, 'b> Call<'a, 'b> {
     // What is wrong with a file alone.
     fn explain_one(&self, alloc: Global, file: &File<'_>, out: &mut Words) {
         let name = file.name;
-        let bytes = file.bytes.as_slice();
+        let bytes = file.bytes;
         match self.status {
-            "6" => explain_file(alloc, name, bytes, out),
-            "7" => if self.verb() == "infer" {
+            6 => explain_file(alloc, name, bytes, out),
+            7 => if self.verb() == "infer" {
                 explain_inference(alloc, name, bytes, out)
             } else {
                 explain_refusal(alloc, name, bytes, out)
             },
-            "8" => explain_source(alloc, name, bytes, self.has_procs(), self.room(), out),
-            "12" => explain_assembly(alloc, name, bytes, out),
+            8 => explain_source(alloc, name, bytes, self.has_procs(), self.room(), out),
+            12 => explain_assembly(alloc, name, bytes, out),
             _ => if bytes.len() > file.kind.most_bytes() {
-                out.quote(name.as_bytes());
+                out.name(name);
                 out.fill(
                     " has more than {} bytes, and none that long can be right here.\n",
                     &[file.kind.most_bytes() as u64],
@@ -190,7 +191,7 @@ impl<'a, 'b> Call<'a, 'b> {
         for (first, second) in files.iter().zip(files.iter().skip(1)) {
             if out.is_empty() && matches!(second.kind, Kind::Inputs) {
                 if let Some(wants) = self.variables_of(alloc, first) {
-                    explain_inputs(alloc, second.name, &second.bytes, &wants, out);
+                    explain_inputs(alloc, second.name, second.bytes, &wants, out);
                 }
             }
         }
@@ -200,8 +201,8 @@ impl<'a, 'b> Call<'a, 'b> {
         ensures { IfSome result (λ wants. AreVariables wants.items) }
     {
         match file.kind {
-            Kind::Object => variables_of_object(alloc, &file.bytes),
-            Kind::Source => variables_of_source(alloc, &file.bytes, self.has_procs()),
+            Kind::Object => variables_of_object(alloc, file.bytes),
+            Kind::Source => variables_of_source(alloc, file.bytes, self.has_procs()),
             _ => None,
         }
     }
@@ -211,7 +212,7 @@ impl<'a, 'b> Call<'a, 'b> {
 fn cores_of<'a>(alloc: Global, files: &[File<'a>]) -> Result<Vec<Core<'a>>, Memory> {
     let mut cores = Vec::new(alloc);
     for file in files {
-        if let Some(object) = object_in(alloc, &file.bytes) {
+        if let Some(object) = object_in(alloc, file.bytes) {
             cores.push(Core {
                 name: file.name,
                 object,

@@ -166,7 +166,7 @@ impl Given<'_> {
         };
         let spot = spot_at(text, at);
         out.put_place(self.source.name, spot);
-        out.quote(name.as_bytes());
+        out.name(name);
         match faulty {
             Some(number) => out.fill("[{}] wants an integer", &[number as u64]),
             None => put_want(want, out),

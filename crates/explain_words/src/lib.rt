@@ -28,3 +28,4 @@ mod wanted;
 mod words;
 
 pub use calls::{Call, File, Kind};
+pub use words::Words;

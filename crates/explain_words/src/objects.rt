@@ -26,7 +26,7 @@ pub(crate) fn explain_file(alloc: Global, name: &str, bytes: &[u8], out: &mut Wo
         return;
     }
     if let Some(fault) = decode(alloc, bytes).err() {
-        out.quote(name.as_bytes());
+        out.name(name);
         put_fault(bytes, fault, out);
     }
 }

@@ -108,7 +108,7 @@ impl Refused<'_> {
                 )
             }
             InferError::TooMany(count) => {
-                out.quote(self.name.as_bytes());
+                out.name(self.name);
                 out.fill(
                     ": the least notes are {}, and an object has room for 262144\n",
                     &[u64::from(count)],
@@ -125,7 +125,7 @@ impl Refused<'_> {
     // The name of the file, the place, and the instruction there as `dis` writes it.
     fn put_head(&self, place: usize, out: &mut Words) {
         let place = place_in(self.object, place);
-        out.quote(self.name.as_bytes());
+        out.name(self.name);
         out.fill(":place {}: ", &[place as u64]);
         self.put_instruction(place, out);
         out.say("\n");
@@ -163,7 +163,7 @@ impl Refused<'_> {
 
     // The symbol of a secret in plain memory.
     fn put_symbol(&self, out: &mut Words) {
-        out.quote(self.name.as_bytes());
+        out.name(self.name);
         out.say(": .symbol ");
         for symbol in self.object.symbols() {
             if symbol.bank == 0 && symbol.label == Label::Secret {

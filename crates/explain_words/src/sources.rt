@@ -193,7 +193,7 @@ fn explain_inlining(tokens: Tokens<'_>, fault: InlineError, out: &mut Words) {
             "an array is handed on by its bare name",
         ),
         InlineError::TooLarge => {
-            out.quote(name.as_bytes());
+            out.name(name);
             return out.line(": without its calls the program has more than 8,192 statements");
         }
         InlineError::Memory => return out.starve(),
@@ -215,7 +215,7 @@ fn explain_inlined(alloc: Global, name: &str, program: Program, room: Room, out:
 
 fn explain_printed(alloc: Global, name: &str, text: &[u8], fault: TypeError, out: &mut Words) {
     if let Ok(all) = tokens_of(alloc, text) {
-        out.quote(name.as_bytes());
+        out.name(name);
         out.line(": in the program without calls");
         let tokens = Tokens {
             name: "without calls",
@@ -255,7 +255,7 @@ fn put_lack(name: &str, lack: PlaceError, words: u64, out: &mut Words) {
         ),
         PlaceError::Memory => return out.starve(),
     };
-    out.quote(name.as_bytes());
+    out.name(name);
     out.fill(what, &numbers);
     out.line(", or ask for greater blocks by --block-log.");
 }

@@ -98,7 +98,7 @@ impl Words {
     /// Adds the file's name, the line and the column of a place, both from 1.
     pub(crate) fn put_place(&mut self, name: &str, spot: Spot) {
         let column = spot.at.saturating_sub(spot.start).saturating_add(1);
-        self.quote(name.as_bytes());
+        self.name(name);
         self.fill(":{}:{}: ", &[spot.line as u64, column as u64]);
     }
 

@@ -181,7 +181,7 @@ impl Tokens<'_> {
                 out,
             ),
             Which::Weight => {
-                out.quote(self.name.as_bytes());
+                out.name(self.name);
                 out.fill(": the program weighs {}\n", &[number]);
             }
         }

@@ -104,16 +104,15 @@ impl<'a> Sorted<'a> {
     }
 }
 
-/// Explains why the words of a call, the verb first, ask for no work. The verb's line is empty where there is no such
-/// verb.
+/// Explains a usage error in the words of a call, the verb first. `usage` is empty if there is no such verb.
 pub(crate) fn explain_usage(usage: &str, words: &[&str], sorted: &Sorted<'_>, out: &mut Words) {
     let Some(verb) = words.first() else {
-        return out.line("ghostrider: a verb is missing; ./ghostrider help lists them");
+        return out.line("ghostrider: no verb is given; `ghostrider help` lists the verbs");
     };
     out.say("ghostrider: ");
-    out.quote(verb.as_bytes());
+    out.name(*verb);
     if usage.is_empty() {
-        return out.line(" is no verb; ./ghostrider help lists them");
+        return out.line(" is not a verb; `ghostrider help` lists the verbs");
     }
     out.say(": ");
     if !put_option(usage, sorted, out) {
@@ -135,7 +134,7 @@ fn is_given(options: &[(&str, Option<&str>)], name: &str) -> bool {
 
 // A word of the call, and what is wrong with it.
 fn put_word(word: &str, what: &str, out: &mut Words) {
-    out.quote(word.as_bytes());
+    out.name(word);
     out.line(what);
 }
 
@@ -145,12 +144,12 @@ fn put_option(usage: &str, sorted: &Sorted<'_>, out: &mut Words) -> bool {
         let (name, value) = *option;
         let earlier = sorted.options.get(..number).unwrap_or(&[]);
         if is_given(earlier, name) {
-            put_word(name, " stands twice", out);
+            put_word(name, " is given twice", out);
             return true;
         }
         match (taken_by(usage, name), value) {
             (Taken::Unknown, _) => {
-                put_word(name, " is no option of this verb", out);
+                put_word(name, " is not an option of this verb", out);
                 return true;
             }
             (Taken::Alone, Some(_)) => {
@@ -220,14 +219,14 @@ fn is_value(kind: &str, value: &str) -> bool {
 
 // Says what a value should be.
 fn put_wanted(name: &str, kind: &str, value: &str, out: &mut Words) {
-    out.quote(name.as_bytes());
+    out.name(name);
     match range_of(kind) {
         Some((least, most)) => out.fill(" takes a number from {} to {}", &[least, most]),
         None => out.say(
-            " takes three numbers as P:O:C, a period from 2 to 1000000, O below P, C above O and at most P",
+            " takes three numbers P:O:C, where P is from 2 to 1000000, O is below C, and C is at most P",
         ),
     }
-    out.say(", and not `");
+    out.say(", not `");
     put_word(value, "`", out);
 }
 
@@ -236,7 +235,7 @@ fn put_places(usage: &str, sorted: &Sorted<'_>, out: &mut Words) {
     let mut given = sorted.placed.iter();
     for place in usage.split(" ").skip(1) {
         if place == ".." {
-            return out.line("each object stands before its inputs, one to eight pairs");
+            return out.line("the verb takes one to eight objects, each followed by its inputs");
         }
         if place.starts_with("[") {
             break;
@@ -250,7 +249,10 @@ fn put_places(usage: &str, sorted: &Sorted<'_>, out: &mut Words) {
         }
     }
     match given.next() {
-        Some(word) => put_word(*word, " is a word too many", out),
-        None => out.line("the words ask for no work"),
+        Some(word) => {
+            out.say("unexpected word ");
+            put_word(*word, "", out);
+        }
+        None => out.line("the words can't be read"),
     }
 }

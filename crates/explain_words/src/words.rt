@@ -5,10 +5,9 @@ use gr_base::Memory;
 use itoa::Buffer;
 use std::alloc::Global;
 
-/// Words for people, put together piece by piece. Where memory runs out, what follows is dropped, and [`Words::finish`]
-/// says so.
+/// A text for people that is built piece by piece. If memory runs out, the rest is dropped, and [`Words::finish`] fails.
 #[derive(Drop)]
-pub(crate) struct Words {
+pub struct Words {
     text: Vec<u8>,
     lacks_memory: bool,
 }
@@ -25,9 +24,14 @@ fn shown(byte: u8) -> u8
     }
 }
 
+// The digit of a number below 16.
+fn hex_digit(number: u32) -> u8 {
+    b"0123456789abcdef"[number as usize % 16]
+}
+
 impl Words {
-    /// No words yet.
-    pub(crate) fn new(alloc: Global) -> Words {
+    /// An empty text.
+    pub fn new(alloc: Global) -> Words {
         Words {
             text: Vec::new(alloc),
             lacks_memory: false,
@@ -45,14 +49,14 @@ impl Words {
     }
 
     /// Adds a text.
-    pub(crate) fn say(&mut self, text: &str) {
+    pub fn say(&mut self, text: &str) {
         if self.text.extend_from_slice(text.as_bytes()).is_err() {
             self.lacks_memory = true;
         }
     }
 
     /// Adds a sentence, and ends the line.
-    pub(crate) fn line(&mut self, text: &str) {
+    pub fn line(&mut self, text: &str) {
         self.say(text);
         self.say("\n");
     }
@@ -80,8 +84,35 @@ impl Words {
         }
     }
 
-    /// The text: nothing in it acts on a terminal. A byte that isn't printed ASCII is shown as a question mark.
-    pub(crate) fn finish(&self, alloc: Global) -> Result<Vec<u8>, Memory>
+    /// Adds a name that was given from outside. Each character that isn't printable ASCII is escaped, as `\x1b` or
+    /// `\u{202e}`, so that two names never look alike.
+    pub fn name(&mut self, name: &str) {
+        for c in name.chars() {
+            match c {
+                '\\' => self.say("\\\\"),
+                ' '..='~' => self.quote(&[c as u8]),
+                '\0'..='\x7f' => self.escape("\\x", u32::from(c), 2, ""),
+                _ => self.escape("\\u{", u32::from(c), 1, "}"),
+            }
+        }
+    }
+
+    // Adds a number in hexadecimal, with at least `digits` digits, between two texts.
+    fn escape(&mut self, before: &str, number: u32, digits: u32, after: &str) {
+        self.say(before);
+        for place in 0..8u32 {
+            let shift = 4 * (7 - place);
+            if 7 - place < digits || number >> shift != 0 {
+                self.quote(&[hex_digit(number >> shift & 15)]);
+            }
+        }
+        self.say(after);
+    }
+
+    /// The text, in which nothing acts on a terminal. A byte that isn't printable ASCII is shown as a question mark.
+    ///
+    /// Fails if memory ran out since the text was begun.
+    pub fn finish(&self, alloc: Global) -> Result<Vec<u8>, Memory>
         ensures plain { IfOk result (λ text. All IsPlain text.items) }
     {
         if self.lacks_memory {

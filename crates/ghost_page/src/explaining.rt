@@ -67,12 +67,14 @@ fn explained(alloc: Global, lines: &str, program: &[u8], input: &[u8]) -> Result
     if words.len() < 2 {
         return Ok(Vec::new(alloc));
     }
-    let call = Call::new(alloc, words[0], words[1], &words[2..])?;
+    let Ok(status) = words[0].parse::<u8>() else {
+        return Ok(Vec::new(alloc));
+    };
+    let call = Call::new(alloc, status, words[1], &words[2..])?;
     let mut files = Vec::new(alloc);
     for (place, name) in call.placed().iter().enumerate() {
         if let Some(kind) = call.kind_at(place) {
             if let Some(bytes) = bytes_of(name, program, input) {
-                let bytes = Vec::from_slice(alloc, bytes)?;
                 files.push(File {
                     name: *name,
                     kind,

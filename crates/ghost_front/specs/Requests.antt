@@ -1,0 +1,22 @@
+-- The calls that the front program handles itself: for help, for the version and for its path.
+use Rattle.std.specs.Prelude.{ℕ, Bool, false, not, ◌&&◌, ◌||◌, List, [], ◌∷◌, codes}
+use Rattle.std.specs.Str.{bytes_eq}
+
+abbrev pub is_help_option : List ℕ → Bool
+is_help_option word = bytes_eq word (codes "--help") || bytes_eq word (codes "-h")
+
+-- `--help` or `-h` is among the words before `--`
+abbrev pub asks_help : List (List ℕ) → Bool
+asks_help [] = false
+asks_help (word ∷ words) = not (bytes_eq word (codes "--")) && (is_help_option word || asks_help words)
+
+-- the first words of calls for help, for the version and for the program's path
+abbrev pub is_about : List ℕ → Bool
+is_about word =
+    bytes_eq word (codes "help") || is_help_option word || bytes_eq word (codes "version")
+    || bytes_eq word (codes "--version") || bytes_eq word (codes "-V") || bytes_eq word (codes "--which")
+
+-- the words of a call that the front handles itself
+abbrev pub asks_front : List (List ℕ) → Bool
+asks_front [] = false
+asks_front (word ∷ words) = is_about word || asks_help words

@@ -1,0 +1,162 @@
+//! Explains on standard error why a call failed, from the bytes that the call read.
+
+use crate::outside::Reasons;
+use crate::serving::{Ended, Stop};
+use crate::streams::{ReadFile, StreamShelf};
+use crate::verb_table::verb_help;
+use explain_words::{Call, File, Words};
+use gr_base::Memory;
+use gr_outside::{Shelf, Sink};
+use std::alloc::Global;
+
+/// The status if a file couldn't be read.
+const NOT_READ: u8 = 3;
+
+/// The status if output couldn't be written.
+const NOT_WRITTEN: u8 = 4;
+
+/// Prints why the call of these words ended with a status that isn't 0. A failure to print is ignored. If memory runs
+/// out, nothing is printed.
+pub(crate) fn explain<F: Shelf + Reasons + Drop, O: Sink + Reasons, E: Sink>(
+    alloc: Global,
+    words: &[&str],
+    ended: Ended<'_>,
+    shelf: &StreamShelf<F>,
+    out: &O,
+    errors: &mut E,
+) {
+    if ended.status == 0 {
+        return;
+    }
+    if let Ok(text) = explanation(alloc, words, ended, shelf, out) {
+        put_text(text.as_slice(), errors);
+    }
+}
+
+fn put_text<E: Sink>(text: &[u8], errors: &mut E) {
+    if errors.put(text).is_ok() {
+        let _ = errors.flush();
+    }
+}
+
+// The line `ghostrider: ` with a name from outside between two texts.
+fn sentence(alloc: Global, before: &str, name: &str, after: &str) -> Result<Vec<u8>, Memory> {
+    let mut out = Words::new(alloc);
+    out.say("ghostrider: ");
+    out.say(before);
+    out.name(name);
+    out.line(after);
+    out.finish(alloc)
+}
+
+fn explanation<F: Shelf + Reasons + Drop, O: Sink + Reasons>(
+    alloc: Global,
+    words: &[&str],
+    ended: Ended<'_>,
+    shelf: &StreamShelf<F>,
+    out: &O,
+) -> Result<Vec<u8>, Memory> {
+    if let Some(stop) = ended.stop {
+        return explain_stop(alloc, stop);
+    }
+    match ended.status {
+        NOT_READ => read_reason(alloc, shelf),
+        NOT_WRITTEN => match out.reason(alloc) {
+            Some(reason) => sentence(alloc, "standard output: ", reason.as_str(), ""),
+            None => files_reason(alloc, shelf.files()),
+        },
+        status => fault_text(alloc, status, words, shelf.read_files()),
+    }
+}
+
+// Why the front ended the call itself.
+fn explain_stop(alloc: Global, stop: Stop<'_>) -> Result<Vec<u8>, Memory> {
+    match stop {
+        Stop::NoMemory => Ok(Vec::new(alloc)),
+        Stop::ReadsTwice => sentence(alloc, "standard input can be read as only one file", "", ""),
+        Stop::ReadsOutput(name) => {
+            sentence(
+                alloc,
+                "OUT is the same file as ",
+                name,
+                ", which is read; choose another OUT",
+            )
+        }
+        Stop::NoVerb(word) => {
+            sentence(
+                alloc,
+                "",
+                word,
+                " is not a verb; `ghostrider help` lists the verbs",
+            )
+        }
+        Stop::TooMany(word) => sentence(alloc, "unexpected word ", word, ""),
+        Stop::NoPath => sentence(alloc, "the path of this program isn't known", "", ""),
+    }
+}
+
+// Why a file couldn't be read.
+fn read_reason<F: Shelf + Reasons + Drop>(
+    alloc: Global,
+    shelf: &StreamShelf<F>,
+) -> Result<Vec<u8>, Memory> {
+    match shelf.input_error() {
+        Some(error) => match format!(in alloc; "{error}") {
+            Ok(reason) => sentence(alloc, "standard input: ", reason.as_str(), ""),
+            Err(_) => Err(Memory),
+        },
+        None => files_reason(alloc, shelf.files()),
+    }
+}
+
+// The system's reason for the last call on files that failed, and nothing if it isn't known.
+fn files_reason<F: Reasons>(alloc: Global, files: &F) -> Result<Vec<u8>, Memory> {
+    match files.reason(alloc) {
+        Some(reason) => sentence(alloc, "", reason.as_str(), ""),
+        None => Ok(Vec::new(alloc)),
+    }
+}
+
+// What the fault of a call means, by the files that it read.
+fn fault_text(
+    alloc: Global,
+    status: u8,
+    words: &[&str],
+    read: &[ReadFile],
+) -> Result<Vec<u8>, Memory> {
+    let call = Call::new(alloc, status, usage_of(words), words)?;
+    let mut files = Vec::new(alloc);
+    for (place, name) in call.placed().iter().enumerate() {
+        if let Some(kind) = call.kind_at(place) {
+            if let Some(bytes) = bytes_of(read, name) {
+                files.push(File {
+                    name: *name,
+                    kind,
+                    bytes,
+                })?;
+            }
+        }
+    }
+    call.explained(alloc, &files)
+}
+
+// The usage of the verb of a call, empty if there is no such verb.
+fn usage_of(words: &[&str]) -> &'static str {
+    match words.first() {
+        Some(verb) => match verb_help(verb) {
+            Some(help) => help.usage,
+            None => "",
+        },
+        None => "",
+    }
+}
+
+// The bytes of the file of this name, as the call read them.
+fn bytes_of<'a>(read: &'a [ReadFile], name: &str) -> Option<&'a [u8]> {
+    for file in read {
+        if file.name.as_str() == name {
+            return Some(file.bytes.as_slice());
+        }
+    }
+    None
+}

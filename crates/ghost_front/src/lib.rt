@@ -1,0 +1,22 @@
+//! The program that users run, as one call over any shelf of files and any sinks.
+#![tactic(auto)]
+
+mod answering;
+mod explaining;
+mod help;
+mod named_files;
+mod outside;
+mod printing;
+mod reading;
+mod requests;
+mod serving;
+mod streams;
+mod top;
+mod verb_table;
+
+pub use answering::Program;
+pub use help::VERSION;
+pub use outside::{Identities, Reasons};
+pub use streams::{ReadFile, StreamShelf};
+pub use top::{front, refuse_words};
+pub use verb_table::{VerbHelp, verb_help};

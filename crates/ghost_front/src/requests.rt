@@ -1,0 +1,128 @@
+//! What the words of a call ask the front itself.
+
+ghost use Rattle.std.specs.Prelude.{◌≡◌, ◌∷◌, is_some};
+ghost use Rattle.ghost_cli.specs.Options.{texts};
+ghost use Rattle.ghost_front.specs.Requests.{asks_front, asks_help, is_about, is_help_option};
+
+use crate::verb_table::{VerbHelp, verb_help};
+
+/// A request that the front handles itself.
+#[derive(Clone, Copy)]
+pub(crate) enum Request<'a> {
+    /// To list all verbs.
+    Help,
+    /// To print what one verb does.
+    HelpOn(VerbHelp),
+    /// To print what `help` does.
+    HelpOnHelp,
+    /// To print help on a word that isn't a verb.
+    HelpOnOther(&'a str),
+    /// To print the version, and what the program was made of.
+    Version,
+    /// To print the path of the program.
+    Which,
+    /// To print that a word is one too many.
+    TooMany(&'a str),
+}
+
+/// The request, if the words have one: `help`, `--version`, `--which` and their short forms, or `--help` or `-h` anywhere
+/// before `--`.
+pub(crate) fn request_in<'a>(words: &[&'a str]) -> Option<Request<'a>>
+    ensures { is_some result ≡ asks_front (texts words.now) }
+{
+    if words.len() == 0 {
+        return None;
+    }
+    request_of(words[0], &words[1..])
+}
+
+// The request of a first word and the words that follow.
+fn request_of<'a>(first: &'a str, rest: &[&'a str]) -> Option<Request<'a>>
+    ensures { is_some result ≡ asks_front (first.now ∷ texts rest.now) }
+{
+    if is_about(first) {
+        return Some(request_about(first, rest));
+    }
+    if asks_help(rest) {
+        return Some(help_on_word(first));
+    }
+    None
+}
+
+// Whether `--help` or `-h` is among the words before `--`.
+fn asks_help(words: &[&str]) -> bool
+    ensures { result ≡ asks_help (texts words.now) }
+{
+    for word in words {
+        if *word == "--" {
+            return false;
+        }
+        if is_help_option(word) {
+            return true;
+        }
+    }
+    false
+}
+
+fn is_help_option(word: &str) -> bool
+    ensures { result ≡ is_help_option word.now }
+{
+    word == "--help" || word == "-h"
+}
+
+fn is_version(word: &str) -> bool {
+    word == "version" || word == "--version" || word == "-V"
+}
+
+fn is_about(word: &str) -> bool
+    ensures { result ≡ is_about word.now }
+{
+    word == "help"
+        || is_help_option(word)
+        || word == "version"
+        || word == "--version"
+        || word == "-V"
+        || word == "--which"
+}
+
+// The request of a word about the program, and of the words that follow it.
+fn request_about<'a>(word: &'a str, rest: &[&'a str]) -> Request<'a> {
+    if word == "help" {
+        return help_on(rest);
+    }
+    let request = if is_help_option(word) {
+        Request::Help
+    } else if is_version(word) {
+        Request::Version
+    } else {
+        Request::Which
+    };
+    alone(rest, request)
+}
+
+// The request of the words that follow `help`.
+fn help_on<'a>(words: &[&'a str]) -> Request<'a> {
+    if words.len() == 0 {
+        return Request::Help;
+    }
+    alone(&words[1..], help_on_word(words[0]))
+}
+
+fn help_on_word<'a>(word: &'a str) -> Request<'a> {
+    if word == "help" || is_help_option(word) {
+        return Request::HelpOnHelp;
+    }
+    match verb_help(word) {
+        Some(verb) => Request::HelpOn(verb),
+        None => Request::HelpOnOther(word),
+    }
+}
+
+// A request that no more words may follow.
+fn alone<'a>(rest: &[&'a str], request: Request<'a>) -> Request<'a> {
+    if rest.len() == 0 {
+        request
+    } else {
+        Request::TooMany(rest[0])
+    }
+}

@@ -1,0 +1,202 @@
+//! A call of a verb of `ghost_cli`, with the standard streams as files.
+
+ghost use Rattle.std.specs.Prelude.{◌≡◌, ◌⊎◌, option_copied};
+ghost use Rattle.ghost_cli.specs.Options.{texts};
+ghost use Rattle.ghost_cli.specs.Outside.{outside};
+ghost use Rattle.ghost_cli.specs.Promises.{Promises};
+ghost use Rattle.ghost_cli.specs.Verbs.{work_of};
+ghost use Rattle.ghost_front.specs.Served.{Delivers, Serves, StreamsFile, around, bytes_of};
+ghost use Rattle.ghost_front.specs.Streams.{as_shelf};
+
+use crate::named_files::NamedFiles;
+use crate::outside::Identities;
+use crate::printing::{DONE, NO_MEMORY, NOT_PUT, USAGE, put_all, status_after};
+use crate::reading::read_most;
+use crate::streams::{DASH, StreamShelf};
+use explain_words::Kind;
+use ghost_cli::{ghostrider, replies};
+use gr_base::Memory;
+use gr_outside::{Shelf, Sink};
+use std::alloc::Global;
+use std::io::{ErrorKind, Read};
+
+/// The line of a usage error.
+pub(crate) const USAGE_LINE: &str = "fault 2 usage\n";
+
+/// Why the front ends a call itself.
+#[derive(Clone, Copy)]
+pub(crate) enum Stop<'a> {
+    /// Memory ran out.
+    NoMemory,
+    /// Standard input is to be read as two files.
+    ReadsTwice,
+    /// This file is read, and OUT is the same file.
+    ReadsOutput(&'a str),
+    /// This word is not a verb.
+    NoVerb(&'a str),
+    /// This word is one too many.
+    TooMany(&'a str),
+    /// The path of the program isn't known.
+    NoPath,
+}
+
+/// How a call ended: its status, and the reason if the front ended it.
+#[derive(Clone, Copy)]
+pub(crate) struct Ended<'a> {
+    pub status: u8,
+    pub stop: Option<Stop<'a>>,
+}
+
+/// Does the work of a verb. Standard input is read at most once, and only if `-` is the name of a file to read. If OUT is
+/// `-`, the verb's text goes to `errors` and the file to `out`.
+#[tactic(auto, using(crate::proofs::CallEnds::refused, crate::proofs::CallEnds::no_room, crate::proofs::CallEnds::no_room_after, crate::proofs::CallEnds::printed, crate::proofs::CallEnds::streamed))]
+pub(crate) fn serve<'a, F: Shelf + Identities + Drop, I: Read, O: Sink, E: Sink>(
+    alloc: Global,
+    words: &'a [&'a str],
+    shelf: &mut StreamShelf<F>,
+    input: &mut I,
+    out: &mut O,
+    errors: &mut E,
+) -> Ended<'a>
+    ensures { Serves (work_of (texts words.now)) (around shelf.old (O.seen out.old) (E.seen errors.old))
+        (around shelf.new (O.seen out.new) (E.seen errors.new)) result.status }
+{
+    let Ok(files) = NamedFiles::of(alloc, words) else {
+        return starved(out);
+    };
+    if let Some(stop) = fault_of(&files, shelf.files()) {
+        return refused(stop, out);
+    }
+    if take_input(alloc, files.streamed(), shelf, input).is_err() {
+        return starved(out);
+    }
+    if files.streams_output() {
+        serve_to_output(alloc, words, shelf, out, errors)
+    } else {
+        serve_verb(alloc, words, shelf, out)
+    }
+}
+
+/// Does the work of a verb whose text goes to `out`.
+fn serve_verb<'a, F: Shelf + Drop, O: Sink>(
+    alloc: Global,
+    words: &[&str],
+    shelf: &mut StreamShelf<F>,
+    out: &mut O,
+) -> Ended<'a>
+    ensures { Promises (work_of (texts words.now)) (outside (as_shelf shelf.old) (O.seen out.old))
+        (outside (as_shelf shelf.new) (O.seen out.new)) result.status }
+{
+    Ended {
+        status: ghostrider(alloc, words, shelf, out),
+        stop: None,
+    }
+}
+
+/// Does the work of a verb whose file goes to `out`, and whose text to `errors`.
+#[tactic(auto, using(crate::proofs::CallEnds::streams_file))]
+fn serve_to_output<'a, F: Shelf + Drop, O: Sink, E: Sink>(
+    alloc: Global,
+    words: &[&str],
+    shelf: &mut StreamShelf<F>,
+    out: &mut O,
+    errors: &mut E,
+) -> Ended<'a>
+    ensures { StreamsFile (work_of (texts words.now)) (around shelf.old (O.seen out.old) (E.seen errors.old))
+        (around shelf.new (O.seen out.new) (E.seen errors.new)) result.status }
+{
+    let verdict = ghostrider(alloc, words, shelf, errors);
+    Ended {
+        status: deliver(verdict, shelf.output(), out),
+        stop: None,
+    }
+}
+
+/// Prints the file that a verb wrote, if it ended with status 0, and returns the status of the call.
+#[tactic(auto, using(crate::proofs::CallEnds::not_done, crate::proofs::CallEnds::whole, crate::proofs::CallEnds::not_put, crate::proofs::CallEnds::not_flushed))]
+fn deliver<O: Sink>(verdict: u8, file: Option<&[u8]>, out: &mut O) -> u8
+    ensures { Delivers (option_copied file.entry) (O.seen out.old) (O.seen out.new) verdict result }
+{
+    if verdict != DONE {
+        return verdict;
+    }
+    match out.put(bytes_of(file)) {
+        Ok(()) => {}
+        Err(_) => return NOT_PUT,
+    }
+    match out.flush() {
+        Ok(()) => DONE,
+        Err(_) => NOT_PUT,
+    }
+}
+
+fn bytes_of<'a>(file: Option<&'a [u8]>) -> &'a [u8]
+    ensures { result.now ≡ bytes_of (option_copied file.entry) }
+{
+    match file {
+        Some(bytes) => bytes,
+        None => &[],
+    }
+}
+
+/// What is wrong with the files of a call, before any is read.
+fn fault_of<'a, F: Identities>(files: &NamedFiles<'a>, shelf: &F) -> Option<Stop<'a>> {
+    if files.streams_twice() {
+        return Some(Stop::ReadsTwice);
+    }
+    let output = files.output?;
+    for file in &files.inputs {
+        if file.name != DASH && output != DASH && shelf.are_one_file(file.name, output) {
+            return Some(Stop::ReadsOutput(file.name));
+        }
+    }
+    None
+}
+
+/// Reads standard input for a file of this kind, up to one byte more than such a file may have. If it can't be read, the
+/// shelf keeps the reason, and `-` is missing.
+fn take_input<F: Shelf + Drop, I: Read>(
+    alloc: Global,
+    kind: Option<Kind>,
+    shelf: &mut StreamShelf<F>,
+    input: &mut I,
+) -> Result<(), Memory>
+    ensures { shelf.new ≡ record shelf.old { input = shelf.new.input } }
+{
+    let Some(kind) = kind else {
+        return Ok(());
+    };
+    match read_most(alloc, input, kind.most_bytes() + 1) {
+        Ok(bytes) => {
+            shelf.set_input(bytes);
+            Ok(())
+        }
+        Err(error) => {
+            if error.kind() == ErrorKind::OutOfMemory {
+                return Err(Memory);
+            }
+            shelf.set_input_error(error);
+            Ok(())
+        }
+    }
+}
+
+/// Prints the line of a usage error.
+pub(crate) fn refused<'a, O: Sink>(stop: Stop<'a>, out: &mut O) -> Ended<'a>
+    ensures { (result.status ≡ 2) ⊎ (result.status ≡ 4) }
+{
+    Ended {
+        status: status_after(put_all(&[USAGE_LINE], out), USAGE),
+        stop: Some(stop),
+    }
+}
+
+/// Prints that memory ran out.
+fn starved<'a, O: Sink>(out: &mut O) -> Ended<'a>
+    ensures { (result.status ≡ 5) ⊎ (result.status ≡ 4) }
+{
+    Ended {
+        status: status_after(put_all(&[replies::NO_MEMORY], out), NO_MEMORY),
+        stop: Some(Stop::NoMemory),
+    }
+}

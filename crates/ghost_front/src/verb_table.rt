@@ -1,0 +1,108 @@
+//! The one table of the verbs: what `help` prints, and what the man page and the completions are made from.
+
+/// A verb, with what `help` prints of it.
+#[derive(Clone, Copy)]
+pub struct VerbHelp {
+    /// The verb, the words that it takes, and its options in square brackets.
+    pub usage: &'static str,
+    /// What it does, in lines that are indented by four spaces.
+    pub text: &'static str,
+}
+
+/// The verbs, in the order in which `help` lists them.
+pub(crate) const VERBS: [VerbHelp; 13] = [
+    VerbHelp {
+        usage: "check OBJ",
+        text: "    Checks an object file and prints whether it is accepted.\n",
+    },
+    VerbHelp {
+        usage: "trace OBJ INPUT [--cycles N] [--seed S] [--paths] [--recursive]",
+        text: "    Runs an accepted object on inputs and prints what the bus shows: a line for each event\n    \
+            with its cycle, then `end halted` or `end spent`. With --paths it also prints the path of\n    \
+            each access to an oblivious bank, and the level of each block at the end. With --recursive\n    \
+            each position map is stored in smaller oblivious banks; paths are then of all their trees,\n    \
+            and no levels are printed.\n",
+    },
+    VerbHelp {
+        usage: "run OBJ INPUT OUT [--cycles N] [--seed S] [--recursive]",
+        text: "    Runs an accepted object on inputs and writes its outputs to OUT.\n",
+    },
+    VerbHelp {
+        usage: "asm TEXT OUT",
+        text: "    Assembles a text and writes the object file to OUT.\n",
+    },
+    VerbHelp {
+        usage: "dis OBJ OUT",
+        text: "    Writes the assembly text of an object file to OUT.\n",
+    },
+    VerbHelp {
+        usage: "eval SRC INPUT OUT [--turns N] [--procs]",
+        text: "    Evaluates a program on inputs and writes the final values of its variables to OUT. With\n    \
+            --procs the program may have procedures and calls.\n",
+    },
+    VerbHelp {
+        usage: "compile SRC OUT [--block-log W] [--window P:O:C] [--procs]",
+        text: "    Compiles a program and writes the object file to OUT, with blocks of 2^W words. With\n    \
+            --window memory is open only from cycle O to cycle C - 1 of each period of P cycles. With\n    \
+            --procs the program may have procedures and calls.\n",
+    },
+    VerbHelp {
+        usage: "sample ITEMS OUT [--seed S]",
+        text: "    Compiles and runs a histogram of 1 to 65536 items, writes its object file to OUT, and\n    \
+            prints how often it accesses memory.\n",
+    },
+    VerbHelp {
+        usage: "bus OBJ INPUT .. [--cycles N] [--seed S]",
+        text: "    Runs one to eight accepted objects, each on its inputs, as cores of one bus, and prints\n    \
+            what the bus shows: a line for each access with its core and cycle, then how each core\n    \
+            ended.\n",
+    },
+    VerbHelp {
+        usage: "infer OBJ OUT",
+        text: "    Writes the object to OUT with the notes that it needs, in place of its own notes. If no\n    \
+            notes make it acceptable, it prints where and why.\n",
+    },
+    VerbHelp {
+        usage: "diff OBJ INPUT INPUT [--cycles N] [--seed S] [--paths] [--recursive]",
+        text: "    Compares the events of two runs and prints whether they are equal (status 0) or where they\n    \
+            first differ (status 1).\n",
+    },
+    VerbHelp {
+        usage: "count OBJ INPUT [--cycles N] [--seed S] [--recursive]",
+        text: "    Runs an accepted object and prints the number of events of each memory, and the cycles.\n",
+    },
+    VerbHelp {
+        usage: "layout SRC [--block-log W] [--window P:O:C] [--procs]",
+        text: "    Prints the bank and the block in which the compiler stores each variable.\n",
+    },
+];
+
+/// What holds for all verbs: numbers, standard streams and exit statuses.
+pub(crate) const NOTES: &str =
+    "N is the number of cycles of a run, or of iterations of all loops of an evaluation, from 1 to\n\
+    4294967295; the default is 1000000000. S is the seed of the random words of oblivious banks, from 0\n\
+    to 18446744073709551615; the default is 0. W is from 3 to 9; the default is 9. A file to read may be\n\
+    `-`, standard input; if OUT is `-`, the file goes to standard output, and the verb's line to standard\n\
+    error. Exit status: 0 done, 1 traces differ (diff), 2 usage error, 3 a file couldn't be read, 4 output\n\
+    couldn't be written, 5 out of memory, 6 not an object file, 7 object rejected, 8 source rejected, 9\n\
+    inputs don't fit, 10 cycles or iterations are spent, 11 file too long, 12 not an assembly text, 13\n\
+    object can't be a core of the bus; of the script only 69 no toolchain to build with, 70 the build\n\
+    failed.\n";
+
+/// The name of a verb: the first word of its usage.
+pub(crate) fn name_of(verb: VerbHelp) -> &'static str {
+    match verb.usage.split_once(" ") {
+        Some((name, _)) => name,
+        None => verb.usage,
+    }
+}
+
+/// The row of the verb of this name.
+pub fn verb_help(name: &str) -> Option<VerbHelp> {
+    for verb in VERBS {
+        if name_of(verb) == name {
+            return Some(verb);
+        }
+    }
+    None
+}
