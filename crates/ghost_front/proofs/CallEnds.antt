@@ -13,6 +13,7 @@ use Rattle.gr_outside.specs.Sink.{SinkSeen}
 use Rattle.ghost_cli.specs.Outside.{outside}
 use Rattle.ghost_cli.specs.Promises.{Promises, IsOutput}
 use Rattle.ghost_cli.specs.Work.{Work}
+use Rattle.ghost_cli.proofs.Safe.{promises-follow}
 use Rattle.ghost_front.specs.Streams.{Streams, as_shelf, overlaid, stream_of, told}
 use Rattle.ghost_front.specs.Served.{Around, Delivers, NotDone, Whole, NotPut, Serves, Refused, NoRoom, Printed, Streamed, StreamsFile, KeepsOthers, around, bytes_of}
 use Rattle.ghost_front.proofs.Overlaid.{get_other, kept_below}
@@ -118,6 +119,20 @@ told_keeps asked before after same one other is-one is-other name others unwritt
     ∙ ap (λ files. get files name) (told_both own now before.files after.files one other is-one is-other same)
     ∙ get_other own one name others
 
+pub same_files_keep : (asked : Option Work) (before after : Option Files) → after ≡ before → KeepsOthers asked before after
+same_files_keep asked before after same one other is-one is-other name others unwritten =
+    ap (λ files. get files name) (same_Some _ _ (sym is-other ∙ same ∙ is-one))
+
+-- the same if standard input was read before
+pub told_keeps_after : (asked : Option Work) (before mid after : Streams) → mid ≡ record before { input = mid.input }
+    → told after ≡ told mid → KeepsOthers asked before.files after.files
+told_keeps_after asked before mid after read same one other is-one is-other name others unwritten =
+    told_keeps asked mid after same one other (ap (λ s. s.files) read ∙ is-one) is-other name others unwritten
+
+pub input_keeps : (asked : Option Work) (before after : Streams) → after ≡ record before { input = after.input }
+    → KeepsOthers asked before.files after.files
+input_keeps asked before after read = same_files_keep asked before.files after.files (ap (λ s. s.files) read)
+
 -- a file that isn't the output isn't named as the output is
 not_named : (asked : Option Work) (name output : List ℕ) → IsOutput asked output → (IsOutput asked name → ⊥)
     → bytes_eq name output ≡ false
@@ -138,14 +153,10 @@ pub promises_keep : (asked : Option Work) (before after : Streams) (sink sink-af
     → Promises asked (outside (as_shelf before) sink) (outside (as_shelf after) sink-after) status
     → KeepsOthers asked before.files after.files
 promises_keep asked before after sink sink-after status promises =
-    elim promises.others [
+    elim ((promises-follow asked _ _ status promises).others) [
       | inl same ↦ told_keeps asked before after same
       | inr only ↦ but_output asked before after only.name only.output only.others
     ]
-
-same_files_keep : (asked : Option Work) (before after : Option Files) → after ≡ before → KeepsOthers asked before after
-same_files_keep asked before after same one other is-one is-other name others unwritten =
-    ap (λ files. get files name) (same_Some _ _ (sym is-other ∙ same ∙ is-one))
 
 pub serves_keep : (asked : Option Work) (before after : Around) (status : ℕ) → Serves asked before after status
     → KeepsOthers asked before.shelf.files after.shelf.files

@@ -1,4 +1,4 @@
--- The calls that the front program handles itself: for help, for the version and for its path.
+-- The calls that the front program handles itself: for help, for the version and for its path, and its own verbs.
 use Rattle.std.specs.Prelude.{ℕ, Bool, false, not, ◌&&◌, ◌||◌, List, [], ◌∷◌, codes}
 use Rattle.std.specs.Str.{bytes_eq}
 
@@ -20,3 +20,12 @@ is_about word =
 abbrev pub asks_front : List (List ℕ) → Bool
 asks_front [] = false
 asks_front (word ∷ words) = is_about word || asks_help words
+
+-- the verbs that the front does itself
+abbrev pub is_tool : List ℕ → Bool
+is_tool word = bytes_eq word (codes "diff") || bytes_eq word (codes "count") || bytes_eq word (codes "layout")
+
+-- the words of a call of one of these
+abbrev pub asks_tool : List (List ℕ) → Bool
+asks_tool [] = false
+asks_tool (word ∷ words) = is_tool word

@@ -11,6 +11,7 @@ mod reading;
 mod requests;
 mod serving;
 mod streams;
+mod tools;
 mod top;
 mod verb_table;
 

@@ -1,18 +1,22 @@
 //! Which words of a call name files: those that are read, and the one that is written.
 
 use crate::streams::DASH;
+use crate::tools::Tool;
 use clap::ArgMatches;
 use explain_words::Kind;
 use ghost_cli::verbs::{matches_of, verb_named};
+use ghost_tools::words::{self, COUNT, DIFF, LAYOUT};
 use gr_base::Memory;
 use std::alloc::Global;
 
 /// The names under which the verbs' rows have files to read, with the kind of each file.
-const READ: [(&str, Kind); 4] = [
+const READ: [(&str, Kind); 6] = [
     ("OBJ", Kind::Object),
     ("SRC", Kind::Source),
     ("TEXT", Kind::Assembly),
     ("INPUT", Kind::Inputs),
+    ("FIRST", Kind::Inputs),
+    ("SECOND", Kind::Inputs),
 ];
 
 /// The name under which they have the file to write.
@@ -48,6 +52,27 @@ impl<'a> NamedFiles<'a> {
         if let Some(verb) = verb_named(words[0])
             && let Some(matches) = matches_of(alloc, verb, words)?
         {
+            files.add(&matches)?;
+        }
+        Ok(files)
+    }
+
+    /// The files that the words of a tool name, the tool first. No files if the words are a usage error.
+    pub(crate) fn of_tool(
+        alloc: Global,
+        tool: Tool,
+        words: &'a [&'a str],
+    ) -> Result<NamedFiles<'a>, Memory> {
+        let mut files = NamedFiles {
+            inputs: Vec::new(alloc),
+            output: None,
+        };
+        let row = match tool {
+            Tool::Diff => DIFF,
+            Tool::Count => COUNT,
+            Tool::Layout => LAYOUT,
+        };
+        if let Some(matches) = words::matches_of(alloc, row, words)? {
             files.add(&matches)?;
         }
         Ok(files)

@@ -155,7 +155,7 @@ fn fault_of<'a, F: Identities>(files: &NamedFiles<'a>, shelf: &F) -> Option<Stop
 
 /// Reads standard input for a file of this kind, up to one byte more than such a file may have. If it can't be read, the
 /// shelf keeps the reason, and `-` is missing.
-fn take_input<F: Shelf + Drop, I: Read>(
+pub(crate) fn take_input<F: Shelf + Drop, I: Read>(
     alloc: Global,
     kind: Option<Kind>,
     shelf: &mut StreamShelf<F>,
@@ -192,7 +192,7 @@ pub(crate) fn refused<'a, O: Sink>(stop: Stop<'a>, out: &mut O) -> Ended<'a>
 }
 
 /// Prints that memory ran out.
-fn starved<'a, O: Sink>(out: &mut O) -> Ended<'a>
+pub(crate) fn starved<'a, O: Sink>(out: &mut O) -> Ended<'a>
     ensures { (result.status ≡ 5) ⊎ (result.status ≡ 4) }
 {
     Ended {

@@ -3,7 +3,7 @@
 ghost use Rattle.std.specs.Prelude.{◌≡◌, ◌⊎◌, false};
 ghost use Rattle.ghost_cli.specs.Options.{texts};
 ghost use Rattle.ghost_cli.specs.Verbs.{work_of};
-ghost use Rattle.ghost_front.specs.Requests.{asks_front};
+ghost use Rattle.ghost_front.specs.Requests.{asks_front, asks_tool};
 ghost use Rattle.ghost_front.specs.Served.{KeepsOthers, Serves, around};
 
 use crate::answering::{Program, answer};
@@ -13,13 +13,15 @@ use crate::printing::{USAGE, put_all, status_after};
 use crate::requests::request_in;
 use crate::serving::{Ended, USAGE_LINE, serve};
 use crate::streams::StreamShelf;
+use crate::tools::{serve_tool, tool_in};
 use gr_outside::{Shelf, Sink};
 use std::alloc::Global;
 use std::io::Read;
 
 /// All that the program does, and its exit status. The words are those that follow the program's name.
 ///
-/// The front handles `help`, `--version`, `--which` and `--help` itself. For all other words it calls
+/// The front handles `help`, `--version`, `--which` and `--help` itself, and does the verbs `diff`, `count` and `layout`
+/// by `ghost_tools`. For all other words it calls
 /// `ghost_cli::ghostrider`, with `-` as the name of a standard stream. A file `-` that is read is standard input; if OUT
 /// is `-`, the file goes to `out` and the verb's text to `errors`. Two files can't both be standard input, and OUT can't
 /// be a file that is read: both are usage errors, status 2.
@@ -35,7 +37,7 @@ pub fn front<F: Shelf + Reasons + Identities + Drop, I: Read, O: Sink + Reasons,
     out: &mut O,
     errors: &mut E,
 ) -> u8
-    ensures served { asks_front (texts words.now) ≡ false
+    ensures served { asks_front (texts words.now) ≡ false → asks_tool (texts words.now) ≡ false
         → Serves (work_of (texts words.now)) (around shelf.old (O.seen out.old) (E.seen errors.old))
         (around shelf.new (O.seen out.new) (E.seen errors.new)) result }
     ensures others { KeepsOthers (work_of (texts words.now)) shelf.old.files shelf.new.files }
@@ -57,13 +59,33 @@ fn end_call<'a, F: Shelf + Identities + Drop, I: Read, O: Sink, E: Sink>(
     out: &mut O,
     errors: &mut E,
 ) -> Ended<'a>
-    ensures served { asks_front (texts words.now) ≡ false
+    ensures served { asks_front (texts words.now) ≡ false → asks_tool (texts words.now) ≡ false
         → Serves (work_of (texts words.now)) (around shelf.old (O.seen out.old) (E.seen errors.old))
         (around shelf.new (O.seen out.new) (E.seen errors.new)) result.status }
     ensures others { KeepsOthers (work_of (texts words.now)) shelf.old.files shelf.new.files }
 {
     match request_in(words) {
         Some(request) => answer(alloc, program, request, shelf, out),
+        None => serve_other(alloc, words, shelf, input, out, errors),
+    }
+}
+
+/// Does the verb that the words name, one of the front's own or one of `ghost_cli`.
+fn serve_other<'a, F: Shelf + Identities + Drop, I: Read, O: Sink, E: Sink>(
+    alloc: Global,
+    words: &'a [&'a str],
+    shelf: &mut StreamShelf<F>,
+    input: &mut I,
+    out: &mut O,
+    errors: &mut E,
+) -> Ended<'a>
+    ensures served { asks_tool (texts words.now) ≡ false
+        → Serves (work_of (texts words.now)) (around shelf.old (O.seen out.old) (E.seen errors.old))
+        (around shelf.new (O.seen out.new) (E.seen errors.new)) result.status }
+    ensures others { KeepsOthers (work_of (texts words.now)) shelf.old.files shelf.new.files }
+{
+    match tool_in(words) {
+        Some(tool) => serve_tool(alloc, tool, words, shelf, input, out),
         None => serve(alloc, words, shelf, input, out, errors),
     }
 }

@@ -1,0 +1,9 @@
+use Rattle.ghost_cli.specs.Options.{texts}
+use Rattle.ghost_cli.specs.Verbs.{work_of}
+use Rattle.ghost_front.proofs.CallEnds.{told_keeps_after}
+use Rattle.ghost_front.proofs.tools.serve_tool.Goals as goal
+
+pub returns : goal.returns
+returns g c =
+    told_keeps_after (work_of (texts c.args.words.now)) c.args.shelf.now c.take_input.new.shelf c.run_tool.new.shelf
+    c.take_input.ensures c.run_tool.ensures

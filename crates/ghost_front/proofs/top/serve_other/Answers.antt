@@ -1,0 +1,23 @@
+use Rattle.std.proofs.Common.{true≢false, is_some, sym, ap, ◌∙◌}
+use Rattle.ghost_cli.specs.Options.{texts}
+use Rattle.ghost_cli.specs.Verbs.{work_of}
+use Rattle.ghost_front.specs.Served.{around}
+use Rattle.ghost_front.proofs.CallEnds.{serves_keep}
+use Rattle.ghost_front.proofs.top.serve_other.Goals as goal
+
+pub returns-in-Some-clause-served : goal.returns-in-Some-clause-served
+returns-in-Some-clause-served g c verb =
+    absurd (true≢false (sym (ap is_some c.in-Some.is) ∙ c.tool_in.ensures ∙ verb))
+
+pub returns-in-Some-clause-others : goal.returns-in-Some-clause-others
+returns-in-Some-clause-others g c = c.serve_tool.ensures
+
+pub returns-in-None-clause-served : goal.returns-in-None-clause-served
+returns-in-None-clause-served g c verb = c.serve.ensures
+
+pub returns-in-None-clause-others : goal.returns-in-None-clause-others
+returns-in-None-clause-others g c =
+    serves_keep (work_of (texts c.args.words.now))
+    (around c.args.shelf.now (g.O.Sink.seen c.args.out.now) (g.E.Sink.seen c.args.errors.now))
+    (around c.serve.new.shelf (g.O.Sink.seen c.serve.new.out) (g.E.Sink.seen c.serve.new.errors))
+    c.serve.result.status c.serve.ensures
