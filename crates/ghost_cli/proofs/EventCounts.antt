@@ -72,7 +72,7 @@ within-short (suc steps) o s n =
     pick-short _ (shown_then (step_start o s) (step o s) (λ t. trace_within steps o t n)) (suc steps)
     (shown-short (step_start o s) (step o s) (λ t. trace_within steps o t n) steps (λ t. within-short steps o t n))
 
-trace-short : (o : Parts) (s : State) (n : ℕ) → length (trace_from o s n) ≤ n
+pub trace-short : (o : Parts) (s : State) (n : ℕ) → length (trace_from o s n) ≤ n
 unfolding trace_from
 trace-short o s n = within-short n o s n
 

@@ -128,11 +128,7 @@ pub(crate) fn object_bytes<'a>(
 }
 
 /// The program's object for a machine of this profile, or what is said where it has none.
-pub(crate) fn object_of<'a>(
-    alloc: Global,
-    program: &Typed,
-    profile: &Profile,
-) -> Result<Object, Reply<'a>>
+pub fn object_of<'a>(alloc: Global, program: &Typed, profile: &Profile) -> Result<Object, Reply<'a>>
     requires { ProfileFits profile.now }
     ensures in_range { IfOk result (λ o. IsInRange o) }
     ensures compiled { IfOk result (λ o. IsCompiledTo (source_of program.now) profile.now (spelling o)) }

@@ -17,13 +17,13 @@ use recursive_oram::RecursiveOram;
 use std::alloc::Global;
 
 /// An oblivious bank whose random words a seed makes.
-pub(crate) type SeededOram = PathOram<ChaCha20Rng>;
+pub type SeededOram = PathOram<ChaCha20Rng>;
 
 /// One whose positions are kept in smaller ones.
-pub(crate) type SeededRecursive = RecursiveOram<ChaCha20Rng>;
+pub type SeededRecursive = RecursiveOram<ChaCha20Rng>;
 
 /// A kind of oblivious bank, which can be made for an object and a seed.
-pub(crate) trait Seeded: Bank {
+pub trait Seeded: Bank {
     /// Whether this is a bank of an object at the start of a run on some inputs, over the words that a seed makes: the
     /// object, the inputs, the seed, the core's number, and the bank's number.
     ghost begins: { Parts → List (List ℤ) → ℕ → ℕ → ℕ → Self → Type 0 };
@@ -94,7 +94,7 @@ impl Seeded for SeededRecursive {
 
 /// A machine for an accepted object at the start of a run on some inputs, its oblivious banks over the random words
 /// that a seed makes for a core of a bus. A run without a bus is that of core 0.
-pub(crate) fn load_seeded<'a, B: Seeded + Drop>(
+pub fn load_seeded<'a, B: Seeded + Drop>(
     alloc: Global,
     accepted: &'a Accepted,
     inputs: &Inputs,

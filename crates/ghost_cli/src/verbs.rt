@@ -123,7 +123,7 @@ fn command<'a>(alloc: Global, verb: Verb) -> Result<Command<'a>, Memory>
 }
 
 /// A command with these arguments more.
-fn with_all<'a>(
+pub fn with_all<'a>(
     alloc: Global,
     command: Command<'a>,
     kind: Argument,
