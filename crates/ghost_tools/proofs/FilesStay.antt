@@ -1,0 +1,28 @@
+-- A verb that stops before a write leaves the files as they were.
+use Rattle.std.proofs.Common.{◌≡◌, ap}
+use Rattle.gr_outside.specs.Shelf.{ShelfSeen}
+use Rattle.ghost_cli.specs.Outside.{LeavesShelf, OnlyReads}
+use Rattle.ghost_cli.specs.Progress.{NoRoomLeft, Stops, StopsAt}
+use Rattle.ghost_cli.specs.Showing.{nothing_seen}
+use Rattle.ghost_cli.specs.Texts.{Said}
+use Rattle.ghost_cli.specs.Work.{Ends, Ending, IsTooLong, IsUnread, IsVerdict, IsWritten, Work}
+use Rattle.ghost_cli.specs.declared.replies.Verdict.TheVariants.{Accepted}
+
+-- a work that follows a read
+pub any_work : Work
+any_work = Ends nothing_seen Accepted
+
+only-reads : (before after : ShelfSeen) → OnlyReads before after → after.files ≡ before.files
+only-reads before after only = ap (λ (s : ShelfSeen). s.files) only.0
+
+ending-leaves : (ending : Ending) (before after : ShelfSeen) → LeavesShelf ending before after
+    → after.files ≡ before.files
+ending-leaves (IsUnread name) before after leaves = only-reads before after leaves
+ending-leaves (IsTooLong name limit) before after leaves = ap (λ (s : ShelfSeen). s.files) leaves
+ending-leaves (IsVerdict seen verdict) before after leaves = ap (λ (s : ShelfSeen). s.files) leaves
+ending-leaves (IsWritten name bytes done) before after leaves = absurd leaves
+
+pub files-stay : (before after : ShelfSeen) (work : Work) (said : Said) → Stops before after work said
+    → after.files ≡ before.files
+files-stay before after work said (NoRoomLeft only is) = only-reads before after only
+files-stay before after work said (StopsAt ending may leaves is) = ending-leaves ending before after leaves

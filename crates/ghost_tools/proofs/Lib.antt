@@ -1,0 +1,9 @@
+pub mod Reading
+pub mod Windows
+pub mod EqualParts
+pub mod Compared
+pub mod Tallied
+pub mod StatusLaws
+pub mod FilesStay
+pub mod Begun
+pub mod CalmPuts

@@ -1,0 +1,9 @@
+pub mod Recorded
+pub mod Comparing
+pub mod Counting
+pub mod Statuses
+pub mod TraceReading
+pub mod EventParts
+pub mod Judging
+pub mod SoFar
+pub mod CountedSoFar

@@ -1,0 +1,24 @@
+//! Tools over the machine and the compiler: [`diff`] compares the traces of two runs, [`count`] counts the events of
+//! one, and [`layout`] prints where the compiler stores each variable.
+//!
+//! [`compare`] and [`count_events`] say what their results mean of the traces, by the machine's own definitions. Both
+//! read a trace window by window of cycles, so that the memory needed doesn't grow with the trace. No tool writes a file.
+#![tactic(auto)]
+
+pub mod comparing;
+pub mod count_tool;
+pub mod counting;
+pub mod diff_tool;
+pub mod differences;
+pub mod layout_tool;
+pub mod recorder;
+pub mod reports;
+mod trace_reader;
+pub mod variables;
+pub mod words;
+
+pub use comparing::{Comparison, compare};
+pub use count_tool::count;
+pub use counting::{Tally, count_events};
+pub use diff_tool::diff;
+pub use layout_tool::layout;
