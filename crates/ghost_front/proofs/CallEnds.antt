@@ -13,6 +13,7 @@ use Rattle.gr_outside.specs.Sink.{SinkSeen}
 use Rattle.ghost_cli.specs.Outside.{outside}
 use Rattle.ghost_cli.specs.Promises.{Promises, IsOutput}
 use Rattle.ghost_cli.specs.Work.{Work}
+use Rattle.ghost_cli.proofs.Safe.{promises-follow}
 use Rattle.ghost_front.specs.Streams.{Streams, as_shelf, overlaid, stream_of, told}
 use Rattle.ghost_front.specs.Served.{Around, Delivers, NotDone, Whole, NotPut, Serves, Refused, NoRoom, Printed, Streamed, StreamsFile, KeepsOthers, around, bytes_of}
 use Rattle.ghost_front.proofs.Overlaid.{get_other, kept_below}
@@ -138,7 +139,8 @@ pub promises_keep : (asked : Option Work) (before after : Streams) (sink sink-af
     → Promises asked (outside (as_shelf before) sink) (outside (as_shelf after) sink-after) status
     → KeepsOthers asked before.files after.files
 promises_keep asked before after sink sink-after status promises =
-    elim promises.others [
+    elim (promises-follow asked (outside (as_shelf before) sink) (outside (as_shelf after) sink-after) status
+    promises).others [
       | inl same ↦ told_keeps asked before after same
       | inr only ↦ but_output asked before after only.name only.output only.others
     ]
