@@ -164,6 +164,6 @@ const USAGES = {
  "bus": "bus OBJ INPUT .. [--cycles N] [--seed S]",
  "infer": "infer OBJ OUT",
  "diff": "diff OBJ INPUT INPUT [--cycles N] [--seed S] [--paths] [--recursive]",
- "count": "count OBJ INPUT [--cycles N] [--seed S]",
+ "count": "count OBJ INPUT [--cycles N] [--seed S] [--paths] [--recursive]",
  "layout": "layout SRC [--block-log W] [--window P:O:C] [--procs]"
 };

@@ -2,7 +2,7 @@
 
 use crate::outside::Reasons;
 use crate::serving::{Ended, Stop};
-use crate::streams::{ReadFile, StreamShelf};
+use crate::streams::{DASH, ReadFile, StreamShelf};
 use crate::verb_table::verb_help;
 use explain_words::{Call, File, Words};
 use gr_base::Memory;
@@ -14,6 +14,9 @@ const NOT_READ: u8 = 3;
 
 /// The status if output couldn't be written.
 const NOT_WRITTEN: u8 = 4;
+
+/// What an explanation calls the file `-`.
+const STREAM_NAME: &str = "standard input";
 
 /// Prints why the call of these words ended with a status that isn't 0. A failure to print is ignored. If memory runs
 /// out, nothing is printed.
@@ -124,7 +127,8 @@ fn fault_text(
     words: &[&str],
     read: &[ReadFile],
 ) -> Result<Vec<u8>, Memory> {
-    let call = Call::new(alloc, status, usage_of(words), words)?;
+    let named = names_of(alloc, words)?;
+    let call = Call::new(alloc, status, usage_of(words), &named)?;
     let mut files = Vec::new(alloc);
     for (place, name) in call.placed().iter().enumerate() {
         if let Some(kind) = call.kind_at(place) {
@@ -140,6 +144,15 @@ fn fault_text(
     call.explained(alloc, &files)
 }
 
+// The words of a call, with the name of the stream in the place of `-`.
+fn names_of<'a>(alloc: Global, words: &[&'a str]) -> Result<Vec<&'a str>, Memory> {
+    let mut named = Vec::with_capacity(alloc, words.len())?;
+    for word in words {
+        named.push(if *word == DASH { STREAM_NAME } else { *word })?;
+    }
+    Ok(named)
+}
+
 // The usage of the verb of a call, empty if there is no such verb.
 fn usage_of(words: &[&str]) -> &'static str {
     match words.first() {
@@ -153,8 +166,9 @@ fn usage_of(words: &[&str]) -> &'static str {
 
 // The bytes of the file of this name, as the call read them.
 fn bytes_of<'a>(read: &'a [ReadFile], name: &str) -> Option<&'a [u8]> {
+    let wanted = if name == STREAM_NAME { DASH } else { name };
     for file in read {
-        if file.name.as_str() == name {
+        if file.name.as_str() == wanted {
             return Some(file.bytes.as_slice());
         }
     }

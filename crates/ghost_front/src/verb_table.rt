@@ -68,7 +68,7 @@ pub(crate) const VERBS: [VerbHelp; 13] = [
             first differ (status 1).\n",
     },
     VerbHelp {
-        usage: "count OBJ INPUT [--cycles N] [--seed S] [--recursive]",
+        usage: "count OBJ INPUT [--cycles N] [--seed S] [--paths] [--recursive]",
         text: "    Runs an accepted object and prints the number of events of each memory, and the cycles.\n",
     },
     VerbHelp {

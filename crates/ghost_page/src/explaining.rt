@@ -60,7 +60,12 @@ fn answer_with(words: &[u8], text: &mut [u8]) -> Answer
 }
 
 /// The words for people.
-fn explained(alloc: Global, lines: &str, program: &[u8], input: &[u8]) -> Result<Vec<u8>, Memory>
+fn explained<'a>(
+    alloc: Global,
+    lines: &'a str,
+    program: &'a [u8],
+    input: &'a [u8],
+) -> Result<Vec<u8>, Memory>
     ensures { IfOk result (λ words. All IsPlain words.items) }
 {
     let words = words_of(alloc, lines)?;
