@@ -2,6 +2,7 @@
 use Rattle.std.proofs.Common.{◌≡◌, ℕ, zero, suc, ◌+◌, ◌-◌, ◌<◌, ◌≤◌, Bool, true, false, not, ◌||◌, ◌&&◌, ◌==◌, ℤ, pos, List, [], ◌∷◌, ◌++◌, length, Some, refl, sym, ap, ◌∙◌, subst, arith}
 use Rattle.std.specs.Prelude.{if◌then◌else◌}
 use Rattle.std.proofs.lemmas.Bool.{ne_eqb}
+use Rattle.gr_word.specs.declared.operations.Op.{Op}
 use Rattle.gr_word.specs.declared.operations.Op.TheVariants.{Add, Remu, And, Shr}
 use Rattle.gr_word.specs.declared.operations.Cmp.TheVariants.{Eq}
 use Rattle.lt_isa.specs.declared.instructions.Instr.{Instr}
@@ -11,7 +12,7 @@ use Rattle.trace_patterns.specs.Known.{Known, is_secret, bank_known, set_secret,
 use Rattle.trace_patterns.specs.Rules.{Falls, shows_block, claimed_at}
 use Rattle.stretches.proofs.Passed.{GoesOn, NoMore, One, goes-then, rules-li, rules-alu, rules-idb, rules-ldb, branch-falls, secret-same, secret-other}
 use Rattle.block_cache_gen.specs.Homes.{Home}
-use Rattle.block_cache_gen.specs.Codes.{is_masked, reduced_code, shift_code, fixed_code, load_code}
+use Rattle.block_cache_gen.specs.Codes.{is_masked, reduced_code, offset_code, shift_code, fixed_code, load_code}
 use Rattle.block_cache_gen.proofs.KeptRegisters.{SameBelow, same-itself, same-set, same-then, or_false}
 
 -- Behind straight code a register and the next have a label, and what stands below is as before.
@@ -21,6 +22,13 @@ pub record Labelled (o : Parts) (p : ℕ) (code : List Instr) (to : ℕ) (before
   pub same : SameBelow to before after
   pub word_is : is_secret after to ≡ word
   pub block_is : is_secret after (to + 1) ≡ block
+
+-- the same of one register
+pub record Placed (o : Parts) (p : ℕ) (code : List Instr) (to : ℕ) (before : Known) (word : Bool) : Type 0 where
+  pub after : Known
+  pub goes : GoesOn o p code before after
+  pub same : SameBelow to before after
+  pub word_is : is_secret after to ≡ word
 
 module _ (o : Parts) (to : ℕ) (low : to + 2 < 32) where
   -- the number of the word, in a register: the index modulo the length
@@ -46,18 +54,20 @@ module _ (o : Parts) (to : ℕ) (low : to + 2 < 32) where
         ∙ ap (λ (b : Bool). is_secret k to || b) (secret-same k (to + 1) false (omega arith))
         ∙ or_false (is_secret k to)
 
+    -- an operation on it and a number
+    applied_by : (op : Op) (z : ℤ) (p : ℕ)
+        → GoesOn o p (Li (to + 1) z ∷ Alu op to to (to + 1) ∷ []) k reduced_known
+    unfolding reduced_known
+    applied_by op z p =
+        let one = set_secret k (to + 1) false in
+        One p _ _ k one _ (rules-li o p k (to + 1) z)
+        (One (p + 1) _ _ one _ _ (rules-alu o (p + 1) one op to to (to + 1)) (NoMore (p + 1 + 1) _))
+
     reduced_by : (h : Home) (p : ℕ) (masked : Bool)
         → GoesOn o p (if masked then Li (to + 1) (pos (h.length - 1)) ∷ Alu And to to (to + 1) ∷ []
         else Li (to + 1) (pos h.length) ∷ Alu Remu to to (to + 1) ∷ []) k reduced_known
-    unfolding reduced_known
-    reduced_by h p true =
-        let one = set_secret k (to + 1) false in
-        One p _ _ k one _ (rules-li o p k (to + 1) (pos (h.length - 1)))
-        (One (p + 1) _ _ one _ _ (rules-alu o (p + 1) one And to to (to + 1)) (NoMore (p + 1 + 1) _))
-    reduced_by h p false =
-        let one = set_secret k (to + 1) false in
-        One p _ _ k one _ (rules-li o p k (to + 1) (pos h.length))
-        (One (p + 1) _ _ one _ _ (rules-alu o (p + 1) one Remu to to (to + 1)) (NoMore (p + 1 + 1) _))
+    reduced_by h p true = applied_by And (pos (h.length - 1)) p
+    reduced_by h p false = applied_by Remu (pos h.length) p
 
     -- the number of its block, in the next
     block_known : Known
@@ -120,6 +130,23 @@ module _ (o : Parts) (to : ℕ) (low : to + 2 < 32) where
         (One (p + 1 + 1) _ _ two three _ (rules-li o (p + 1 + 1) two (to + 2) (pos h.block))
         (One (p + 1 + 1 + 1) _ _ three _ _ (rules-alu o (p + 1 + 1 + 1) three Add (to + 1) (to + 1) (to + 2))
         (NoMore (p + 1 + 1 + 1 + 1) _))))
+
+  -- the place of a resident array's word in its block
+  pub placed-numbered : (h : Home) (p : ℕ) (k : Known) → length k.secret ≡ 32
+      → Placed o p (reduced_code h to ++ offset_code h to) to k (is_secret k to)
+  placed-numbered h p k sized =
+      let mid = reduced_known k sized in
+      let first = reduced_same k sized in
+      let size : length mid.secret ≡ 32 = first.sized ∙ sized in
+      record {
+        after = reduced_known mid size;
+        goes
+            = goes-then o p (reduced_code h to) (offset_code h to) k mid (reduced_known mid size)
+            (reduced_by k sized h p (is_masked h))
+            (applied_by mid size Add (pos h.word) (p + length (reduced_code h to)));
+        same = same-then to k mid (reduced_known mid size) first (reduced_same mid size);
+        word_is = reduced_word mid size ∙ reduced_word k sized;
+      }
 
   -- both
   pub numbered : (block_log : ℕ) (h : Home) (p : ℕ) (k : Known) → length k.secret ≡ 32

@@ -24,7 +24,7 @@ use Rattle.src_tree.specs.Trees.{Tree, Number, Variable, Element, Operation}
 use Rattle.block_cache_gen.specs.declared.frames.Mode.{Mode}
 use Rattle.block_cache_gen.specs.declared.frames.Mode.TheVariants.{Public, Real, Mirrored}
 use Rattle.block_cache_gen.specs.Homes.{Home, Setting, HasHomes, home_of, words_a_block}
-use Rattle.block_cache_gen.specs.Codes.{skips, is_cached, fixed_index, fixed_word, located_code, fixed_code, reduced_code, shift_code, load_code, access_code, expr_code}
+use Rattle.block_cache_gen.specs.Codes.{skips, is_cached, fixed_index, fixed_word, located_code, fixed_code, reduced_code, shift_code, load_code, access_by, expr_code}
 use Rattle.block_cache_gen.specs.StandsFor.{StandsFor, FitsHomes, IsBlockOf}
 use Rattle.block_cache_gen.specs.Accesses.{ArrayAccess, access_of, accesses, word_number, block_in, slots_after, may_skip, is_held, seen_of, seen_of_all}
 use Rattle.block_cache_gen.specs.LeavesWord.{LeavesWord}
@@ -65,7 +65,7 @@ pub record Accesses (f : Setting) (store : Store) (before : List ArrayAccess) (a
   pub held : slot t a.home.slot ≡ Bound a.home.bank a.block (block_in s.banks a.home.bank a.block)
 
 -- an index that is taken as a number is one
-fixed-is : (h : Home) (i : Tree) (z : ℤ) → fixed_index h i ≡ Some z → i ≡ Number z
+pub fixed-is : (h : Home) (i : Tree) (z : ℤ) → fixed_index h i ≡ Some z → i ≡ Number z
 fixed-is h (Number y) z is = ap Number (cond_some (is_cached h) y z is).1
 fixed-is h (Variable x) z is = absurd (unknown (is_cached h) is)
   where
@@ -85,7 +85,7 @@ fixed-is h (Operation op a b) z is = absurd (unknown (is_cached h) is)
 
 module _ (o : Parts) (fits : IsInRange o) (f : Setting) (homes : HasHomes o f) (store : Store)
     (store_fits : FitsHomes f store) (x : List ℕ) (label : Label)
-    (known : context_of f.decls x ≡ Some (label, Array)) where
+    (known : context_of f.decls x ≡ Some (label, Array)) (turn : (home_of f x).resident ≡ false) where
   -- the number of a word, by the length of the home
   pub word_number-is : (z : ℤ) → unsigned_of z % (home_of f x).length ≡ word_number f store x z
   word_number-is z = ap (λ m. unsigned_of z % m) (sym (store_fits.lengths x label Array known))
@@ -94,7 +94,7 @@ module _ (o : Parts) (fits : IsInRange o) (f : Setting) (homes : HasHomes o f) (
   pub word-within : (z : ℤ) → word_number f store x z < (home_of f x).length
   word-within z =
       subst (λ n. n < (home_of f x).length) (word_number-is z)
-      (mod-lt (unsigned_of z) (homes.arrays x label known).length.0)
+      (mod-lt (unsigned_of z) (homes.arrays x label known turn).length.0)
 
   -- the load itself
   runs-ldb : (to n : ℕ) (s : State) → IsShaped o s → n < (home_of f x).length
@@ -108,7 +108,8 @@ module _ (o : Parts) (fits : IsInRange o) (f : Setting) (homes : HasHomes o f) (
   runs-ldb to n s shaped within has at =
       let h = home_of f x in
       let b = h.block + n / words_a_block f in
-      let exists : b < blocks_of o h.bank = block-exists o fits f homes label h (homes.arrays x label known) n within in
+      let exists : b < blocks_of o h.bank =
+      block-exists o fits f homes label h (homes.arrays x label known turn) n within in
       let named : block_named o h.bank (register s (to + 1)) ≡ b =
       ap (λ word. block_named o h.bank word) has ∙ mod-eq_of_lt exists in
       runs-one s (Ldb h.slot h.bank (to + 1)) (read_event h.bank b (block_in s.banks h.bank b) ∷ [])
@@ -128,8 +129,8 @@ module _ (o : Parts) (fits : IsInRange o) (f : Setting) (homes : HasHomes o f) (
       let h = home_of f x in
       let b = h.block + n / words_a_block f in
       let a : ArrayAccess = record { home = h; block = b } in
-      let home = homes.arrays x label known in
-      let bound = stands.bound x label known (serves-cached home.slot few) in
+      let home = homes.arrays x label known turn in
+      let bound = stands.bound x label known turn (serves-cached home.slot few) in
       let c = bound.block in
       let branch = Br Eq (to + 2) (to + 1) (pos 2) in
       let load = Ldb h.slot h.bank (to + 1) in
@@ -144,7 +145,7 @@ module _ (o : Parts) (fits : IsInRange o) (f : Setting) (homes : HasHomes o f) (
       ⊎_elim
       (λ hit.
       let same : c ≡ b = eqb-true c b hit in
-      let current = stands.current x label c bound.words known bound.holds
+      let current = stands.current x label c bound.words known turn bound.holds
       (subst (λ m. IsBlockOf (words_a_block f) h m) (sym same) (block-of o fits f homes label h home n within)) in
       let held : slot s h.slot ≡ Bound h.bank b (block_in s.banks h.bank b) =
       bound.holds ∙ ap (λ w. Bound h.bank c w) current ∙ ap (λ m. Bound h.bank m (block_in s.banks h.bank m)) same in
@@ -244,7 +245,7 @@ module _ (o : Parts) (fits : IsInRange o) (f : Setting) (homes : HasHomes o f) (
       }))
   runs-located mode to i s shaped stands small run None is at =
       let h = home_of f x in
-      let home = homes.arrays x label known in
+      let home = homes.arrays x label known turn in
       let w = words_a_block f in
       let log = f.profile.block_log in
       let index = evaluated f.decls store i in
@@ -284,14 +285,15 @@ module _ (o : Parts) (fits : IsInRange o) (f : Setting) (homes : HasHomes o f) (
   -- the whole access
   pub runs-access : (mode : Mode) (to : ℕ) (i : Tree) (s : State) → IsShaped o s → StandsFor f s store → to + 2 < 32
       → RunsIndex mode to i s → StandsAt o s.place
-      (access_code f.profile.block_log mode (home_of f x) to (fixed_index (home_of f x) i) (expr_code f mode to i))
+      (access_by false f.profile.block_log mode (home_of f x) to (fixed_index (home_of f x) i) (expr_code f mode to i))
       → RunsThrough o s
-      (access_code f.profile.block_log mode (home_of f x) to (fixed_index (home_of f x) i) (expr_code f mode to i))
-      (seen_of_all mode s.banks s.slots (accesses f store (Element x i))) (Accesses f store (accesses f store i)
+      (access_by false f.profile.block_log mode (home_of f x) to (fixed_index (home_of f x) i) (expr_code f mode to i))
+      (seen_of_all mode s.banks s.slots (accesses f store i ++ access_of f store x (evaluated f.decls store i) ∷ []))
+      (Accesses f store (accesses f store i)
       (access_of f store x (evaluated f.decls store i)) to (word_number f store x (evaluated f.decls store i)) s)
   runs-access mode to i s shaped stands small run at =
       let h = home_of f x in
-      let home = homes.arrays x label known in
+      let home = homes.arrays x label known turn in
       let w = words_a_block f in
       let log = f.profile.block_log in
       let fixed = fixed_index h i in
@@ -331,7 +333,7 @@ module _ (o : Parts) (fits : IsInRange o) (f : Setting) (homes : HasHomes o f) (
           slots = slots;
           stands =
               stands-like f (set_slot t h.slot found) u store loads.slots loads.banks
-              (stands-loaded o f homes t shape.slot_count store finds.stands x label known a.block);
+              (stands-loaded o f homes t shape.slot_count store finds.stands x label known turn a.block);
         };
         held =
             ap (λ l. get_or l h.slot Unbound) loads.slots

@@ -1,6 +1,6 @@
 -- Alike expressions, and assignments that pair, show the same in secret code and leave the same in the slots.
-use Rattle.std.proofs.Common.{◌≡◌, ℕ, ◌≤◌, Bool, true, false, ◌&&◌, List, [], ◌∷◌, ◌++◌, Option, None, refl, sym, ap, ◌∙◌, arith}
-use Rattle.std.specs.Prelude.{if◌then◌else◌}
+use Rattle.std.proofs.Common.{◌≡◌, ℕ, ◌≤◌, Bool, true, false, ◌&&◌, ℤ, List, [], ◌∷◌, ◌++◌, Option, Some, None, refl, sym, ap, ◌∙◌, arith}
+use Rattle.std.specs.Prelude.{if◌then◌else◌, is_some}
 use Rattle.std.proofs.lemmas.Bool.{le-ltb, ne_eqb}
 use Rattle.gr_word.specs.declared.operations.Op.{Op}
 use Rattle.gr_word.specs.declared.operations.Op.TheVariants.{Add, Sub, Mul, Div, Rem, Remu, And, Or, Xor, Shl, Shr}
@@ -15,11 +15,12 @@ use Rattle.src_tree.specs.Trees.{Tree, Statement}
 use Rattle.src_tree.specs.Typing.{UsedAs, TypedTree, TypedStatement}
 use Rattle.trace_patterns.specs.Events.{Oram}
 use Rattle.stretches.specs.Shows.{Show, Gap, Seen, pattern_of}
-use Rattle.trace_patterns.specs.SymStates.{OramSlot}
+use Rattle.trace_patterns.specs.SymStates.{SymSlot, OramSlot}
 use Rattle.block_cache_gen.specs.Homes.{Home, Setting, home_of, HasHomes}
-use Rattle.block_cache_gen.specs.Codes.{is_cached, is_power, literal, fixed_index}
-use Rattle.block_cache_gen.specs.PatternsOf.{operation_gap, word_gap, reducing, block_tree, found_shows, plain_loaded, encrypted_loaded, block_loaded, load_shows, store_shows, Loads, then_loads, one_load, index_loads, element_slot, access_shows, access_loads, tree_of_expr, shows_of_expr, slots_of_expr, shows_of_set, slots_of_set, pattern_of_expr, pattern_of_set}
-use Rattle.block_cache_gen.specs.Alike.{is_product, InOneBank, Alike, Numbers, Scalars, Oblivious, Same, Operations, Pair, ToScalars, ToOblivious, ToSame}
+use Rattle.block_cache_gen.specs.Codes.{is_cached, is_masked, is_power, literal, fixed_index}
+use Rattle.block_cache_gen.specs.PatternsOf.{operation_gap, word_gap, reducing, block_tree, found_shows, plain_loaded, encrypted_loaded, block_loaded, load_shows, placed_shows, shows_by, loads_by, stored_by, Loads, then_loads, one_load, index_loads, element_slot, access_shows, access_loads, tree_of_expr, shows_of_expr, slots_of_expr, shows_of_set, slots_of_set, pattern_of_expr, pattern_of_set}
+use Rattle.block_cache_gen.specs.Alike.{is_product, InOneBank, AreReducedAlike, Residents, ToResidents, Alike, Numbers, Scalars, Oblivious, Same, Operations, Pair, ToScalars, ToOblivious, ToSame}
+use Rattle.bank_alloc.proofs.Apart.{scalar_bank-lt}
 use Rattle.block_cache_gen.proofs.HomeFacts.{serves-oblivious}
 
 -- operations that are both products, or neither, take the same cycles
@@ -72,7 +73,7 @@ module _ (f : Setting) (h : Home) (oblivious : 2 ≤ h.bank) where
   oblivious-slot i index = oblivious-loaded (block_tree f h (fixed_index h i) index)
 
   oblivious-shows : (i : Tree) (index : Option Value) (shows : List Show)
-      → access_shows f h (fixed_index h i) index shows ≡ oblivious_shows h.bank shows
+      → shows_by false f h (fixed_index h i) index shows ≡ oblivious_shows h.bank shows
   oblivious-shows i index shows =
       let op = oblivious-reducing in
       let fixed = oblivious-fixed i in
@@ -84,47 +85,136 @@ module _ (f : Setting) (h : Home) (oblivious : 2 ≤ h.bank) where
       ++ Seen (Oram h.bank) ∷ []
 
   oblivious-loads : (i : Tree) (index : Option Value) (loads : Loads)
-      → access_loads f h (fixed_index h i) index loads ≡ then_loads loads (one_load h.slot (OramSlot h.bank))
+      → loads_by false f h (fixed_index h i) index loads ≡ then_loads loads (one_load h.slot (OramSlot h.bank))
   oblivious-loads i index loads =
       let fixed = oblivious-fixed i in
       let slot = oblivious-slot i index in
       λ j. then_loads (index_loads (fixed j) loads) (one_load h.slot (slot j))
 
+-- only numbers are alike to a number
+alike-literal : (f : Setting) (i j : Tree) → Alike f i j → is_some (literal i) ≡ is_some (literal j)
+alike-literal f i j (Numbers y z) = refl
+alike-literal f i j (Scalars x y) = refl
+alike-literal f i j (Oblivious x y k l one alike) = refl
+alike-literal f i j (Residents x y k l one alike) = refl
+alike-literal f i j (Same x k cached) = refl
+alike-literal f i j (Operations op oq a b c d kind left right) = refl
+
+alike-fixed : (f : Setting) (h g : Home) (i j : Tree) → is_cached h ≡ is_cached g → Alike f i j
+    → is_some (fixed_index h i) ≡ is_some (fixed_index g j)
+alike-fixed f h g i j low alike =
+    by (is_cached h) ∙ ap (λ (b : Bool). is_some (if b then literal j else None)) low
+  where
+    by : (b : Bool) → is_some (if b then literal i else None) ≡ is_some (if b then literal j else None)
+    by true = alike-literal f i j alike
+    by false = refl
+
+-- the places of words of two resident arrays are found alike
+placed-alike : (f : Setting) (h g : Home) (one other : Option ℤ) (shows more : List Show) → is_masked h ≡ is_masked g
+    → is_some one ≡ is_some other → shows ≡ more → placed_shows f h one shows ≡ placed_shows f g other more
+placed-alike f h g (Some y) (Some z) shows more masked fixed same = refl
+placed-alike f h g None None shows more masked fixed same =
+    λ k. same k
+    ++ (Gap 1 ∷ operation_gap f (if masked k then And else Remu) ∷ Gap 1 ∷ operation_gap f Add ∷ [])
+placed-alike f h g (Some y) None shows more masked fixed same = absurd (let e : true ≡ false = fixed in cc)
+placed-alike f h g None (Some z) shows more masked fixed same = absurd (let e : false ≡ true = fixed in cc)
+
+loads-alike : (one other : Option ℤ) (loads more : Loads) → is_some one ≡ is_some other → loads ≡ more
+    → index_loads one loads ≡ index_loads other more
+loads-alike (Some y) (Some z) loads more fixed same = refl
+loads-alike None None loads more fixed same = same
+loads-alike (Some y) None loads more fixed same = absurd (let e : true ≡ false = fixed in cc)
+loads-alike None (Some z) loads more fixed same = absurd (let e : false ≡ true = fixed in cc)
+
 module _ (o : Parts) (f : Setting) (homes : HasHomes o f) where
+  -- an array of an oblivious bank isn't resident
+  oblivious-turn : (x : List ℕ) → UsedAs (context_of f.decls) x Array → 2 ≤ (home_of f x).bank
+      → (home_of f x).resident ≡ false
+  oblivious-turn x used oblivious = by (home_of f x).resident refl
+    where
+      by : (b : Bool) → (home_of f x).resident ≡ b → b ≡ false
+      by true is =
+          let home = homes.residents x used.0 Array used.1 is in
+          let low = scalar_bank-lt used.0 in
+          absurd (omega (arith, home.bank))
+      by false is = refl
+
   -- the accesses of two arrays of one oblivious bank
-  both-shows : (x y : List ℕ) (i j : Tree) → InOneBank f x y → shows_of_expr f i ≡ shows_of_expr f j
+  both-shows : (x y : List ℕ) (i j : Tree) → InOneBank f x y → UsedAs (context_of f.decls) x Array
+      → UsedAs (context_of f.decls) y Array → shows_of_expr f i ≡ shows_of_expr f j
       → access_shows f (home_of f x) (fixed_index (home_of f x) i) (tree_of_expr f i) (shows_of_expr f i)
       ≡ access_shows f (home_of f y) (fixed_index (home_of f y) j) (tree_of_expr f j) (shows_of_expr f j)
-  both-shows x y i j one same =
-      let other : 2 ≤ (home_of f y).bank = omega (arith, one.oblivious, one.same) in
-      oblivious-shows f (home_of f x) one.oblivious i (tree_of_expr f i) (shows_of_expr f i)
-      ∙ (λ k. oblivious_shows f (home_of f x) one.oblivious (one.same k) (same k))
-      ∙ sym (oblivious-shows f (home_of f y) other j (tree_of_expr f j) (shows_of_expr f j))
+  both-shows x y i j one left right same =
+      let g = home_of f x in
+      let h = home_of f y in
+      let other : 2 ≤ h.bank = omega (arith, one.oblivious, one.same) in
+      ap (λ (b : Bool). shows_by b f g (fixed_index g i) (tree_of_expr f i) (shows_of_expr f i))
+      (oblivious-turn x left one.oblivious)
+      ∙ oblivious-shows f g one.oblivious i (tree_of_expr f i) (shows_of_expr f i)
+      ∙ (λ k. oblivious_shows f g one.oblivious (one.same k) (same k))
+      ∙ sym (oblivious-shows f h other j (tree_of_expr f j) (shows_of_expr f j))
+      ∙ sym (ap (λ (b : Bool). shows_by b f h (fixed_index h j) (tree_of_expr f j) (shows_of_expr f j))
+      (oblivious-turn y right other))
 
   both-loads : (x y : List ℕ) (i j : Tree) → InOneBank f x y → UsedAs (context_of f.decls) x Array
       → UsedAs (context_of f.decls) y Array → slots_of_expr f i ≡ slots_of_expr f j
       → access_loads f (home_of f x) (fixed_index (home_of f x) i) (tree_of_expr f i) (slots_of_expr f i)
       ≡ access_loads f (home_of f y) (fixed_index (home_of f y) j) (tree_of_expr f j) (slots_of_expr f j)
   both-loads x y i j one left right same =
-      let other : 2 ≤ (home_of f y).bank = omega (arith, one.oblivious, one.same) in
-      let first = serves-oblivious (homes.arrays x left.0 left.1).slot
-      one.oblivious in
-      let second = serves-oblivious (homes.arrays y right.0 right.1).slot other in
+      let g = home_of f x in
+      let h = home_of f y in
+      let other : 2 ≤ h.bank = omega (arith, one.oblivious, one.same) in
+      let turn = oblivious-turn x left one.oblivious in
+      let turn' = oblivious-turn y right other in
+      let first = serves-oblivious (homes.arrays x left.0 left.1 turn).slot one.oblivious in
+      let second = serves-oblivious (homes.arrays y right.0 right.1 turn').slot other in
       let slot = first ∙ sym second in
-      oblivious-loads f (home_of f x) one.oblivious i (tree_of_expr f i) (slots_of_expr f i)
+      ap (λ (b : Bool). loads_by b f g (fixed_index g i) (tree_of_expr f i) (slots_of_expr f i)) turn
+      ∙ oblivious-loads f g one.oblivious i (tree_of_expr f i) (slots_of_expr f i)
       ∙ (λ k. then_loads (same k) (one_load (slot k) (OramSlot (one.same k))))
-      ∙ sym (oblivious-loads f (home_of f y) other j (tree_of_expr f j) (slots_of_expr f j))
+      ∙ sym (oblivious-loads f h other j (tree_of_expr f j) (slots_of_expr f j))
+      ∙ sym (ap (λ (b : Bool). loads_by b f h (fixed_index h j) (tree_of_expr f j) (slots_of_expr f j)) turn')
+
+  -- those of two resident arrays
+  resident-shows : (x y : List ℕ) (i j : Tree) → AreReducedAlike f x y → Alike f i j
+      → shows_of_expr f i ≡ shows_of_expr f j
+      → access_shows f (home_of f x) (fixed_index (home_of f x) i) (tree_of_expr f i) (shows_of_expr f i)
+      ≡ access_shows f (home_of f y) (fixed_index (home_of f y) j) (tree_of_expr f j) (shows_of_expr f j)
+  resident-shows x y i j one alike same =
+      let g = home_of f x in
+      let h = home_of f y in
+      ap (λ (b : Bool). shows_by b f g (fixed_index g i) (tree_of_expr f i) (shows_of_expr f i)) one.first
+      ∙ placed-alike f g h (fixed_index g i) (fixed_index h j) (shows_of_expr f i) (shows_of_expr f j) one.masked
+      (alike-fixed f g h i j one.low alike) same
+      ∙ sym (ap (λ (b : Bool). shows_by b f h (fixed_index h j) (tree_of_expr f j) (shows_of_expr f j)) one.second)
+
+  resident-loads : (x y : List ℕ) (i j : Tree) → AreReducedAlike f x y → Alike f i j
+      → slots_of_expr f i ≡ slots_of_expr f j
+      → access_loads f (home_of f x) (fixed_index (home_of f x) i) (tree_of_expr f i) (slots_of_expr f i)
+      ≡ access_loads f (home_of f y) (fixed_index (home_of f y) j) (tree_of_expr f j) (slots_of_expr f j)
+  resident-loads x y i j one alike same =
+      let g = home_of f x in
+      let h = home_of f y in
+      ap (λ (b : Bool). loads_by b f g (fixed_index g i) (tree_of_expr f i) (slots_of_expr f i)) one.first
+      ∙ loads-alike (fixed_index g i) (fixed_index h j) (slots_of_expr f i) (slots_of_expr f j)
+      (alike-fixed f g h i j one.low alike) same
+      ∙ sym (ap (λ (b : Bool). loads_by b f h (fixed_index h j) (tree_of_expr f j) (slots_of_expr f j)) one.second)
 
   -- alike expressions
-  pub alike-shows : (a b : Tree) → Alike f a b → shows_of_expr f a ≡ shows_of_expr f b
-  alike-shows a b (Numbers y z) = refl
-  alike-shows a b (Scalars x y) = refl
-  alike-shows a b (Oblivious x y i j one alike) =
-      ap (λ (shows : List Show). shows ++ word_gap f ∷ []) (both-shows x y i j one (alike-shows i j alike))
-  alike-shows a b (Same x i cached) = refl
-  alike-shows a b (Operations op oq l r m s kind left right) =
-      let first = alike-shows l m left in
-      let second = alike-shows r s right in
+  pub alike-shows : (a b : Tree) → Alike f a b → TypedTree (context_of f.decls) a → TypedTree (context_of f.decls) b
+      → shows_of_expr f a ≡ shows_of_expr f b
+  alike-shows a b (Numbers y z) left right = refl
+  alike-shows a b (Scalars x y) left right = refl
+  alike-shows a b (Oblivious x y i j one alike) left right =
+      ap (λ (shows : List Show). shows ++ word_gap f ∷ [])
+      (both-shows x y i j one left.0 right.0 (alike-shows i j alike left.1.0 right.1.0))
+  alike-shows a b (Residents x y i j one alike) left right =
+      ap (λ (shows : List Show). shows ++ word_gap f ∷ [])
+      (resident-shows x y i j one alike (alike-shows i j alike left.1.0 right.1.0))
+  alike-shows a b (Same x i cached) left right = refl
+  alike-shows a b (Operations op oq l r m s kind one two) left right =
+      let first = alike-shows l m one left.0 right.0 in
+      let second = alike-shows r s two left.1 right.1 in
       let gap = alike-cost f op oq kind in
       λ k. first k ++ (second k ++ gap k ∷ [])
 
@@ -134,34 +224,53 @@ module _ (o : Parts) (f : Setting) (homes : HasHomes o f) where
   alike-slots a b (Scalars x y) left right = refl
   alike-slots a b (Oblivious x y i j one alike) left right =
       both-loads x y i j one left.0 right.0 (alike-slots i j alike left.1.0 right.1.0)
+  alike-slots a b (Residents x y i j one alike) left right =
+      resident-loads x y i j one alike (alike-slots i j alike left.1.0 right.1.0)
   alike-slots a b (Same x i cached) left right = refl
   alike-slots a b (Operations op oq l r m s kind one two) left right =
       let first = alike-slots l m one left.0 right.0 in
       let second = alike-slots r s two left.1 right.1 in
       λ k. then_loads (first k) (second k)
 
-  pub alike-patterns : (a b : Tree) → Alike f a b → pattern_of_expr f a ≡ pattern_of_expr f b
-  alike-patterns a b alike = ap pattern_of (alike-shows a b alike)
+  pub alike-patterns : (a b : Tree) → Alike f a b → TypedTree (context_of f.decls) a
+      → TypedTree (context_of f.decls) b → pattern_of_expr f a ≡ pattern_of_expr f b
+  alike-patterns a b alike left right = ap pattern_of (alike-shows a b alike left right)
 
   -- assignments that pair
-  pub pair-shows : (s t : Statement) → Pair f s t → shows_of_set f s ≡ shows_of_set f t
-  pair-shows s t (ToScalars x y e g alike) =
-      ap (λ (shows : List Show). shows ++ (Gap 1 ∷ word_gap f ∷ word_gap f ∷ [])) (alike-shows e g alike)
-  pair-shows s t (ToOblivious x y i j e g one index value) =
-      let first = alike-shows e g value in
-      let second = both-shows x y i j one (alike-shows i j index) in
+  pub pair-shows : (s t : Statement) → Pair f s t → TypedStatement (context_of f.decls) Secret s
+      → TypedStatement (context_of f.decls) Secret t → shows_of_set f s ≡ shows_of_set f t
+  pair-shows s t (ToScalars x y e g alike) left right =
+      ap (λ (shows : List Show). shows ++ (Gap 1 ∷ word_gap f ∷ word_gap f ∷ []))
+      (alike-shows e g alike left.1.0 right.1.0)
+  pair-shows s t (ToResidents x y i j e g one index value) left right =
+      let first = alike-shows e g value left.1.0 right.1.0 in
+      let second = resident-shows x y i j one index (alike-shows i j index left.0.1.0 right.0.1.0) in
+      let none : (h : Home) (bound : SymSlot) → h.resident ≡ true → stored_by h.resident bound ≡ [] =
+      λ h bound is. ap (λ (b : Bool). stored_by b bound) is in
+      let last = none (home_of f x) (element_slot f (home_of f x) (fixed_index (home_of f x) i) (tree_of_expr f i))
+      one.first
+      ∙ sym (none (home_of f y) (element_slot f (home_of f y) (fixed_index (home_of f y) j) (tree_of_expr f j))
+      one.second) in
+      λ k. first k ++ (second k ++ (word_gap f ∷ word_gap f ∷ last k))
+  pair-shows s t (ToOblivious x y i j e g one index value) left right =
+      let first = alike-shows e g value left.1.0 right.1.0 in
+      let second = both-shows x y i j one left.0.0 right.0.0 (alike-shows i j index left.0.1.0 right.0.1.0) in
+      let turn = oblivious-turn x left.0.0 one.oblivious in
+      let turn' = oblivious-turn y right.0.0 (omega (arith, one.oblivious, one.same)) in
+      let flag = turn ∙ sym turn' in
       let other : 2 ≤ (home_of f y).bank = omega (arith, one.oblivious, one.same) in
       let slot = oblivious-slot f (home_of f x) one.oblivious i (tree_of_expr f i) ∙ ap OramSlot one.same
       ∙ sym (oblivious-slot f (home_of f y) other j (tree_of_expr f j)) in
-      λ k. first k ++ (second k ++ (word_gap f ∷ word_gap f ∷ store_shows (slot k)))
-  pair-shows s t (ToSame x i e g encrypted value) =
+      λ k. first k ++ (second k ++ (word_gap f ∷ word_gap f ∷ stored_by (flag k) (slot k)))
+  pair-shows s t (ToSame x i e g encrypted value) left right =
       ap (λ (shows : List Show).
       shows
       ++ (access_shows f (home_of f x) (fixed_index (home_of f x) i) (tree_of_expr f i) (shows_of_expr f i)
       ++ (word_gap f
       ∷ word_gap f
-      ∷ store_shows (element_slot f (home_of f x) (fixed_index (home_of f x) i) (tree_of_expr f i)))))
-      (alike-shows e g value)
+      ∷ stored_by (home_of f x).resident
+      (element_slot f (home_of f x) (fixed_index (home_of f x) i) (tree_of_expr f i)))))
+      (alike-shows e g value left.1.0 right.1.0)
 
   -- two statements that pair leave the slots alike
   pub pair-slots : (s t : Statement) → Pair f s t → TypedStatement (context_of f.decls) Secret s
@@ -171,11 +280,16 @@ module _ (o : Parts) (f : Setting) (homes : HasHomes o f) where
       let first = alike-slots e g value left.1.0 right.1.0 in
       let second = both-loads x y i j one left.0.0 right.0.0 (alike-slots i j index left.0.1.0 right.0.1.0) in
       λ k. then_loads (first k) (second k)
+  pair-slots s t (ToResidents x y i j e g one index value) left right =
+      let first = alike-slots e g value left.1.0 right.1.0 in
+      let second = resident-loads x y i j one index (alike-slots i j index left.0.1.0 right.0.1.0) in
+      λ k. then_loads (first k) (second k)
   pair-slots s t (ToSame x i e g encrypted value) left right =
       ap (λ (loads : Loads).
       then_loads loads
       (access_loads f (home_of f x) (fixed_index (home_of f x) i) (tree_of_expr f i) (slots_of_expr f i)))
       (alike-slots e g value left.1.0 right.1.0)
 
-  pub pair-patterns : (s t : Statement) → Pair f s t → pattern_of_set f s ≡ pattern_of_set f t
-  pair-patterns s t pairs = ap pattern_of (pair-shows s t pairs)
+  pub pair-patterns : (s t : Statement) → Pair f s t → TypedStatement (context_of f.decls) Secret s
+      → TypedStatement (context_of f.decls) Secret t → pattern_of_set f s ≡ pattern_of_set f t
+  pair-patterns s t pairs left right = ap pattern_of (pair-shows s t pairs left right)

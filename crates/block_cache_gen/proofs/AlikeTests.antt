@@ -9,7 +9,8 @@ use Rattle.symbolic_values.specs.Sameness.{same_op}
 use Rattle.symbolic_values.proofs.TreeEquality.{same_op-true, same_op-own}
 use Rattle.src_tree.specs.Trees.{Tree, Number, Variable, Element, Operation, Statement, SetVariable, SetElement, Block, Nothing, Then}
 use Rattle.block_cache_gen.specs.Homes.{Setting, home_of}
-use Rattle.block_cache_gen.specs.Alike.{is_product, InOneBank, Alike, Numbers, Scalars, Oblivious, Same, Operations, Pair, ToScalars, ToOblivious, ToSame, StartsPaired, NonePaired, OnePaired, IsPairCount, is_same, in_one_bank, both_products, is_alike, is_pair, pair_count}
+use Rattle.block_cache_gen.specs.Codes.{is_cached, is_masked}
+use Rattle.block_cache_gen.specs.Alike.{is_product, InOneBank, AreReducedAlike, Residents, ToResidents, same_flag, reduced_alike, Alike, Numbers, Scalars, Oblivious, Same, Operations, Pair, ToScalars, ToOblivious, ToSame, StartsPaired, NonePaired, OnePaired, IsPairCount, is_same, in_one_bank, both_products, is_alike, is_pair, pair_count}
 
 -- expressions as they stand
 same-true : (a b : Tree) → is_same a b ≡ true → a ≡ b
@@ -64,6 +65,29 @@ module _ (f : Setting) where
       and_from (nat_le 2 (home_of f x).bank) ((home_of f x).bank == (home_of f y).bank)
       (le-leb 2 (home_of f x).bank one.oblivious) (eq-eqb (home_of f x).bank (home_of f y).bank one.same)
 
+  reduced-true : (x y : List ℕ) → reduced_alike f x y ≡ true → AreReducedAlike f x y
+  reduced-true x y e =
+      let low = same_flag (is_cached (home_of f x)) (is_cached (home_of f y)) in
+      let masked = same_flag (is_masked (home_of f x)) (is_masked (home_of f y)) in
+      let one = and_parts (home_of f x).resident ((home_of f y).resident && (low && masked)) e in
+      let two = and_parts (home_of f y).resident (low && masked) one.1 in
+      let both = and_parts low masked two.1 in
+      record {
+        first = one.0;
+        second = two.0;
+        low = kinds-true (is_cached (home_of f x)) (is_cached (home_of f y)) both.0;
+        masked = kinds-true (is_masked (home_of f x)) (is_masked (home_of f y)) both.1;
+      }
+
+  reduced-own : (x y : List ℕ) → AreReducedAlike f x y → reduced_alike f x y ≡ true
+  reduced-own x y one =
+      let low = same_flag (is_cached (home_of f x)) (is_cached (home_of f y)) in
+      let masked = same_flag (is_masked (home_of f x)) (is_masked (home_of f y)) in
+      and_from (home_of f x).resident ((home_of f y).resident && (low && masked)) one.first
+      (and_from (home_of f y).resident (low && masked) one.second
+      (and_from low masked (kinds-own (is_cached (home_of f x)) (is_cached (home_of f y)) one.low)
+      (kinds-own (is_masked (home_of f x)) (is_masked (home_of f y)) one.masked)))
+
   -- one array and one index
   record OneElement (x y : List ℕ) (i j : Tree) : Type 0 where
     array : x ≡ y
@@ -82,19 +106,22 @@ module _ (f : Setting) where
   alike-true (Number y) (Number z) e = Numbers y z
   alike-true (Variable x) (Variable y) e = Scalars x y
   alike-true (Element x i) (Element y j) e =
-      let held = or_cases (in_one_bank f x y && is_alike f i j)
+      let held = or_cases ((in_one_bank f x y || reduced_alike f x y) && is_alike f i j)
       (nat_lt (home_of f x).bank 2 && (bytes_eq x y && is_same i j)) e in
       by (alike-true i j) held
     where
       by : (is_alike f i j ≡ true → Alike f i j)
-          → ((in_one_bank f x y && is_alike f i j) ≡ true)
+          → (((in_one_bank f x y || reduced_alike f x y) && is_alike f i j) ≡ true)
           ⊎ ((nat_lt (home_of f x).bank 2 && (bytes_eq x y && is_same i j)) ≡ true)
           → Alike f (Element x i) (Element y j)
       by rest held =
           ⊎_elim
-          (λ (one : (in_one_bank f x y && is_alike f i j) ≡ true).
-          let parts = and_parts (in_one_bank f x y) (is_alike f i j) one in
-          Oblivious x y i j (bank-true x y parts.0) (rest parts.1))
+          (λ (one : ((in_one_bank f x y || reduced_alike f x y) && is_alike f i j) ≡ true).
+          let parts = and_parts (in_one_bank f x y || reduced_alike f x y) (is_alike f i j) one in
+          ⊎_elim
+          (λ (bank : in_one_bank f x y ≡ true). Oblivious x y i j (bank-true x y bank) (rest parts.1))
+          (λ (both : reduced_alike f x y ≡ true). Residents x y i j (reduced-true x y both) (rest parts.1))
+          (or_cases (in_one_bank f x y) (reduced_alike f x y) parts.0))
           (λ (same : (nat_lt (home_of f x).bank 2 && (bytes_eq x y && is_same i j)) ≡ true).
           let parts = and_parts (nat_lt (home_of f x).bank 2) (bytes_eq x y && is_same i j) same in
           let element = element-true x y i j parts.1 in
@@ -113,10 +140,18 @@ module _ (f : Setting) where
   alike-own a b (Numbers y z) = refl
   alike-own a b (Scalars x y) = refl
   alike-own a b (Oblivious x y i j one alike) =
-      or_left (in_one_bank f x y && is_alike f i j) (nat_lt (home_of f x).bank 2 && (bytes_eq x y && is_same i j))
-      (and_from (in_one_bank f x y) (is_alike f i j) (bank-own x y one) (alike-own i j alike))
+      or_left ((in_one_bank f x y || reduced_alike f x y) && is_alike f i j)
+      (nat_lt (home_of f x).bank 2 && (bytes_eq x y && is_same i j))
+      (and_from (in_one_bank f x y || reduced_alike f x y) (is_alike f i j)
+      (or_left (in_one_bank f x y) (reduced_alike f x y) (bank-own x y one)) (alike-own i j alike))
+  alike-own a b (Residents x y i j one alike) =
+      or_left ((in_one_bank f x y || reduced_alike f x y) && is_alike f i j)
+      (nat_lt (home_of f x).bank 2 && (bytes_eq x y && is_same i j))
+      (and_from (in_one_bank f x y || reduced_alike f x y) (is_alike f i j)
+      (or_right (in_one_bank f x y) (reduced_alike f x y) (reduced-own x y one)) (alike-own i j alike))
   alike-own a b (Same x i cached) =
-      or_right (in_one_bank f x x && is_alike f i i) (nat_lt (home_of f x).bank 2 && (bytes_eq x x && is_same i i))
+      or_right ((in_one_bank f x x || reduced_alike f x x) && is_alike f i i)
+      (nat_lt (home_of f x).bank 2 && (bytes_eq x x && is_same i i))
       (and_from (nat_lt (home_of f x).bank 2) (bytes_eq x x && is_same i i) (lt-ltb (home_of f x).bank 2 cached)
       (element-own x i))
   alike-own a b (Operations op oq l r m s kind left right) =
@@ -132,20 +167,25 @@ module _ (f : Setting) where
   pair-true (SetVariable x e) (SetVariable y g) held = ToScalars x y e g (alike-true e g held)
   pair-true (SetElement x i e) (SetElement y j g) held =
       let parts = and_parts (is_alike f e g)
-      ((in_one_bank f x y && is_alike f i j)
+      (((in_one_bank f x y || reduced_alike f x y) && is_alike f i j)
       || (((home_of f x).bank == 1) && (bytes_eq x y && is_same i j))) held in
       let value = alike-true e g parts.0 in
       ⊎_elim
-      (λ (one : (in_one_bank f x y && is_alike f i j) ≡ true).
-      let both = and_parts (in_one_bank f x y) (is_alike f i j) one in
-      ToOblivious x y i j e g (bank-true x y both.0) (alike-true i j both.1) value)
+      (λ (one : ((in_one_bank f x y || reduced_alike f x y) && is_alike f i j) ≡ true).
+      let both = and_parts (in_one_bank f x y || reduced_alike f x y) (is_alike f i j) one in
+      ⊎_elim
+      (λ (bank : in_one_bank f x y ≡ true).
+      ToOblivious x y i j e g (bank-true x y bank) (alike-true i j both.1) value)
+      (λ (reduced : reduced_alike f x y ≡ true).
+      ToResidents x y i j e g (reduced-true x y reduced) (alike-true i j both.1) value)
+      (or_cases (in_one_bank f x y) (reduced_alike f x y) both.0))
       (λ (same : (((home_of f x).bank == 1) && (bytes_eq x y && is_same i j)) ≡ true).
       let both = and_parts ((home_of f x).bank == 1) (bytes_eq x y && is_same i j) same in
       let element = element-true x y i j both.1 in
       let own = ToSame x i e g (eqb-true (home_of f x).bank 1 both.0) value in
       subst (λ (z : List ℕ). Pair f (SetElement x i e) (SetElement z j g)) element.array
       (subst (λ (k : Tree). Pair f (SetElement x i e) (SetElement x k g)) element.index own))
-      (or_cases (in_one_bank f x y && is_alike f i j)
+      (or_cases ((in_one_bank f x y || reduced_alike f x y) && is_alike f i j)
       (((home_of f x).bank == 1) && (bytes_eq x y && is_same i j)) parts.1)
   pair-true _ _ held = absurd (let f : false ≡ true = held in cc)
 
@@ -153,15 +193,29 @@ module _ (f : Setting) where
   pair-own s t (ToScalars x y e g alike) = alike-own e g alike
   pair-own s t (ToOblivious x y i j e g one index value) =
       and_from (is_alike f e g)
-      ((in_one_bank f x y && is_alike f i j) || (((home_of f x).bank == 1) && (bytes_eq x y && is_same i j)))
+      (((in_one_bank f x y || reduced_alike f x y) && is_alike f i j)
+      || (((home_of f x).bank == 1) && (bytes_eq x y && is_same i j)))
       (alike-own e g value)
-      (or_left (in_one_bank f x y && is_alike f i j) (((home_of f x).bank == 1) && (bytes_eq x y && is_same i j))
-      (and_from (in_one_bank f x y) (is_alike f i j) (bank-own x y one) (alike-own i j index)))
+      (or_left ((in_one_bank f x y || reduced_alike f x y) && is_alike f i j)
+      (((home_of f x).bank == 1) && (bytes_eq x y && is_same i j))
+      (and_from (in_one_bank f x y || reduced_alike f x y) (is_alike f i j)
+      (or_left (in_one_bank f x y) (reduced_alike f x y) (bank-own x y one)) (alike-own i j index)))
+  pair-own s t (ToResidents x y i j e g one index value) =
+      and_from (is_alike f e g)
+      (((in_one_bank f x y || reduced_alike f x y) && is_alike f i j)
+      || (((home_of f x).bank == 1) && (bytes_eq x y && is_same i j)))
+      (alike-own e g value)
+      (or_left ((in_one_bank f x y || reduced_alike f x y) && is_alike f i j)
+      (((home_of f x).bank == 1) && (bytes_eq x y && is_same i j))
+      (and_from (in_one_bank f x y || reduced_alike f x y) (is_alike f i j)
+      (or_right (in_one_bank f x y) (reduced_alike f x y) (reduced-own x y one)) (alike-own i j index)))
   pair-own s t (ToSame x i e g encrypted value) =
       and_from (is_alike f e g)
-      ((in_one_bank f x x && is_alike f i i) || (((home_of f x).bank == 1) && (bytes_eq x x && is_same i i)))
+      (((in_one_bank f x x || reduced_alike f x x) && is_alike f i i)
+      || (((home_of f x).bank == 1) && (bytes_eq x x && is_same i i)))
       (alike-own e g value)
-      (or_right (in_one_bank f x x && is_alike f i i) (((home_of f x).bank == 1) && (bytes_eq x x && is_same i i))
+      (or_right ((in_one_bank f x x || reduced_alike f x x) && is_alike f i i)
+      (((home_of f x).bank == 1) && (bytes_eq x x && is_same i i))
       (and_from ((home_of f x).bank == 1) (bytes_eq x x && is_same i i) (eq-eqb (home_of f x).bank 1 encrypted)
       (element-own x i)))
 

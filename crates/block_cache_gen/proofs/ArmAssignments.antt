@@ -1,9 +1,10 @@
 -- The code of assignments in secret code: walked in an arm, it shows what the assignment alone tells, whether it has
 -- its effect or only looks as if it had.
-use Rattle.std.proofs.Common.{◌≡◌, ℕ, pos, true, false, List, [], ◌∷◌, ◌++◌, get_or, Option, Some, None, refl, sym, ap, ◌∙◌, subst, arith}
+use Rattle.std.proofs.Common.{◌≡◌, ℕ, pos, Bool, true, false, List, [], ◌∷◌, ◌++◌, get_or, Option, Some, None, refl, sym, ap, ◌∙◌, subst, arith, append-nil}
 use Rattle.std.specs.Option.{unwrap_or}
 use Rattle.gr_word.specs.declared.variables.Label.{Label}
 use Rattle.gr_word.specs.declared.variables.Label.TheVariants.{Public, Secret}
+use Rattle.gr_word.specs.declared.variables.Shape.{Shape}
 use Rattle.gr_word.specs.declared.variables.Shape.TheVariants.{Scalar, Array}
 use Rattle.lt_isa.specs.declared.instructions.Instr.{Instr}
 use Rattle.lt_isa.specs.declared.instructions.Instr.TheVariants.{Li, Ldw, Stw, Stb}
@@ -19,16 +20,17 @@ use Rattle.trace_patterns.specs.SymStates.{SymSlot, AnySlot, RamSlot, EramSlot, 
 use Rattle.stretches.proofs.ArmCode.{Walked, walked-none, walked-then}
 use Rattle.block_cache_gen.specs.declared.frames.Mode.{Mode}
 use Rattle.block_cache_gen.specs.declared.frames.Mode.TheVariants as modes
-use Rattle.block_cache_gen.specs.Homes.{Setting, home_of, HasHomes}
-use Rattle.block_cache_gen.specs.Codes.{may_skip_loads, fixed_index, expr_code, access_code, store_code, set_code}
+use Rattle.block_cache_gen.specs.Homes.{Setting, home_of, pin_of, HasHomes}
+use Rattle.block_cache_gen.specs.Codes.{may_skip_loads, fixed_index, expr_code, access_by, placed_code, store_code, stored_code, set_code}
 use Rattle.block_cache_gen.specs.Carries.{CarriesInArm}
 use Rattle.block_cache_gen.specs.PublicIndexes.{SetHasPublicIndexes}
-use Rattle.block_cache_gen.specs.PatternsOf.{word_gap, block_tree, number_tree, store_shows, Loads, no_loads, then_loads, element_slot, access_shows, access_loads, tree_of_expr, shows_of_expr, slots_of_expr, shows_of_set, slots_of_set}
+use Rattle.block_cache_gen.specs.PatternsOf.{word_gap, block_tree, number_tree, store_shows, Loads, no_loads, then_loads, element_slot, placed_shows, placed_tree, index_loads, shows_by, loads_by, stored_by, tree_of_expr, shows_of_expr, slots_of_expr, shows_of_set, slots_of_set}
 use Rattle.lt_checker.proofs.Singles.{IsKnown, IsHidden}
 use Rattle.block_cache_gen.proofs.ArmInstructions.{loaded-bank, sets-ldw, walked-stw, walked-stb}
 use Rattle.block_cache_gen.proofs.ArmStates.{LeavesTree, then_loads-held, carries-same}
+use Rattle.block_cache_gen.proofs.HomeFacts.{shows-cached}
 use Rattle.block_cache_gen.proofs.PublicTrees.{block-seen, public-tree}
-use Rattle.block_cache_gen.proofs.ArmExpressions.{access-leaves, number-leaves, expr-leaves}
+use Rattle.block_cache_gen.proofs.ArmExpressions.{access-leaves, placed-leaves, number-leaves, expr-leaves}
 
 -- A stretch of secret code is walked from s: it shows this, keeps what the setting relies on, and leaves this in the
 -- slots.
@@ -52,6 +54,17 @@ bound-of_stored AnySlot h = h
 bound-of_stored (RamSlot block origin) h = tt
 bound-of_stored (EramSlot block) h = tt
 bound-of_stored (OramSlot bank) h = tt
+
+-- so is the slot of a resident secret variable
+resident-hidden : (o : Parts) (f : Setting) → HasHomes o f → (s : SymState) (x : List ℕ) (shape : Shape)
+    → CarriesInArm f s → context_of f.decls x ≡ Some (Secret, shape) → (home_of f x).resident ≡ true
+    → IsHidden (slot_held s (home_of f x).slot)
+resident-hidden o f homes s x shape carries declared is =
+    let h = home_of f x in
+    let home = homes.residents x Secret shape declared is in
+    let pin = homes.pins h.slot (pin_of h) home.pinned in
+    stored-of_bank (slot_held s h.slot) 1
+    (carries.pinned h.slot (pin_of h) home.pinned pin.few pin.apart ∙ ap Some home.bank) (λ e. omega arith)
 
 -- what a secret flows to is secret
 flows-secret : (to : Label) → Flows Secret to → to ≡ Secret
@@ -139,13 +152,11 @@ module _ (o : Parts) (f : Setting) (homes : HasHomes o f) (depth : ℕ) where
         let h = home_of f x in
         let same : label_at (context_of f.decls) x ≡ typed.0.0 = ap label_or_public typed.0.1 in
         let label = sym same ∙ flows-secret (label_at (context_of f.decls) x) typed.1.1 in
-        let home = homes.scalars x Secret
-        (subst (λ (l : Label). context_of f.decls x ≡ Some (l, Scalar)) label typed.0.1) in
+        let declared = subst (λ (l : Label). context_of f.decls x ≡ Some (l, Scalar)) label typed.0.1 in
+        let scalar = homes.scalars x Secret declared in
         let value = expr-leaves o f homes depth mode secret e s 0 typed.1.0 public (omega arith) carries in
         let place = (number-leaves o f homes depth value.state 1 (pos h.word) value.carries (omega arith)) in
-        let at : slot_bank (slot_held place.state h.slot) ≡ Some 1 =
-        ap (λ (k : ℕ). slot_bank (slot_held place.state k)) (home.slot ∙ home.bank) ∙ place.carries.encrypted_slot in
-        let stored = stored-of_bank (slot_held place.state h.slot) 1 at (λ e. omega arith) in
+        let stored = resident-hidden o f homes place.state x Scalar place.carries declared scalar.resident in
         let one = goes-leaves o f depth s (expr_code f mode 0 e) (shows_of_expr f e) 0 (tree_of_expr f e)
         (slots_of_expr f e) value in
         let two = goes-leaves o f depth value.state (Li 1 (pos h.word) ∷ []) (Gap 1 ∷ []) 1
@@ -157,12 +168,47 @@ module _ (o : Parts) (f : Setting) (homes : HasHomes o f) (depth : ℕ) where
         (word_gap f ∷ word_gap f ∷ []) no_loads three)
 
     -- an assignment to an element
-    element-goes : (s : SymState) (x : List ℕ) (i e : Tree)
+    element_by-goes : (b : Bool) (s : SymState) (x : List ℕ) (i e : Tree) → (home_of f x).resident ≡ b
         → TypedStatement (context_of f.decls) Secret (SetElement x i e) → SetHasPublicIndexes f (SetElement x i e)
         → LowStatement (SetElement x i e) → CarriesInArm f s
-        → Goes o f depth s (set_code f mode (SetElement x i e)) (shows_of_set f (SetElement x i e))
-        (slots_of_set f (SetElement x i e))
-    element-goes s x i e typed public low carries =
+        → Goes o f depth s
+        (expr_code f mode 0 e
+        ++ (access_by b f.profile.block_log mode (home_of f x) 1 (fixed_index (home_of f x) i) (expr_code f mode 1 i)
+        ++ (store_code mode (home_of f x).slot ++ stored_code b (home_of f x).slot)))
+        (shows_of_expr f e
+        ++ (shows_by b f (home_of f x) (fixed_index (home_of f x) i) (tree_of_expr f i) (shows_of_expr f i)
+        ++ (word_gap f
+        ∷ word_gap f
+        ∷ stored_by b (element_slot f (home_of f x) (fixed_index (home_of f x) i) (tree_of_expr f i)))))
+        (then_loads (slots_of_expr f e)
+        (loads_by b f (home_of f x) (fixed_index (home_of f x) i) (tree_of_expr f i) (slots_of_expr f i)))
+    element_by-goes true s x i e is typed public low carries =
+        let h = home_of f x in
+        let fixed = fixed_index h i in
+        let index = tree_of_expr f i in
+        let used = typed.0.0 in
+        let same : label_at (context_of f.decls) x ≡ used.0 = ap label_or_public used.1 in
+        let label = sym same ∙ flows-secret (label_at (context_of f.decls) x) typed.1.1 in
+        let declared = subst (λ (l : Label). context_of f.decls x ≡ Some (l, Array)) label used.1 in
+        let value = expr-leaves o f homes depth mode secret e s 0 typed.1.0 public.1 (omega arith) carries in
+        let number = expr-leaves o f homes depth mode secret i value.state 1 typed.0.1.0 public.0.1 (omega arith)
+        value.carries in
+        let place = placed-leaves o f homes depth value.state 1 h fixed index (expr_code f mode 1 i)
+        (shows_of_expr f i) (slots_of_expr f i) value.carries number (omega arith) in
+        let stored = resident-hidden o f homes place.state x Array place.carries declared is in
+        let code = placed_code h 1 fixed (expr_code f mode 1 i) in
+        let shown = placed_shows f h fixed (shows_of_expr f i) in
+        let loads = index_loads fixed (slots_of_expr f i) in
+        let one = goes-leaves o f depth s (expr_code f mode 0 e) (shows_of_expr f e) 0 (tree_of_expr f e)
+        (slots_of_expr f e) value in
+        let two = goes-leaves o f depth value.state code shown 1 (placed_tree h fixed index) loads place in
+        let three = subst (λ (c : List Instr). Goes o f depth place.state c (word_gap f ∷ word_gap f ∷ []) no_loads)
+        (sym (append-nil (store_code mode h.slot))) (store-goes place.state h.slot place.carries stored) in
+        goes-then o f depth s (expr_code f mode 0 e) (shows_of_expr f e) (slots_of_expr f e) one
+        (code ++ (store_code mode h.slot ++ [])) (shown ++ (word_gap f ∷ word_gap f ∷ [])) loads
+        (goes-then o f depth value.state code shown loads two (store_code mode h.slot ++ [])
+        (word_gap f ∷ word_gap f ∷ []) no_loads three)
+    element_by-goes false s x i e is typed public low carries =
         let h = home_of f x in
         let fixed = fixed_index h i in
         let index = tree_of_expr f i in
@@ -170,19 +216,21 @@ module _ (o : Parts) (f : Setting) (homes : HasHomes o f) (depth : ℕ) where
         let same : label_at (context_of f.decls) x ≡ used.0 = ap label_or_public used.1 in
         let label = sym same ∙ flows-secret (label_at (context_of f.decls) x) typed.1.1 in
         let home = homes.arrays x Secret
-        (subst (λ (l : Label). context_of f.decls x ≡ Some (l, Array)) label used.1) in
+        (subst (λ (l : Label). context_of f.decls x ≡ Some (l, Array)) label used.1) is in
         let value = expr-leaves o f homes depth mode secret e s 0 typed.1.0 public.1 (omega arith) carries in
         let number = expr-leaves o f homes depth mode secret i value.state 1 typed.0.1.0 public.0.1 (omega arith)
         value.carries in
-        let seen = block-seen f h fixed index (λ cached. public-tree o f homes i typed.0.1.0 (public.0.0 cached)) in
+        let seen =
+        block-seen f h fixed index
+        (λ cached. public-tree o f homes i typed.0.1.0 (public.0.0 (shows-cached h is cached))) in
         let bound = element_slot f h fixed index in
         let access = access-leaves o f homes depth mode secret value.state 1 x fixed index (expr_code f mode 1 i)
-        (shows_of_expr f i) (slots_of_expr f i) value.carries number (omega arith) used seen in
+        (shows_of_expr f i) (slots_of_expr f i) value.carries number (omega arith) used is seen in
         let stored = stored-of_bank bound h.bank (loaded-bank f h.bank (block_tree f h fixed index) seen)
         (λ e. let wrong : Secret ≡ Public = home.plain.0 e in let g : ◌≡◌ {A = Label} Secret Public = wrong in cc) in
-        let code = access_code f.profile.block_log mode h 1 fixed (expr_code f mode 1 i) in
-        let shown = access_shows f h fixed index (shows_of_expr f i) in
-        let loads = access_loads f h fixed index (slots_of_expr f i) in
+        let code = access_by false f.profile.block_log mode h 1 fixed (expr_code f mode 1 i) in
+        let shown = shows_by false f h fixed index (shows_of_expr f i) in
+        let loads = loads_by false f h fixed index (slots_of_expr f i) in
         let one = goes-leaves o f depth s (expr_code f mode 0 e) (shows_of_expr f e) 0 (tree_of_expr f e)
         (slots_of_expr f e) value in
         let two = goes-leaves o f depth value.state code shown 1 (number_tree h fixed index) loads access.leaves in
@@ -192,6 +240,14 @@ module _ (o : Parts) (f : Setting) (homes : HasHomes o f) (depth : ℕ) where
         (shown ++ (word_gap f ∷ word_gap f ∷ store_shows bound)) loads
         (goes-then o f depth value.state code shown loads two (store_code mode h.slot ++ Stb h.slot ∷ [])
         (word_gap f ∷ word_gap f ∷ store_shows bound) no_loads three)
+
+    element-goes : (s : SymState) (x : List ℕ) (i e : Tree)
+        → TypedStatement (context_of f.decls) Secret (SetElement x i e) → SetHasPublicIndexes f (SetElement x i e)
+        → LowStatement (SetElement x i e) → CarriesInArm f s
+        → Goes o f depth s (set_code f mode (SetElement x i e)) (shows_of_set f (SetElement x i e))
+        (slots_of_set f (SetElement x i e))
+    element-goes s x i e typed public low carries =
+        element_by-goes (home_of f x).resident s x i e refl typed public low carries
 
     -- the code of an assignment, and no code
     pub set-goes : (a : Statement) (s : SymState) → TypedStatement (context_of f.decls) Secret a

@@ -20,12 +20,13 @@ use Rattle.trace_patterns.specs.Single.{applied_trees}
 use Rattle.stretches.proofs.ArmCode.{Walked, walked-then}
 use Rattle.block_cache_gen.specs.declared.frames.Mode.{Mode}
 use Rattle.block_cache_gen.specs.Homes.{Home, Setting, home_of, words_a_block, blocks_set, HasHomes}
-use Rattle.block_cache_gen.specs.Codes.{may_skip_loads, is_cached, is_masked, fixed_index, fixed_word, scalar_code, reduced_code, shift_code, fixed_code, located_code, load_code, skips, access_code, expr_code, guard_code}
+use Rattle.block_cache_gen.specs.Codes.{may_skip_loads, is_cached, is_masked, fixed_index, fixed_word, scalar_code, reduced_code, shift_code, offset_code, placed_code, fixed_code, located_code, load_code, skips, access_by, expr_code, guard_code}
 use Rattle.block_cache_gen.specs.Carries.{CarriesInArm}
-use Rattle.block_cache_gen.specs.PublicIndexes.{HasPublicIndexes, TestHasPublicIndexes}
-use Rattle.block_cache_gen.specs.PatternsOf.{operation_gap, word_gap, word_read, scalar_tree, reduced_tree, number_tree, shifted_tree, block_tree, reducing, found_shows, load_shows, Loads, no_loads, then_loads, one_load, index_loads, element_slot, access_shows, access_loads, tree_of_expr, shows_of_expr, slots_of_expr, shows_of_test, slots_of_test}
+use Rattle.block_cache_gen.specs.PublicIndexes.{shows_index, HasPublicIndexes, TestHasPublicIndexes}
+use Rattle.block_cache_gen.specs.PatternsOf.{operation_gap, word_gap, word_read, scalar_tree, reduced_tree, number_tree, shifted_tree, block_tree, reducing, placed_shows, placed_tree, shows_by, loads_by, element_by, found_shows, load_shows, Loads, no_loads, then_loads, one_load, index_loads, element_slot, tree_of_expr, shows_of_expr, slots_of_expr, shows_of_test, slots_of_test}
 use Rattle.block_cache_gen.proofs.ArmInstructions.{IsSeen, Sets, loaded-bank, sets-li, sets-alu, sets-ldw, walked-ldb}
-use Rattle.block_cache_gen.proofs.ArmStates.{LeavesTree, bound-of_bank, then_loads-held, one_load-held, serves-within, carries-same, carries-load, scalar-read}
+use Rattle.block_cache_gen.proofs.ArmStates.{LeavesTree, bound-of_bank, then_loads-held, one_load-held, serves-within, carries-same, carries-load, resident-read}
+use Rattle.block_cache_gen.proofs.HomeFacts.{shows-cached}
 use Rattle.block_cache_gen.proofs.PublicTrees.{IsKnown, block-seen, public-tree}
 
 -- a load holds in its own slot
@@ -81,13 +82,14 @@ module _ (o : Parts) (f : Setting) (homes : HasHomes o f) (depth : ℕ) where
       let h = home_of f x in
       let place : Option Value = Some (Const (pos h.word)) in
       let one = number-leaves s to (pos h.word) carries inside in
-      let read = scalar-read o f homes one.state x used.0 one.carries used.1 in
+      let scalar = homes.scalars x used.0 used.1 in
+      let read = resident-read o f homes one.state x used.0 Scalar one.carries used.1 scalar.resident in
       let two = sets-ldw o depth f homes.profile one.state to h.slot to (slot_held one.state h.slot) place
       one.carries.registers inside refl read.bound one.held in
       let whole = leaves-then_sets s (Li to (pos h.word) ∷ []) (Gap 1 ∷ []) to place no_loads one
       (Ldw to h.slot to ∷ []) (word_gap f ∷ []) to (word_read f (slot_held one.state h.slot) place) (omega arith) two in
       subst (λ (v : Option Value). LeavesTree o f depth s (scalar_code h to) (Gap 1 ∷ word_gap f ∷ []) to v no_loads)
-      read.word whole
+      (read.word place) whole
 
   -- code behind other code, to a register that isn't above the first's
   abbrev pub leaves-then : (s : SymState) (code : List Instr) (shows : List Show) (from : ℕ) (old : Option Value)
@@ -228,6 +230,51 @@ module _ (o : Parts) (f : Setting) (homes : HasHomes o f) (depth : ℕ) where
   located s to h None index code shows loads carries first inside =
       index-located s to h index code shows loads first inside
 
+  -- it is reduced by a mask or by a remainder
+  reduced-leaves : (s : SymState) (to : ℕ) (h : Home) (index : Option Value) → CarriesInArm f s → to + 2 < 32
+      → tree_held s to ≡ index
+      → LeavesTree o f depth s (reduced_code h to) (Gap 1 ∷ operation_gap f (reducing h) ∷ []) to (reduced_tree h index)
+      no_loads
+  reduced-leaves s to h index carries inside held = by (is_masked h)
+    where
+      code : Bool → List Instr
+      code masked =
+          if masked then Li (to + 1) (pos (h.length - 1)) ∷ Alu And to to (to + 1) ∷ []
+          else Li (to + 1) (pos h.length) ∷ Alu Remu to to (to + 1) ∷ []
+
+      tree : Bool → Option Value
+      tree masked =
+          if masked then applied_trees And index (Some (Const (pos (h.length - 1))))
+          else applied_trees Remu index (Some (Const (pos h.length)))
+
+      by : (masked : Bool)
+          → LeavesTree o f depth s (code masked) (Gap 1 ∷ operation_gap f (if masked then And else Remu) ∷ []) to
+          (tree masked) no_loads
+      by true = number-applied s And to to (to + 1) (pos (h.length - 1)) index carries (omega arith) (omega arith)
+          (omega arith) held
+      by false = number-applied s Remu to to (to + 1) (pos h.length) index carries (omega arith) (omega arith)
+          (omega arith) held
+
+  -- the place of a resident array's word in its block
+  pub placed-leaves : (s : SymState) (to : ℕ) (h : Home) (fixed : Option ℤ) (index : Option Value) (code : List Instr)
+      (shows : List Show) (loads : Loads) → CarriesInArm f s → LeavesTree o f depth s code shows to index loads
+      → to + 2 < 32
+      → LeavesTree o f depth s (placed_code h to fixed code) (placed_shows f h fixed shows) to
+      (placed_tree h fixed index) (index_loads fixed loads)
+  placed-leaves s to h (Some z) index code shows loads carries first inside =
+      number-leaves s to (pos (h.word + fixed_word h z)) carries (omega arith)
+  placed-leaves s to h None index code shows loads carries first inside =
+      let one = reduced-leaves first.state to h index first.carries inside first.held in
+      let two = number-applied one.state Add to to (to + 1) (pos h.word) (reduced_tree h index) one.carries
+      (omega arith) (omega arith) (omega arith) one.held in
+      let tree = applied_trees Add (reduced_tree h index) (Some (Const (pos h.word))) in
+      let reduced = Gap 1 ∷ operation_gap f (reducing h) ∷ [] in
+      let added = Gap 1 ∷ operation_gap f Add ∷ [] in
+      leaves-then s code shows to index loads first (reduced_code h to ++ offset_code h to) (reduced ++ added) to tree
+      no_loads (omega arith)
+      (leaves-then first.state (reduced_code h to) reduced to (reduced_tree h index) no_loads one (offset_code h to)
+      added to tree no_loads (omega arith) two)
+
   module _ (mode : Mode) (secret : may_skip_loads mode ≡ false) where
     -- an access: its block is in the slot of its array
     pub record Accessed (s : SymState) (code : List Instr) (shows : List Show) (to : ℕ) (number : Option Value)
@@ -238,14 +285,15 @@ module _ (o : Parts) (f : Setting) (homes : HasHomes o f) (depth : ℕ) where
     -- an access leaves the number of the word, and its block in the array's slot
     pub access-leaves : (s : SymState) (to : ℕ) (x : List ℕ) (fixed : Option ℤ) (index : Option Value)
         (code : List Instr) (shows : List Show) (loads : Loads) → CarriesInArm f s
-        → LeavesTree o f depth s code shows to index loads → to + 2 < 32 → UsedAs (context_of f.decls) x Array
+        → LeavesTree o f depth s code shows to index loads → to + 2 < 32 → (used : UsedAs (context_of f.decls) x Array)
+        → (home_of f x).resident ≡ false
         → IsSeen (home_of f x).bank (block_tree f (home_of f x) fixed index)
-        → Accessed s (access_code f.profile.block_log mode (home_of f x) to fixed code)
-        (access_shows f (home_of f x) fixed index shows) to (number_tree (home_of f x) fixed index)
-        (access_loads f (home_of f x) fixed index loads) (home_of f x).slot (element_slot f (home_of f x) fixed index)
-    access-leaves s to x fixed index code shows loads carries first inside used seen =
+        → Accessed s (access_by false f.profile.block_log mode (home_of f x) to fixed code)
+        (shows_by false f (home_of f x) fixed index shows) to (number_tree (home_of f x) fixed index)
+        (loads_by false f (home_of f x) fixed index loads) (home_of f x).slot (element_slot f (home_of f x) fixed index)
+    access-leaves s to x fixed index code shows loads carries first inside used turn seen =
         let h = home_of f x in
-        let home = homes.arrays x used.0 used.1 in
+        let home = homes.arrays x used.0 used.1 turn in
         let block = block_tree f h fixed index in
         let bound = element_slot f h fixed index in
         let found = located s to h fixed index code shows loads carries first inside in
@@ -261,7 +309,7 @@ module _ (o : Parts) (f : Setting) (homes : HasHomes o f) (depth : ℕ) where
         let shown = found_shows f h fixed shows in
         let whole = walked-then o depth s before shown there.state (load_code false h to) (load_shows bound) t
         there.walked load in
-        let slots : (k : ℕ) → slot_held t k ≡ unwrap_or (access_loads f h fixed index loads k) (slot_held s k) =
+        let slots : (k : ℕ) → slot_held t k ≡ unwrap_or (loads_by false f h fixed index loads k) (slot_held s k) =
         λ k. one_load-held there.state h.slot bound k room
         ∙ ap (unwrap_or (one_load h.slot bound k)) (there.slots k)
         ∙ sym (then_loads-held (index_loads fixed loads) (one_load h.slot bound) k (slot_held s k)) in
@@ -270,7 +318,7 @@ module _ (o : Parts) (f : Setting) (homes : HasHomes o f) (depth : ℕ) where
             state = t;
             walked = subst (λ (c : List Instr). Walked o depth s (before ++ c) (shown ++ load_shows bound) t) skipped
                 whole;
-            carries = carries-load o f homes there.state x used.0 bound there.carries used.1
+            carries = carries-load o f homes there.state x used.0 bound there.carries used.1 turn
                 (loaded-bank f h.bank block seen);
             held = there.held;
             below = there.below;
@@ -281,28 +329,62 @@ module _ (o : Parts) (f : Setting) (homes : HasHomes o f) (depth : ℕ) where
         }
 
     -- the word of an element
-    element-leaves : (s : SymState) (to : ℕ) (x : List ℕ) (i : Tree) → CarriesInArm f s
+    element_by-leaves : (b : Bool) (s : SymState) (to : ℕ) (x : List ℕ) (i : Tree) → (home_of f x).resident ≡ b
+        → CarriesInArm f s
         → LeavesTree o f depth s (expr_code f mode to i) (shows_of_expr f i) to (tree_of_expr f i) (slots_of_expr f i)
         → to + 2 < 32 → UsedAs (context_of f.decls) x Array
-        → ((home_of f x).bank < 2 → IsKnown (tree_of_expr f i))
-        → LeavesTree o f depth s (expr_code f mode to (Element x i)) (shows_of_expr f (Element x i)) to
-        (tree_of_expr f (Element x i)) (slots_of_expr f (Element x i))
-    element-leaves s to x i carries first inside used known =
+        → (shows_index (home_of f x) ≡ true → IsKnown (tree_of_expr f i))
+        → LeavesTree o f depth s
+        (access_by b f.profile.block_log mode (home_of f x) to (fixed_index (home_of f x) i) (expr_code f mode to i)
+        ++ Ldw to (home_of f x).slot to ∷ [])
+        (shows_by b f (home_of f x) (fixed_index (home_of f x) i) (tree_of_expr f i) (shows_of_expr f i)
+        ++ word_gap f ∷ []) to
+        (element_by b f (home_of f x) (fixed_index (home_of f x) i) (tree_of_expr f i))
+        (loads_by b f (home_of f x) (fixed_index (home_of f x) i) (tree_of_expr f i) (slots_of_expr f i))
+    element_by-leaves true s to x i is carries first inside used known =
+        let h = home_of f x in
+        let fixed = fixed_index h i in
+        let index = tree_of_expr f i in
+        let place = placed_tree h fixed index in
+        let code = placed_code h to fixed (expr_code f mode to i) in
+        let shown = placed_shows f h fixed (shows_of_expr f i) in
+        let loads = index_loads fixed (slots_of_expr f i) in
+        let there = placed-leaves s to h fixed index (expr_code f mode to i) (shows_of_expr f i) (slots_of_expr f i)
+        carries first inside in
+        let read = resident-read o f homes there.state x used.0 Array there.carries used.1 is in
+        let word = sets-ldw o depth f homes.profile there.state to h.slot to (slot_held there.state h.slot) place
+        there.carries.registers (omega arith) refl read.bound there.held in
+        subst (λ (v : Option Value).
+        LeavesTree o f depth s (code ++ Ldw to h.slot to ∷ []) (shown ++ word_gap f ∷ []) to v loads)
+        (read.word place)
+        (leaves-then_sets s code shown to place loads there (Ldw to h.slot to ∷ []) (word_gap f ∷ []) to
+        (word_read f (slot_held there.state h.slot) place) (omega arith) word)
+    element_by-leaves false s to x i is carries first inside used known =
         let h = home_of f x in
         let fixed = fixed_index h i in
         let index = tree_of_expr f i in
         let bound = element_slot f h fixed index in
         let number = number_tree h fixed index in
-        let seen = block-seen f h fixed index known in
+        let seen = block-seen f h fixed index (λ low. known (shows-cached h is low)) in
         let access = access-leaves s to x fixed index (expr_code f mode to i) (shows_of_expr f i) (slots_of_expr f i)
-        carries first inside used seen in
+        carries first inside used is seen in
         let there = access.leaves in
         let is_bound = bound-of_bank bound h.bank (loaded-bank f h.bank (block_tree f h fixed index) seen) in
         let word = sets-ldw o depth f homes.profile there.state to h.slot to bound number there.carries.registers
         (omega arith) access.holds is_bound there.held in
-        leaves-then_sets s (access_code f.profile.block_log mode h to fixed (expr_code f mode to i))
-        (access_shows f h fixed index (shows_of_expr f i)) to number (access_loads f h fixed index (slots_of_expr f i))
+        leaves-then_sets s (access_by false f.profile.block_log mode h to fixed (expr_code f mode to i))
+        (shows_by false f h fixed index (shows_of_expr f i)) to number
+        (loads_by false f h fixed index (slots_of_expr f i))
         there (Ldw to h.slot to ∷ []) (word_gap f ∷ []) to (word_read f bound number) (omega arith) word
+
+    element-leaves : (s : SymState) (to : ℕ) (x : List ℕ) (i : Tree) → CarriesInArm f s
+        → LeavesTree o f depth s (expr_code f mode to i) (shows_of_expr f i) to (tree_of_expr f i) (slots_of_expr f i)
+        → to + 2 < 32 → UsedAs (context_of f.decls) x Array
+        → (shows_index (home_of f x) ≡ true → IsKnown (tree_of_expr f i))
+        → LeavesTree o f depth s (expr_code f mode to (Element x i)) (shows_of_expr f (Element x i)) to
+        (tree_of_expr f (Element x i)) (slots_of_expr f (Element x i))
+    element-leaves s to x i carries first inside used known =
+        element_by-leaves (home_of f x).resident s to x i refl carries first inside used known
 
     -- an operation on both
     operation-leaves : (s : SymState) (to : ℕ) (op : Op) (left right : Option Value) (code rest : List Instr)

@@ -1,22 +1,26 @@
 -- What is known of registers and slots in an arm, as secret code of a setting goes on.
-use Rattle.std.proofs.Common.{◌≡◌, ℕ, ◌<◌, ◌≤◌, pos, Bool, List, length, get_or, Option, Some, None, refl, sym, ap, ◌∙◌, subst, ⊎_elim, arith, length-set, get_or-set_same, get_or-set_other}
+use Rattle.std.proofs.Common.{◌≡◌, ℕ, ◌<◌, ◌≤◌, Bool, true, false, List, length, get_or, Option, Some, None, refl, sym, ap, ◌∙◌, subst, ⊎_elim, arith, length-set, get_or-set_same, get_or-set_other}
 use Rattle.std.specs.Prelude.{if◌then◌else◌}
 use Rattle.std.specs.Option.{option_or, unwrap_or}
 use Rattle.std.proofs.lemmas.Bool.{cases_eq, eq-eqb, ne_eqb}
 use Rattle.gr_base.specs.Lists.{Within}
 use Rattle.gr_word.specs.declared.variables.Label.{Label}
 use Rattle.gr_word.specs.declared.variables.Label.TheVariants.{Public, Secret}
-use Rattle.gr_word.specs.declared.variables.Shape.TheVariants.{Scalar, Array}
+use Rattle.gr_word.specs.declared.variables.Shape.{Shape}
+use Rattle.gr_word.specs.declared.variables.Shape.TheVariants.{Array}
 use Rattle.lt_isa.specs.declared.instructions.Instr.{Instr}
 use Rattle.lt_isa.specs.Object.{Parts, is_ram, block_words}
-use Rattle.symbolic_values.specs.Trees.{Value, Const, SlotAt, SlotWord}
+use Rattle.symbolic_values.specs.Trees.{Value, SlotAt}
 use Rattle.src_tree.specs.Contexts.{context_of}
 use Rattle.stretches.specs.Shows.{Show}
 use Rattle.trace_patterns.specs.SymStates.{Entry, SymSlot, AnySlot, RamSlot, EramSlot, OramSlot, SymState, tree_held, slot_held, hold_slot, slot_bank}
 use Rattle.stretches.proofs.ArmCode.{Walked}
-use Rattle.block_cache_gen.specs.Homes.{Home, Setting, home_of, IsScalarHome, Serves, PlainSlot, EncryptedSlot, ObliviousSlot, HasHomes}
+use Rattle.block_cache_gen.specs.Homes.{Home, Setting, home_of, pin_of, IsPin, IsResidentHome, Serves, PlainSlot, EncryptedSlot, ObliviousSlot, HasHomes}
 use Rattle.block_cache_gen.specs.Carries.{CarriesInArm}
-use Rattle.block_cache_gen.specs.PatternsOf.{Loads, then_loads, one_load, word_named_by, word_read, scalar_tree}
+use Rattle.block_cache_gen.specs.PatternsOf.{Loads, then_loads, one_load, word_read, pinned_slot}
+use Rattle.bank_alloc.specs.Apart.{scalar_bank}
+use Rattle.block_cache_gen.proofs.HomeFacts.{pinned-apart}
+use Rattle.block_cache_gen.proofs.PublicTrees.{pinned-ram}
 use Rattle.lt_checker.proofs.Singles.{IsKnown}
 
 -- A stretch of secret code is walked from s: it shows this, keeps what the setting relies on and the registers below
@@ -81,10 +85,10 @@ pub carries-slots : (f : Setting) (s t : SymState) → CarriesInArm f s → ((k 
 carries-slots f s t carries kept registers slots = record {
   registers = registers;
   slots = slots;
-  plain_slot = kept 0 ∙ carries.plain_slot;
-  encrypted_slot = ap slot_bank (kept 1) ∙ carries.encrypted_slot;
-  arrays = λ x label declared served.
-      ap slot_bank (kept (home_of f x).slot) ∙ carries.arrays x label declared served;
+  plain = λ k p pinned few apart zero. kept k ∙ carries.plain k p pinned few apart zero;
+  pinned = λ k p pinned few apart. ap slot_bank (kept k) ∙ carries.pinned k p pinned few apart;
+  arrays = λ x label declared turn served.
+      ap slot_bank (kept (home_of f x).slot) ∙ carries.arrays x label declared turn served;
 }
 
 -- what the setting relies on depends on the slots alone
@@ -97,11 +101,13 @@ carries-same f s t carries same sized =
 module _ (o : Parts) (f : Setting) (homes : HasHomes o f) where
   -- a block of an array is loaded to its slot
   pub carries-load : (s : SymState) (x : List ℕ) (label : Label) (bound : SymSlot) → CarriesInArm f s
-      → context_of f.decls x ≡ Some (label, Array) → slot_bank bound ≡ Some (home_of f x).bank
+      → context_of f.decls x ≡ Some (label, Array) → (home_of f x).resident ≡ false
+      → slot_bank bound ≡ Some (home_of f x).bank
       → CarriesInArm f (hold_slot s (home_of f x).slot bound)
-  carries-load s x label bound carries declared bank =
+  carries-load s x label bound carries declared turn bank =
       let h = home_of f x in
-      let serves = (homes.arrays x label declared).slot in
+      let home = homes.arrays x label declared turn in
+      let serves = home.slot in
       let within = serves-within h.bank h.slot serves in
       let t = hold_slot s h.slot bound in
       let kept : (k : ℕ) → (k ≡ h.slot → ⊥) → slot_held t k ≡ slot_held s k =
@@ -109,29 +115,29 @@ module _ (o : Parts) (f : Setting) (homes : HasHomes o f) where
       record {
         registers = carries.registers;
         slots = length-set s.slots h.slot bound ∙ carries.slots;
-        plain_slot = kept 0 (λ e. absurd (omega arith)) ∙ carries.plain_slot;
-        encrypted_slot = ap slot_bank (kept 1 (λ e. absurd (omega arith))) ∙ carries.encrypted_slot;
-        arrays = λ y other known served.
+        plain = λ k p pinned few apart zero.
+            kept k (pinned-apart f k h.slot p pinned home.unpinned) ∙ carries.plain k p pinned few apart zero;
+        pinned = λ k p pinned few apart.
+            ap slot_bank (kept k (pinned-apart f k h.slot p pinned home.unpinned))
+            ∙ carries.pinned k p pinned few apart;
+        arrays = λ y other known turn' served.
             ⊎_elim
             (λ (e : (home_of f y).slot ≡ h.slot).
             let theirs : Serves (home_of f y).bank h.slot =
-            subst (Serves (home_of f y).bank) e (homes.arrays y other known).slot in
+            subst (Serves (home_of f y).bank) e (homes.arrays y other known turn').slot in
             ap (λ (k : ℕ). slot_bank (slot_held t k)) e
             ∙ ap slot_bank (get_or-set_same s.slots h.slot bound AnySlot (omega (arith, carries.slots)))
             ∙ bank
             ∙ ap Some (serves-bank h.bank (home_of f y).bank h.slot serves theirs (omega arith)))
             (λ (ne : (home_of f y).slot ≡ h.slot → ⊥).
-            ap slot_bank (kept (home_of f y).slot ne) ∙ carries.arrays y other known served)
+            ap slot_bank (kept (home_of f y).slot ne) ∙ carries.arrays y other known turn' served)
             (cases_eq (home_of f y).slot h.slot);
       }
 
-  -- the word of a scalar
-  pub record ScalarRead (s : SymState) (h : Home) : Type 0 where
+  -- a word of a resident variable, wherever it is
+  pub record ResidentRead (s : SymState) (h : Home) : Type 0 where
     pub bound : IsKnown (slot_held s h.slot)
-    pub word : word_read f (slot_held s h.slot) (Some (Const (pos h.word))) ≡ scalar_tree f h
-
-  abbrev scalar_in_bank : Home → ℕ → Option Value
-  scalar_in_bank h bank = if is_ram bank then Some (SlotWord 0 (word_named_by f (Const (pos h.word)))) else None
+    pub word : (place : Option Value) → word_read f (slot_held s h.slot) place ≡ word_read f (pinned_slot h) place
 
   encrypted_read : (bound : SymSlot) (place : Option Value) → slot_bank bound ≡ Some 1 → word_read f bound place ≡ None
   encrypted_read (RamSlot block origin) place e =
@@ -140,27 +146,34 @@ module _ (o : Parts) (f : Setting) (homes : HasHomes o f) where
   encrypted_read (EramSlot block) place e = refl
   encrypted_read (OramSlot bank) place e = refl
 
-  -- a scalar's word is read from the slot of its label
-  pub scalar-read : (s : SymState) (x : List ℕ) (label : Label) → CarriesInArm f s
-      → context_of f.decls x ≡ Some (label, Scalar) → ScalarRead s (home_of f x)
-  scalar-read s x label carries declared = by label (homes.scalars x label declared)
+  hidden_read : (h : Home) (place : Option Value) → h.bank ≡ 1 → word_read f (pinned_slot h) place ≡ None
+  hidden_read h place is =
+      ap (λ (b : ℕ). word_read f (if is_ram b then RamSlot (SlotAt h.slot) (Entry h.slot) else AnySlot) place) is
+
+  -- it is read from the slot that holds its block
+  pub resident-read : (s : SymState) (x : List ℕ) (label : Label) (shape : Shape) → CarriesInArm f s
+      → context_of f.decls x ≡ Some (label, shape) → (home_of f x).resident ≡ true → ResidentRead s (home_of f x)
+  resident-read s x label shape carries declared resident = by label home.bank
     where
-      by : (known : Label) → IsScalarHome (block_words o) known (home_of f x) → ScalarRead s (home_of f x)
-      by Public home =
+      home : IsResidentHome f (block_words o) label (home_of f x)
+      home = homes.residents x label shape declared resident
+
+      pin : IsPin o (home_of f x).slot (pin_of (home_of f x))
+      pin = homes.pins (home_of f x).slot (pin_of (home_of f x)) home.pinned
+
+      by : (l : Label) → (home_of f x).bank ≡ scalar_bank l → ResidentRead s (home_of f x)
+      by Public is =
           let h = home_of f x in
-          let slot : slot_held s h.slot ≡ RamSlot (SlotAt 0) (Entry 0) =
-          ap (slot_held s) (home.slot ∙ home.bank) ∙ carries.plain_slot in
+          let slot = carries.plain h.slot (pin_of h) home.pinned pin.few pin.apart is in
           record {
             bound = subst IsKnown (sym slot) tt;
-            word = ap (λ (b : SymSlot). word_read f b (Some (Const (pos h.word)))) slot
-                ∙ sym (ap (scalar_in_bank h) home.bank);
+            word = λ place. ap (λ (b : SymSlot). word_read f b place) (slot ∙ sym (pinned-ram h is));
           }
-      by Secret home =
+      by Secret is =
           let h = home_of f x in
           let slot : slot_bank (slot_held s h.slot) ≡ Some 1 =
-          ap (λ (k : ℕ). slot_bank (slot_held s k)) (home.slot ∙ home.bank) ∙ carries.encrypted_slot in
+          carries.pinned h.slot (pin_of h) home.pinned pin.few pin.apart ∙ ap Some is in
           record {
             bound = bound-of_bank (slot_held s h.slot) 1 slot;
-            word = encrypted_read (slot_held s h.slot) (Some (Const (pos h.word))) slot
-                ∙ sym (ap (scalar_in_bank h) home.bank);
+            word = λ place. encrypted_read (slot_held s h.slot) place slot ∙ sym (hidden_read h place is);
           }

@@ -1,8 +1,9 @@
 -- The code of an assignment, run, leaves the store that it means, or the same store in a mirrored arm.
-use Rattle.std.proofs.Common.{◌≡◌, ℕ, ◌+◌, ◌%◌, ◌≤◌, ℤ, pos, List, [], ◌∷◌, ◌++◌, length, get_or, set, append_assoc, Some, refl, sym, ap, ◌∙◌, subst, arith, mod-eq_of_lt}
+use Rattle.std.proofs.Common.{◌≡◌, ℕ, ◌+◌, ◌%◌, ◌<◌, ◌≤◌, Bool, true, false, ℤ, pos, List, [], ◌∷◌, ◌++◌, length, get_or, set, append_assoc, append-nil, Some, refl, sym, ap, ◌∙◌, subst, arith, mod-eq_of_lt}
 use Rattle.std.proofs.lemmas.List.{get_or-set_same}
 use Rattle.gr_word.specs.Words.{IsWord}
 use Rattle.gr_word.specs.declared.variables.Label.{Label}
+use Rattle.gr_word.specs.declared.variables.Shape.{Shape}
 use Rattle.gr_word.specs.declared.variables.Shape.TheVariants.{Scalar, Array}
 use Rattle.lt_isa.specs.declared.instructions.Instr.TheVariants.{Li, Ldw, Stw, Stb}
 use Rattle.lt_isa.specs.Object.{Parts, block_words}
@@ -18,22 +19,23 @@ use Rattle.stretches.proofs.Coming.{comes-stw, comes-stb}
 use Rattle.stretches.proofs.RunningThrough.{runs-cons, runs-one, runs-append, runs-weaker, sets-li, sets-ldw}
 use Rattle.src_tree.specs.Contexts.{context_of}
 use Rattle.src_tree.specs.Heights.{height_of}
-use Rattle.src_tree.specs.Meaning.{Store, variable_number, words_of_number, scalar, evaluated, with_word}
-use Rattle.src_tree.specs.Trees.{Tree, Element, SetVariable, SetElement}
+use Rattle.src_tree.specs.Meaning.{Store, variable_number, words_of_number, evaluated, with_word}
+use Rattle.src_tree.specs.Trees.{Tree, SetVariable, SetElement}
 use Rattle.src_tree.specs.Typing.{TypedTree}
 use Rattle.block_cache_gen.specs.declared.frames.Mode.{Mode}
 use Rattle.block_cache_gen.specs.declared.frames.Mode.TheVariants.{Public, Real, Mirrored}
 use Rattle.block_cache_gen.specs.Homes.{Setting, HasHomes, home_of, words_a_block}
-use Rattle.block_cache_gen.specs.Codes.{fixed_index, access_code, expr_code, store_code, set_code}
+use Rattle.block_cache_gen.specs.Codes.{fixed_index, access_by, placed_code, expr_code, store_code, stored_code, set_code}
 use Rattle.block_cache_gen.specs.StandsFor.{StandsFor, FitsHomes}
-use Rattle.block_cache_gen.specs.Accesses.{access_of, accesses, word_number, block_in, slots_after, seen_of_all}
-use Rattle.block_cache_gen.specs.Assignments.{Assigns, assigned, by_mode, words_written, seen_of_write, seen_of_set}
+use Rattle.block_cache_gen.specs.Accesses.{access_of, accessed_by, accesses, word_number, block_in, slots_after, seen_of_all}
+use Rattle.block_cache_gen.specs.Assignments.{Assigns, assigned, by_mode, words_written, write_by, seen_of_set}
 use Rattle.block_cache_gen.specs.LeavesWord.{LeavesWord}
 use Rattle.block_cache_gen.proofs.AccessLaws.{seen_of_all-append}
 use Rattle.block_cache_gen.proofs.HomeFacts.{block_words-is, serves-within}
-use Rattle.block_cache_gen.proofs.Stands.{stands-like, scalar-held}
+use Rattle.block_cache_gen.proofs.Stands.{stands-like}
 use Rattle.block_cache_gen.proofs.Stores.{fits-with_word, with_word-by_mode}
-use Rattle.block_cache_gen.proofs.ScalarStores.{stands-scalar_set}
+use Rattle.block_cache_gen.proofs.ResidentStores.{stands-resident_set}
+use Rattle.block_cache_gen.proofs.ResidentRuns.{resident-held, resident-within, runs-placed}
 use Rattle.block_cache_gen.proofs.ElementStores.{stands-element_set}
 use Rattle.block_cache_gen.proofs.AccessRuns.{Accesses, runs-access, word-within}
 use Rattle.block_cache_gen.proofs.ExpressionRuns.{runs-expression, element-word}
@@ -102,6 +104,49 @@ module _ (o : Parts) (fits : IsInRange o) where
 
 module _ (o : Parts) (fits : IsInRange o) (f : Setting) (homes : HasHomes o f) (store : Store)
     (store_fits : FitsHomes f store) where
+  -- a word of a resident variable is written
+  runs-put : (mode : Mode) (x : List ℕ) (label : Label) (shape : Shape) → context_of f.decls x ≡ Some (label, shape)
+      → (home_of f x).resident ≡ true → (n : ℕ) → n < (home_of f x).length → (value : ℤ) → IsWord value → (u : State)
+      → IsShaped o u → StandsFor f u store → register u 0 ≡ value → register u 1 ≡ pos ((home_of f x).word + n)
+      → StandsAt o u.place (store_code mode (home_of f x).slot)
+      → RunsThrough o u (store_code mode (home_of f x).slot) []
+      (Assigns f (by_mode mode (with_word store (variable_number f.decls x) n value) store))
+  runs-put mode x label shape known resident n within value is u shaped stands has place at =
+      let h = home_of f x in
+      let home = homes.residents x label shape known resident in
+      let k = variable_number f.decls x in
+      let old = get_or (words_of_number store k) n (pos 0) in
+      let held = resident-held o fits f homes store store_fits x label shape known resident u stands in
+      let words = held.words in
+      let at_word = h.word + n in
+      let size : length words ≡ block_words o =
+      (bound-fits o u shaped h.slot h.bank h.block words held.holds).holds_block.size in
+      let reads : word_in words at_word ≡ old =
+      ap (λ b. word_in (slot_words b) at_word) (sym held.holds)
+      ∙ stands.residents x label shape n known resident within in
+      let found = Bound h.bank h.block (words_written mode words (at_word % block_words o) value) in
+      let word = by_mode mode value old in
+      let same_words : words_written mode words (at_word % block_words o) value ≡ set words at_word word =
+      ap (λ m. words_written mode words m value) (mod-eq_of_lt (omega (arith, home.inside, within)))
+      ∙ ap (λ z. set words at_word (by_mode mode value z)) reads in
+      runs-weaker u (store_code mode h.slot) [] [] (Binds h.slot found u)
+      (Assigns f (by_mode mode (with_word store k n value) store))
+      (runs-store o fits mode h.slot h.bank h.block at_word words value u shaped held.holds has place at)
+      refl
+      (λ v shape'' binds.
+      let slots : v.slots ≡ set u.slots h.slot (Bound h.bank h.block (set words at_word word)) =
+      binds.slots ∙ ap (λ l. set u.slots h.slot (Bound h.bank h.block l)) same_words in
+      record {
+        stands =
+            subst (StandsFor f v) (with_word-by_mode mode store k n value)
+            (stands-like f (set_slot u h.slot (Bound h.bank h.block (set words at_word word))) v
+            (with_word store k n word) slots binds.banks
+            (stands-resident_set o f homes u shaped.slot_count store store_fits stands x label shape known resident n
+            within words held.holds size word));
+        fits = by_mode-fits mode f (with_word store k n value) store
+            (fits-with_word f store k n value is store_fits) store_fits;
+      })
+
   -- an assignment to a scalar
   pub runs-set_variable : (mode : Mode) (x : List ℕ) (label : Label) → context_of f.decls x ≡ Some (label, Scalar)
       → (e : Tree) → TypedTree (context_of f.decls) e → height_of e ≤ 26 → (s : State) → IsShaped o s
@@ -113,63 +158,94 @@ module _ (o : Parts) (fits : IsInRange o) (f : Setting) (homes : HasHomes o f) (
       let home = homes.scalars x label known in
       let k = variable_number f.decls x in
       let value = evaluated f.decls store e in
-      let old = scalar store k in
       let before = accesses f store e in
       let seen = seen_of_all mode s.banks s.slots before in
       let base = Li 1 (pos h.word) in
-      let after = by_mode mode (with_word store k 0 value) store in
-      let Done : State → Type 0 = Assigns f after in
+      let Done : State → Type 0 = Assigns f (by_mode mode (with_word store k 0 value) store) in
       runs-append s (expr_code f mode 0 e) (base ∷ store_code mode h.slot) seen []
       (LeavesWord f store before 0 value s) Done at
       (runs-expression o fits f homes store store_fits mode e typed 0 (omega arith) s shaped stands)
       (λ t shape leaves at'.
-      let held = scalar-held leaves.stands label h.slot (home.slot ∙ home.bank) in
-      let words = held.words in
-      let size : length words ≡ block_words o =
-      (bound-fits o t shape h.slot h.slot 0 words held.holds).holds_block.size in
-      let reads : word_in words h.word ≡ old =
-      ap (λ b. word_in (slot_words b) h.word) (sym held.holds) ∙ leaves.stands.scalars x label known in
+      let is : IsWord value = subst IsWord leaves.value (IsWord-register o t shape 0) in
       runs-cons t base (store_code mode h.slot) [] [] (Sets t 1 (pos h.word)) Done at'
       (sets-li o fits t shape 1 (pos h.word) (omega arith))
       (λ u shape' sets at''.
-      let found = Bound h.slot 0 (words_written mode words (h.word % block_words o) value) in
-      runs-weaker u (store_code mode h.slot) [] [] (Binds h.slot found u) Done
-      (runs-store o fits mode h.slot h.slot 0 h.word words value u shape'
-      (ap (λ l. get_or l h.slot Unbound) sets.slots ∙ held.holds)
-      (sets.others 0 (λ same. absurd (omega arith)) ∙ leaves.value) sets.value at'')
-      refl
-      (λ v shape'' binds.
-      let word = by_mode mode value old in
-      let same_words : words_written mode words (h.word % block_words o) value ≡ set words h.word word =
-      ap (λ m. words_written mode words m value) (mod-eq_of_lt home.word)
-      ∙ ap (λ z. set words h.word (by_mode mode value z)) reads in
-      let slots : v.slots ≡ set t.slots h.slot (Bound h.slot 0 (set words h.word word)) =
-      binds.slots
-      ∙ ap (λ l. set l h.slot found) sets.slots
-      ∙ ap (λ l. set t.slots h.slot (Bound h.slot 0 l)) same_words in
-      let is : IsWord value = subst IsWord leaves.value (IsWord-register o t shape 0) in
-      record {
-        stands =
-            subst (StandsFor f v) (with_word-by_mode mode store k 0 value)
-            (stands-like f (set_slot t h.slot (Bound h.slot 0 (set words h.word word))) v
-            (with_word store k 0 word) slots (binds.banks ∙ sets.banks)
-            (stands-scalar_set o f homes t shape.slot_count store store_fits leaves.stands x label known
-            words held.holds size word));
-        fits = by_mode-fits mode f (with_word store k 0 value) store
-            (fits-with_word f store k 0 value is store_fits) store_fits;
-      })))
+      runs-put mode x label Scalar known home.resident 0 (omega (arith, home.length)) value is u shape'
+      (stands-like f t u store sets.slots sets.banks leaves.stands)
+      (sets.others 0 (λ same. absurd (omega arith)) ∙ leaves.value) (sets.value ∙ ap pos (omega arith)) at''))
 
-  -- an assignment to an element
-  pub runs-set_element : (mode : Mode) (x : List ℕ) (label : Label) → context_of f.decls x ≡ Some (label, Array)
+  -- the same where the array is resident or isn't
+  runs-set_by : (mode : Mode) (x : List ℕ) (label : Label) → context_of f.decls x ≡ Some (label, Array)
       → (i e : Tree) → TypedTree (context_of f.decls) i → TypedTree (context_of f.decls) e → 1 + height_of i ≤ 26
-      → height_of e ≤ 26
-      → (s : State) → IsShaped o s → StandsFor f s store → StandsAt o s.place (set_code f mode (SetElement x i e))
-      → RunsThrough o s (set_code f mode (SetElement x i e))
-      (seen_of_set f mode s.banks s.slots store (SetElement x i e))
+      → height_of e ≤ 26 → (s : State) → IsShaped o s → StandsFor f s store
+      → (resident : Bool) → (home_of f x).resident ≡ resident
+      → StandsAt o s.place
+      (expr_code f mode 0 e
+      ++ (access_by resident f.profile.block_log mode (home_of f x) 1 (fixed_index (home_of f x) i)
+      (expr_code f mode 1 i)
+      ++ (store_code mode (home_of f x).slot ++ stored_code resident (home_of f x).slot)))
+      → RunsThrough o s
+      (expr_code f mode 0 e
+      ++ (access_by resident f.profile.block_log mode (home_of f x) 1 (fixed_index (home_of f x) i)
+      (expr_code f mode 1 i)
+      ++ (store_code mode (home_of f x).slot ++ stored_code resident (home_of f x).slot)))
+      (seen_of_all mode s.banks s.slots
+      (accesses f store e
+      ++ (accesses f store i ++ accessed_by resident (access_of f store x (evaluated f.decls store i))))
+      ++ write_by resident
+      (write_event (home_of f x).bank (access_of f store x (evaluated f.decls store i)).block
+      (words_written mode
+      (block_in s.banks (home_of f x).bank (access_of f store x (evaluated f.decls store i)).block)
+      (word_number f store x (evaluated f.decls store i) % words_a_block f) (evaluated f.decls store e))))
       (Assigns f (by_mode mode (assigned f.decls (SetElement x i e) store) store))
-  runs-set_element mode x label known i e typed_index typed room_index room s shaped stands at =
+  runs-set_by mode x label known i e typed_index typed room_index room s shaped stands true resident at =
       let h = home_of f x in
-      let home = homes.arrays x label known in
+      let k = variable_number f.decls x in
+      let value = evaluated f.decls store e in
+      let index = evaluated f.decls store i in
+      let n = word_number f store x index in
+      let within = resident-within o fits f homes store store_fits x label Array known resident index in
+      let before = accesses f store e in
+      let then = accesses f store i in
+      let first = expr_code f mode 0 e in
+      let access = placed_code h 1 (fixed_index h i) (expr_code f mode 1 i) in
+      let store_word = store_code mode h.slot in
+      let seen_first = seen_of_all mode s.banks s.slots before in
+      let seen_then = seen_of_all mode s.banks (slots_after s.banks s.slots before) then in
+      let Done : State → Type 0 = Assigns f (by_mode mode (with_word store k n value) store) in
+      let Placed : State → State → Type 0 = LeavesWord f store then 1 (pos (h.word + n)) in
+      let shown : seen_first ++ (seen_then ++ [])
+      ≡ seen_of_all mode s.banks s.slots (before ++ (then ++ [])) ++ [] =
+      ap (λ l. seen_first ++ l) (append-nil seen_then)
+      ∙ sym (seen_of_all-append mode s.banks s.slots before then)
+      ∙ ap (λ l. seen_of_all mode s.banks s.slots (before ++ l)) (sym (append-nil then))
+      ∙ sym (append-nil (seen_of_all mode s.banks s.slots (before ++ (then ++ [])))) in
+      runs-weaker s (first ++ (access ++ (store_word ++ []))) (seen_first ++ (seen_then ++ []))
+      (seen_of_all mode s.banks s.slots (before ++ (then ++ [])) ++ []) Done Done
+      (runs-append s first (access ++ (store_word ++ [])) seen_first (seen_then ++ [])
+      (LeavesWord f store before 0 value s) Done at
+      (runs-expression o fits f homes store store_fits mode e typed 0 (omega arith) s shaped stands)
+      (λ t shape leaves at'.
+      let is : IsWord value = subst IsWord leaves.value (IsWord-register o t shape 0) in
+      runs-append t access (store_word ++ []) seen_then [] (Placed t) Done at'
+      (λ at''.
+      runs-weaker t access (seen_of_all mode t.banks t.slots then) seen_then (Placed t) (Placed t)
+      (runs-placed o fits f homes store store_fits x label Array known resident mode 1 i t shape leaves.stands
+      (omega arith)
+      (runs-expression o fits f homes store store_fits mode i typed_index 1 room_index t shape leaves.stands)
+      (fixed_index h i) refl at'')
+      (ap (λ l. seen_of_all mode l t.slots then) leaves.banks ∙ ap (λ l. seen_of_all mode s.banks l then) leaves.slots)
+      (λ u shape' done. done))
+      (λ u shape' placed at''.
+      subst (λ code. StandsAt o u.place code → RunsThrough o u code [] Done) (sym (append-nil store_word))
+      (runs-put mode x label Array known resident n within value is u shape' placed.stands
+      (placed.below 0 (omega arith) ∙ leaves.value) placed.value)
+      at'')))
+      shown
+      (λ t shape done. done)
+  runs-set_by mode x label known i e typed_index typed room_index room s shaped stands false turn at =
+      let h = home_of f x in
+      let home = homes.arrays x label known turn in
       let served = serves-within home.slot in
       let k = variable_number f.decls x in
       let value = evaluated f.decls store e in
@@ -179,21 +255,21 @@ module _ (o : Parts) (fits : IsInRange o) (f : Setting) (homes : HasHomes o f) (
       let b = a.block in
       let w = words_a_block f in
       let before = accesses f store e in
-      let then = accesses f store (Element x i) in
+      let then = accesses f store i ++ access_of f store x index ∷ [] in
       let first = expr_code f mode 0 e in
-      let access = access_code f.profile.block_log mode h 1 (fixed_index h i) (expr_code f mode 1 i) in
+      let access = access_by false f.profile.block_log mode h 1 (fixed_index h i) (expr_code f mode 1 i) in
       let store_word = store_code mode h.slot in
       let store_block = Stb h.slot in
       let seen_first = seen_of_all mode s.banks s.slots before in
       let seen_then = seen_of_all mode s.banks (slots_after s.banks s.slots before) then in
-      let write = seen_of_write f mode s.banks store (SetElement x i e) in
+      let write = write_event a.home.bank b (words_written mode (block_in s.banks a.home.bank b) (n % w) value) ∷ [] in
       let after = by_mode mode (with_word store k n value) store in
       let Done : State → Type 0 = Assigns f after in
-      let shown : seen_first ++ (seen_then ++ write) ≡ seen_of_set f mode s.banks s.slots store (SetElement x i e) =
+      let shown : seen_first ++ (seen_then ++ write) ≡ seen_of_all mode s.banks s.slots (before ++ then) ++ write =
       sym (append_assoc seen_first seen_then write)
       ∙ ap (λ l. l ++ write) (sym (seen_of_all-append mode s.banks s.slots before then)) in
       runs-weaker s (first ++ (access ++ (store_word ++ store_block ∷ []))) (seen_first ++ (seen_then ++ write))
-      (seen_of_set f mode s.banks s.slots store (SetElement x i e)) Done Done
+      (seen_of_all mode s.banks s.slots (before ++ then) ++ write) Done Done
       (runs-append s first (access ++ (store_word ++ store_block ∷ [])) seen_first (seen_then ++ write)
       (LeavesWord f store before 0 value s) Done at
       (runs-expression o fits f homes store store_fits mode e typed 0 (omega arith) s shaped stands)
@@ -204,7 +280,7 @@ module _ (o : Parts) (fits : IsInRange o) (f : Setting) (homes : HasHomes o f) (
       (λ at''.
       runs-weaker t access (seen_of_all mode t.banks t.slots then) seen_then
       (Accesses f store (accesses f store i) a 1 n t) (Accesses f store (accesses f store i) a 1 n t)
-      (runs-access o fits f homes store store_fits x label known mode 1 i t shape leaves.stands (omega arith)
+      (runs-access o fits f homes store store_fits x label known turn mode 1 i t shape leaves.stands (omega arith)
       (runs-expression o fits f homes store store_fits mode i typed_index 1 room_index t shape leaves.stands) at'')
       (ap (λ l. seen_of_all mode l t.slots then) leaves.banks ∙ ap (λ l. seen_of_all mode s.banks l then) leaves.slots)
       (λ u shape' done. done))
@@ -222,7 +298,7 @@ module _ (o : Parts) (fits : IsInRange o) (f : Setting) (homes : HasHomes o f) (
       ap (λ l. get_or l h.slot Unbound) binds.slots
       ∙ get_or-set_same u.slots h.slot found Unbound (omega (arith, shape'.slot_count, served)) in
       let reads : word_in words (n % w) ≡ get_or (words_of_number store k) n (pos 0) =
-      element-word o fits f homes store store_fits x label known u accessed.leaves.stands index in
+      element-word o fits f homes store store_fits x label known turn u accessed.leaves.stands index in
       let word = by_mode mode value (get_or (words_of_number store k) n (pos 0)) in
       let same_words : written ≡ set words (n % w) word =
       ap (λ m. words_written mode words (n % m) value) (block_words-is homes)
@@ -244,8 +320,8 @@ module _ (o : Parts) (fits : IsInRange o) (f : Setting) (homes : HasHomes o f) (
       (record {
         stands =
             subst (StandsFor f _) (with_word-by_mode mode store k n value)
-            (stands-element_set o fits f homes u shape' store store_fits accessed.leaves.stands x label known n
-            (word-within o fits f homes store store_fits x label known index) word _ slots banks);
+            (stands-element_set o fits f homes u shape' store store_fits accessed.leaves.stands x label known turn n
+            (word-within o fits f homes store store_fits x label known turn index) word _ slots banks);
         fits = by_mode-fits mode f (with_word store k n value) store
             (fits-with_word f store k n value is store_fits) store_fits;
       })))
@@ -253,3 +329,15 @@ module _ (o : Parts) (fits : IsInRange o) (f : Setting) (homes : HasHomes o f) (
       (λ x shape''' done. done)))))
       shown
       (λ t shape done. done)
+
+  -- an assignment to an element
+  pub runs-set_element : (mode : Mode) (x : List ℕ) (label : Label) → context_of f.decls x ≡ Some (label, Array)
+      → (i e : Tree) → TypedTree (context_of f.decls) i → TypedTree (context_of f.decls) e → 1 + height_of i ≤ 26
+      → height_of e ≤ 26
+      → (s : State) → IsShaped o s → StandsFor f s store → StandsAt o s.place (set_code f mode (SetElement x i e))
+      → RunsThrough o s (set_code f mode (SetElement x i e))
+      (seen_of_set f mode s.banks s.slots store (SetElement x i e))
+      (Assigns f (by_mode mode (assigned f.decls (SetElement x i e) store) store))
+  runs-set_element mode x label known i e typed_index typed room_index room s shaped stands at =
+      runs-set_by mode x label known i e typed_index typed room_index room s shaped stands
+      (home_of f x).resident refl at

@@ -1,6 +1,6 @@
 -- A state stands for a store in which an element is another, where its block is written in its slot and in its bank.
-use Rattle.std.proofs.Common.{◌≡◌, ◌≢◌, ℕ, ◌+◌, ◌*◌, ◌/◌, ◌%◌, ◌<◌, ◌≤◌, ℤ, pos, List, [], length, get_or, set, Some, sym, ap, ◌∙◌, subst, ⊎_elim, arith, mul-le-mul_right, div-add-mod', mod-lt}
-use Rattle.std.proofs.lemmas.Bool.{cases_eq}
+use Rattle.std.proofs.Common.{◌≡◌, ◌≢◌, ℕ, ◌+◌, ◌*◌, ◌/◌, ◌%◌, ◌<◌, ◌≤◌, false, ℤ, pos, List, [], length, get_or, set, Some, sym, ap, ◌∙◌, subst, ⊎_elim, arith, mul-le-mul_right, div-add-mod', mod-lt}
+use Rattle.std.proofs.lemmas.Bool.{cases_eq, true≢false}
 use Rattle.std.proofs.lemmas.List.{get_or-set_same, get_or-set_other}
 use Rattle.gr_word.specs.declared.variables.Label.{Label}
 use Rattle.gr_word.specs.declared.variables.Shape.TheVariants.{Array}
@@ -17,11 +17,11 @@ use Rattle.block_cache_gen.specs.StandsFor.{StandsFor, FitsHomes, IsBlockOf}
 use Rattle.block_cache_gen.proofs.HomeFacts.{block_words-is, block_words-least, serves-within, block-exists, word-split, word-block, word-place}
 use Rattle.block_cache_gen.proofs.Stands.{stands-like, stands-bound}
 use Rattle.block_cache_gen.proofs.Stores.{words-other, words-same}
-use Rattle.block_cache_gen.proofs.ScalarStores.{numbers-differ}
 
 module _ (o : Parts) (fits : IsInRange o) (f : Setting) (homes : HasHomes o f) (s : State) (shaped : IsShaped o s)
     (store : Store) (store_fits : FitsHomes f store) (stands : StandsFor f s store) (x : List ℕ) (label : Label)
-    (known : context_of f.decls x ≡ Some (label, Array)) (n : ℕ) (within : n < (home_of f x).length) (word : ℤ) where
+    (known : context_of f.decls x ≡ Some (label, Array)) (turn : (home_of f x).resident ≡ false) (n : ℕ)
+    (within : n < (home_of f x).length) (word : ℤ) where
   -- the block of the word, and its words with the new one
   abbrev pub block_here : ℕ
   block_here = (home_of f x).block + n / words_a_block f
@@ -36,7 +36,7 @@ module _ (o : Parts) (fits : IsInRange o) (f : Setting) (homes : HasHomes o f) (
       (home_of f x).bank block_here words_here
 
   bank-here : (home_of f x).bank < length s.banks
-  bank-here = omega (arith, (homes.arrays x label known).bank, shaped.bank_count)
+  bank-here = omega (arith, (homes.arrays x label known turn).bank, shaped.bank_count)
 
   part-here : n % words_a_block f < words_a_block f
   part-here = mod-lt n (block_words-least fits homes)
@@ -44,13 +44,13 @@ module _ (o : Parts) (fits : IsInRange o) (f : Setting) (homes : HasHomes o f) (
   block-here : block_here < length (bank_blocks s (home_of f x).bank)
   block-here =
       let h = home_of f x in
-      let home = homes.arrays x label known in
+      let home = homes.arrays x label known turn in
       omega (arith, block-exists o fits f homes label h home n within, shaped.block_counts h.bank home.bank)
 
   size-here : length (block_at s (home_of f x).bank block_here) ≡ words_a_block f
   size-here =
       let h = home_of f x in
-      let home = homes.arrays x label known in
+      let home = homes.arrays x label known turn in
       (shaped.blocks h.bank block_here home.bank (block-exists o fits f homes label h home n within)).size
       ∙ block_words-is homes
 
@@ -80,7 +80,7 @@ module _ (o : Parts) (fits : IsInRange o) (f : Setting) (homes : HasHomes o f) (
       (start_of_home (words_a_block f) (home_of f x) + n) ≡ word
   written-word =
       let h = home_of f x in
-      let home = homes.arrays x label known in
+      let home = homes.arrays x label known turn in
       let w = words_a_block f in
       let part = part-here in
       ap (λ b. word_in (block_at written h.bank b) ((start_of_home w h + n) % w))
@@ -93,7 +93,7 @@ module _ (o : Parts) (fits : IsInRange o) (f : Setting) (homes : HasHomes o f) (
       → bank_word_numbered (words_a_block f) written c m ≡ bank_word_numbered (words_a_block f) s c m
   other-word c m unlike =
       let h = home_of f x in
-      let home = homes.arrays x label known in
+      let home = homes.arrays x label known turn in
       let w = words_a_block f in
       ⊎_elim
       (λ same.
@@ -127,14 +127,14 @@ module _ (o : Parts) (fits : IsInRange o) (f : Setting) (homes : HasHomes o f) (
 
   -- so it has no word of the block that is written
   unlike-block : (y : List ℕ) (label' : Label) → context_of f.decls y ≡ Some (label', Array)
-      → variable_number f.decls y ≢ variable_number f.decls x → (block : ℕ)
+      → (home_of f y).resident ≡ false → variable_number f.decls y ≢ variable_number f.decls x → (block : ℕ)
       → IsBlockOf (words_a_block f) (home_of f y) block → (home_of f y).bank ≡ (home_of f x).bank → block ≢ block_here
-  unlike-block y label' known' other block is_block same_bank same_block =
+  unlike-block y label' known' turn' other block is_block same_bank same_block =
       let g = home_of f y in
       let h = home_of f x in
       let w = words_a_block f in
-      let home = homes.arrays x label known in
-      let home' = homes.arrays y label' known' in
+      let home = homes.arrays x label known turn in
+      let home' = homes.arrays y label' known' turn' in
       let split = word-split o fits f homes label h home n in
       let same : block * w ≡ block_here * w = ap (λ b. b * w) same_block in
       let from_g : g.block * w ≤ block * w = mul-le-mul_right {m = g.block} {n = block} w is_block.behind in
@@ -159,19 +159,21 @@ module _ (o : Parts) (fits : IsInRange o) (f : Setting) (homes : HasHomes o f) (
       let h = home_of f x in
       let k = variable_number f.decls x in
       let w = words_a_block f in
-      let served = serves-within (homes.arrays x label known).slot in
+      let served = serves-within (homes.arrays x label known turn).slot in
       let found = Bound h.bank block_here words_here in
       let within_store : k < length store =
       omega (arith, number-below f.decls x (label, Array) known, store_fits.count) in
       let size : length (words_of_number store k) ≡ h.length = store_fits.lengths x label Array known in
-      stands-bound o f homes s store stands written x label known block_here words_here
+      stands-bound o f homes s store stands written x label known turn block_here words_here
       (get_or-set_same s.slots h.slot found Unbound (omega (arith, shaped.slot_count)))
       (λ j other. get_or-set_other s.slots h.slot j found Unbound other)
       (sym written-block) (with_word store k n word)
-      (λ y label' known'.
-      ap (λ l. get_or l 0 (pos 0)) (sym
-      (words-other store k n (variable_number f.decls y) word (numbers-differ f y x label' label known' known))))
-      (λ y label' i known' inside.
+      (λ y label' shape i known' resident.
+      ap (λ l. get_or l i (pos 0)) (sym
+      (words-other store k n (variable_number f.decls y) word
+      (λ same. true≢false
+      (sym resident ∙ ap (λ v. (get_or f.homes v no_home).resident) same ∙ turn)))))
+      (λ y label' i known' turn' inside.
       let g = home_of f y in
       let m = variable_number f.decls y in
       ⊎_elim
@@ -191,7 +193,7 @@ module _ (o : Parts) (fits : IsInRange o) (f : Setting) (homes : HasHomes o f) (
       let start_same : start_of_home w g ≡ start_of_home w h = ap (λ (z : Home). start_of_home w z) home_same in
       other-word g.bank (start_of_home w g + i)
       (λ same_bank same_word. there (omega (arith, start_same, same_word)))
-      ∙ stands.arrays y label' i known' inside
+      ∙ stands.arrays y label' i known' turn' inside
       ∙ ap (λ v. get_or (words_of_number store v) i (pos 0)) same
       ∙ sym (get_or-set_other (words_of_number store k) n i word (pos 0) there)
       ∙ ap (λ l. get_or l i (pos 0)) (sym store_same))
@@ -199,14 +201,14 @@ module _ (o : Parts) (fits : IsInRange o) (f : Setting) (homes : HasHomes o f) (
       (λ other.
       other-word g.bank (start_of_home w g + i)
       (λ same_bank. unlike-word y label' known' other i inside same_bank)
-      ∙ stands.arrays y label' i known' inside
+      ∙ stands.arrays y label' i known' turn' inside
       ∙ ap (λ l. get_or l i (pos 0)) (sym (words-other store k n m word other)))
       (cases_eq m k))
-      (λ y label' block known' is_block other.
+      (λ y label' block known' turn' is_block other.
       let unlike : variable_number f.decls y ≢ k = λ same. other (ap (λ v. (get_or f.homes v no_home).slot) same) in
       sym
       (other-block (home_of f y).bank block
-      (λ same_bank. unlike-block y label' known' unlike block is_block same_bank)))
+      (λ same_bank. unlike-block y label' known' turn' unlike block is_block same_bank)))
 
   -- with an element set the machine stands for the store with it
   pub stands-element_set : (t : State) → t.slots ≡ written.slots → t.banks ≡ written.banks

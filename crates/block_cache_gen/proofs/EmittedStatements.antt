@@ -2,7 +2,7 @@
 use Rattle.std.proofs.Common.{◌≡◌, ℕ, ◌+◌, ◌*◌, ◌≤◌, List, [], ◌∷◌, ◌++◌, length, ℤ, pos, ap, ◌∙◌, subst, arith}
 use Rattle.gr_word.specs.declared.variables.Label.{Label}
 use Rattle.lt_isa.specs.Limits.{most_instructions}
-use Rattle.lt_isa.specs.declared.instructions.Instr.TheVariants.{Li, Stb}
+use Rattle.lt_isa.specs.declared.instructions.Instr.TheVariants.{Li}
 use Rattle.src_tree.specs.Contexts.{context_of}
 use Rattle.src_tree.specs.Labels.{label_of}
 use Rattle.src_tree.specs.Limits.{tree_weight}
@@ -11,7 +11,7 @@ use Rattle.block_cache_gen.specs.declared.frames.CodeBuf.{CodeBuf}
 use Rattle.block_cache_gen.specs.declared.frames.Mode.{Mode}
 use Rattle.block_cache_gen.specs.declared.frames.Mode.TheVariants.{Public}
 use Rattle.block_cache_gen.specs.Homes.{Home, Setting, home_of}
-use Rattle.block_cache_gen.specs.Codes.{access_code, fixed_index, expr_code, store_code}
+use Rattle.block_cache_gen.specs.Codes.{access_code, fixed_index, expr_code, store_code, stored_code}
 use Rattle.block_cache_gen.specs.Notes.{all_marked, expr_notes, marked_by}
 use Rattle.block_cache_gen.specs.Emitted.{Appended, no_notes, notes_in, access_notes, EmitsExpr, EmitsAccess, EmitsSet}
 use Rattle.block_cache_gen.proofs.Emitting.{silent_behind}
@@ -37,25 +37,25 @@ pub element_set : (f : Setting) (mode : Mode) (x y : List ℕ) (i e : Tree) (h :
     (a b c d last : CodeBuf)
     → y ≡ x → h ≡ home_of f y → label ≡ label_of (context_of f.decls) e → other ≡ marked_by label all_marked 0
     → EmitsExpr f mode all_marked 0 e a b → EmitsAccess f mode h other 1 i b c
-    → Appended c d (store_code mode h.slot) no_notes → Appended d last (Stb h.slot ∷ []) no_notes
+    → Appended c d (store_code mode h.slot) no_notes → Appended d last (stored_code h.resident h.slot) no_notes
     → EmitsSet f mode (SetElement x i e) a last
 element_set f mode x y i e h label other a b c d last same home is_label is_other value access store block =
     let log = f.profile.block_log in
     let index = expr_code f mode 1 i in
     let P : Home → ℕ → Type 0 = λ k m. Appended a last
     (expr_code f mode 0 e
-    ++ (access_code log mode k 1 (fixed_index k i) index ++ (store_code mode k.slot ++ Stb k.slot ∷ [])))
+    ++ (access_code log mode k 1 (fixed_index k i) index ++ (store_code mode k.slot ++ stored_code k.resident k.slot)))
     (λ place. notes_in mode
     (expr_notes f all_marked 0 place e ++ access_notes f k m 1 i (place + length (expr_code f Public 0 e)))) in
     subst (P (home_of f x)) (is_other ∙ ap (λ k. marked_by k all_marked 0) is_label)
     (subst (λ k. P k other) (home ∙ ap (home_of f) same)
     (expr_then f mode all_marked 0 e
-    (access_code log mode h 1 (fixed_index h i) index ++ (store_code mode h.slot ++ Stb h.slot ∷ []))
+    (access_code log mode h 1 (fixed_index h i) index ++ (store_code mode h.slot ++ stored_code h.resident h.slot))
     (λ place. access_notes f h other 1 i place) a b last value
     (silent_behind b c last (access_code log mode h 1 (fixed_index h i) index)
-    (store_code mode h.slot ++ Stb h.slot ∷ [])
+    (store_code mode h.slot ++ stored_code h.resident h.slot)
     (λ place. notes_in mode (access_notes f h other 1 i place)) access
-    (silent_behind c d last (store_code mode h.slot) (Stb h.slot ∷ []) no_notes store block))))
+    (silent_behind c d last (store_code mode h.slot) (stored_code h.resident h.slot) no_notes store block))))
 
 -- behind the value there is room for the access
 pub room_for_access : (f : Setting) (mode : Mode) (i e : Tree) (a b : CodeBuf)

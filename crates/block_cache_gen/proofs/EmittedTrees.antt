@@ -1,5 +1,5 @@
 -- What is appended for expressions, by their parts.
-use Rattle.std.proofs.Common.{◌≡◌, ℕ, ◌+◌, ◌*◌, ◌<◌, ◌≤◌, ◌^◌, List, [], ◌∷◌, ◌++◌, length, Option, Some, None, ℤ, refl, sym, ap, ◌∙◌, subst, arith, length-append, add_assoc}
+use Rattle.std.proofs.Common.{◌≡◌, ℕ, ◌+◌, ◌*◌, ◌<◌, ◌≤◌, ◌^◌, Bool, true, false, append_assoc, List, [], ◌∷◌, ◌++◌, length, Option, Some, None, ℤ, refl, sym, ap, ◌∙◌, subst, arith, length-append, add_assoc}
 use Rattle.gr_word.specs.declared.operations.Op.{Op}
 use Rattle.gr_word.specs.declared.variables.Label.{Label}
 use Rattle.lt_isa.specs.Limits.{most_instructions}
@@ -14,11 +14,11 @@ use Rattle.block_cache_gen.specs.declared.frames.CodeBuf.{CodeBuf}
 use Rattle.block_cache_gen.specs.declared.frames.Mode.{Mode}
 use Rattle.block_cache_gen.specs.declared.frames.Mode.TheVariants.{Public}
 use Rattle.block_cache_gen.specs.Homes.{Home, Setting, home_of}
-use Rattle.block_cache_gen.specs.Codes.{reduced_code, shift_code, fixed_code, load_code, skips, access_code, fixed_index, expr_code}
-use Rattle.block_cache_gen.specs.Notes.{expr_notes, index_notes, load_notes, marked_by}
+use Rattle.block_cache_gen.specs.Codes.{access_by, found_by, reduced_code, shift_code, fixed_code, load_code, skips, access_code, fixed_index, expr_code}
+use Rattle.block_cache_gen.specs.Notes.{expr_notes, index_notes, loaded_notes, load_notes, marked_by}
 use Rattle.block_cache_gen.specs.Emitted.{Appended, no_notes, notes_in, access_notes, EmitsExpr, EmitsAccess}
 use Rattle.block_cache_gen.proofs.Emitting.{appended_then, appended_as, appended_length, silent_behind, silent_before, notes_both, notes_by}
-use Rattle.block_cache_gen.proofs.Sizes.{located_length, expr_code_short}
+use Rattle.block_cache_gen.proofs.Sizes.{expr_code_short}
 
 -- an access, by what is known of its index
 abbrev pub AccessBy : Setting → Mode → Home → (mask to : ℕ) → Tree → Option ℤ → CodeBuf → CodeBuf → Type 0
@@ -33,71 +33,65 @@ AccessBy f mode h mask to i fixed a c =
 abbrev pub EmitsLoad : Setting → Mode → Home → (mask to : ℕ) → CodeBuf → CodeBuf → Type 0
 EmitsLoad f mode h mask to a b =
     Appended a b (load_code (skips mode h) h to)
-    (λ place. notes_in mode (load_notes f h mask to (place + length (load_code (skips Public h) h to))))
+    (λ place. notes_in mode (loaded_notes false f h mask to (place + length (load_code (skips Public h) h to))))
 
 further : (place : ℕ) (xs ys : List Instr) → place + length xs + length ys ≡ place + length (xs ++ ys)
 further place xs ys = add_assoc place (length xs) (length ys) ∙ ap (λ n. place + n) (sym (length-append xs ys))
 
--- the pieces of an access by a number are its code
-pub access_fixed : (f : Setting) (mode : Mode) (h : Home) (mask to : ℕ) (i : Tree) (z : ℤ) (a b c : CodeBuf)
-    → fixed_index h i ≡ Some z → Appended a b (fixed_code f.profile.block_log h to z) no_notes
-    → EmitsLoad f mode h mask to b c → EmitsAccess f mode h mask to i a c
-access_fixed f mode h mask to i z a b c is x y =
+-- the code of an access by a number, and what follows the code of any other index
+abbrev pub EmitsFixed : Setting → Mode → Home → (mask to : ℕ) → ℤ → CodeBuf → CodeBuf → Type 0
+EmitsFixed f mode h mask to z a c =
+    Appended a c (access_by h.resident f.profile.block_log mode h to (Some z) [])
+    (λ place. notes_in mode
+    (loaded_notes h.resident f h mask to
+    (place + length (access_by h.resident f.profile.block_log Public h to (Some z) []))))
+
+abbrev pub EmitsFound : Setting → Mode → Home → (mask to : ℕ) → CodeBuf → CodeBuf → Type 0
+EmitsFound f mode h mask to b c =
+    Appended b c (found_by h.resident f.profile.block_log mode h to)
+    (λ place. notes_in mode
+    (loaded_notes h.resident f h mask to (place + length (found_by h.resident f.profile.block_log Public h to))))
+
+-- the pieces of an access by a number that loads its block
+pub fixed_loaded : (f : Setting) (mode : Mode) (h : Home) (mask to : ℕ) (z : ℤ) (a b c : CodeBuf)
+    → h.resident ≡ false → Appended a b (fixed_code f.profile.block_log h to z) no_notes
+    → EmitsLoad f mode h mask to b c → EmitsFixed f mode h mask to z a c
+fixed_loaded f mode h mask to z a b c turn x y =
     let log = f.profile.block_log in
-    let P : Option ℤ → Type 0 = λ fixed. AccessBy f mode h mask to i fixed a c in
-    subst P (sym is)
+    let P : Bool → Type 0 = λ r. Appended a c (access_by r log mode h to (Some z) [])
+    (λ place. notes_in mode (loaded_notes r f h mask to (place + length (access_by r log Public h to (Some z) [])))) in
+    subst P (sym turn)
     (appended_as a c (fixed_code log h to z ++ load_code (skips mode h) h to)
     (fixed_code log h to z ++ load_code (skips mode h) h to)
     (λ place. notes_in mode
-    (load_notes f h mask to (place + length (fixed_code log h to z) + length (load_code (skips Public h) h to))))
+    (loaded_notes false f h mask to
+    (place + length (fixed_code log h to z) + length (load_code (skips Public h) h to))))
     (λ place. notes_in mode
-    (load_notes f h mask to (place + length (fixed_code log h to z ++ load_code (skips Public h) h to))))
+    (loaded_notes false f h mask to (place + length (fixed_code log h to z ++ load_code (skips Public h) h to))))
     refl
-    (λ place. ap (λ n. notes_in mode (load_notes f h mask to n))
+    (λ place. ap (λ n. notes_in mode (loaded_notes false f h mask to n))
     (further place (fixed_code log h to z) (load_code (skips Public h) h to)))
     (silent_before a b c (fixed_code log h to z) (load_code (skips mode h) h to)
-    (λ place. notes_in mode (load_notes f h mask to (place + length (load_code (skips Public h) h to)))) x y))
+    (λ place. notes_in mode (loaded_notes false f h mask to (place + length (load_code (skips Public h) h to)))) x y))
 
--- the pieces of an access by any other index are its code
-pub access_worked : (f : Setting) (mode : Mode) (h : Home) (mask to : ℕ) (i : Tree) (a b c d : CodeBuf)
-    → fixed_index h i ≡ None → EmitsExpr f mode mask to i a b
-    → Appended b c (reduced_code h to ++ shift_code f.profile.block_log h to) no_notes
-    → EmitsLoad f mode h mask to c d → EmitsAccess f mode h mask to i a d
-access_worked f mode h mask to i a b c d is x y z =
+-- the pieces of an access by a number are its code
+pub access_fixed : (f : Setting) (mode : Mode) (h : Home) (mask to : ℕ) (i : Tree) (z : ℤ) (a c : CodeBuf)
+    → fixed_index h i ≡ Some z → EmitsFixed f mode h mask to z a c → EmitsAccess f mode h mask to i a c
+access_fixed f mode h mask to i z a c is x =
     let log = f.profile.block_log in
-    let located : List Instr = reduced_code h to ++ shift_code log h to in
-    let skipped : List Instr = load_code (skips Public h) h to in
-    let loaded : ℕ → List Note = λ n. load_notes f h mask to n in
-    let P : Option ℤ → Type 0 = λ fixed. AccessBy f mode h mask to i fixed a d in
-    subst P (sym is)
-    (appended_as a d (expr_code f mode to i ++ located ++ load_code (skips mode h) h to)
-    (expr_code f mode to i ++ located ++ load_code (skips mode h) h to)
-    (λ place. notes_in mode (expr_notes f mask to place i)
-    ++ notes_in mode (loaded (place + length (expr_code f mode to i ++ located) + length skipped)))
-    (λ place. notes_in mode
-    (expr_notes f mask to place i ++ loaded (place + length (expr_code f Public to i ++ located ++ skipped))))
-    refl
-    (λ place. ap (λ ns. notes_in mode (expr_notes f mask to place i) ++ ns)
-    (notes_by mode (λ m. expr_code f m to i) (λ code. loaded (place + length (code ++ located) + length skipped))
-    ∙ ap (λ n. notes_in mode (loaded n)) (further place (expr_code f Public to i ++ located) skipped))
-    ∙ notes_both mode (expr_notes f mask to place i)
-    (loaded (place + length (expr_code f Public to i ++ located ++ skipped))))
-    (appended_then a c d (expr_code f mode to i ++ located) (load_code (skips mode h) h to)
-    (λ place. notes_in mode (expr_notes f mask to place i))
-    (λ place. notes_in mode (loaded (place + length skipped)))
-    (silent_behind a b c (expr_code f mode to i) located (λ place. notes_in mode (expr_notes f mask to place i)) x y)
-    z))
-
-pub element_emitted : (f : Setting) (mode : Mode) (mask to : ℕ) (x : List ℕ) (i : Tree) (h : Home) (a b c : CodeBuf)
-    → h ≡ home_of f x → EmitsAccess f mode h mask to i a b → Appended b c (Ldw to h.slot to ∷ []) no_notes
-    → EmitsExpr f mode mask to (Element x i) a c
-element_emitted f mode mask to x i h a b c is y z =
-    let P : Home → Type 0 = λ k. Appended a c
-    (access_code f.profile.block_log mode k to (fixed_index k i) (expr_code f mode to i) ++ Ldw to k.slot to ∷ [])
-    (λ place. notes_in mode (access_notes f k mask to i place)) in
-    subst P is
-    (silent_behind a b c (access_code f.profile.block_log mode h to (fixed_index h i) (expr_code f mode to i))
-    (Ldw to h.slot to ∷ []) (λ place. notes_in mode (access_notes f h mask to i place)) y z)
+    let P : Option ℤ → Type 0 = λ fixed. AccessBy f mode h mask to i fixed a c in
+    subst P (sym is) (by h.resident x)
+  where
+    by : (r : Bool)
+        → Appended a c (access_by r f.profile.block_log mode h to (Some z) [])
+        (λ place. notes_in mode
+        (loaded_notes r f h mask to (place + length (access_by r f.profile.block_log Public h to (Some z) []))))
+        → Appended a c (access_by r f.profile.block_log mode h to (Some z) (expr_code f mode to i))
+        (λ place. notes_in mode
+        ([] ++ loaded_notes r f h mask to
+        (place + length (access_by r f.profile.block_log Public h to (Some z) (expr_code f Public to i)))))
+    by true y = y
+    by false y = y
 
 -- an expression, and what stands behind it
 pub expr_then : (f : Setting) (mode : Mode) (mask to : ℕ) (l : Tree) (code : List Instr) (second : ℕ → List Note)
@@ -116,6 +110,56 @@ expr_then f mode mask to l code second a b c x y =
     (appended_then a b c (expr_code f mode to l) code (λ place. notes_in mode (expr_notes f mask to place l))
     (λ place. notes_in mode (second place)) x y)
 
+-- the pieces of an access by any other index are its code
+pub access_worked : (f : Setting) (mode : Mode) (h : Home) (mask to : ℕ) (i : Tree) (a b c : CodeBuf)
+    → fixed_index h i ≡ None → EmitsExpr f mode mask to i a b → EmitsFound f mode h mask to b c
+    → EmitsAccess f mode h mask to i a c
+access_worked f mode h mask to i a b c is x y =
+    let P : Option ℤ → Type 0 = λ fixed. AccessBy f mode h mask to i fixed a c in
+    subst P (sym is) (by h.resident y)
+  where
+    by : (r : Bool)
+        → Appended b c (found_by r f.profile.block_log mode h to)
+        (λ place. notes_in mode
+        (loaded_notes r f h mask to (place + length (found_by r f.profile.block_log Public h to))))
+        → Appended a c (access_by r f.profile.block_log mode h to None (expr_code f mode to i))
+        (λ place. notes_in mode
+        (expr_notes f mask to place i
+        ++ loaded_notes r f h mask to
+        (place + length (access_by r f.profile.block_log Public h to None (expr_code f Public to i)))))
+    by true z =
+        expr_then f mode mask to i (found_by true f.profile.block_log mode h to) (λ place. []) a b c x z
+    by false z =
+        let log = f.profile.block_log in
+        let located : List Instr = reduced_code h to ++ shift_code log h to in
+        let skipped : List Instr = load_code (skips Public h) h to in
+        let index : List Instr = expr_code f Public to i in
+        appended_as a c (expr_code f mode to i ++ found_by false log mode h to)
+        (expr_code f mode to i ++ located ++ load_code (skips mode h) h to)
+        (λ place. notes_in mode
+        (expr_notes f mask to place i
+        ++ loaded_notes false f h mask to (place + length index + length (located ++ skipped))))
+        (λ place. notes_in mode
+        (expr_notes f mask to place i
+        ++ loaded_notes false f h mask to (place + length (index ++ located ++ skipped))))
+        (sym (append_assoc (expr_code f mode to i) located (load_code (skips mode h) h to)))
+        (λ place. ap (λ n. notes_in mode (expr_notes f mask to place i ++ loaded_notes false f h mask to n))
+        (further place index (located ++ skipped)
+        ∙ ap (λ l. place + length l) (sym (append_assoc index located skipped))))
+        (expr_then f mode mask to i (found_by false log mode h to)
+        (λ place. loaded_notes false f h mask to (place + length (located ++ skipped))) a b c x z)
+
+pub element_emitted : (f : Setting) (mode : Mode) (mask to : ℕ) (x : List ℕ) (i : Tree) (h : Home) (a b c : CodeBuf)
+    → h ≡ home_of f x → EmitsAccess f mode h mask to i a b → Appended b c (Ldw to h.slot to ∷ []) no_notes
+    → EmitsExpr f mode mask to (Element x i) a c
+element_emitted f mode mask to x i h a b c is y z =
+    let P : Home → Type 0 = λ k. Appended a c
+    (access_code f.profile.block_log mode k to (fixed_index k i) (expr_code f mode to i) ++ Ldw to k.slot to ∷ [])
+    (λ place. notes_in mode (access_notes f k mask to i place)) in
+    subst P is
+    (silent_behind a b c (access_code f.profile.block_log mode h to (fixed_index h i) (expr_code f mode to i))
+    (Ldw to h.slot to ∷ []) (λ place. notes_in mode (access_notes f h mask to i place)) y z)
+
 pub operation_emitted : (f : Setting) (mode : Mode) (mask to : ℕ) (op : Op) (l r : Tree) (other : ℕ) (a b c d : CodeBuf)
     → other ≡ marked_by (label_of (context_of f.decls) l) mask to
     → EmitsExpr f mode mask to l a b → EmitsExpr f mode other (to + 1) r b c
@@ -132,18 +176,6 @@ operation_emitted f mode mask to op l r other a b c d is x y z =
     (silent_behind b c d (expr_code f mode (to + 1) r) (Alu op to to (to + 1) ∷ [])
     (λ place. notes_in mode (expr_notes f other (to + 1) place r)) y z))
 
--- room for the load behind an index, and for the right part of an operation
-pub room_for_load : (f : Setting) (mode : Mode) (h : Home) (mask to : ℕ) (i : Tree) (a b c : CodeBuf)
-    → length a.code.items + 120 * (1 + tree_weight i) ≤ most_instructions
-    → EmitsExpr f mode mask to i a b → Appended b c (reduced_code h to ++ shift_code f.profile.block_log h to) no_notes
-    → length c.code.items + 3 < 2 ^ 32
-room_for_load f mode h mask to i a b c room x y =
-    let one = appended_length a b (expr_code f mode to i) _ x in
-    let two = appended_length b c (reduced_code h to ++ shift_code f.profile.block_log h to) no_notes y in
-    let six = located_length f.profile.block_log h to in
-    let short = expr_code_short f mode to i in
-    omega arith
-
 -- behind the left side there is room for the right one
 pub room_for_right : (f : Setting) (mode : Mode) (mask to : ℕ) (l : Tree) (right : ℕ) (a b : CodeBuf)
     → length a.code.items + 120 * (tree_weight l + right) ≤ most_instructions → EmitsExpr f mode mask to l a b
@@ -152,6 +184,13 @@ room_for_right f mode mask to l right a b room x =
     let one = appended_length a b (expr_code f mode to l) _ x in
     let short = expr_code_short f mode to l in
     omega arith
+
+-- and behind an index for the rest of its access
+pub room_for_found : (f : Setting) (mode : Mode) (mask to : ℕ) (i : Tree) (a b : CodeBuf)
+    → length a.code.items + 120 * (1 + tree_weight i) ≤ most_instructions → EmitsExpr f mode mask to i a b
+    → length b.code.items + 12 < 2 ^ 32
+room_for_found f mode mask to i a b room x =
+    let rest = room_for_right f mode mask to i 1 a b (omega arith) x in omega arith
 
 -- the same of an expression that is such a tree
 pub element_appended : (f : Setting) (mode : Mode) (mask to : ℕ) (e : Tree) (x y : List ℕ) (i j : Tree) (h : Home)

@@ -1,12 +1,12 @@
 -- The code of an expression, run, leaves its value, and is seen to make its accesses.
-use Rattle.std.proofs.Common.{◌≡◌, ℕ, ◌+◌, ◌/◌, ◌%◌, ◌<◌, ◌≤◌, ℤ, pos, List, [], ◌∷◌, ◌++◌, get_or, append-nil, Some, refl, sym, ap, ◌∙◌, arith, mod-eq_of_lt}
+use Rattle.std.proofs.Common.{◌≡◌, ℕ, ◌+◌, ◌/◌, ◌%◌, ◌<◌, ◌≤◌, Bool, true, false, ℤ, pos, List, [], ◌∷◌, ◌++◌, append-nil, Some, refl, sym, ap, ◌∙◌, subst, arith}
 use Rattle.gr_word.specs.Words.{applied}
 use Rattle.gr_word.specs.declared.variables.Label.{Label}
 use Rattle.gr_word.specs.declared.variables.Shape.TheVariants.{Scalar, Array}
 use Rattle.lt_isa.specs.declared.instructions.Instr.TheVariants.{Li, Alu, Ldw}
 use Rattle.lt_isa.specs.Object.{Parts}
 use Rattle.lt_isa.specs.Ranges.{IsInRange}
-use Rattle.lt_isa.specs.Machine.{State, Unbound, Bound, register, slot, block_at, word_in, slot_words}
+use Rattle.lt_isa.specs.Machine.{State, register, block_at, word_in}
 use Rattle.lt_isa.specs.Shape.{IsShaped}
 use Rattle.lt_isa.specs.Step.{word_named}
 use Rattle.stretches.specs.Standing.{StandsAt}
@@ -20,13 +20,14 @@ use Rattle.src_tree.specs.Typing.{TypedTree}
 use Rattle.src_tree.proofs.TreeHeights.{height-some}
 use Rattle.block_cache_gen.specs.declared.frames.Mode.{Mode}
 use Rattle.block_cache_gen.specs.Homes.{Setting, HasHomes, home_of, words_a_block, start_of_home}
-use Rattle.block_cache_gen.specs.Codes.{fixed_index, scalar_code, access_code, expr_code}
+use Rattle.block_cache_gen.specs.Codes.{fixed_index, scalar_code, access_by, placed_code, expr_code}
 use Rattle.block_cache_gen.specs.StandsFor.{StandsFor, FitsHomes}
-use Rattle.block_cache_gen.specs.Accesses.{access_of, accesses, word_number, block_in, slots_after, seen_of_all}
+use Rattle.block_cache_gen.specs.Accesses.{access_of, accessed_by, accesses, word_number, block_in, slots_after, seen_of_all}
 use Rattle.block_cache_gen.specs.LeavesWord.{LeavesWord}
 use Rattle.block_cache_gen.proofs.AccessLaws.{slots_after-append, seen_of_all-append}
 use Rattle.block_cache_gen.proofs.HomeFacts.{block_words-is, word-block, word-place}
-use Rattle.block_cache_gen.proofs.Stands.{stands-like, scalar-held}
+use Rattle.block_cache_gen.proofs.Stands.{stands-like}
+use Rattle.block_cache_gen.proofs.ResidentRuns.{runs-placed, runs-read, resident-within}
 use Rattle.block_cache_gen.proofs.AccessRuns.{Accesses, runs-access, word-within}
 
 -- where one register was set, a word is left and nothing was accessed
@@ -51,22 +52,15 @@ module _ (o : Parts) (fits : IsInRange o) (f : Setting) (homes : HasHomes o f) (
       let h = home_of f x in
       let home = homes.scalars x label known in
       let value = scalar store (variable_number f.decls x) in
-      let held = scalar-held stands label h.slot (home.slot ∙ home.bank) in
       let load = Ldw to h.slot to in
       runs-cons s (Li to (pos h.word)) (load ∷ []) [] [] (Sets s to (pos h.word)) (LeavesWord f store [] to value s) at
       (sets-li o fits s shaped to (pos h.word) small)
       (λ t shape sets at'.
-      let holds : slot t h.slot ≡ Bound h.slot 0 held.words =
-      ap (λ l. get_or l h.slot Unbound) sets.slots ∙ held.holds in
-      let named : word_named o (register t to) ≡ h.word =
-      ap (λ word. word_named o word) sets.value ∙ mod-eq_of_lt home.word in
-      let reads : word_in held.words (word_named o (register t to)) ≡ value =
-      ap (λ k. word_in held.words k) named
-      ∙ ap (λ b. word_in (slot_words b) h.word) (sym held.holds)
-      ∙ stands.scalars x label known in
+      let stands' = stands-like f s t store sets.slots sets.banks stands in
+      let place : register t to ≡ pos (h.word + 0) = sets.value ∙ ap pos (omega arith) in
       runs-weaker t (load ∷ []) [] [] (Sets t to value) (LeavesWord f store [] to value s)
-      (runs-one t load [] (Sets t to value) at'
-      (sets-ldw o fits t shape to h.slot to h.slot 0 held.words value small holds reads))
+      (runs-read o fits f homes store store_fits x label Scalar known home.resident to 0 t shape stands'
+      (omega (arith, home.length)) small place at')
       refl
       (λ u shape' sets'. record {
         value = sets'.value;
@@ -78,21 +72,108 @@ module _ (o : Parts) (fits : IsInRange o) (f : Setting) (homes : HasHomes o f) (
       }))
 
   -- the word of an element, in the block that an access leaves
-  pub element-word : (x : List ℕ) (label : Label) → context_of f.decls x ≡ Some (label, Array) → (s : State)
-      → StandsFor f s store → (index : ℤ)
+  pub element-word : (x : List ℕ) (label : Label) → context_of f.decls x ≡ Some (label, Array)
+      → (home_of f x).resident ≡ false → (s : State) → StandsFor f s store → (index : ℤ)
       → word_in (block_in s.banks (home_of f x).bank (access_of f store x index).block)
       (word_number f store x index % words_a_block f)
       ≡ element store (variable_number f.decls x) index
-  element-word x label known s stands index =
+  element-word x label known turn s stands index =
       let h = home_of f x in
-      let home = homes.arrays x label known in
+      let home = homes.arrays x label known turn in
       let w = words_a_block f in
       let n = word_number f store x index in
       let block = word-block o fits f homes label h home n in
       let word = word-place o fits f homes label h home n in
       ap (λ b. word_in (block_at s h.bank b) (n % w)) (sym block)
       ∙ ap (λ m. word_in (block_at s h.bank ((start_of_home w h + n) / w)) m) (sym word)
-      ∙ stands.arrays x label n known (word-within o fits f homes store store_fits x label known index)
+      ∙ stands.arrays x label n known turn (word-within o fits f homes store store_fits x label known turn index)
+
+  -- an element, where what the code of its index does is known
+  runs-element : (mode : Mode) (x : List ℕ) (i : Tree) (label : Label) → context_of f.decls x ≡ Some (label, Array)
+      → (to : ℕ) → to + 2 < 32 → (s : State) → IsShaped o s → StandsFor f s store
+      → (StandsAt o s.place (expr_code f mode to i)
+      → RunsThrough o s (expr_code f mode to i) (seen_of_all mode s.banks s.slots (accesses f store i))
+      (LeavesWord f store (accesses f store i) to (evaluated f.decls store i) s))
+      → (resident : Bool) → (home_of f x).resident ≡ resident
+      → StandsAt o s.place
+      (access_by resident f.profile.block_log mode (home_of f x) to (fixed_index (home_of f x) i)
+      (expr_code f mode to i)
+      ++ Ldw to (home_of f x).slot to ∷ [])
+      → RunsThrough o s
+      (access_by resident f.profile.block_log mode (home_of f x) to (fixed_index (home_of f x) i)
+      (expr_code f mode to i)
+      ++ Ldw to (home_of f x).slot to ∷ [])
+      (seen_of_all mode s.banks s.slots
+      (accesses f store i ++ accessed_by resident (access_of f store x (evaluated f.decls store i))))
+      (LeavesWord f store
+      (accesses f store i ++ accessed_by resident (access_of f store x (evaluated f.decls store i))) to
+      (element store (variable_number f.decls x) (evaluated f.decls store i)) s)
+  runs-element mode x i label known to small s shaped stands run true resident at =
+      let h = home_of f x in
+      let index = evaluated f.decls store i in
+      let n = word_number f store x index in
+      let value = element store (variable_number f.decls x) index in
+      let before = accesses f store i in
+      let code = placed_code h to (fixed_index h i) (expr_code f mode to i) in
+      let load = Ldw to h.slot to in
+      let seen = seen_of_all mode s.banks s.slots before in
+      let same : before ≡ before ++ [] = sym (append-nil before) in
+      let Done : State → Type 0 = LeavesWord f store before to value s in
+      subst (λ l. RunsThrough o s (code ++ load ∷ []) (seen_of_all mode s.banks s.slots l)
+      (LeavesWord f store l to value s))
+      same
+      (runs-weaker s (code ++ load ∷ []) (seen ++ []) seen Done Done
+      (runs-append s code (load ∷ []) seen [] (LeavesWord f store before to (pos (h.word + n)) s) Done at
+      (runs-placed o fits f homes store store_fits x label Array known resident mode to i s shaped stands small run
+      (fixed_index h i) refl)
+      (λ t shape placed at'.
+      runs-weaker t (load ∷ []) [] [] (Sets t to value) Done
+      (runs-read o fits f homes store store_fits x label Array known resident to n t shape placed.stands
+      (resident-within o fits f homes store store_fits x label Array known resident index)
+      (omega arith) placed.value at')
+      refl
+      (λ u shape' sets. record {
+        value = sets.value;
+        below = λ r under. sets.others r (λ same. absurd (omega arith)) ∙ placed.below r under;
+        banks = sets.banks ∙ placed.banks;
+        slots = sets.slots ∙ placed.slots;
+        stands = stands-like f t u store sets.slots sets.banks placed.stands;
+      })))
+      (append-nil seen)
+      (λ t shape done. done))
+  runs-element mode x i label known to small s shaped stands run false turn at =
+      let h = home_of f x in
+      let index = evaluated f.decls store i in
+      let n = word_number f store x index in
+      let a = access_of f store x index in
+      let value = element store (variable_number f.decls x) index in
+      let before = accesses f store i in
+      let code = access_by false f.profile.block_log mode h to (fixed_index h i) (expr_code f mode to i) in
+      let load = Ldw to h.slot to in
+      let seen = seen_of_all mode s.banks s.slots (before ++ a ∷ []) in
+      let Done : State → Type 0 = LeavesWord f store (before ++ a ∷ []) to value s in
+      runs-weaker s (code ++ load ∷ []) (seen ++ []) seen Done Done
+      (runs-append s code (load ∷ []) seen [] (Accesses f store before a to n s) Done at
+      (runs-access o fits f homes store store_fits x label known turn mode to i s shaped stands small run)
+      (λ t shape accessed at'.
+      let named : word_named o (register t to) ≡ n % words_a_block f =
+      ap (λ word. word_named o word) accessed.leaves.value ∙ ap (λ w. n % w) (block_words-is homes) in
+      let words = block_in s.banks h.bank a.block in
+      let reads : word_in words (word_named o (register t to)) ≡ value =
+      ap (λ k. word_in words k) named ∙ element-word x label known turn s stands index in
+      runs-weaker t (load ∷ []) [] [] (Sets t to value) Done
+      (runs-one t load [] (Sets t to value) at'
+      (sets-ldw o fits t shape to h.slot to h.bank a.block words value (omega arith) accessed.held reads))
+      refl
+      (λ u shape' sets. record {
+        value = sets.value;
+        below = λ r under. sets.others r (λ same. absurd (omega arith)) ∙ accessed.leaves.below r under;
+        banks = sets.banks ∙ accessed.leaves.banks;
+        slots = sets.slots ∙ accessed.leaves.slots;
+        stands = stands-like f t u store sets.slots sets.banks accessed.leaves.stands;
+      })))
+      (append-nil seen)
+      (λ t shape done. done)
 
   -- an expression
   pub runs-expression : (mode : Mode) (e : Tree) → TypedTree (context_of f.decls) e → (to : ℕ) → to + height_of e ≤ 26
@@ -107,42 +188,8 @@ module _ (o : Parts) (fits : IsInRange o) (f : Setting) (homes : HasHomes o f) (
   runs-expression mode (Variable x) typed to room s shaped stands at =
       runs-scalar x typed.0 typed.1 to (omega arith) s shaped stands at
   runs-expression mode (Element x i) typed to room s shaped stands at =
-      let label = typed.0.0 in
-      let known = typed.0.1 in
-      let h = home_of f x in
-      let index = evaluated f.decls store i in
-      let n = word_number f store x index in
-      let a = access_of f store x index in
-      let value = element store (variable_number f.decls x) index in
-      let before = accesses f store i in
-      let code = access_code f.profile.block_log mode h to (fixed_index h i) (expr_code f mode to i) in
-      let load = Ldw to h.slot to in
-      let seen = seen_of_all mode s.banks s.slots (before ++ a ∷ []) in
-      let Done : State → Type 0 = LeavesWord f store (before ++ a ∷ []) to value s in
-      runs-weaker s (code ++ load ∷ []) (seen ++ []) seen Done Done
-      (runs-append s code (load ∷ []) seen [] (Accesses f store before a to n s) Done at
-      (runs-access o fits f homes store store_fits x label known mode to i s shaped stands
-      (omega (arith, height-some i))
-      (runs-expression mode i typed.1.0 to (omega arith) s shaped stands))
-      (λ t shape accessed at'.
-      let named : word_named o (register t to) ≡ n % words_a_block f =
-      ap (λ word. word_named o word) accessed.leaves.value ∙ ap (λ w. n % w) (block_words-is homes) in
-      let words = block_in s.banks h.bank a.block in
-      let reads : word_in words (word_named o (register t to)) ≡ value =
-      ap (λ k. word_in words k) named ∙ element-word x label known s stands index in
-      runs-weaker t (load ∷ []) [] [] (Sets t to value) Done
-      (runs-one t load [] (Sets t to value) at'
-      (sets-ldw o fits t shape to h.slot to h.bank a.block words value (omega arith) accessed.held reads))
-      refl
-      (λ u shape' sets. record {
-        value = sets.value;
-        below = λ r under. sets.others r (λ same. absurd (omega arith)) ∙ accessed.leaves.below r under;
-        banks = sets.banks ∙ accessed.leaves.banks;
-        slots = sets.slots ∙ accessed.leaves.slots;
-        stands = stands-like f t u store sets.slots sets.banks accessed.leaves.stands;
-      })))
-      (append-nil seen)
-      (λ t shape done. done)
+      runs-element mode x i typed.0.0 typed.0.1 to (omega (arith, height-some i)) s shaped stands
+      (runs-expression mode i typed.1.0 to (omega arith) s shaped stands) (home_of f x).resident refl at
   runs-expression mode (Operation op left right) typed to room s shaped stands at =
       let a = evaluated f.decls store left in
       let b = evaluated f.decls store right in

@@ -23,7 +23,7 @@ use Rattle.block_cache_gen.specs.Notes.{all_marked, expr_notes, guard_notes, set
 use Rattle.block_cache_gen.specs.TreeWords.{HasWords, TestHasWords, SetHasWords}
 use Rattle.block_cache_gen.proofs.Emitting.{appended_length}
 use Rattle.block_cache_gen.proofs.RangesOfCode.{CodeFits, HomesFit, code-all, expression-fits, guard-fits, set_variable-fits, set_element-fits}
-use Rattle.block_cache_gen.proofs.RangesOfNotes.{NotesRise, rise-fits, expression-rises, guard-rises, set-rises, expression-count, guard-count, set_variable-count, set_element-count}
+use Rattle.block_cache_gen.proofs.RangesOfNotes.{PinsLow, NotesRise, rise-fits, expression-rises, guard-rises, set-rises, expression-count, guard-count, set_variable-count, set_element-count}
 use Rattle.block_cache_gen.proofs.Sizes.{expr_code_short, guard_code_short, set_code_short}
 
 -- notes that rise stand between their bounds
@@ -56,11 +56,12 @@ silent_in Mirrored notes secret = refl
 -- whatever was appended within its weight, in its ranges and with rising notes extends the code
 pub extends : (f : Setting) (banks : ℕ) (mode : Mode) (weight : ℕ) (code : Mode → List Instr) (noted : ℕ → List Note)
     (a b : CodeBuf)
-    → 2 ≤ banks → Appended a b (code mode) (λ place. notes_in mode (noted place)) → length (code mode) ≤ 120 * weight
+    → 2 ≤ banks → PinsLow f → Appended a b (code mode) (λ place. notes_in mode (noted place))
+    → length (code mode) ≤ 120 * weight
     → length (noted (length a.code.items)) ≤ 16 * weight → CodeFits banks (code mode)
     → NotesRise f (length a.code.items + 1) (length a.code.items + length (code Public)) (noted (length a.code.items))
     → length a.code.items + 120 * weight ≤ most_instructions → Extends banks mode weight a b
-extends f banks mode weight code noted a b some x few few_notes fits rise room =
+extends f banks mode weight code noted a b some pins x few few_notes fits rise room =
     let place = length a.code.items in
     let notes = noted place in
     let here = rise_in f mode code place notes rise in
@@ -75,7 +76,7 @@ extends f banks mode weight code noted a b some x few few_notes fits rise room =
       few_notes = omega arith;
       in_range = code-all banks (code mode) fits;
       rising = λ earlier before.
-          rise-fits f banks some (place + 1) (place + length (code mode)) earlier
+          rise-fits f banks some pins (place + 1) (place + length (code mode)) earlier
           (notes_in mode notes) before (omega arith) here;
       placed = subst (λ n. All (λ m. (place < m.pc) × (m.pc < n)) (notes_in mode notes)) (sym size)
           (rise_within f place (place + 1) (place + length (code mode)) (notes_in mode notes) (omega arith) here);
@@ -91,7 +92,7 @@ expr_extends f banks mode to e a b some homes typed low words room x =
     let short = expr_code_short f mode to e in
     let count = expression-count f e all_marked to (length a.code.items) in
     extends f banks mode (tree_weight e) (λ m. expr_code f m to e)
-    (λ place. expr_notes f all_marked to place e) a b some x
+    (λ place. expr_notes f all_marked to place e) a b some homes.pins x
     (omega arith) (omega arith) (expression-fits banks f mode homes to e typed words low)
     (expression-rises f e all_marked to (length a.code.items) (omega arith)) room
 
@@ -104,7 +105,8 @@ pub guard_extends : (f : Setting) (banks : ℕ) (mode : Mode) (to : ℕ) (t : Te
 guard_extends f banks mode to t a b some homes typed low lower words room x =
     let short = guard_code_short f mode to t in
     let count = guard-count f to (length a.code.items) t in
-    extends f banks mode (test_weight t) (λ m. guard_code f m to t) (λ place. guard_notes f to place t) a b some x
+    extends f banks mode (test_weight t) (λ m. guard_code f m to t)
+    (λ place. guard_notes f to place t) a b some homes.pins x
     (omega arith) (omega arith) (guard-fits banks f mode homes to t typed words.0 words.1 low lower)
     (guard-rises f to (length a.code.items) t) room
 
@@ -138,7 +140,7 @@ pub set_extends : (f : Setting) (banks : ℕ) (mode : Mode) (known : Context) (l
 set_extends f banks mode known label s a b some homes is code typed low words room x =
     let short = set_code_short f mode known label s is in
     extends f banks mode (statement_weight known label s) (λ m. set_code f m s)
-    (λ place. set_notes f place s) a b some x
+    (λ place. set_notes f place s) a b some homes.pins x
     (omega arith) (set_count f known label (length a.code.items) s is)
     (set_fits f banks mode s homes is code typed low words)
     (set-rises f (length a.code.items) s) room

@@ -1,15 +1,20 @@
 -- What an object that has homes says of them: its blocks' sizes, the slots, and the blocks in which elements are.
-use Rattle.std.proofs.Common.{◌≡◌, ℕ, ◌+◌, ◌*◌, ◌/◌, ◌%◌, ◌^◌, ◌<◌, ◌≤◌, ◌⊎◌, inl, inr, refl, sym, ap, ◌∙◌, subst, ⊎_elim, arith, mul-le-mul_right, add-mul, div-add-mod', pow_pos, mod-lt}
-use Rattle.std.proofs.lemmas.Bool.{cases_lt}
+use Rattle.std.proofs.Common.{◌≡◌, ◌≢◌, Bool, true, false, Option, Some, None, ℕ, ◌+◌, ◌*◌, ◌/◌, ◌%◌, ◌^◌, ◌<◌, ◌≤◌, ◌⊎◌, inl, inr, refl, sym, ap, ◌∙◌, subst, ⊎_elim, arith, mul-le-mul_right, add-mul, div-add-mod', pow_pos, mod-lt}
+use Rattle.std.proofs.lemmas.Bool.{cases_lt, lt-ltb, ltb-true}
+use Rattle.std.specs.Prelude.{nat_lt, if◌then◌else◌, List, ◌↔◌}
 use Rattle.std.proofs.lemmas.Nat.{div-mul-add, mod-mul-add}
 use Rattle.gr_base.specs.Lists.{Within}
 use Rattle.gr_word.specs.declared.variables.Label.{Label}
+use Rattle.gr_word.specs.declared.variables.Label.TheVariants.{Public, Secret}
+use Rattle.gr_word.specs.declared.variables.Shape.TheVariants.{Array}
+use Rattle.src_tree.specs.Contexts.{context_of}
+use Rattle.bank_alloc.specs.Apart.{scalar_bank}
 use Rattle.lt_isa.specs.Object.{Parts, block_words, blocks_of}
 use Rattle.lt_isa.specs.Ranges.{IsInRange, ProfileFits}
 use Rattle.lt_isa.proofs.Cycles.{blocks-most}
-use Rattle.block_cache_gen.specs.Homes.{Home, Setting, HasHomes, IsArrayHome, IsScalarHome, Serves, PlainSlot, EncryptedSlot, ObliviousSlot, words_a_block, start_of_home}
+use Rattle.block_cache_gen.specs.Homes.{Home, Setting, HasHomes, Pin, home_of, pin_at, IsArrayHome, Serves, PlainSlot, EncryptedSlot, ObliviousSlot, words_a_block, start_of_home}
 use Rattle.block_cache_gen.specs.StandsFor.{IsBlockOf}
-use Rattle.bank_alloc.proofs.Apart.{scalar_bank-lt}
+use Rattle.block_cache_gen.specs.PublicIndexes.{shows_index}
 
 -- the words of a block, as the object and as the setting say them
 pub block_words-is : {o : Parts} {f : Setting} → HasHomes o f → block_words o ≡ words_a_block f
@@ -62,13 +67,32 @@ pub serves-same : {a b slot : ℕ} → Serves a slot → Serves b slot → Withi
 serves-same {a = a} {b = b} {slot = slot} first second few =
     served-one slot a b (served_bank first few) (served_bank second few)
 
--- the slot of a scalar
-pub scalar_slot : {w : ℕ} {label : Label} {h : Home} → IsScalarHome w label h → h.slot ≤ 1
-scalar_slot {label = label} home = omega (arith, home.slot, home.bank, scalar_bank-lt label)
+-- a pinned slot and one of an array that isn't resident are two
+pub pinned-apart : (f : Setting) (j k : ℕ) (p : Pin) → pin_at f j ≡ Some p → pin_at f k ≡ None → j ≢ k
+pinned-apart f j k p pinned unpinned same =
+    let e : ◌≡◌ {A = Option Pin} (Some p) None = sym pinned ∙ ap (pin_at f) same ∙ unpinned in cc
+
+-- an index that shows is one of plain memory, or of encrypted memory where its slot holds other blocks too
+pub shows-cached : (h : Home) → h.resident ≡ false → h.bank < 2 → shows_index h ≡ true
+shows-cached h turn low = ap (λ (b : Bool). nat_lt h.bank (if b then 1 else 2)) turn ∙ lt-ltb h.bank 2 low
+
+pub shows-plain : (h : Home) → h.bank ≡ 0 → shows_index h ≡ true
+shows-plain h plain = by h.resident
+  where
+    by : (b : Bool) → nat_lt h.bank (if b then 1 else 2) ≡ true
+    by true = lt-ltb h.bank 1 (omega (arith, plain))
+    by false = lt-ltb h.bank 2 (omega (arith, plain))
+
+pub shown-low : (h : Home) → shows_index h ≡ true → h.bank < 2
+shown-low h shows = by h.resident shows
+  where
+    by : (b : Bool) → nat_lt h.bank (if b then 1 else 2) ≡ true → h.bank < 2
+    by true e = omega (arith, ltb-true h.bank 1 e)
+    by false e = ltb-true h.bank 2 e
 
 -- The block in which a word of an array is: it is one of the array's and one of its bank.
 module _ (o : Parts) (fits : IsInRange o) (f : Setting) (homes : HasHomes o f) (label : Label) (h : Home)
-    (home : IsArrayHome o label h) where
+    (home : IsArrayHome o f label h) where
   pub block-split : (n : ℕ)
       → (h.block + n / words_a_block f) * words_a_block f + n % words_a_block f ≡ h.block * words_a_block f + n
   block-split n =
@@ -111,3 +135,19 @@ module _ (o : Parts) (fits : IsInRange o) (f : Setting) (homes : HasHomes o f) (
   word-place n =
       let w = words_a_block f in
       ap (λ m. m % w) (word-split n) ∙ mod-mul-add (h.block + n / w) w (n % w) (mod-lt n (block_words-least fits homes))
+
+-- plain memory has the public arrays
+pub plain-array : (o : Parts) (f : Setting) → HasHomes o f → (x : List ℕ) (label : Label)
+    → context_of f.decls x ≡ Some (label, Array) → ((home_of f x).bank ≡ 0) ↔ (label ≡ Public)
+plain-array o f homes x label known = by (home_of f x).resident refl
+  where
+    of_label : (l : Label) → (home_of f x).bank ≡ scalar_bank l → ((home_of f x).bank ≡ 0) ↔ (l ≡ Public)
+    of_label Public is = (λ e. refl, λ e. is)
+    of_label Secret is = (
+      λ e. absurd (omega (arith, e, is)),
+      λ e. absurd (let g : ◌≡◌ {A = Label} Secret Public = e in cc),
+    )
+
+    by : (b : Bool) → (home_of f x).resident ≡ b → ((home_of f x).bank ≡ 0) ↔ (label ≡ Public)
+    by true is = of_label label (homes.residents x label Array known is).bank
+    by false is = (homes.arrays x label known is).plain

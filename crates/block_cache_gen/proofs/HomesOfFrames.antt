@@ -1,5 +1,5 @@
 -- The homes of a frame's variables are in their ranges.
-use Rattle.std.proofs.Common.{◌≡◌, ℕ, ◌+◌, ◌%◌, ◌^◌, ◌<◌, ◌≤◌, Bool, true, false, List, length, take, get_or, Some, sym, ap, ◌∙◌, subst, arith}
+use Rattle.std.proofs.Common.{◌≡◌, ℕ, ◌+◌, ◌%◌, ◌^◌, ◌<◌, ◌≤◌, Bool, true, false, List, length, take, get_or, Some, None, sym, ap, ◌∙◌, subst, arith}
 use Rattle.std.specs.Prelude.{if◌then◌else◌}
 use Rattle.std.proofs.Math.Pow.{pow_mono}
 use Rattle.lt_isa.specs.Limits.{most_blocks}
@@ -18,13 +18,13 @@ use Rattle.bank_alloc.proofs.Refusals.{length-blocks}
 use Rattle.scratch_alloc.specs.Slots.{scalar_slot, array_slot, slot_behind}
 use Rattle.scratch_alloc.proofs.EachSlot.{get_or-slots}
 use Rattle.block_cache_gen.specs.declared.frames.Frame.{Frame}
-use Rattle.block_cache_gen.specs.Homes.{no_home}
-use Rattle.block_cache_gen.specs.ServedBlocks.{block_served}
+use Rattle.block_cache_gen.specs.Homes.{Pin, no_home}
+use Rattle.block_cache_gen.specs.ServedBlocks.{block_served, first_blocks}
 use Rattle.block_cache_gen.specs.Settings.{IsFrame, home_at, homes_at, setting_of}
 use Rattle.block_cache_gen.proofs.FrameParts.{frame_places, frame_slots}
 use Rattle.block_cache_gen.proofs.RangesOfCode.{HomeFits, HomesFit}
-use Rattle.block_cache_gen.proofs.ServedBlocks.{served-home}
-use Rattle.block_cache_gen.proofs.Settled.{no_decl, no_place, get_or-homes_at, length-homes_at}
+use Rattle.block_cache_gen.proofs.ServedBlocks.{served-home, first-all}
+use Rattle.block_cache_gen.proofs.Settled.{pin-cases, no_decl, no_place, get_or-homes_at, length-homes_at}
 
 one_below : (b : Bool) (m n : ℕ) → m < 8 → n < 8 → (if b then m else n) < 8
 one_below true m n one two = one
@@ -89,13 +89,14 @@ home_fits-at f is k below =
 pub homes_fit : (f : Frame) → IsFrame f → HomesFit (length f.places.now.blocks.items) (setting_of f)
 homes_fit f is = record {
   block_log = is.profile.block_log.1;
+  pins = λ slot p pinned. let h = pin-cases slot p pinned in omega (arith, h.bank, h.low);
   homes = λ x label shape known.
       home_fits-at f is (variable_number f.program.now.decls.items x)
       (number-below f.program.now.decls.items x (label, shape) known);
 }
 
 -- so is the block that a slot serves first
-pub served_fits : (f : Frame) → IsFrame f → (slot block : ℕ) → block_served (setting_of f) slot ≡ Some block
+served_fits : (f : Frame) → IsFrame f → (slot block : ℕ) → block_served (setting_of f) slot ≡ Some block
     → block ≤ 65536
 served_fits f is slot block served =
     let places = f.places.now.of_var.items in
@@ -105,6 +106,14 @@ served_fits f is slot block served =
     let home = served-home (setting_of f) slot block served in
     let fits = home_fits-at f is home.0 (omega (arith, home.1, count, same)) in
     omega (arith, fits.block, home.2)
+
+-- and each block that a slot begins with
+pub first_fits : (f : Frame) → IsFrame f → (slot : ℕ) (p : Pin)
+    → get_or (first_blocks (setting_of f)) slot None ≡ Some p → (p.bank < 2) × (p.block ≤ 65536)
+first_fits f is slot p begins =
+    first-all (setting_of f) (λ p. (p.bank < 2) × (p.block ≤ 65536))
+    (λ slot p pinned. let h = pin-cases slot p pinned in (omega (arith, h.bank, h.low), omega (arith, h.block)))
+    (λ slot bank block low served. (low, served_fits f is slot block served)) slot p begins
 
 -- plain and encrypted memory are there
 pub frame_banks : (f : Frame) → IsFrame f → 2 ≤ length f.places.now.blocks.items

@@ -30,12 +30,13 @@ use Rattle.scratch_alloc.specs.Slots.{slots_of}
 use Rattle.scratch_alloc.proofs.EachSlot.{length-slots}
 use Rattle.block_cache_gen.specs.Homes.{Setting, home_of, no_home}
 use Rattle.block_cache_gen.specs.Settings.{homes_at}
-use Rattle.block_cache_gen.specs.PublicIndexes.{IndexIsPublic, HasPublicIndexes, TestHasPublicIndexes, StatementHasPublicIndexes, BlockHasPublicIndexes}
+use Rattle.block_cache_gen.proofs.HomeFacts.{shown-low}
+use Rattle.block_cache_gen.specs.PublicIndexes.{shows_index, IndexIsPublic, HasPublicIndexes, TestHasPublicIndexes, StatementHasPublicIndexes, BlockHasPublicIndexes}
 use Rattle.block_cache_gen.proofs.Settled.{IsSettingOf, no_decl, no_place, get_or-homes_at}
 
 -- secret arrays of plain and encrypted memory
 record IsCached (f : Setting) (x : List ℕ) : Type 0 where
-  low : (home_of f x).bank < 2
+  low : shows_index (home_of f x) ≡ true
   declared : context_of f.decls x ≡ Some (Secret, Array)
 
 flows_to : (i l : Label) → Flows i l → l ≡ Public → i ≡ Public
@@ -178,7 +179,7 @@ module _ (p : Source) (w : ℕ) (f : Setting) (decls : f.decls ≡ p.decls)
   cached-apart : (x : List ℕ) → IsCached f x → (b : Bool) → has_secret_index p x ≡ b → b ≡ false
   cached-apart x cached true is =
       let high = array-oblivious x cached.declared is in
-      let low = cached.low in
+      let low = shown-low (home_of f x) cached.low in
       absurd (omega arith)
   cached-apart x cached false is = refl
 

@@ -1,5 +1,5 @@
 -- What straight code leaves of what is known: registers below some and all slots.
-use Rattle.std.proofs.Common.{◌≡◌, ℕ, ◌<◌, ◌≤◌, Bool, true, false, ◌||◌, length, Some, refl, sym, ◌∙◌, subst, ⊎_elim, arith, length-set}
+use Rattle.std.proofs.Common.{◌≡◌, ◌≢◌, ℕ, ◌<◌, ◌≤◌, Bool, true, false, ◌||◌, length, Some, refl, sym, ◌∙◌, subst, ⊎_elim, arith, length-set}
 use Rattle.std.proofs.lemmas.Bool.{cases_eq}
 use Rattle.trace_patterns.specs.Known.{Known, is_secret, bank_known, is_marked, set_secret, set_bank}
 use Rattle.stretches.proofs.Passed.{secret-other, bank-same, bank-other}
@@ -17,7 +17,7 @@ pub record SameBelow (to : ℕ) (k l : Known) : Type 0 where
   pub sized : length l.secret ≡ length k.secret
   pub count : length l.banks ≡ length k.banks
   pub registers : (r : ℕ) → r < to → is_secret l r ≡ is_secret k r
-  pub slots : (slot : ℕ) → slot < 6 → bank_known l slot ≡ bank_known k slot
+  pub slots : (slot : ℕ) → slot ≢ 6 → bank_known l slot ≡ bank_known k slot
 
 -- what is as before is as before
 pub same-itself : (to : ℕ) (k : Known) → SameBelow to k k
@@ -45,7 +45,7 @@ same-set to k l r label le h = record {
 
 -- a slot that is bound to the bank to which it was, or none of those that a setting relies on
 pub same-bound : (to : ℕ) (k l : Known) (slot bank : ℕ) → SameBelow to k l → slot < length l.banks
-    → (slot < 6 → bank_known l slot ≡ Some bank) → SameBelow to k (set_bank l slot bank)
+    → (slot ≢ 6 → bank_known l slot ≡ Some bank) → SameBelow to k (set_bank l slot bank)
 same-bound to k l slot bank h inside same = record {
   sized = h.sized;
   count = length-set l.banks slot (Some bank) ∙ h.count;
@@ -53,7 +53,7 @@ same-bound to k l slot bank h inside same = record {
   slots = λ s lt.
       ⊎_elim
       (λ (e : s ≡ slot).
-      let low : slot < 6 = omega arith in
+      let low : slot ≢ 6 = λ six. lt (e ∙ six) in
       let here : bank_known (set_bank l slot bank) slot ≡ bank_known l slot = bank-same l slot bank inside
       ∙ sym (same low) in
       subst (λ (x : ℕ). bank_known (set_bank l slot bank) x ≡ bank_known l x) (sym e) here ∙ h.slots s lt)
@@ -66,10 +66,10 @@ pub carries-same : (f : Setting) (to : ℕ) (k l : Known) → Carries f k → Sa
 carries-same f to k l carries h = record {
   registers = h.sized ∙ carries.registers;
   slots = h.count ∙ carries.slots;
-  plain_slot = h.slots 0 (omega arith) ∙ carries.plain_slot;
-  encrypted_slot = h.slots 1 (omega arith) ∙ carries.encrypted_slot;
-  arrays = λ x label declared range.
-      let high = range.1 in h.slots _ (omega arith) ∙ carries.arrays x label declared range;
+  pinned = λ slot p pinned few apart. h.slots slot apart ∙ carries.pinned slot p pinned few apart;
+  arrays = λ x label declared turn range.
+      let high = range.1 in
+      h.slots _ (λ six. absurd (omega (arith, six))) ∙ carries.arrays x label declared turn range;
 }
 
 -- the lower registers stayed, and so what an expression keeps

@@ -14,7 +14,8 @@ pub mod IndexRuns
 pub mod AccessRuns
 pub mod ExpressionRuns
 pub mod Stores
-pub mod ScalarStores
+pub mod ResidentStores
+pub mod ResidentRuns
 pub mod ElementStores
 pub mod GuardRuns
 pub mod AssignmentRuns

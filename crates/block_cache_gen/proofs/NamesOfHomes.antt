@@ -2,7 +2,7 @@
 use Rattle.std.proofs.Common.{◌≡◌, ℕ, zero, suc, ◌+◌, ◌<◌, ◌==◌, Bool, true, false, ◌||◌, List, [], ◌∷◌, ◌++◌, length, Option, Some, None, refl, sym, ap, ◌∙◌, subst, arith}
 use Rattle.std.specs.Prelude.{if◌then◌else◌, bytes_eq, slice_index_or}
 use Rattle.std.specs.List.{list_any}
-use Rattle.std.proofs.lemmas.Bool.{eqb-true, eq-eqb, false≢true}
+use Rattle.std.proofs.lemmas.Bool.{eqb-true, eq-eqb, true≢false, false≢true}
 use Rattle.gr_base.specs.Lists.{EachAfter, Within}
 use Rattle.gr_base.proofs.ListTests.{bytes_eq-own}
 use Rattle.gr_word.specs.declared.variables.Label.{Label}
@@ -14,13 +14,11 @@ use Rattle.src_tree.specs.Contexts.{context_of, label_and_shape}
 use Rattle.src_tree.specs.Meaning.{variable_number}
 use Rattle.src_tree.specs.Typing.{DeclaredOnce}
 use Rattle.src_tree.proofs.VariableNumbers.{number-below}
-use Rattle.bank_alloc.specs.Apart.{scalar_bank}
-use Rattle.bank_alloc.proofs.Apart.{scalar_bank-lt}
 use Rattle.trace_patterns.specs.Known.{Known, bank_known}
-use Rattle.block_cache_gen.specs.Homes.{Home, Setting, HasHomes, home_of, no_home}
+use Rattle.block_cache_gen.specs.Homes.{Home, Setting, HasHomes, home_of, no_home, pin_at, pin_of}
 use Rattle.block_cache_gen.specs.Notes.{is_used}
 use Rattle.block_cache_gen.specs.Carries.{Carries}
-use Rattle.block_cache_gen.proofs.HomeFacts.{bank_served, served_bank}
+use Rattle.block_cache_gen.proofs.HomeFacts.{bank_served, served_bank, pinned-apart}
 
 -- the name of a declaration by its number
 record NamedBy (before decls : List Decl) (n : ℕ) : Type 0 where
@@ -110,34 +108,37 @@ module _ (o : Parts) (f : Setting) (homes : HasHomes o f) where
 
   -- the slot of an array serves its bank
   pub array-served : (x : List ℕ) (label : Label) → context_of f.decls x ≡ Some (label, Array)
-      → Within 2 5 (home_of f x).slot → bank_served (home_of f x).slot (home_of f x).bank
-  array-served x label declared range =
-      served_bank (homes.arrays x label declared).slot range
+      → (home_of f x).resident ≡ false → Within 2 5 (home_of f x).slot
+      → bank_served (home_of f x).slot (home_of f x).bank
+  array-served x label declared turn range =
+      served_bank (homes.arrays x label declared turn).slot range
 
   -- a slot from 2 to 5 that is used has the bank that it serves
   used_by : (x : List ℕ) (label : Label) (shape : Shape) (slot : ℕ) (k : Known)
-      → context_of f.decls x ≡ Some (label, shape) → (home_of f x).slot ≡ slot → Within 2 5 slot → Carries f k
+      → context_of f.decls x ≡ Some (label, shape) → (home_of f x).slot ≡ slot → Within 2 5 slot → pin_at f slot ≡ None
+      → Carries f k → (resident : Bool) → (home_of f x).resident ≡ resident
       → (bank : ℕ) × (bank_known k slot ≡ Some bank) × bank_served slot bank
-  used_by x label Scalar slot k declared is range carries =
-      let h = homes.scalars x label declared in
-      let low = scalar_bank-lt label in
-      let at : (home_of f x).slot ≡ scalar_bank label = h.slot ∙ h.bank in
-      let least = range.0 in
-      absurd (omega arith)
-  used_by x label Array slot k declared is range carries =
+  used_by x label shape slot k declared is range free carries true resident =
+      let h = homes.residents x label shape declared resident in
+      absurd (pinned-apart f (home_of f x).slot slot (pin_of (home_of f x)) h.pinned free is)
+  used_by x label Scalar slot k declared is range free carries false turn =
+      let h = homes.scalars x label declared in absurd (true≢false (sym h.resident ∙ turn))
+  used_by x label Array slot k declared is range free carries false turn =
       let range' : Within 2 5 (home_of f x).slot = subst (Within 2 5) (sym is) range in (
         (home_of f x).bank,
-        subst (λ (s : ℕ). bank_known k s ≡ Some (home_of f x).bank) is (carries.arrays x label declared range'),
-        subst (λ (s : ℕ). bank_served s (home_of f x).bank) is (array-served x label declared range'),
+        subst (λ (s : ℕ). bank_known k s ≡ Some (home_of f x).bank) is (carries.arrays x label declared turn range'),
+        subst (λ (s : ℕ). bank_served s (home_of f x).bank) is (array-served x label declared turn range'),
       )
 
   -- a slot that is used is known to hold the bank that it serves
-  pub used-bank : DeclaredOnce f.decls → (slot : ℕ) (k : Known) → is_used f slot ≡ true → Within 2 5 slot → Carries f k
+  pub used-bank : DeclaredOnce f.decls → (slot : ℕ) (k : Known) → is_used f slot ≡ true → Within 2 5 slot
+      → pin_at f slot ≡ None → Carries f k
       → (bank : ℕ) × (bank_known k slot ≡ Some bank) × bank_served slot bank
-  used-bank once slot k used range carries =
+  used-bank once slot k used range free carries =
       let found = found_home f.homes slot used in
       let inside = found.inside in
       let count = homes.count in
       let name = named_by [] f.decls found.at once (omega arith) in
       used_by name.name name.kind.0 name.kind.1 slot k name.declared
-      (ap (λ (n : ℕ). (slice_index_or f.homes n no_home).slot) name.number ∙ found.served) range carries
+      (ap (λ (n : ℕ). (slice_index_or f.homes n no_home).slot) name.number ∙ found.served) range free carries
+      (home_of f name.name).resident refl

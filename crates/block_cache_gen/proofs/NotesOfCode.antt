@@ -10,8 +10,8 @@ use Rattle.src_tree.specs.Trees.{Tree, Number, Variable, Element, Operation}
 use Rattle.stretches.proofs.Passed.{LieBetween, lie_wider, lie_both}
 use Rattle.block_cache_gen.specs.declared.frames.Mode.TheVariants.{Public}
 use Rattle.block_cache_gen.specs.Homes.{Home, Setting, home_of}
-use Rattle.block_cache_gen.specs.Codes.{is_cached, fixed_index, reduced_code, shift_code, located_code, load_code, skips, access_code, expr_code}
-use Rattle.block_cache_gen.specs.Notes.{marked_by, access_mask, note_of, load_notes, index_notes, expr_notes}
+use Rattle.block_cache_gen.specs.Codes.{is_cached, fixed_index, reduced_code, shift_code, offset_code, located_code, load_code, skips, access_by, access_code, expr_code}
+use Rattle.block_cache_gen.specs.Notes.{marked_by, access_mask, note_of, loaded_notes, load_notes, index_notes, expr_notes}
 
 -- a located word takes two instructions at least, and more than its index
 abbrev pub index_length : Option ℤ → List Instr → ℕ
@@ -35,7 +35,7 @@ load_longer false h to = omega arith
 
 -- and one more in an access
 pub access-longer : (block_log : ℕ) (h : Home) (to : ℕ) (fixed : Option ℤ) (index : List Instr)
-    → length (located_code block_log h to fixed index) + 1 ≤ length (access_code block_log Public h to fixed index)
+    → length (located_code block_log h to fixed index) + 1 ≤ length (access_by false block_log Public h to fixed index)
 access-longer block_log h to fixed index =
     omega (
       arith,
@@ -43,11 +43,31 @@ access-longer block_log h to fixed index =
       load_longer (skips Public h) h to,
     )
 
+-- an access is longer than its index
+pub access-more : (resident : Bool) (block_log : ℕ) (h : Home) (to : ℕ) (fixed : Option ℤ) (index : List Instr)
+    → index_length fixed index + 1 ≤ length (access_by resident block_log Public h to fixed index)
+access-more true block_log h to (Some z) index = omega arith
+access-more true block_log h to None index =
+    omega (
+      arith,
+      length-append index (reduced_code h to ++ offset_code h to),
+      length-append (reduced_code h to) (offset_code h to),
+    )
+access-more false block_log h to fixed index =
+    let longer = located-longer block_log h to fixed index in
+    let more = access-longer block_log h to fixed index in
+    omega arith
+
 -- the note of a load
 pub load-lies : (f : Setting) (h : Home) (mask to behind p q : ℕ) (cached : Bool) → p < behind → behind < q
     → LieBetween p q (if cached then note_of f (access_mask mask to) behind ∷ [] else [])
 load-lies f h mask to behind p q true low high = ((low, high), tt)
 load-lies f h mask to behind p q false low high = tt
+
+pub loaded-lie : (f : Setting) (h : Home) (mask to behind p q : ℕ) (resident : Bool) → p < behind → behind < q
+    → LieBetween p q (loaded_notes resident f h mask to behind)
+loaded-lie f h mask to behind p q true low high = tt
+loaded-lie f h mask to behind p q false low high = load-lies f h mask to behind p q (is_cached h) low high
 
 -- the notes of an index
 pub index-lie : (fixed : Option ℤ) (p : ℕ) (index : List Instr) (notes : List Note)
@@ -63,12 +83,11 @@ pub access-lie : (f : Setting) (h : Home) (mask to p : ℕ) (fixed : Option ℤ)
     ++ load_notes f h mask to (p + length (access_code f.profile.block_log Public h to fixed index)))
 access-lie f h mask to p fixed index notes lie =
     let size = length (access_code f.profile.block_log Public h to fixed index) in
-    let longer = located-longer f.profile.block_log h to fixed index in
-    let more = access-longer f.profile.block_log h to fixed index in
+    let more = access-more h.resident f.profile.block_log h to fixed index in
     lie_both p (p + size + 1) (index_notes fixed notes) (load_notes f h mask to (p + size))
     (lie_wider p (p + index_length fixed index) p (p + size + 1) (index_notes fixed notes) (omega arith)
     (omega arith) (index-lie fixed p index notes lie))
-    (load-lies f h mask to (p + size) p (p + size + 1) (is_cached h) (omega arith) (omega arith))
+    (loaded-lie f h mask to (p + size) p (p + size + 1) h.resident (omega arith) (omega arith))
 
 -- an expression has some code
 pub expression-longer : (f : Setting) (e : Tree) (to : ℕ) → 1 ≤ length (expr_code f Public to e)

@@ -14,24 +14,25 @@ use Rattle.src_tree.specs.Labels.{label_of, secret_label}
 use Rattle.src_tree.specs.Heights.{height_of}
 use Rattle.src_tree.specs.Trees.{Tree}
 use Rattle.src_tree.specs.Typing.{DeclaredOnce}
-use Rattle.trace_patterns.specs.Known.{Known, is_secret, bank_known, set_bank, FitsClaim, note_known}
+use Rattle.trace_patterns.specs.Known.{Known, is_secret, bank_known, set_bank, set_secret, FitsClaim, note_known}
 use Rattle.trace_patterns.specs.Rules.{claimed_at}
 use Rattle.stretches.specs.Standing.{StandsAt}
 use Rattle.stretches.specs.Passing.{HoldsAt, AsItComes, AsClaimed, Passes, NotesBetween}
 use Rattle.stretches.proofs.Standing.{standing-first, standing-rest}
-use Rattle.stretches.proofs.Passed.{passes-then, passes-to, passes-goes, passes-noted, no_note-before, no_note-behind, notes-before, notes-behind, no_note-there, notes-within, noted, bank-same, LieBetween, lie_wider}
+use Rattle.stretches.proofs.Passed.{passes-then, passes-to, passes-goes, passes-noted, no_note-before, no_note-behind, notes-before, notes-behind, no_note-there, notes-within, noted, bank-same, secret-same, rules-li, One, NoMore, LieBetween, lie_wider}
 use Rattle.block_cache_gen.specs.declared.frames.Mode.TheVariants.{Public}
-use Rattle.block_cache_gen.specs.Homes.{Home, Setting, HasHomes, Serves, home_of}
-use Rattle.block_cache_gen.specs.Codes.{is_cached, fixed_index, reduced_code, shift_code, located_code, load_code, access_code, expr_code}
-use Rattle.block_cache_gen.specs.Notes.{unmarked, access_mask, note_of, load_notes, index_notes, expr_notes}
+use Rattle.block_cache_gen.specs.Homes.{Home, Setting, HasHomes, Serves, home_of, pin_of}
+use Rattle.block_cache_gen.specs.Codes.{is_cached, fixed_index, reduced_code, shift_code, offset_code, placed_code, located_code, load_code, access_by, access_code, expr_code}
+use Rattle.block_cache_gen.specs.Notes.{unmarked, access_mask, note_of, loaded_notes, load_notes, index_notes, expr_notes}
 use Rattle.block_cache_gen.specs.Carries.{Carries}
 use Rattle.block_cache_gen.specs.PublicCode.{StandsNoted}
+use Rattle.block_cache_gen.specs.PublicIndexes.{shows_index, IndexIsPublic}
 use Rattle.block_cache_gen.proofs.KeptBelow.{LeavesPublic, KeptBelow, PassedBelow}
 use Rattle.block_cache_gen.proofs.NoteClaims.{unmarked-same, unmarked-other, leaves-without, leaves-later, claimed-register, note-fits, note-carries}
-use Rattle.block_cache_gen.proofs.NotesOfCode.{index_length, located-longer, access-longer, load-lies, index-lie, expression-longer, expression-lies}
-use Rattle.block_cache_gen.proofs.KeptRegisters.{SameBelow, same-itself, same-bound, carries-same, kept-same, kept-itself}
-use Rattle.block_cache_gen.proofs.AccessLabels.{numbered, fixed-numbered, asked_known, asked_same, asked_block, skipped_by, loaded-by}
-use Rattle.block_cache_gen.proofs.HomeFacts.{serves-oblivious, serves-cached}
+use Rattle.block_cache_gen.proofs.NotesOfCode.{index_length, located-longer, access-longer, access-more, load-lies, index-lie, expression-longer, expression-lies}
+use Rattle.block_cache_gen.proofs.KeptRegisters.{SameBelow, same-itself, same-set, same-bound, carries-same, kept-same, kept-itself}
+use Rattle.block_cache_gen.proofs.AccessLabels.{numbered, placed-numbered, fixed-numbered, asked_known, asked_same, asked_block, skipped_by, loaded-by}
+use Rattle.block_cache_gen.proofs.HomeFacts.{serves-oblivious, serves-cached, shows-cached, shown-low}
 
 -- what passing the code of an expression says, wherever it stands
 abbrev pub ExprPasses : Parts → Setting → Tree → Type 0
@@ -59,6 +60,13 @@ record LocatedAt (o : Parts) (f : Setting) (h : Home) (mask to : ℕ) (p : ℕ) 
   word : h.bank < 2 → is_secret last to ≡ false
   block : h.bank < 2 → is_secret last (to + 1) ≡ false
 
+-- the place of a resident array's word is found: its number is public where it shows
+record PlacedAt (o : Parts) (f : Setting) (h : Home) (mask to : ℕ) (p : ℕ) (k holds : Known) (q : ℕ) : Type 0 where
+  last : Known
+  passes : Passes o p k q last
+  kept : KeptBelow f mask to holds last
+  word : shows_index h ≡ true → is_secret last to ≡ false
+
 -- the block of the word is in its slot
 pub record AccessPassed (o : Parts) (f : Setting) (h : Home) (mask to : ℕ) (p : ℕ) (k holds : Known)
     (q : ℕ) : Type 0 where
@@ -68,7 +76,7 @@ pub record AccessPassed (o : Parts) (f : Setting) (h : Home) (mask to : ℕ) (p 
   pub here : HoldsAt o q last held
   pub kept : KeptBelow f mask to holds held
   pub bound : bank_known held h.slot ≡ Some h.bank
-  pub word : h.bank < 2 → is_secret held to ≡ false
+  pub word : shows_index h ≡ true → is_secret held to ≡ false
 
 module _ (o : Parts) (f : Setting) (homes : HasHomes o f) (once : DeclaredOnce f.decls) where
   module _ (h : Home) (i : Tree) (mask to : ℕ) (low : to + 2 < 32) (p : ℕ) (k holds : Known)
@@ -128,12 +136,13 @@ module _ (o : Parts) (f : Setting) (homes : HasHomes o f) (once : DeclaredOnce f
         }
 
     -- the load: a note stands behind one that may be skipped
-    module _ (x : List ℕ) (l : Label) (declared : context_of f.decls x ≡ Some (l, Array)) (q r : ℕ) (found : Known)
+    module _ (x : List ℕ) (l : Label) (declared : context_of f.decls x ≡ Some (l, Array))
+        (turn : (home_of f x).resident ≡ false) (q r : ℕ) (found : Known)
         (kept : KeptBelow f mask to holds found) (word : (home_of f x).bank < 2 → is_secret found to ≡ false)
         (block : (home_of f x).bank < 2 → is_secret found (to + 1) ≡ false) (none : claimed_at o q ≡ None)
         (inside : r < length o.code) where
       serves : Serves (home_of f x).bank (home_of f x).slot
-      serves = let h = homes.arrays x l declared in h.slot
+      serves = let h = homes.arrays x l declared turn in h.slot
 
       loaded_claimed : (home_of f x).bank < 2 → q + 3 ≡ r
           → NotesBetween o q (r + 1) (note_of f (access_mask mask to) r ∷ [])
@@ -147,10 +156,10 @@ module _ (o : Parts) (f : Setting) (homes : HasHomes o f) (once : DeclaredOnce f
           let one = asked_known o to low h found sized in
           let same = asked_same o to low h found sized in
           let two = set_bank one h.slot h.bank in
-          let bound : bank_known found h.slot ≡ Some h.bank = kept.carries.arrays x l declared range in
+          let bound : bank_known found h.slot ≡ Some h.bank = kept.carries.arrays x l declared turn range in
           let high = range.1 in
           let carried : Carries f one = carries-same f (to + 2) found one kept.carries same in
-          let bound_one : bank_known one h.slot ≡ Some h.bank = carried.arrays x l declared range in
+          let bound_one : bank_known one h.slot ≡ Some h.bank = carried.arrays x l declared turn range in
           let slots = carried.slots in
           let carried_two : Carries f two = carries-same f (to + 2) one two carried
           (same-bound (to + 2) one one h.slot h.bank (same-itself (to + 2) one) (omega arith) (λ lt. bound_one)) in
@@ -195,8 +204,8 @@ module _ (o : Parts) (f : Setting) (homes : HasHomes o f) (once : DeclaredOnce f
                       ∙ unmarked-other mask to s (omega arith) (omega arith) (λ e. absurd (omega arith)) ∙ unmarks;
                   secrets = λ s lt secret. fit.registers s (same.registers s (omega arith) ∙ kept.secrets s lt secret);
                 };
-            bound = let c = note-carries o f homes once (access_mask mask to) r in c.arrays x l declared range;
-            word = λ low_bank. claimed-register f (access_mask mask to) r to (omega arith)
+            bound = let c = note-carries o f homes once (access_mask mask to) r in c.arrays x l declared turn range;
+            word = λ shows. claimed-register f (access_mask mask to) r to (omega arith)
                 ∙ unmarked-other (unmarked (unmarked mask to) (to + 1)) (to + 2) to (omega arith) (omega arith)
                 (λ e. absurd (omega arith))
                 ∙ unmarked-other (unmarked mask to) (to + 1) to (omega arith) (omega arith) (λ e. absurd (omega arith))
@@ -212,7 +221,7 @@ module _ (o : Parts) (f : Setting) (homes : HasHomes o f) (once : DeclaredOnce f
           let two = set_bank found h.slot h.bank in
           let same : SameBelow to found two = same-bound to found found h.slot h.bank (same-itself to found)
           (omega arith)
-          (λ lt. absurd (omega arith)) in
+          (λ apart. absurd (apart six)) in
           let quiet : (s : ℕ) → q ≤ s → s < q + 1 → claimed_at o s ≡ None = (λ s above below.
           let e : q ≡ s = omega arith in subst (λ (t : ℕ). claimed_at o t ≡ None) e none) in
           record {
@@ -224,7 +233,7 @@ module _ (o : Parts) (f : Setting) (homes : HasHomes o f) (once : DeclaredOnce f
             here = AsItComes two (between r (omega arith) (omega arith));
             kept = kept-same f mask to holds found two kept same;
             bound = bank-same found h.slot h.bank (omega arith);
-            word = λ low_bank. absurd (omega arith);
+            word = λ shows. absurd (omega (arith, shown-low (home_of f x) shows));
           }
 
       loaded_if : (cached : Bool) → is_cached (home_of f x) ≡ cached
@@ -234,17 +243,100 @@ module _ (o : Parts) (f : Setting) (homes : HasHomes o f) (once : DeclaredOnce f
       loaded_if true is stands size between = loaded_claimed (ltb-true (home_of f x).bank 2 is) size between stands
       loaded_if false is stands size between = loaded_plainly (ltb-false (home_of f x).bank 2 is) size between stands
 
-  -- the whole of an access, up to the place behind it
-  pub access-passes : (x : List ℕ) (l : Label) (i : Tree) (mask to p : ℕ) (k holds : Known)
-      → context_of f.decls x ≡ Some (l, Array) → ((home_of f x).bank < 2
-      → label_of (context_of f.decls) i ≡ label.Public)
+  -- The place of a resident array's word is found.
+  module _ (h : Home) (i : Tree) (mask to : ℕ) (low : to + 2 < 32) (p : ℕ) (k holds : Known)
+      (here : HoldsAt o p k holds) (carries : Carries f holds) (leaves : LeavesPublic mask to holds) where
+    placed_by : (fixed : Option ℤ) → StandsAt o p (placed_code h to fixed (expr_code f Public to i))
+        → NotesBetween o p (p + length (placed_code h to fixed (expr_code f Public to i)))
+        (index_notes fixed (expr_notes f mask to p i))
+        → p + length (placed_code h to fixed (expr_code f Public to i)) < length o.code
+        → to + height_of i ≤ 26 → ExprPasses o f i
+        → (shows_index h ≡ true → label_of (context_of f.decls) i ≡ label.Public)
+        → PlacedAt o f h mask to p k holds (p + length (placed_code h to fixed (expr_code f Public to i)))
+    placed_by (Some z) stands between inside high index public =
+        let one = set_secret holds to false in
+        let sized = carries.registers in
+        record {
+          last = one;
+          passes = passes-noted o p _ _ k holds one here
+              (One p _ _ holds one one (rules-li o p holds to _) (NoMore (p + 1) one)) stands between inside;
+          kept = kept-same f mask to holds holds one
+              (kept-itself f mask to holds carries (λ r lt unmarks. let h = leaves r (omega arith) unmarks in h.1))
+              (same-set to holds holds to false (omega arith) (same-itself to holds));
+          word = λ shows. secret-same holds to false (omega arith);
+        }
+    placed_by None stands between inside high index public =
+        let code = expr_code f Public to i in
+        let rest = reduced_code h to ++ offset_code h to in
+        let mid = p + length code in
+        let size : length (code ++ rest) ≡ length code + length rest = length-append code rest in
+        let lie = expression-lies f i mask to p in
+        let some = expression-longer f i to in
+        let longer = access-more true f.profile.block_log h to None code in
+        let first = index mask to p k holds high
+        (record {
+          code_stands = standing-first code rest stands;
+          noted = notes-within o p (p + length (code ++ rest)) p mid (expr_notes f mask to p i) (omega arith)
+              (omega arith) between;
+          behind = omega arith;
+        }) here carries leaves in
+        let l = placed-numbered o to low h mid first.last first.kept.carries.registers in
+        let quiet : (r : ℕ) → mid ≤ r → r < mid + length rest → claimed_at o r ≡ None = (λ r above below.
+        between r (omega arith) (omega arith)
+        ∙ ap (option_map note_known) (no_note-behind p mid r (expr_notes f mask to p i) lie above)) in
+        let second : Passes o mid first.last
+        (mid + length rest) l.after = passes-goes o mid rest first.last l.after l.goes
+        (standing-rest code rest stands) quiet (omega arith) in
+        record {
+          last = l.after;
+          passes
+              = passes-to o p k (mid + length rest) (p + length (code ++ rest)) l.after (omega arith)
+              (passes-then o p k mid first.last first.passes (mid + length rest) l.after second);
+          kept = kept-same f mask to holds first.last l.after first.kept l.same;
+          word = λ shows. l.word_is ∙ first.labelled ∙ ap secret_label (public shows);
+        }
+
+  -- a whole access, of an array that is resident or isn't
+  abbrev code_by : Bool → ℕ → List ℕ → Tree → List Instr
+  code_by b to x i =
+      access_by b f.profile.block_log Public (home_of f x) to (fixed_index (home_of f x) i) (expr_code f Public to i)
+
+  passes_by : (x : List ℕ) (l : Label) (i : Tree) (mask to p : ℕ) (k holds : Known)
+      → context_of f.decls x ≡ Some (l, Array) → (b : Bool) → (home_of f x).resident ≡ b
+      → (shows_index (home_of f x) ≡ true → label_of (context_of f.decls) i ≡ label.Public)
       → ExprPasses o f i → to + height_of i ≤ 26 → to + 2 < 32
-      → StandsAt o p (array_code f to x i)
-      → NotesBetween o p (p + length (array_code f to x i) + 1) (array_notes f mask to p x i)
-      → p + length (array_code f to x i) < length o.code → HoldsAt o p k holds → Carries f holds
+      → StandsAt o p (code_by b to x i)
+      → NotesBetween o p (p + length (code_by b to x i) + 1)
+      (index_notes (fixed_index (home_of f x) i) (expr_notes f mask to p i)
+      ++ loaded_notes b f (home_of f x) mask to (p + length (code_by b to x i)))
+      → p + length (code_by b to x i) < length o.code → HoldsAt o p k holds → Carries f holds
       → LeavesPublic mask to holds
-      → AccessPassed o f (home_of f x) mask to p k holds (p + length (array_code f to x i))
-  access-passes x l i mask to p k holds declared public index high low stands between inside here carries leaves =
+      → AccessPassed o f (home_of f x) mask to p k holds (p + length (code_by b to x i))
+  passes_by x l i mask to p k holds declared true is public index high low stands between inside here carries leaves =
+      let h = home_of f x in
+      let fixed = fixed_index h i in
+      let code = expr_code f Public to i in
+      let r = p + length (placed_code h to fixed code) in
+      let more = access-more true f.profile.block_log h to fixed code in
+      let before = index_notes fixed (expr_notes f mask to p i) in
+      let lie_before : LieBetween p r before = lie_wider p (p + index_length fixed code) p r before (omega arith)
+      (omega arith) (index-lie fixed p code (expr_notes f mask to p i) (expression-lies f i mask to p)) in
+      let found = placed_by h i mask to low p k holds here carries leaves fixed stands
+      (notes-before o p r (r + 1) before [] lie_before tt between (omega arith)) inside high index public in
+      let home = homes.residents x l Array declared is in
+      let pin = homes.pins h.slot (pin_of h) home.pinned in
+      record {
+        last = found.last;
+        held = found.last;
+        passes = found.passes;
+        here = AsItComes found.last
+            (no_note-there o p r (r + 1) before [] lie_before tt between (omega arith) (omega arith));
+        kept = found.kept;
+        bound = found.kept.carries.pinned h.slot (pin_of h) home.pinned pin.few pin.apart;
+        word = found.word;
+      }
+  passes_by x l i mask to p k holds declared false turn public index high low stands between inside here carries
+      leaves =
       let h = home_of f x in
       let fixed = fixed_index h i in
       let code = expr_code f Public to i in
@@ -256,15 +348,15 @@ module _ (o : Parts) (f : Setting) (homes : HasHomes o f) (once : DeclaredOnce f
       let longer = located-longer f.profile.block_log h to fixed code in
       let more = access-longer f.profile.block_log h to fixed code in
       let before = index_notes fixed (expr_notes f mask to p i) in
-      let behind = load_notes f h mask to r in
+      let behind = loaded_notes false f h mask to r in
       let lie_before : LieBetween p q before = lie_wider p (p + index_length fixed code) p q before (omega arith)
       (omega arith) (index-lie fixed p code (expr_notes f mask to p i) (expression-lies f i mask to p)) in
       let lie_behind : LieBetween q (r + 1) behind = load-lies f h mask to r q (r + 1) (is_cached h) (omega arith)
       (omega arith) in
       let found = located_by h i mask to low p k holds here carries leaves fixed (standing-first first load stands)
       (notes-before o p q (r + 1) before behind lie_before lie_behind between (omega arith))
-      (omega arith) high index public in
-      let held = loaded_if h i mask to low p k holds here carries leaves x l declared q r found.last found.kept
+      (omega arith) high index (λ low_bank. public (shows-cached h turn low_bank)) in
+      let held = loaded_if h i mask to low p k holds here carries leaves x l declared turn q r found.last found.kept
       found.word
       found.block (no_note-there o p q (r + 1) before behind lie_before lie_behind between (omega arith) (omega arith))
       inside (is_cached h) refl (standing-rest first load stands) (omega arith)
@@ -278,3 +370,15 @@ module _ (o : Parts) (f : Setting) (homes : HasHomes o f) (once : DeclaredOnce f
         bound = held.bound;
         word = held.word;
       }
+
+  pub access-passes : (x : List ℕ) (l : Label) (i : Tree) (mask to p : ℕ) (k holds : Known)
+      → context_of f.decls x ≡ Some (l, Array) → IndexIsPublic f x i
+      → ExprPasses o f i → to + height_of i ≤ 26 → to + 2 < 32
+      → StandsAt o p (array_code f to x i)
+      → NotesBetween o p (p + length (array_code f to x i) + 1) (array_notes f mask to p x i)
+      → p + length (array_code f to x i) < length o.code → HoldsAt o p k holds → Carries f holds
+      → LeavesPublic mask to holds
+      → AccessPassed o f (home_of f x) mask to p k holds (p + length (array_code f to x i))
+  access-passes x l i mask to p k holds declared public index high low stands between inside here carries leaves =
+      passes_by x l i mask to p k holds declared (home_of f x).resident refl public index high low stands between inside
+      here carries leaves

@@ -5,8 +5,8 @@ use Rattle.std.proofs.lemmas.Bool.{eqb-true}
 use Rattle.gr_word.specs.declared.variables.Label.{Label}
 use Rattle.gr_word.specs.declared.variables.Label.TheVariants as label
 use Rattle.gr_word.specs.declared.variables.Shape.TheVariants.{Scalar, Array}
-use Rattle.lt_isa.specs.declared.instructions.Instr.TheVariants.{Li, Stw, Stb}
-use Rattle.lt_isa.specs.Object.{Parts, is_ram, block_words}
+use Rattle.lt_isa.specs.declared.instructions.Instr.TheVariants.{Li, Stw}
+use Rattle.lt_isa.specs.Object.{Parts, is_ram}
 use Rattle.src_tree.specs.Contexts.{context_of}
 use Rattle.src_tree.specs.Heights.{height_of}
 use Rattle.src_tree.specs.Labels.{higher, label_or_public, label_at, label_of, secret_label}
@@ -20,7 +20,7 @@ use Rattle.stretches.proofs.Standing.{standing-first, standing-rest}
 use Rattle.stretches.proofs.Passed.{passes-then, passes-to, passes-goes, passes-noted, GoesOn, NoMore, One, rules-li, rules-stw, rules-stb, secret-same, secret-other, notes-before, notes-behind, no_note-there, notes-within, no_note-behind, LieBetween, lie_wider, lie_both}
 use Rattle.block_cache_gen.specs.declared.frames.Mode.TheVariants.{Public}
 use Rattle.block_cache_gen.specs.Homes.{Setting, HasHomes, home_of}
-use Rattle.block_cache_gen.specs.Codes.{expr_code, set_code}
+use Rattle.block_cache_gen.specs.Codes.{stored_code, expr_code, set_code}
 use Rattle.block_cache_gen.specs.Notes.{all_marked, marked_by, expr_notes, set_notes}
 use Rattle.block_cache_gen.specs.Carries.{Carries}
 use Rattle.block_cache_gen.specs.PublicIndexes.{SetHasPublicIndexes}
@@ -28,7 +28,8 @@ use Rattle.block_cache_gen.specs.PublicCode.{StandsNoted, PassedSet}
 use Rattle.block_cache_gen.proofs.NotesOfCode.{expression-longer, expression-lies, access-lie}
 use Rattle.block_cache_gen.proofs.KeptRegisters.{same-itself, same-set, carries-same}
 use Rattle.block_cache_gen.proofs.PublicAccesses.{array_code, array_notes, access-passes}
-use Rattle.block_cache_gen.proofs.PublicExpressions.{expression-passes, scalar_bound, leaves-labelled, label-kept}
+use Rattle.block_cache_gen.proofs.PublicExpressions.{expression-passes, resident_bound, leaves-labelled, label-kept}
+use Rattle.block_cache_gen.proofs.HomeFacts.{shows-plain, plain-array}
 use Rattle.block_cache_gen.proofs.PublicGuards.{leaves-none}
 
 -- what flows to a public variable is public
@@ -48,6 +49,12 @@ stored bank value place first second = by (is_ram bank) refl
         let zero : bank ≡ 0 = eqb-true bank 0 is in
         ap (λ (b : Bool). b || place) (first zero) ∙ second zero
 
+-- the block is stored, or nothing is
+stored_goes : (o : Parts) (resident : Bool) (p slot bank : ℕ) (k : Known) → bank_known k slot ≡ Some bank
+    → GoesOn o p (stored_code resident slot) k k
+stored_goes o true p slot bank k bound = NoMore p k
+stored_goes o false p slot bank k bound = One p _ _ k k k (rules-stb o p k slot bank bound) (NoMore (p + 1) k)
+
 low_label : (l : Label) → scalar_bank l ≡ 0 → l ≡ label.Public
 low_label label.Public e = refl
 low_label label.Secret e = absurd (omega arith)
@@ -64,7 +71,8 @@ module _ (o : Parts) (f : Setting) (homes : HasHomes o f) (once : DeclaredOnce f
       let h = home_of f x in
       let l = typed.0.0 in
       let declared : known x ≡ Some (l, Scalar) = typed.0.1 in
-      let home = homes.scalars x l declared in
+      let scalar = homes.scalars x l declared in
+      let home = homes.residents x l Scalar declared scalar.resident in
       let first = expr_code f Public 0 e in
       let store = Li 1 (pos h.word) ∷ Stw 0 h.slot 1 ∷ [] in
       let notes = expr_notes f all_marked 0 p e in
@@ -84,7 +92,8 @@ module _ (o : Parts) (f : Setting) (homes : HasHomes o f) (once : DeclaredOnce f
       let one = set_secret v.last 1 false in
       let carried : Carries f one = carries-same f 1 v.last one v.kept.carries
       (same-set 1 v.last v.last 1 false (omega arith) (same-itself 1 v.last)) in
-      let bound : bank_known one h.slot ≡ Some h.bank = scalar_bound f one l (block_words o) h home carried in
+      let bound : bank_known one h.slot ≡ Some h.bank =
+      resident_bound o f homes one x l Scalar declared scalar.resident carried in
       let label_is : label_at known x ≡ l = ap label_or_public declared in
       let value : h.bank ≡ 0 → is_secret one 0 ≡ false = (λ zero.
       let plain : l ≡ label.Public = low_label l (sym home.bank ∙ zero) in
@@ -120,12 +129,12 @@ module _ (o : Parts) (f : Setting) (homes : HasHomes o f) (once : DeclaredOnce f
       let h = home_of f x in
       let l = typed.0.0.0 in
       let declared : known x ≡ Some (l, Array) = typed.0.0.1 in
-      let home = homes.arrays x l declared in
+      let plain = plain-array o f homes x l declared in
       let first = expr_code f Public 0 e in
       let access = array_code f 1 x i in
-      let store = Stw 0 h.slot 1 ∷ Stb h.slot ∷ [] in
+      let store = Stw 0 h.slot 1 ∷ stored_code h.resident h.slot in
       let mask = marked_by (label_of known e) all_marked 0 in
-      let size : length (first ++ (access ++ store)) ≡ length first + (length access + 2) =
+      let size : length (first ++ (access ++ store)) ≡ length first + (length access + length store) =
       length-append first (access ++ store) ∙ ap (λ (n : ℕ). length first + n) (length-append access store) in
       let inside = stands.behind in
       let mid = p + length first in
@@ -157,15 +166,14 @@ module _ (o : Parts) (f : Setting) (homes : HasHomes o f) (once : DeclaredOnce f
       (leaves-labelled (label_of known e) all_marked 0 v.last (omega arith) (leaves-none 0 v.last) v.labelled) in
       let label_is : label_at known x ≡ l = ap label_or_public declared in
       let value : h.bank ≡ 0 → is_secret a.held 0 ≡ false = (λ zero.
-      let plain : l ≡ label.Public = home.plain.0 zero in
+      let public_l : l ≡ label.Public = plain.0 zero in
       label-kept f (label_of known e) all_marked 0 1 v.last a.held (omega arith) (omega arith) v.labelled a.kept
       ∙ flows_public code (label_of known e) (subst (Flows (higher code (label_of known e))) (label_is
-      ∙ plain) typed.1.1)) in
+      ∙ public_l) typed.1.1)) in
       let goes : GoesOn o r store a.held a.held = One r _ _ a.held a.held a.held
       (rules-stw o r a.held 0 h.slot 1 h.bank a.bound
-      (stored h.bank (is_secret a.held 0) (is_secret a.held 1) value (λ zero. a.word (omega arith))))
-      (One (r + 1) _ _ a.held a.held a.held (rules-stb o (r + 1) a.held h.slot h.bank a.bound) (NoMore
-      (r + 1 + 1) a.held)) in
+      (stored h.bank (is_secret a.held 0) (is_secret a.held 1) value (λ zero. a.word (shows-plain h zero))))
+      (stored_goes o h.resident (r + 1) h.slot h.bank a.held a.bound) in
       let quiet : (s : ℕ) → r < s → s < r + length store → claimed_at o s ≡ None = (λ s above below.
       stands.noted s (omega arith) (omega arith)
       ∙ ap (option_map note_known) (no_note-behind p (r + 1) s (before ++ later)

@@ -1,5 +1,5 @@
 -- The public code of an expression is passed, wherever it stands.
-use Rattle.std.proofs.Common.{◌≡◌, ℕ, ◌+◌, ◌<◌, Bool, false, not, ◌||◌, ℤ, pos, List, [], ◌∷◌, ◌++◌, length, length-append, Option, Some, None, refl, sym, ap, ◌∙◌, arith}
+use Rattle.std.proofs.Common.{◌≡◌, ℕ, ◌+◌, ◌<◌, Bool, true, false, not, ◌||◌, ℤ, pos, List, [], ◌∷◌, ◌++◌, length, length-append, Option, Some, None, refl, sym, ap, ◌∙◌, arith}
 use Rattle.std.specs.Option.{option_map}
 use Rattle.std.proofs.lemmas.Bool.{eq-eqb, ne_eqb}
 use Rattle.gr_word.specs.declared.variables.Label.{Label}
@@ -8,7 +8,7 @@ use Rattle.gr_word.specs.declared.variables.Shape.{Shape}
 use Rattle.gr_word.specs.declared.variables.Shape.TheVariants.{Scalar, Array}
 use Rattle.gr_word.specs.declared.operations.Op.{Op}
 use Rattle.lt_isa.specs.declared.instructions.Instr.TheVariants.{Li, Alu, Ldw}
-use Rattle.lt_isa.specs.Object.{Parts, is_ram, block_words}
+use Rattle.lt_isa.specs.Object.{Parts, is_ram}
 use Rattle.src_tree.specs.Contexts.{context_of}
 use Rattle.src_tree.specs.Labels.{higher, label_or_public, label_of, secret_label}
 use Rattle.src_tree.specs.Trees.{Tree, Number, Variable, Element, Operation}
@@ -20,16 +20,17 @@ use Rattle.stretches.specs.Passing.{HoldsAt, AsItComes, Passes}
 use Rattle.stretches.proofs.Standing.{standing-first, standing-rest, standing-head}
 use Rattle.stretches.proofs.Passed.{passes-then, passes-to, passes-one, passes-noted, NoMore, One, rules-li, rules-alu, rules-ldw, secret-same, notes-before, notes-behind, no_note-there, notes-within, no_note-behind, LieBetween, lie_wider, lie_both}
 use Rattle.block_cache_gen.specs.declared.frames.Mode.TheVariants.{Public}
-use Rattle.block_cache_gen.specs.Homes.{Home, Setting, HasHomes, IsScalarHome, home_of}
+use Rattle.block_cache_gen.specs.Homes.{Setting, HasHomes, home_of, pin_of}
 use Rattle.block_cache_gen.specs.Codes.{expr_code}
 use Rattle.block_cache_gen.specs.Notes.{marked_by, expr_notes}
 use Rattle.block_cache_gen.specs.Carries.{Carries}
-use Rattle.block_cache_gen.specs.PublicIndexes.{HasPublicIndexes}
+use Rattle.block_cache_gen.specs.PublicIndexes.{IndexIsPublic, HasPublicIndexes}
 use Rattle.block_cache_gen.specs.PublicCode.{HasLabel}
 use Rattle.block_cache_gen.proofs.KeptBelow.{LeavesPublic, KeptBelow}
 use Rattle.block_cache_gen.proofs.NoteClaims.{unmarked-same, unmarked-other, leaves-without, leaves-later, leaves-higher}
 use Rattle.block_cache_gen.proofs.NotesOfCode.{expression-longer, expression-lies}
 use Rattle.block_cache_gen.proofs.KeptRegisters.{same-itself, same-set, kept-same, kept-itself}
+use Rattle.block_cache_gen.proofs.HomeFacts.{shows-plain, plain-array}
 use Rattle.block_cache_gen.proofs.PublicAccesses.{ExprPasses, array_code, array_notes, access-passes}
 
 -- what is known where a setting is carried keeps itself
@@ -38,13 +39,15 @@ pub kept-here : (f : Setting) (mask to : ℕ) (k : Known) → to < 32 → Carrie
 kept-here f mask to k low carries leaves =
     kept-itself f mask to k carries (λ r lt unmarks. let h = leaves r (omega arith) unmarks in h.1)
 
--- the bank of a scalar
-pub scalar_bound : (f : Setting) (k : Known) (l : Label) (w : ℕ) (h : Home) → IsScalarHome w l h → Carries f k
-    → bank_known k h.slot ≡ Some h.bank
-scalar_bound f k label.Public w h home carries =
-    ap (bank_known k) (home.slot ∙ home.bank) ∙ carries.plain_slot ∙ ap Some (sym home.bank)
-scalar_bound f k label.Secret w h home carries =
-    ap (bank_known k) (home.slot ∙ home.bank) ∙ carries.encrypted_slot ∙ ap Some (sym home.bank)
+-- the bank of a resident variable
+pub resident_bound : (o : Parts) (f : Setting) → HasHomes o f → (k : Known) (x : List ℕ) (l : Label) (shape : Shape)
+    → context_of f.decls x ≡ Some (l, shape) → (home_of f x).resident ≡ true → Carries f k
+    → bank_known k (home_of f x).slot ≡ Some (home_of f x).bank
+resident_bound o f homes k x l shape declared is carries =
+    let h = home_of f x in
+    let home = homes.residents x l shape declared is in
+    let pin = homes.pins h.slot (pin_of h) home.pinned in
+    carries.pinned h.slot (pin_of h) home.pinned pin.few pin.apart
 
 ram_scalar : (l : Label) → (not (is_ram (scalar_bank l)) || false) ≡ secret_label l
 ram_scalar label.Public = refl
@@ -52,12 +55,12 @@ ram_scalar label.Secret = refl
 
 -- the label of an element, by the bank of its array
 element_label : (l i : Label) (bank : ℕ) (word : Bool) → ((bank ≡ 0) → l ≡ label.Public) → (l ≡ label.Public → bank ≡ 0)
-    → (bank < 2 → i ≡ label.Public) → (bank < 2 → word ≡ false)
+    → (bank ≡ 0 → i ≡ label.Public) → (bank ≡ 0 → word ≡ false)
     → (not (is_ram bank) || word) ≡ secret_label (higher l i)
 element_label label.Public i bank word plain back public known =
     let zero : bank ≡ 0 = back refl in
-    ap (λ (b : Bool). not b || word) (eq-eqb bank 0 zero) ∙ known (omega arith)
-    ∙ ap secret_label (sym (public (omega arith)))
+    ap (λ (b : Bool). not b || word) (eq-eqb bank 0 zero) ∙ known zero
+    ∙ ap secret_label (sym (public zero))
 element_label label.Secret i bank word plain back public known =
     ap (λ (b : Bool). not b || word)
     (ne_eqb bank 0 (λ e. absurd (let f : ◌≡◌ {A = Label} label.Secret label.Public = plain e in cc)))
@@ -115,13 +118,15 @@ module _ (o : Parts) (f : Setting) (homes : HasHomes o f) (once : DeclaredOnce f
   scalar_passes : (x : List ℕ) (l : Label) → context_of f.decls x ≡ Some (l, Scalar) → ExprPasses o f (Variable x)
   scalar_passes x l declared mask to p k holds high stands here carries leaves =
       let h = home_of f x in
-      let home = homes.scalars x l declared in
+      let scalar = homes.scalars x l declared in
+      let home = homes.residents x l Scalar declared scalar.resident in
       let sized = carries.registers in
       let one = set_secret holds to false in
       let two = set_secret one to (not (is_ram h.bank) || is_secret one to) in
       let first = same-set to holds holds to false (omega arith) (same-itself to holds) in
       let size : length one.secret ≡ 32 = first.sized ∙ sized in
-      let bound : bank_known one h.slot ≡ Some h.bank = scalar_bound f holds l (block_words o) h home carries in
+      let bound : bank_known one h.slot ≡ Some h.bank =
+      resident_bound o f homes holds x l Scalar declared scalar.resident carries in
       record {
         last = two;
         passes
@@ -140,11 +145,10 @@ module _ (o : Parts) (f : Setting) (homes : HasHomes o f) (once : DeclaredOnce f
       }
 
   element_passes : (x : List ℕ) (l : Label) (i : Tree) → context_of f.decls x ≡ Some (l, Array)
-      → ((home_of f x).bank < 2 → label_of (context_of f.decls) i ≡ label.Public) → ExprPasses o f i
+      → IndexIsPublic f x i → ExprPasses o f i
       → ExprPasses o f (Element x i)
   element_passes x l i declared public index mask to p k holds high stands here carries leaves =
       let h = home_of f x in
-      let home = homes.arrays x l declared in
       let code = array_code f to x i in
       let read = Ldw to h.slot to ∷ [] in
       let size : length (code ++ read) ≡ length code + 1 = length-append code read in
@@ -157,6 +161,7 @@ module _ (o : Parts) (f : Setting) (homes : HasHomes o f) (once : DeclaredOnce f
       (omega arith) here carries leaves in
       let sized = a.kept.carries.registers in
       let last = set_secret a.held to (not (is_ram h.bank) || is_secret a.held to) in
+      let plain = plain-array o f homes x l declared in
       let step : Passes o r a.last (r + 1) last = passes-one o r a.last a.held last (Ldw to h.slot to) a.here
       (standing-head (Ldw to h.slot to) [] (standing-rest code read stands.code_stands))
       (rules-ldw o r a.held to h.slot to h.bank a.bound) (omega arith) in
@@ -169,8 +174,9 @@ module _ (o : Parts) (f : Setting) (homes : HasHomes o f) (once : DeclaredOnce f
             (same-itself to a.held));
         labelled
             = secret-same a.held to (not (is_ram h.bank) || is_secret a.held to) (omega arith)
-            ∙ element_label l (label_of (context_of f.decls) i) h.bank (is_secret a.held to) (λ e. home.plain.0 e)
-            (λ e. home.plain.1 e) public a.word
+            ∙ element_label l (label_of (context_of f.decls) i) h.bank (is_secret a.held to)
+            (λ e. plain.0 e) (λ e. plain.1 e) (λ zero. public (shows-plain h zero))
+            (λ zero. a.word (shows-plain h zero))
             ∙ ap (λ (q : Option (Label
             × Shape)). secret_label (higher (label_or_public q) (label_of (context_of f.decls) i))) (sym declared);
       }

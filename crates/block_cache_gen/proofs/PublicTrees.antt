@@ -7,16 +7,17 @@ use Rattle.gr_word.specs.declared.variables.Label.{Label}
 use Rattle.gr_word.specs.declared.variables.Label.TheVariants.{Public, Secret}
 use Rattle.gr_word.specs.declared.variables.Shape.TheVariants.{Scalar}
 use Rattle.lt_isa.specs.Object.{Parts, is_ram}
-use Rattle.symbolic_values.specs.Trees.{Value, Const, SlotWord, Apply}
+use Rattle.symbolic_values.specs.Trees.{Value, Const, SlotAt, Apply}
 use Rattle.src_tree.specs.Contexts.{context_of}
 use Rattle.src_tree.specs.Labels.{higher, label_or_public, label_at, label_of}
 use Rattle.src_tree.specs.Trees.{Tree, Number, Variable, Element, Operation}
 use Rattle.src_tree.specs.Typing.{TypedTree}
-use Rattle.trace_patterns.specs.SymStates.{RamSlot, Loaded}
+use Rattle.trace_patterns.specs.SymStates.{SymSlot, AnySlot, RamSlot, Entry, Loaded}
 use Rattle.trace_patterns.specs.Single.{applied_trees, word_tree}
 use Rattle.block_cache_gen.specs.Homes.{Home, Setting, home_of, words_a_block, HasHomes}
 use Rattle.block_cache_gen.specs.Codes.{is_masked, fixed_index, fixed_word}
-use Rattle.block_cache_gen.specs.PatternsOf.{word_named_by, word_read, scalar_tree, block_named_by, number_tree, reduced_tree, block_tree, block_loaded, element_slot, tree_of_expr}
+use Rattle.block_cache_gen.specs.PatternsOf.{word_named_by, word_read, scalar_tree, pinned_slot, placed_tree, element_by, block_named_by, number_tree, reduced_tree, block_tree, block_loaded, element_slot, tree_of_expr}
+use Rattle.block_cache_gen.proofs.HomeFacts.{plain-array}
 use Rattle.block_cache_gen.proofs.ArmInstructions.{IsSeen}
 
 -- a tree is known
@@ -47,6 +48,27 @@ pub number-known : (h : Home) (fixed : Option ℤ) (index : Option Value) → Is
 number-known h (Some z) index known = const-known (pos (fixed_word h z))
 number-known h None index known = reduced-known h index known
 
+-- so is the place of a resident array's word
+pub placed-known : (h : Home) (fixed : Option ℤ) (index : Option Value) → IsKnown index
+    → IsKnown (placed_tree h fixed index)
+placed-known h (Some z) index known = const-known (pos (h.word + fixed_word h z))
+placed-known h None index known =
+    applied-known Add (reduced_tree h index) (Some (Const (pos h.word))) (reduced-known h index known)
+    (const-known (pos h.word))
+
+-- a slot of plain memory holds what it held at the entry
+pub pinned-ram : (h : Home) → h.bank ≡ 0 → pinned_slot h ≡ RamSlot (SlotAt h.slot) (Entry h.slot)
+pinned-ram h at =
+    ap (λ (b : ℕ). let v : SymSlot = if is_ram b then RamSlot (SlotAt h.slot) (Entry h.slot) else AnySlot in v) at
+
+-- and its words are known
+read-known : (f : Setting) (h : Home) (n : Option Value) → h.bank ≡ 0 → IsKnown n
+    → IsKnown (word_read f (pinned_slot h) n)
+read-known f h n at known = (
+  word_tree (Entry h.slot) (SlotAt h.slot) (word_named_by f known.0),
+  λ i. word_read f (pinned-ram h at i) (known.1 i),
+)
+
 -- the block of an access is seen only where it is known
 pub block-seen : (f : Setting) (h : Home) (fixed : Option ℤ) (index : Option Value) → (h.bank < 2 → IsKnown index)
     → IsSeen h.bank (block_tree f h fixed index)
@@ -69,12 +91,7 @@ public-right Secret b e = absurd (let g : ◌≡◌ {A = Label} Secret Public = 
 
 module _ (o : Parts) (f : Setting) (homes : HasHomes o f) where
   scalar-known : (h : Home) → h.bank ≡ 0 → IsKnown (scalar_tree f h)
-  scalar-known h at = (
-    SlotWord 0 (word_named_by f (Const (pos h.word))),
-    ap (λ (b : ℕ).
-        let v : Option Value = if is_ram b then Some (SlotWord 0 (word_named_by f (Const (pos h.word)))) else None
-        in v) at,
-  )
+  scalar-known h at = read-known f h (Some (Const (pos h.word))) at (const-known (pos h.word))
 
   -- an element of plain memory
   element-known : (h : Home) (fixed : Option ℤ) (index : Option Value) → h.bank ≡ 0 → IsKnown index
@@ -88,6 +105,12 @@ module _ (o : Parts) (f : Setting) (homes : HasHomes o f) where
         λ i. word_read f (bound i) (number.1 i),
       )
 
+  element_by-known : (b : Bool) (h : Home) (fixed : Option ℤ) (index : Option Value) → h.bank ≡ 0 → IsKnown index
+      → IsKnown (element_by b f h fixed index)
+  element_by-known true h fixed index at known =
+      read-known f h (placed_tree h fixed index) at (placed-known h fixed index known)
+  element_by-known false h fixed index at known = element-known h fixed index at known
+
   -- the value of a public expression is known
   pub public-tree : (e : Tree) → TypedTree (context_of f.decls) e → label_of (context_of f.decls) e ≡ Public
       → IsKnown (tree_of_expr f e)
@@ -95,14 +118,17 @@ module _ (o : Parts) (f : Setting) (homes : HasHomes o f) where
   public-tree (Variable x) typed public =
       let same : label_at (context_of f.decls) x ≡ typed.0 = ap label_or_public typed.1 in
       let at = subst (λ (l : Label). context_of f.decls x ≡ Some (l, Scalar)) (sym same ∙ public) typed.1 in
-      scalar-known (home_of f x) (homes.scalars x Public at).bank
+      let scalar = homes.scalars x Public at in
+      let home = homes.residents x Public Scalar at scalar.resident in
+      scalar-known (home_of f x) home.bank
   public-tree (Element x i) typed public =
       let known = context_of f.decls in
       let same : label_at known x ≡ typed.0.0 = ap label_or_public typed.0.1 in
       let array = public-left (label_at known x) (label_of known i) public in
       let index = public-right (label_at known x) (label_of known i) public in
-      let home = homes.arrays x typed.0.0 typed.0.1 in
-      element-known (home_of f x) (fixed_index (home_of f x) i) (tree_of_expr f i) (home.plain.1 (sym same ∙ array))
+      let plain = plain-array o f homes x typed.0.0 typed.0.1 in
+      element_by-known (home_of f x).resident (home_of f x) (fixed_index (home_of f x) i) (tree_of_expr f i)
+      (plain.1 (sym same ∙ array))
       (public-tree i typed.1.0 index)
   public-tree (Operation op a b) typed public =
       let known = context_of f.decls in

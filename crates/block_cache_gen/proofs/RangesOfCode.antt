@@ -22,9 +22,9 @@ use Rattle.src_tree.specs.Trees.{Tree, Number, Variable, Element, Operation, Tes
 use Rattle.src_tree.specs.Typing.{TypedTree, TypedTest}
 use Rattle.block_cache_gen.specs.declared.frames.Mode.{Mode}
 use Rattle.block_cache_gen.specs.declared.frames.Mode.TheVariants.{Public, Real, Mirrored}
-use Rattle.block_cache_gen.specs.Homes.{Home, Setting, home_of}
+use Rattle.block_cache_gen.specs.Homes.{Pin, pin_at, Home, Setting, home_of}
 use Rattle.block_cache_gen.specs.TreeWords.{HasWords}
-use Rattle.block_cache_gen.specs.Codes.{is_masked, fixed_index, fixed_word, reduced_code, shift_code, fixed_code, located_code, load_code, skips, access_code, expr_code, guard_code, store_code, set_code}
+use Rattle.block_cache_gen.specs.Codes.{is_masked, fixed_index, fixed_word, reduced_code, shift_code, fixed_code, located_code, load_code, skips, access_by, placed_code, offset_code, stored_code, access_code, expr_code, guard_code, store_code, set_code}
 
 -- a home in its ranges, where there are so many banks
 pub record HomeFits (banks : ℕ) (h : Home) : Type 0 where
@@ -37,6 +37,7 @@ pub record HomeFits (banks : ℕ) (h : Home) : Type 0 where
 -- so is the home of each variable, and a block has 512 words at most
 pub record HomesFit (banks : ℕ) (f : Setting) : Type 0 where
   pub block_log : f.profile.block_log ≤ 9
+  pub pins : (slot : ℕ) (p : Pin) → pin_at f slot ≡ Some p → p.bank < 2
   pub homes : (x : List ℕ) (label : Label) (shape : Shape) → context_of f.decls x ≡ Some (label, shape)
       → HomeFits banks (home_of f x)
 
@@ -144,11 +145,30 @@ module _ (banks : ℕ) where
         both index (reduced_code h to ++ shift_code block_log h to) fit
         (both (reduced_code h to) (shift_code block_log h to) (reduced_by (is_masked h)) (block_by block_log few))
 
+    placed_by : (fixed : Option ℤ) (index : List Instr) → CodeFits banks index
+        → CodeFits banks (placed_code h to fixed index)
+    placed_by (Some z) index fit =
+        let small = home.word in
+        let least = home.length.0 in
+        let most = home.length.1 in
+        let below : fixed_word h z < h.length = mod-lt (unsigned_of z) (omega arith) in
+        li to (pos (h.word + fixed_word h z)) [] (omega arith) (small-word (h.word + fixed_word h z) (omega arith)) none
+    placed_by None index fit =
+        let small = home.word in
+        both index (reduced_code h to ++ offset_code h to) fit
+        (both (reduced_code h to) (offset_code h to) (reduced_by (is_masked h))
+        (li (to + 1) (pos h.word) _ (omega arith) (small-word h.word (omega arith))
+        (alu Add to to (to + 1) [] (omega arith) (omega arith) (omega arith) none)))
+
     pub access-fits : (block_log : ℕ) (mode : Mode) (fixed : Option ℤ) (index : List Instr) → block_log ≤ 9
         → CodeFits banks index → CodeFits banks (access_code block_log mode h to fixed index)
-    access-fits block_log mode fixed index few fit =
-        both (located_code block_log h to fixed index) (load_code (skips mode h) h to)
-        (located_by block_log fixed index few fit) (load_by (skips mode h))
+    access-fits block_log mode fixed index few fit = by h.resident
+      where
+        by : (b : Bool) → CodeFits banks (access_by b block_log mode h to fixed index)
+        by true = placed_by fixed index fit
+        by false =
+            both (located_code block_log h to fixed index) (load_code (skips mode h) h to)
+            (located_by block_log fixed index few fit) (load_by (skips mode h))
 
   -- an expression
   pub expression-fits : (f : Setting) (mode : Mode) → HomesFit banks f → (to : ℕ) (e : Tree)
@@ -189,6 +209,10 @@ module _ (banks : ℕ) where
   store_by Mirrored slot low =
       ldw 2 slot 1 _ (omega arith) low (omega arith) (stw 2 slot 1 [] (omega arith) low (omega arith) none)
 
+  stored_fits : (b : Bool) (slot : ℕ) → slot < 8 → CodeFits banks (stored_code b slot)
+  stored_fits true slot low = none
+  stored_fits false slot low = stb slot [] low none
+
   -- assignments
   pub set_variable-fits : (f : Setting) (mode : Mode) → HomesFit banks f → (x : List ℕ) (label : Label) (shape : Shape)
       (e : Tree)
@@ -215,4 +239,4 @@ module _ (banks : ℕ) where
       (expr_code f mode 1 i) homes.block_log
       (expression-fits f mode homes 1 i typed.1.0 index (omega arith)))
       (both (store_code mode (home_of f x).slot) _ (store_by mode (home_of f x).slot home.slot)
-      (stb (home_of f x).slot [] home.slot none)))
+      (stored_fits (home_of f x).resident (home_of f x).slot home.slot)))

@@ -11,17 +11,17 @@ use Rattle.gr_word.specs.declared.variables.Label.{Label}
 use Rattle.gr_word.specs.declared.variables.Label.TheVariants as label
 use Rattle.lt_isa.specs.declared.symbols.Note.{Note}
 use Rattle.lt_isa.specs.declared.instructions.Instr.{Instr}
-use Rattle.lt_isa.specs.declared.instructions.Instr.TheVariants.{Alu, Ldw, Li, Stw, Stb}
+use Rattle.lt_isa.specs.declared.instructions.Instr.TheVariants.{Alu, Ldw, Li, Stw}
 use Rattle.lt_isa.specs.Ranges.{NoteFits, next_place, is_slot_claim}
 use Rattle.src_tree.specs.Contexts.{context_of}
 use Rattle.src_tree.specs.Labels.{label_of}
 use Rattle.src_tree.specs.Limits.{tree_weight, test_weight}
 use Rattle.src_tree.specs.Trees.{Tree, Number, Variable, Element, Operation, Test, Statement, SetVariable, SetElement, Choice, Loop}
 use Rattle.block_cache_gen.specs.declared.frames.Mode.TheVariants.{Public}
-use Rattle.block_cache_gen.specs.Homes.{Home, Setting, home_of}
-use Rattle.block_cache_gen.specs.Codes.{is_cached, fixed_index, access_code, expr_code, guard_code, set_code}
-use Rattle.block_cache_gen.specs.Notes.{all_marked, unmarked, marked_by, is_used, claimed_where_used, slot_claims, note_of, access_mask, load_notes, index_notes, expr_notes, guard_notes, set_notes}
-use Rattle.block_cache_gen.proofs.NotesOfCode.{index_length, located-longer, access-longer, expression-longer}
+use Rattle.block_cache_gen.specs.Homes.{Pin, pin_at, Home, Setting, home_of}
+use Rattle.block_cache_gen.specs.Codes.{is_cached, fixed_index, stored_code, access_code, expr_code, guard_code, set_code}
+use Rattle.block_cache_gen.specs.Notes.{all_marked, unmarked, marked_by, is_used, claimed_where_used, claim_by, slot_claims, note_of, access_mask, loaded_notes, load_notes, index_notes, expr_notes, guard_notes, set_notes}
+use Rattle.block_cache_gen.proofs.NotesOfCode.{index_length, access-more, expression-longer}
 use Rattle.block_cache_gen.proofs.PublicAccesses.{array_code, array_notes}
 
 -- Notes from one place on and before another, which rise, with masks of 32 registers, and the claims of a setting.
@@ -72,6 +72,12 @@ load_rises : (f : Setting) (mask to behind low high : ℕ) (cached : Bool) → m
 load_rises f mask to behind low high true small le lt = ((le, lt), (access_mask-below mask to small, refl), tt)
 load_rises f mask to behind low high false small le lt = tt
 
+loaded_rises : (f : Setting) (h : Home) (mask to behind low high : ℕ) (b : Bool) → mask < 2 ^ 32 → low ≤ behind
+    → behind < high → NotesRise f low high (loaded_notes b f h mask to behind)
+loaded_rises f h mask to behind low high true small le lt = tt
+loaded_rises f h mask to behind low high false small le lt =
+    load_rises f mask to behind low high (is_cached h) small le lt
+
 index_rises : (f : Setting) (fixed : Option ℤ) (p : ℕ) (index : List Instr) (notes : List Note)
     → NotesRise f (p + 1) (p + length index) notes
     → NotesRise f (p + 1) (p + index_length fixed index) (index_notes fixed notes)
@@ -85,13 +91,12 @@ pub access-rises : (f : Setting) (h : Home) (mask to p : ℕ) (fixed : Option �
     ++ load_notes f h mask to (p + length (access_code f.profile.block_log Public h to fixed index)))
 access-rises f h mask to p fixed index notes small rise =
     let size = length (access_code f.profile.block_log Public h to fixed index) in
-    let longer = located-longer f.profile.block_log h to fixed index in
-    let more = access-longer f.profile.block_log h to fixed index in
+    let more = access-more h.resident f.profile.block_log h to fixed index in
     rise-then f (p + 1) (p + size) (p + size + 1) (index_notes fixed notes) (load_notes f h mask to (p + size))
     (omega arith) (omega arith)
     (rise-wider f (p + 1) (p + index_length fixed index) (p + 1) (p + size) (index_notes fixed notes) (omega arith)
     (omega arith) (index_rises f fixed p index notes rise))
-    (load_rises f mask to (p + size) (p + size) (p + size + 1) (is_cached h) small (omega arith) (omega arith))
+    (loaded_rises f h mask to (p + size) (p + size) (p + size + 1) h.resident small (omega arith) (omega arith))
 
 -- the notes of an expression, of a guard, and of an assignment
 pub expression-rises : (f : Setting) (e : Tree) (mask to p : ℕ) → mask < 2 ^ 32
@@ -158,13 +163,13 @@ set-rises f p (SetElement x i e) =
     let h = home_of f x in
     let first = expr_code f Public 0 e in
     let access = array_code f 1 x i in
-    let store = Stw 0 h.slot 1 ∷ Stb h.slot ∷ [] in
+    let store = Stw 0 h.slot 1 ∷ stored_code h.resident h.slot in
     let mask = marked_by (label_of (context_of f.decls) e) all_marked 0 in
     let small = marked_by-below (label_of (context_of f.decls) e) all_marked 0 all_small in
     let mid = p + length first in
     let whole = p + length (first ++ (access ++ store)) in
     let some = expression-longer f e 0 in
-    let size : length (first ++ (access ++ store)) ≡ length first + (length access + 2) =
+    let size : length (first ++ (access ++ store)) ≡ length first + (length access + length store) =
     length-append first (access ++ store) ∙ ap (λ (n : ℕ). length first + n) (length-append access store) in
     rise-then f (p + 1) mid whole (expr_notes f all_marked 0 p e) (array_notes f mask 1 mid x i) (omega arith)
     (omega arith) (expression-rises f e all_marked 0 p all_small)
@@ -191,35 +196,53 @@ used_claim : (used : Bool) (banks bank : ℕ) → bank < banks → IsTrue (is_sl
 used_claim true banks bank low = low_claim banks bank low
 used_claim false banks bank low = any_claim banks
 
-pub claims-fit : (f : Setting) (banks : ℕ) → 2 ≤ banks
+-- pinned blocks are ones of plain or encrypted memory
+abbrev pub PinsLow : Setting → Type 0
+PinsLow f = (slot : ℕ) (p : Pin) → pin_at f slot ≡ Some p → p.bank < 2
+
+pub claims-fit : (f : Setting) (banks : ℕ) → 2 ≤ banks → PinsLow f
     → (length (slot_claims f) ≡ 8) × All (λ claim. IsTrue (is_slot_claim banks claim)) (slot_claims f)
-claims-fit f banks some =
+claims-fit f banks some pins =
     let C : ℕ → Type 0 = λ claim. IsTrue (is_slot_claim banks claim) in
-    let seven : List ℕ = 255 ∷ [] in
-    let six : List ℕ = 255 ∷ seven in
-    let five : List ℕ = claimed_where_used f 5 1 ∷ six in
-    let four : List ℕ = claimed_where_used f 4 1 ∷ five in
-    let three : List ℕ = claimed_where_used f 3 0 ∷ four in
-    let two : List ℕ = claimed_where_used f 2 0 ∷ three in
-    let one : List ℕ = 1 ∷ two in (
+    let pinned : (slot other : ℕ) → C other → C (claim_by (pin_at f slot) other) =
+    λ slot other turn. pin_claim C (pin_at f slot) other turn
+    (λ p is. low_claim banks p.bank (omega (arith, pins slot p is))) in
+    let c0 = claim_by (pin_at f 0) 255 in
+    let c1 = claim_by (pin_at f 1) 255 in
+    let c2 = claim_by (pin_at f 2) (claimed_where_used f 2 0) in
+    let c3 = claim_by (pin_at f 3) (claimed_where_used f 3 0) in
+    let c4 = claim_by (pin_at f 4) (claimed_where_used f 4 1) in
+    let c5 = claim_by (pin_at f 5) (claimed_where_used f 5 1) in
+    let c7 = claim_by (pin_at f 7) 255 in
+    let six : List ℕ = 255 ∷ c7 ∷ [] in
+    let five : List ℕ = c5 ∷ six in
+    let four : List ℕ = c4 ∷ five in
+    let three : List ℕ = c3 ∷ four in
+    let two : List ℕ = c2 ∷ three in
+    let one : List ℕ = c1 ∷ two in (
       refl,
-      All-cons C 0 one (low_claim banks 0 (omega arith))
-          (All-cons C 1 two (low_claim banks 1 (omega arith))
-          (All-cons C (claimed_where_used f 2 0) three (used_claim (is_used f 2) banks 0 (omega arith))
-          (All-cons C (claimed_where_used f 3 0) four (used_claim (is_used f 3) banks 0 (omega arith))
-          (All-cons C (claimed_where_used f 4 1) five (used_claim (is_used f 4) banks 1 (omega arith))
-          (All-cons C (claimed_where_used f 5 1) six (used_claim (is_used f 5) banks 1 (omega arith))
-          (All-cons C 255 seven (any_claim banks)
-          (All-cons C 255 [] (any_claim banks) (All-nil C)))))))),
+      All-cons C c0 one (pinned 0 255 (any_claim banks))
+          (All-cons C c1 two (pinned 1 255 (any_claim banks))
+          (All-cons C c2 three (pinned 2 (claimed_where_used f 2 0) (used_claim (is_used f 2) banks 0 (omega arith)))
+          (All-cons C c3 four (pinned 3 (claimed_where_used f 3 0) (used_claim (is_used f 3) banks 0 (omega arith)))
+          (All-cons C c4 five (pinned 4 (claimed_where_used f 4 1) (used_claim (is_used f 4) banks 1 (omega arith)))
+          (All-cons C c5 six (pinned 5 (claimed_where_used f 5 1) (used_claim (is_used f 5) banks 1 (omega arith)))
+          (All-cons C 255 (c7 ∷ []) (any_claim banks)
+          (All-cons C c7 [] (pinned 7 255 (any_claim banks)) (All-nil C)))))))),
     )
+  where
+    pin_claim : (C : ℕ → Type 0) (pin : Option Pin) (other : ℕ) → C other → ((p : Pin) → pin ≡ Some p → C p.bank)
+        → C (claim_by pin other)
+    pin_claim C None other turn is = turn
+    pin_claim C (Some p) other turn is = is p refl
 
 -- notes that rise are in their ranges behind others that end before them
-pub rise-fits : (f : Setting) (banks : ℕ) → 2 ≤ banks → (low high : ℕ) (before notes : List Note)
+pub rise-fits : (f : Setting) (banks : ℕ) → 2 ≤ banks → PinsLow f → (low high : ℕ) (before notes : List Note)
     → next_place before ≤ low → high ≤ 2 ^ 32 → NotesRise f low high notes → EachAfter (NoteFits banks) before notes
-rise-fits f banks some low high before [] le ge rise = tt
-rise-fits f banks some low high before (n ∷ notes) le ge rise =
+rise-fits f banks some pins low high before [] le ge rise = tt
+rise-fits f banks some pins low high before (n ∷ notes) le ge rise =
     let at = rise.0 in
-    let claims = claims-fit f banks some in
+    let claims = claims-fit f banks some pins in
     let next : next_place (before ++ n ∷ []) ≡ n.pc + 1 = at_last-push (λ (m : Note). m.pc + 1) before n in (
       record {
         pc = (omega (arith, at.0), omega (arith, at.1));
@@ -227,7 +250,7 @@ rise-fits f banks some low high before (n ∷ notes) le ge rise =
         slot_count = ap length rise.1.1 ∙ claims.0;
         slots = subst (All (λ claim. IsTrue (is_slot_claim banks claim))) (sym rise.1.1) claims.1;
       },
-      rise-fits f banks some (n.pc + 1) high (before ++ n ∷ []) notes (omega (arith, next)) ge rise.2,
+      rise-fits f banks some pins (n.pc + 1) high (before ++ n ∷ []) notes (omega (arith, next)) ge rise.2,
     )
 
 -- one note a node
@@ -235,6 +258,11 @@ load_count : (f : Setting) (mask to behind : ℕ) (cached : Bool)
     → length (if cached then note_of f (access_mask mask to) behind ∷ [] else []) ≤ 1
 load_count f mask to behind true = omega arith
 load_count f mask to behind false = omega arith
+
+loaded_count : (f : Setting) (h : Home) (mask to behind : ℕ) (b : Bool)
+    → length (loaded_notes b f h mask to behind) ≤ 1
+loaded_count f h mask to behind true = omega arith
+loaded_count f h mask to behind false = load_count f mask to behind (is_cached h)
 
 index_count : (fixed : Option ℤ) (notes : List Note) → length (index_notes fixed notes) ≤ length notes
 index_count (Some z) notes = omega arith
@@ -247,7 +275,7 @@ access-count f h mask to behind fixed notes =
       arith,
       length-append (index_notes fixed notes) (load_notes f h mask to behind),
       index_count fixed notes,
-      load_count f mask to behind (is_cached h),
+      loaded_count f h mask to behind h.resident,
     )
 
 -- an expression has no more notes than it weighs

@@ -6,20 +6,24 @@ use Rattle.std.proofs.lemmas.List.{map-append}
 use Rattle.std.proofs.lemmas.List.Sums.{sum_by-append}
 use Rattle.gr_word.specs.declared.operations.Op.TheVariants.{Remu, And}
 use Rattle.lt_isa.specs.declared.instructions.Instr.{Instr}
-use Rattle.lt_isa.specs.declared.instructions.Instr.TheVariants.{Li, Alu, Stb, Ldw}
+use Rattle.lt_isa.specs.declared.instructions.Instr.TheVariants.{Li, Alu, Ldw}
 use Rattle.src_tree.specs.Trees.{Tree, Number, Variable, Element, Operation, Test, Statement, SetVariable, SetElement, Choice, Loop}
 use Rattle.block_cache_gen.specs.declared.frames.Mode.{Mode}
 use Rattle.block_cache_gen.specs.declared.frames.Mode.TheVariants.{Public, Real, Mirrored}
 use Rattle.block_cache_gen.specs.Homes.{Home, Setting, home_of}
-use Rattle.block_cache_gen.specs.Codes.{may_skip_loads, is_cached, is_masked, fixed_index, reduced_code, shift_code, located_code, load_code, skips, access_code, expr_code, guard_code, store_code, set_code}
+use Rattle.block_cache_gen.specs.Codes.{may_skip_loads, is_cached, is_masked, fixed_index, reduced_code, shift_code, located_code, offset_code, placed_code, stored_code, access_by, load_code, skips, access_code, expr_code, guard_code, store_code, set_code}
 use Rattle.block_cache_gen.specs.StoredWords.{is_stw, stored_words, register_aside, registers_aside}
 
 -- an expression's code tells public code from secret code alone
 access_code-mode : (f : Setting) (m n : Mode) (h : Home) (to : ℕ) (fixed : Option ℤ) (one other : List Instr)
     → may_skip_loads m ≡ may_skip_loads n → one ≡ other
     → access_code f.profile.block_log m h to fixed one ≡ access_code f.profile.block_log n h to fixed other
-access_code-mode f m n h to fixed one other same index =
-    λ i. located_code f.profile.block_log h to fixed (index i) ++ load_code (same i && is_cached h) h to
+access_code-mode f m n h to fixed one other same index = by h.resident
+  where
+    by : (b : Bool) → access_by b f.profile.block_log m h to fixed one
+        ≡ access_by b f.profile.block_log n h to fixed other
+    by true = ap (placed_code h to fixed) index
+    by false = λ i. located_code f.profile.block_log h to fixed (index i) ++ load_code (same i && is_cached h) h to
 
 pub expr_code-mode : (f : Setting) (m n : Mode) (to : ℕ) (e : Tree) → may_skip_loads m ≡ may_skip_loads n
     → expr_code f m to e ≡ expr_code f n to e
@@ -67,8 +71,8 @@ set_code-aside f (SetElement x i e) =
     let access = access_code-mode f Real Mirrored h 1 fixed (expr_code f Real 1 i) (expr_code f Mirrored 1 i) refl
     (expr_code-mode f Real Mirrored 1 i refl) in
     element_aside (expr_code f Real 0 e) (access_code f.profile.block_log Real h 1 fixed (expr_code f Real 1 i))
-    (Stb h.slot ∷ []) (store_code Real h.slot) (store_code Mirrored h.slot) refl
-    ∙ λ k. registers_aside (value k ++ (access k ++ (store_code Mirrored h.slot ++ Stb h.slot ∷ [])))
+    (stored_code h.resident h.slot) (store_code Real h.slot) (store_code Mirrored h.slot) refl
+    ∙ λ k. registers_aside (value k ++ (access k ++ (store_code Mirrored h.slot ++ stored_code h.resident h.slot)))
 set_code-aside f (Choice t a b) = refl
 set_code-aside f (Loop t a) = refl
 
@@ -102,9 +106,20 @@ load-stores false h to = refl
 
 access-stores : (f : Setting) (mode : Mode) (h : Home) (to : ℕ) (fixed : Option ℤ) (index : List Instr)
     → stored_words index ≡ 0 → stored_words (access_code f.profile.block_log mode h to fixed index) ≡ 0
-access-stores f mode h to fixed index none =
-    stored-append (located_code f.profile.block_log h to fixed index) (load_code (skips mode h) h to)
-    ∙ omega (arith, located-stores f.profile.block_log h to fixed index none, load-stores (skips mode h) h to)
+access-stores f mode h to fixed index none = by h.resident
+  where
+    placed : (g : Option ℤ) → stored_words (placed_code h to g index) ≡ 0
+    placed (Some z) = refl
+    placed None =
+        let offset : stored_words (offset_code h to) ≡ 0 = refl in
+        stored-append index (reduced_code h to ++ offset_code h to)
+        ∙ omega (arith, none, stored-append (reduced_code h to) (offset_code h to), reduced-stores h to, offset)
+
+    by : (b : Bool) → stored_words (access_by b f.profile.block_log mode h to fixed index) ≡ 0
+    by true = placed fixed
+    by false =
+        stored-append (located_code f.profile.block_log h to fixed index) (load_code (skips mode h) h to)
+        ∙ omega (arith, located-stores f.profile.block_log h to fixed index none, load-stores (skips mode h) h to)
 
 -- an expression stores no word
 pub expr-stores : (f : Setting) (mode : Mode) (to : ℕ) (e : Tree) → stored_words (expr_code f mode to e) ≡ 0
@@ -149,16 +164,20 @@ variable-stores f mode x e =
     ∙ (λ k. expr-stores f mode 0 e k + placed-stores mode (pos h.word) h.slot k)
 
 -- an assignment to an element stores one word
+last-stores : (b : Bool) (slot : ℕ) → stored_words (stored_code b slot) ≡ 0
+last-stores true slot = refl
+last-stores false slot = refl
+
 pub element-stores : (f : Setting) (mode : Mode) (x : List ℕ) (i e : Tree)
     → stored_words (set_code f mode (SetElement x i e)) ≡ 1
 element-stores f mode x i e =
     let h = home_of f x in
     let access = access_code f.profile.block_log mode h 1 (fixed_index h i) (expr_code f mode 1 i) in
     let store = store_code mode h.slot in
-    let last = Stb h.slot ∷ [] in
+    let last = stored_code h.resident h.slot in
     stored-append (expr_code f mode 0 e) (access ++ (store ++ last))
     ∙ (λ k. expr-stores f mode 0 e k + stored-append access (store ++ last) k)
     ∙ (λ k.
     0 + (access-stores f mode h 1 (fixed_index h i) (expr_code f mode 1 i) (expr-stores f mode 1 i) k
     + stored-append store last k))
-    ∙ ap (λ (n : ℕ). 0 + (0 + (n + 0))) (store-stores mode h.slot)
+    ∙ (λ k. 0 + (0 + (store-stores mode h.slot k + last-stores h.resident h.slot k)))

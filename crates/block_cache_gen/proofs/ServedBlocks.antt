@@ -1,14 +1,15 @@
--- The first variable that a slot serves: its number, and its block.
-use Rattle.std.proofs.Common.{◌≡◌, ℕ, suc, ◌+◌, ◌<◌, ◌≤◌, ◌==◌, Bool, true, false, ◌||◌, cond, not, List, [], ◌∷◌, length, Option, Some, None, refl, sym, ap, ◌∙◌, arith}
+-- The first variable that a slot serves: its number, and its block; and the blocks that slots begin with.
+use Rattle.std.proofs.Common.{◌≡◌, ◌≢◌, ℕ, zero, suc, ◌+◌, ◌<◌, ◌≤◌, ◌==◌, Bool, true, false, ◌||◌, cond, not, List, [], ◌∷◌, length, Option, Some, None, inl, inr, refl, sym, ap, ◌∙◌, subst, arith}
 use Rattle.std.specs.Prelude.{find, position, nat_lt, slice_index_or}
 use Rattle.std.specs.List.{list_any, position_or_len}
 use Rattle.std.specs.Option.{option_map}
 use Rattle.std.proofs.lemmas.Bool.{ltb-true, ltb-false, false≢true}
 use Rattle.bank_alloc.specs.declared.places.Place.{Place}
-use Rattle.block_cache_gen.specs.Homes.{Home, Setting, no_home}
+use Rattle.block_cache_gen.specs.Homes.{Home, Pin, Setting, no_home, pin_at}
 use Rattle.block_cache_gen.specs.Notes.{is_used}
-use Rattle.block_cache_gen.specs.ServedBlocks.{block_served}
+use Rattle.block_cache_gen.specs.ServedBlocks.{block_served, first_blocks, pin_in, pin_or}
 use Rattle.block_cache_gen.specs.Settings.{home_at, homes_at}
+use Rattle.block_cache_gen.proofs.HomeFacts.{bank_served}
 
 -- the place where a search of slots ends
 abbrev end_of_search : List ℕ → ℕ → ℕ
@@ -122,3 +123,81 @@ home-found (h ∷ homes) slot block is = by (h.slot == slot) is (home-found home
 pub served-home : (f : Setting) (slot block : ℕ) → block_served f slot ≡ Some block
     → (k : ℕ) × (k < length f.homes) × ((slice_index_or f.homes k no_home).block ≡ block)
 served-home f slot block is = home-found f.homes slot block is
+
+-- a pinned slot begins with its block
+pub first-pinned : (f : Setting) (k : ℕ) (p : Pin) → k < 8 → k ≢ 6 → pin_at f k ≡ Some p
+    → slice_index_or (first_blocks f) k None ≡ Some p
+first-pinned f zero p few apart is = is
+first-pinned f (suc zero) p few apart is = is
+first-pinned f (suc (suc zero)) p few apart is = ap (λ q. pin_or q (pin_in 0 (block_served f 2))) is
+first-pinned f (suc (suc (suc zero))) p few apart is = ap (λ q. pin_or q (pin_in 0 (block_served f 3))) is
+first-pinned f (suc (suc (suc (suc zero)))) p few apart is = ap (λ q. pin_or q (pin_in 1 (block_served f 4))) is
+first-pinned f (suc (suc (suc (suc (suc zero))))) p few apart is = ap (λ q. pin_or q (pin_in 1 (block_served f 5))) is
+first-pinned f (suc (suc (suc (suc (suc (suc zero)))))) p few apart is = absurd (apart refl)
+first-pinned f (suc (suc (suc (suc (suc (suc (suc zero))))))) p few apart is = is
+first-pinned f (suc (suc (suc (suc (suc (suc (suc (suc n)))))))) p few apart is = absurd (omega (arith, few))
+
+-- and one that serves a bank in turn, and is used, with a block of that bank
+pub first-served : (f : Setting) (slot bank : ℕ) → bank_served slot bank → pin_at f slot ≡ None
+    → is_used f slot ≡ true
+    → (block : ℕ) × (slice_index_or (first_blocks f) slot None ≡ Some (record { bank = bank; block = block }))
+first-served f slot bank serves free used =
+    let h = served-used f slot used in
+    (h.0, first slot bank h.0 serves free h.1)
+  where
+    in_turn : (pin : Option Pin) (one bank : ℕ) (served : Option ℕ) (block : ℕ) → pin ≡ None → served ≡ Some block
+        → bank ≡ one → pin_or pin (pin_in one served) ≡ Some (record { bank = bank; block = block })
+    in_turn pin one bank served block free is same =
+        subst (λ n. pin_or pin (pin_in one served) ≡ Some (record { bank = n; block = block })) (sym same)
+        (ap (λ q. pin_or q (pin_in one served)) free ∙ ap (pin_in one) is)
+
+    first : (slot bank block : ℕ) → bank_served slot bank → pin_at f slot ≡ None → block_served f slot ≡ Some block
+        → slice_index_or (first_blocks f) slot None ≡ Some (record { bank = bank; block = block })
+    first zero bank block (inl h) free is = absurd (omega (arith, h.0))
+    first zero bank block (inr h) free is = absurd (omega (arith, h.0))
+    first (suc zero) bank block (inl h) free is = absurd (omega (arith, h.0))
+    first (suc zero) bank block (inr h) free is = absurd (omega (arith, h.0))
+    first (suc (suc zero)) bank block (inl h) free is =
+        in_turn (pin_at f 2) 0 bank (block_served f 2) block free is h.1
+    first (suc (suc zero)) bank block (inr h) free is = absurd (omega (arith, h.0))
+    first (suc (suc (suc zero))) bank block (inl h) free is =
+        in_turn (pin_at f 3) 0 bank (block_served f 3) block free is h.1
+    first (suc (suc (suc zero))) bank block (inr h) free is = absurd (omega (arith, h.0))
+    first (suc (suc (suc (suc zero)))) bank block (inl h) free is = absurd (omega (arith, h.0))
+    first (suc (suc (suc (suc zero)))) bank block (inr h) free is =
+        in_turn (pin_at f 4) 1 bank (block_served f 4) block free is h.1
+    first (suc (suc (suc (suc (suc zero))))) bank block (inl h) free is = absurd (omega (arith, h.0))
+    first (suc (suc (suc (suc (suc zero))))) bank block (inr h) free is =
+        in_turn (pin_at f 5) 1 bank (block_served f 5) block free is h.1
+    first (suc (suc (suc (suc (suc (suc n)))))) bank block (inl h) free is = absurd (omega (arith, h.0))
+    first (suc (suc (suc (suc (suc (suc n)))))) bank block (inr h) free is = absurd (omega (arith, h.0))
+
+-- what holds of all pins, and of the first blocks that are served, holds of all blocks that slots begin with
+module _ (f : Setting) (P : Pin → Type 0) (pinned : (slot : ℕ) (p : Pin) → pin_at f slot ≡ Some p → P p)
+    (served : (slot bank block : ℕ) → bank < 2 → block_served f slot ≡ Some block
+    → P (record { bank = bank; block = block })) where
+  of-served : (slot bank : ℕ) (block : Option ℕ) (p : Pin) → bank < 2 → block_served f slot ≡ block
+      → pin_in bank block ≡ Some p → P p
+  of-served slot bank None p low is e = absurd (let g : ◌≡◌ {A = Option Pin} None (Some p) = e in cc)
+  of-served slot bank (Some block) p low is e =
+      let g : ◌≡◌ {A = Option Pin} (Some (record { bank = bank; block = block })) (Some p) = e in
+      let same : record { bank = bank; block = block } ≡ p = cc in
+      subst P same (served slot bank block low is)
+
+  of-either : (slot bank : ℕ) (pin : Option Pin) (p : Pin) → bank < 2 → pin_at f slot ≡ pin
+      → pin_or pin (pin_in bank (block_served f slot)) ≡ Some p → P p
+  of-either slot bank None p low is e = of-served slot bank (block_served f slot) p low refl e
+  of-either slot bank (Some q) p low is e = pinned slot p (is ∙ e)
+
+  pub first-all : (k : ℕ) (p : Pin) → slice_index_or (first_blocks f) k None ≡ Some p → P p
+  first-all zero p is = pinned 0 p is
+  first-all (suc zero) p is = pinned 1 p is
+  first-all (suc (suc zero)) p is = of-either 2 0 (pin_at f 2) p (omega arith) refl is
+  first-all (suc (suc (suc zero))) p is = of-either 3 0 (pin_at f 3) p (omega arith) refl is
+  first-all (suc (suc (suc (suc zero)))) p is = of-either 4 1 (pin_at f 4) p (omega arith) refl is
+  first-all (suc (suc (suc (suc (suc zero))))) p is = of-either 5 1 (pin_at f 5) p (omega arith) refl is
+  first-all (suc (suc (suc (suc (suc (suc zero)))))) p is =
+      absurd (let g : ◌≡◌ {A = Option Pin} None (Some p) = is in cc)
+  first-all (suc (suc (suc (suc (suc (suc (suc zero))))))) p is = pinned 7 p is
+  first-all (suc (suc (suc (suc (suc (suc (suc (suc n)))))))) p is =
+      absurd (let g : ◌≡◌ {A = Option Pin} None (Some p) = is in cc)

@@ -1,6 +1,6 @@
 -- An object that has the layout of a program has the homes of its code's setting.
 use Rattle.std.proofs.Common.{◌≡◌, ◌↔◌, ℕ, zero, suc, ◌+◌, ◌*◌, ◌^◌, ◌<◌, ◌≤◌, true, List, [], ◌∷◌, length, take, get_or, Option, Some, None, inl, inr, refl, sym, ap, ◌∙◌, subst, ⊎_elim, arith}
-use Rattle.std.proofs.lemmas.Bool.{cases_lt, cases_eq}
+use Rattle.std.proofs.lemmas.Bool.{cases_lt, cases_eq, lt-ltb, ltb-true}
 use Rattle.std.proofs.lemmas.List.{get_or-map, length-map}
 use Rattle.std.proofs.lemmas.List.FromFn.{length-map-range_with_len, get_or-map-range_with_len}
 use Rattle.gr_base.specs.Lists.{Within}
@@ -26,16 +26,54 @@ use Rattle.bank_alloc.specs.Apart.{IsBankOf, scalar_bank}
 use Rattle.bank_alloc.proofs.Apart.{lies_within, variables_apart, array_behind_scalars, scalar_bank-lt}
 use Rattle.scratch_alloc.specs.Slots.{slots_of, slot_behind}
 use Rattle.scratch_alloc.proofs.EachSlot.{length-slots, get_or-slots, scalar_slot-is, array_slot-plain, array_slot-encrypted, array_slot-oblivious}
-use Rattle.block_cache_gen.specs.Homes.{Home, Setting, HasHomes, IsScalarHome, IsArrayHome, Serves, PlainSlot, EncryptedSlot, ObliviousSlot, HomesApart, no_home}
+use Rattle.block_cache_gen.specs.Homes.{Home, Pin, Setting, HasHomes, IsScalarHome, IsResidentHome, IsArrayHome, home_of, Serves, PlainSlot, EncryptedSlot, ObliviousSlot, HomesApart, no_home}
 use Rattle.block_cache_gen.specs.declared.frames.Frame.{Frame}
-use Rattle.block_cache_gen.specs.Settings.{home_at, homes_at, setting_of, IsFrame}
+use Rattle.block_cache_gen.specs.Settings.{home_at, homes_at, scalar_pins, setting_of, IsFrame}
+use Rattle.block_cache_gen.proofs.HomeFacts.{serves-within}
+use Rattle.std.specs.Prelude.{nat_lt}
 
 -- a setting is made of a program's places and slots, for an object
 pub record IsSettingOf (p : Source) (w : ℕ) (o : Parts) (f : Setting) : Type 0 where
   pub decls : f.decls ≡ p.decls
   pub homes : f.homes ≡ homes_at (places_of p w) (slots_of (places_of p w))
   pub blocks : f.blocks ≡ blocks_of_banks p w
+  pub pins : f.pins ≡ scalar_pins
   pub profile : o.profile ≡ f.profile
+
+-- slots 0 and 1 are pinned to block 0 of the banks of their numbers, and no others
+pub record IsScalarPin (slot : ℕ) (q : Pin) : Type 0 where
+  pub low : slot < 2
+  pub bank : q.bank ≡ slot
+  pub block : q.block ≡ 0
+
+pub pin-cases : (slot : ℕ) (q : Pin) → get_or scalar_pins slot None ≡ Some q → IsScalarPin slot q
+pin-cases zero q is =
+    let e : ◌≡◌ {A = Option Pin} (Some (record { bank = 0; block = 0 })) (Some q) = is in
+    let same : record { bank = 0; block = 0 } ≡ q = cc in
+    record {
+      low = omega arith;
+      bank = ap (λ (p : Pin). p.bank) (sym same);
+      block = ap (λ (p : Pin). p.block) (sym same);
+    }
+pin-cases (suc zero) q is =
+    let e : ◌≡◌ {A = Option Pin} (Some (record { bank = 1; block = 0 })) (Some q) = is in
+    let same : record { bank = 1; block = 0 } ≡ q = cc in
+    record {
+      low = omega arith;
+      bank = ap (λ (p : Pin). p.bank) (sym same);
+      block = ap (λ (p : Pin). p.block) (sym same);
+    }
+pin-cases (suc (suc n)) q is = absurd (let e : ◌≡◌ {A = Option Pin} None (Some q) = is in cc)
+
+no_pin : (slot : ℕ) → 2 ≤ slot → get_or scalar_pins slot None ≡ None
+no_pin zero high = absurd (omega arith)
+no_pin (suc zero) high = absurd (omega arith)
+no_pin (suc (suc n)) high = refl
+
+scalar_pin : (slot : ℕ) → slot < 2 → get_or scalar_pins slot None ≡ Some (record { bank = slot; block = 0 })
+scalar_pin zero low = refl
+scalar_pin (suc zero) low = refl
+scalar_pin (suc (suc n)) low = absurd (omega arith)
 
 -- what stands for a declaration and for a place past the last
 abbrev pub no_decl : Decl
@@ -144,22 +182,32 @@ module _ (p : Source) (w : ℕ) (limits : IsWithinLimits p) (room : Fits p w) (o
       ∙ kind-of_number f.decls x no_decl kind known
 
   -- the homes of a scalar and of an array
+  scalar-slot : (k : ℕ) (label : Label) → k < length p.decls → (get_or p.decls k no_decl).label ≡ label
+      → (get_or p.decls k no_decl).length ≡ None → (home k).slot ≡ (home k).bank
+  scalar-slot k label within labelled none =
+      let is = scalar_place_at p w k no_decl no_place within none in
+      scalar_slot-is (take k places) (place k) is.scalar
+      (omega (arith, is.bank, ap scalar_bank labelled, scalar_bank-lt label))
+
   pub scalar-home : (k : ℕ) (label : Label) → k < length p.decls → (get_or p.decls k no_decl).label ≡ label
-      → (get_or p.decls k no_decl).length ≡ None → IsScalarHome (block_words o) label (home k)
+      → (get_or p.decls k no_decl).length ≡ None → IsResidentHome f (block_words o) label (home k)
   scalar-home k label within labelled none =
       let is = scalar_place_at p w k no_decl no_place within none in
       let lies = lies_within p w k no_decl no_place limits room within in
       let bank = is.bank ∙ ap scalar_bank labelled in
+      let slot = scalar-slot k label within labelled none in
       record {
         bank = bank;
-        slot = scalar_slot-is (take k places) (place k) is.scalar (omega (arith, bank, scalar_bank-lt label));
-        block = is.block;
-        word = omega (arith, lies.word, width);
-        length = is.one_word;
+        pinned =
+            ap (λ l. get_or l (home k).slot None) setting.pins
+            ∙ scalar_pin (home k).slot (omega (arith, slot, bank, scalar_bank-lt label))
+            ∙ (λ i. Some (record { bank = slot i; block = sym is.block i }));
+        length = (omega (arith, is.one_word), omega (arith, is.one_word));
+        inside = omega (arith, lies.word, width, is.one_word);
       }
 
   pub array-home : (k n : ℕ) (label : Label) → k < length p.decls → (get_or p.decls k no_decl).label ≡ label
-      → (get_or p.decls k no_decl).length ≡ Some n → IsArrayHome o label (home k)
+      → (get_or p.decls k no_decl).length ≡ Some n → IsArrayHome o f label (home k)
   array-home k n label within labelled some =
       let q = place k in
       let is = array_place_at p w k n no_decl no_place within some in
@@ -170,12 +218,19 @@ module _ (p : Source) (w : ℕ) (limits : IsWithinLimits p) (room : Fits p w) (o
       let inside : q.block * 2 ^ w + q.length ≤ blocks_of o q.bank * 2 ^ w =
       subst (λ n. q.block * 2 ^ w + q.length ≤ n * 2 ^ w) (sym (bank-blocks q.bank exists))
       (omega (arith, lies.inside, is.word)) in
+      let serves = serves-array (take k places) q is.array q.bank (slot_behind (take k places) q) refl refl in
+      let served = serves-within serves in
       record {
         bank = exists;
         plain = plain-public label q.bank (subst (λ l. IsBankOf l q.bank) labelled is.bank);
-        slot = serves-array (take k places) q is.array q.bank (slot_behind (take k places) q) refl refl;
-        behind =
-            λ low. by_bank low (λ label same. array_behind_scalars p w k n no_decl no_place within some label same);
+        slot = serves;
+        unpinned =
+            ap (λ l. get_or l (home k).slot None) setting.pins ∙ no_pin (home k).slot (omega (arith, served.0));
+        behind = λ slot pin pinned same.
+            let is_pin = pin-cases slot pin (ap (λ l. get_or l slot None) (sym setting.pins) ∙ pinned) in
+            let behind = by_bank (omega (arith, same, is_pin.bank, is_pin.low))
+            (λ label same. array_behind_scalars p w k n no_decl no_place within some label same) in
+            omega (arith, behind, is_pin.block);
         word = is.word;
         length = size;
         inside = subst (λ n. q.block * n + q.length ≤ blocks_of o q.bank * n) (sym width) inside;
@@ -199,6 +254,44 @@ module _ (p : Source) (w : ℕ) (limits : IsWithinLimits p) (room : Fits p w) (o
       (variables_apart p w v u no_decl no_place room (omega (arith, past, differ)) one (sym same)))
       (cases_lt u v))
 
+  -- a scalar is one word of a slot that is held
+  scalar-one : (k : ℕ) (label : Label) → k < length p.decls → (get_or p.decls k no_decl).label ≡ label
+      → (get_or p.decls k no_decl).length ≡ None → IsScalarHome (home k)
+  scalar-one k label within labelled none =
+      let is = scalar_place_at p w k no_decl no_place within none in
+      let bank = is.bank ∙ ap scalar_bank labelled in
+      let slot = scalar-slot k label within labelled none in
+      record {
+        resident = lt-ltb (home k).slot 2 (omega (arith, slot, bank, scalar_bank-lt label));
+        length = is.one_word;
+      }
+
+  -- plain and encrypted memory have a first block
+  first-there : (bank : ℕ) → bank < 2 → 1 ≤ blocks_needed p w bank
+  first-there zero low = omega arith
+  first-there (suc zero) low = omega arith
+  first-there (suc (suc n)) low = absurd (omega arith)
+
+  -- no array is resident
+  settled-resident : (x : List ℕ) (label : Label) (shape : Shape) → context_of f.decls x ≡ Some (label, shape)
+      → (home_of f x).resident ≡ true → IsResidentHome f (block_words o) label (home_of f x)
+  settled-resident x label Scalar known is =
+      let k = variable_number f.decls x in
+      let within = named-below x (label, Scalar) known in
+      let kind = named-kind x (label, Scalar) known in
+      subst (IsResidentHome f (block_words o) label) (sym (home-at k within))
+      (scalar-home k label within (ap (λ t. t.0) kind)
+      (scalar-length (get_or p.decls k no_decl).length (ap (λ t. t.1) kind)))
+  settled-resident x label Array known is =
+      let k = variable_number f.decls x in
+      let within = named-below x (label, Array) known in
+      let kind = named-kind x (label, Array) known in
+      let sized = array-length (get_or p.decls k no_decl).length (ap (λ t. t.1) kind) in
+      let found = array-home k sized.0 label within (ap (λ t. t.0) kind) sized.1 in
+      let served = serves-within found.slot in
+      let here : nat_lt (home k).slot 2 ≡ true = ap (λ (h : Home). h.resident) (sym (home-at k within)) ∙ is in
+      absurd (omega (arith, served.0, ltb-true (home k).slot 2 here))
+
   -- the object has the setting's homes
   pub has-homes : HasHomes o f
   has-homes = record {
@@ -212,15 +305,33 @@ module _ (p : Source) (w : ℕ) (limits : IsWithinLimits p) (room : Fits p w) (o
         let k = variable_number f.decls x in
         let within = named-below x (label, Scalar) known in
         let kind = named-kind x (label, Scalar) known in
-        subst (IsScalarHome (block_words o) label) (sym (home-at k within))
-        (scalar-home k label within (ap (λ t. t.0) kind)
-        (scalar-length (get_or p.decls k no_decl).length (ap (λ t. t.1) kind)));
-    arrays = λ x label known.
+        let none = scalar-length (get_or p.decls k no_decl).length (ap (λ t. t.1) kind) in
+        subst IsScalarHome (sym (home-at k within)) (scalar-one k label within (ap (λ t. t.0) kind) none);
+    residents = settled-resident;
+    pins = λ slot pin pinned.
+        let is = pin-cases slot pin (ap (λ l. get_or l slot None) (sym setting.pins) ∙ pinned) in
+        let exists : pin.bank < length o.banks = omega (arith, is.bank, is.low, bank-count) in
+        record {
+          few = omega (arith, is.low);
+          apart = λ six. absurd (omega (arith, six, is.low));
+          bank = omega (arith, is.bank, is.low);
+          block = omega (
+            arith,
+            is.block,
+            bank-blocks pin.bank exists,
+            first-there pin.bank (omega (arith, is.bank, is.low)),
+          );
+        };
+    pins_apart = λ j k q r first second same_bank same_block.
+        let one = pin-cases j q (ap (λ l. get_or l j None) (sym setting.pins) ∙ first) in
+        let two = pin-cases k r (ap (λ l. get_or l k None) (sym setting.pins) ∙ second) in
+        sym one.bank ∙ same_bank ∙ two.bank;
+    arrays = λ x label known turn.
         let k = variable_number f.decls x in
         let within = named-below x (label, Array) known in
         let kind = named-kind x (label, Array) known in
         let sized = array-length (get_or p.decls k no_decl).length (ap (λ t. t.1) kind) in
-        subst (IsArrayHome o label) (sym (home-at k within))
+        subst (IsArrayHome o f label) (sym (home-at k within))
         (array-home k sized.0 label within (ap (λ t. t.0) kind) sized.1);
     apart = λ u v one two differ.
         let below : u < length p.decls = omega (arith, one, home-count) in
@@ -241,6 +352,7 @@ frame-setting f o frame profile =
           ap (homes_at f.places.now.of_var.items) frame.slots
           ∙ ap (λ places. homes_at places (slots_of places)) frame.places.of_var;
       blocks = frame.places.blocks;
+      pins = refl;
       profile = profile;
     }
 

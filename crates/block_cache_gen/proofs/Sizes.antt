@@ -3,7 +3,7 @@ use Rattle.std.proofs.Common.{◌≡◌, ℕ, ◌+◌, ◌*◌, ◌≤◌, Bool,
 use Rattle.std.specs.Prelude.{if◌then◌else◌}
 use Rattle.gr_word.specs.declared.variables.Label.{Label}
 use Rattle.lt_isa.specs.declared.instructions.Instr.{Instr}
-use Rattle.lt_isa.specs.declared.instructions.Instr.TheVariants.{Li, Alu, Ldw, Stb}
+use Rattle.lt_isa.specs.declared.instructions.Instr.TheVariants.{Li, Alu, Ldw}
 use Rattle.src_tree.specs.Contexts.{Context}
 use Rattle.src_tree.specs.Trees.{Tree, Number, Variable, Element, Operation, Test, Statement, SetVariable, SetElement, Choice, Loop}
 use Rattle.src_tree.specs.Limits.{tree_weight, test_weight, statement_weight}
@@ -11,7 +11,7 @@ use Rattle.block_cache_gen.specs.declared.frames.Mode.{Mode}
 use Rattle.block_cache_gen.specs.declared.frames.Mode.TheVariants.{Public, Real, Mirrored}
 use Rattle.block_cache_gen.specs.Assignments.{IsAssignment}
 use Rattle.block_cache_gen.specs.Homes.{Home, Setting, home_of}
-use Rattle.block_cache_gen.specs.Codes.{is_masked, reduced_code, shift_code, located_code, load_code, skips, access_code, fixed_index, expr_code, guard_code, store_code, set_code}
+use Rattle.block_cache_gen.specs.Codes.{is_masked, reduced_code, shift_code, offset_code, placed_code, stored_code, located_code, load_code, skips, access_by, access_code, fixed_index, expr_code, guard_code, store_code, set_code}
 
 two_of : (b : Bool) (p q r s : Instr) → length (if b then p ∷ q ∷ [] else r ∷ s ∷ []) ≡ 2
 two_of true p q r s = refl
@@ -34,14 +34,31 @@ located_short block_log h to None index =
     let l = located_length block_log h to in
     omega arith
 
+reduced_two : (h : Home) (to : ℕ) → length (reduced_code h to) ≡ 2
+reduced_two h to = two_of (is_masked h) _ _ _ _
+
 -- an access takes nine instructions behind the index at most
 pub access_short : (block_log : ℕ) (mode : Mode) (h : Home) (to : ℕ) (fixed : Option ℤ) (index : List Instr)
     → length (access_code block_log mode h to fixed index) ≤ length index + 9
-access_short block_log mode h to fixed index =
-    let e = length-append (located_code block_log h to fixed index) (load_code (skips mode h) h to) in
-    let l = located_short block_log h to fixed index in
-    let s = load_short (skips mode h) h to in
-    omega arith
+access_short block_log mode h to fixed index = by h.resident
+  where
+    placed : (g : Option ℤ) → length (placed_code h to g index) ≤ length index + 9
+    placed (Some z) = omega arith
+    placed None =
+        omega (
+          arith,
+          length-append index (reduced_code h to ++ offset_code h to),
+          length-append (reduced_code h to) (offset_code h to),
+          reduced_two h to,
+        )
+
+    by : (b : Bool) → length (access_by b block_log mode h to fixed index) ≤ length index + 9
+    by true = placed fixed
+    by false =
+        let e = length-append (located_code block_log h to fixed index) (load_code (skips mode h) h to) in
+        let l = located_short block_log h to fixed index in
+        let s = load_short (skips mode h) h to in
+        omega arith
 
 -- at most 10 instructions a node
 pub expr_code_short : (f : Setting) (mode : Mode) (to : ℕ) (e : Tree)
@@ -78,6 +95,11 @@ store_short Public slot = omega arith
 store_short Real slot = omega arith
 store_short Mirrored slot = omega arith
 
+-- the store of a block is one instruction at most
+pub stored_short : (b : Bool) (slot : ℕ) → length (stored_code b slot) ≤ 1
+stored_short true slot = omega arith
+stored_short false slot = omega arith
+
 -- at most 13 instructions a unit of an assignment's weight
 pub set_code_short : (f : Setting) (mode : Mode) (known : Context) (code : Label) (s : Statement) → IsAssignment s
     → length (set_code f mode s) ≤ 13 * statement_weight known code s
@@ -91,10 +113,11 @@ set_code_short f mode known code (SetElement x i e) is =
     let h = home_of f x in
     let index = expr_code f mode 1 i in
     let access = access_code f.profile.block_log mode h 1 (fixed_index h i) index in
-    let last = store_code mode h.slot ++ Stb h.slot ∷ [] in
+    let last = store_code mode h.slot ++ stored_code h.resident h.slot in
     let l = length-append (expr_code f mode 0 e) (access ++ last) in
     let m = length-append access last in
-    let n = length-append (store_code mode h.slot) (Stb h.slot ∷ []) in
+    let n = length-append (store_code mode h.slot) (stored_code h.resident h.slot) in
+    let t = stored_short h.resident h.slot in
     let a = access_short f.profile.block_log mode h 1 (fixed_index h i) index in
     let k = expr_code_short f mode 0 e in
     let j = expr_code_short f mode 1 i in

@@ -1,7 +1,7 @@
 -- The accesses that compiled code makes of arrays, in the order in which they are made, and what is seen of them:
 -- public code makes no access of plain or encrypted memory whose block is in its slot.
 -- (GhostRider, ASPLOS 2015: the scratchpad as a cache of blocks; this project's layout of compiled code.)
-use Rattle.std.specs.Prelude.{ℕ, ◌+◌, ◌/◌, Bool, false, ◌&&◌, ◌==◌, nat_lt, if◌then◌else◌, ℤ, List, [], ◌∷◌, ◌++◌, slice_index_or, slice_set}
+use Rattle.std.specs.Prelude.{ℕ, ◌+◌, ◌/◌, Bool, true, false, ◌&&◌, ◌==◌, nat_lt, if◌then◌else◌, ℤ, List, [], ◌∷◌, ◌++◌, slice_index_or, slice_set}
 use Rattle.lt_isa.specs.Machine.{Slot, Unbound, Bound, Observed, read_event}
 use Rattle.src_tree.specs.Meaning.{Store, variable_number, words_of_number, wrapped, evaluated}
 use Rattle.src_tree.specs.Trees.{Tree, Number, Variable, Element, Operation, Test}
@@ -23,11 +23,17 @@ abbrev pub access_of : Setting → Store → List ℕ → ℤ → ArrayAccess
 access_of f store x index =
     record { home = home_of f x; block = (home_of f x).block + word_number f store x index / words_a_block f }
 
+-- an element of a resident array makes no access
+abbrev pub accessed_by : Bool → ArrayAccess → List ArrayAccess
+accessed_by true a = []
+accessed_by false a = a ∷ []
+
 -- the accesses of an expression: those of an index come before that of its element
 abbrev pub accesses : Setting → Store → Tree → List ArrayAccess
 accesses f store (Number z) = []
 accesses f store (Variable x) = []
-accesses f store (Element x i) = accesses f store i ++ access_of f store x (evaluated f.decls store i) ∷ []
+accesses f store (Element x i) =
+    accesses f store i ++ accessed_by (home_of f x).resident (access_of f store x (evaluated f.decls store i))
 accesses f store (Operation op a b) = accesses f store a ++ accesses f store b
 
 -- those of a guard

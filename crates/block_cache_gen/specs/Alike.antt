@@ -7,6 +7,7 @@ use Rattle.gr_word.specs.declared.operations.Op.TheVariants.{Add, Sub, Mul, Div,
 use Rattle.symbolic_values.specs.Sameness.{same_op}
 use Rattle.src_tree.specs.Trees.{Tree, Number, Variable, Element, Operation, Statement, SetVariable, SetElement, Block, Then}
 use Rattle.block_cache_gen.specs.Homes.{Setting, home_of}
+use Rattle.block_cache_gen.specs.Codes.{is_cached, is_masked}
 
 -- a product, a quotient or a remainder, which take more cycles than other operations
 abbrev pub is_product : Op → Bool
@@ -27,22 +28,33 @@ pub record InOneBank (f : Setting) (x y : List ℕ) : Type 0 where
   pub oblivious : 2 ≤ (home_of f x).bank
   pub same : (home_of f x).bank ≡ (home_of f y).bank
 
--- Two expressions are alike where both are numbers, or scalars; or elements of one oblivious bank with alike indexes;
--- or elements of one array of plain or encrypted memory with the same index; or two operations, both products or
--- neither, on alike parts.
+-- two resident arrays whose indexes are reduced alike
+pub record AreReducedAlike (f : Setting) (x y : List ℕ) : Type 0 where
+  pub first : (home_of f x).resident ≡ true
+  pub second : (home_of f y).resident ≡ true
+  pub low : is_cached (home_of f x) ≡ is_cached (home_of f y)
+  pub masked : is_masked (home_of f x) ≡ is_masked (home_of f y)
+
+-- Two expressions are alike if both are numbers, or scalars; or elements with alike indexes, of one oblivious bank or of
+-- resident arrays whose indexes are reduced alike; or elements of one array of plain or encrypted memory with the same
+-- index; or operations, both products or neither, on alike parts.
 pub data Alike (f : Setting) : Tree → Tree → Type 0 where
   Numbers : (y z : ℤ) → Alike f (Number y) (Number z)
   Scalars : (x y : List ℕ) → Alike f (Variable x) (Variable y)
   Oblivious : (x y : List ℕ) (i j : Tree) → InOneBank f x y → Alike f i j → Alike f (Element x i) (Element y j)
+  Residents : (x y : List ℕ) (i j : Tree) → AreReducedAlike f x y → Alike f i j → Alike f (Element x i) (Element y j)
   Same : (x : List ℕ) (i : Tree) → (home_of f x).bank < 2 → Alike f (Element x i) (Element x i)
   Operations : (op oq : Op) (a b c d : Tree)
       → is_product op ≡ is_product oq → Alike f a c → Alike f b d → Alike f (Operation op a b) (Operation oq c d)
 
--- Two assignments pair where both are to scalars, of alike expressions; or to elements, of alike expressions: of one
--- oblivious bank with alike indexes, or of one array of encrypted memory with the same index.
+-- Two assignments pair if both are to scalars, of alike expressions; or to elements, of alike expressions: with alike
+-- indexes, of one oblivious bank or of resident arrays whose indexes are reduced alike; or with the same index, of one
+-- array of encrypted memory.
 pub data Pair (f : Setting) : Statement → Statement → Type 0 where
   ToScalars : (x y : List ℕ) (e g : Tree) → Alike f e g → Pair f (SetVariable x e) (SetVariable y g)
   ToOblivious : (x y : List ℕ) (i j e g : Tree) → InOneBank f x y → Alike f i j → Alike f e g
+      → Pair f (SetElement x i e) (SetElement y j g)
+  ToResidents : (x y : List ℕ) (i j e g : Tree) → AreReducedAlike f x y → Alike f i j → Alike f e g
       → Pair f (SetElement x i e) (SetElement y j g)
   ToSame : (x : List ℕ) (i e g : Tree) → (home_of f x).bank ≡ 1 → Alike f e g
       → Pair f (SetElement x i e) (SetElement x i g)
@@ -66,17 +78,29 @@ is_same (Element x i) (Element y j) = bytes_eq x y && is_same i j
 is_same (Operation op a b) (Operation oq c d) = same_op op oq && (is_same a c && is_same b d)
 is_same _ _ = false
 
+-- both are true, or neither is
+abbrev pub same_flag : Bool → Bool → Bool
+same_flag a b = if a then b else not b
+
 abbrev pub in_one_bank : Setting → List ℕ → List ℕ → Bool
 in_one_bank f x y = nat_le 2 (home_of f x).bank && ((home_of f x).bank == (home_of f y).bank)
 
 abbrev pub both_products : Op → Op → Bool
 both_products op oq = if is_product op then is_product oq else not (is_product oq)
 
+abbrev pub reduced_alike : Setting → List ℕ → List ℕ → Bool
+reduced_alike f x y =
+    (home_of f x).resident
+    && ((home_of f y).resident
+    && (same_flag (is_cached (home_of f x)) (is_cached (home_of f y))
+    && same_flag (is_masked (home_of f x)) (is_masked (home_of f y))))
+
 abbrev pub is_alike : Setting → Tree → Tree → Bool
 is_alike f (Number y) (Number z) = true
 is_alike f (Variable x) (Variable y) = true
 is_alike f (Element x i) (Element y j) =
-    (in_one_bank f x y && is_alike f i j) || (nat_lt (home_of f x).bank 2 && (bytes_eq x y && is_same i j))
+    ((in_one_bank f x y || reduced_alike f x y) && is_alike f i j)
+    || (nat_lt (home_of f x).bank 2 && (bytes_eq x y && is_same i j))
 is_alike f (Operation op a b) (Operation oq c d) =
     both_products op oq && (is_alike f a c && is_alike f b d)
 is_alike f _ _ = false
@@ -85,7 +109,8 @@ abbrev pub is_pair : Setting → Statement → Statement → Bool
 is_pair f (SetVariable x e) (SetVariable y g) = is_alike f e g
 is_pair f (SetElement x i e) (SetElement y j g) =
     is_alike f e g
-    && ((in_one_bank f x y && is_alike f i j) || (((home_of f x).bank == 1) && (bytes_eq x y && is_same i j)))
+    && (((in_one_bank f x y || reduced_alike f x y) && is_alike f i j)
+    || (((home_of f x).bank == 1) && (bytes_eq x y && is_same i j)))
 is_pair f _ _ = false
 
 abbrev pub pair_count : Setting → Block → Block → ℕ

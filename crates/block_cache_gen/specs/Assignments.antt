@@ -1,14 +1,14 @@
 -- What the code of an assignment does: the store that it leaves, and what is seen of it; and which store a statement
 -- leaves whatever turns are left.
 -- (This project's layout of compiled code.)
-use Rattle.std.specs.Prelude.{◌≡◌, ℕ, ◌%◌, ℤ, List, [], ◌∷◌, ◌++◌, slice_set, Some}
+use Rattle.std.specs.Prelude.{◌≡◌, ℕ, ◌%◌, Bool, true, false, ℤ, List, [], ◌∷◌, ◌++◌, slice_set, Some}
 use Rattle.lt_isa.specs.Machine.{Slot, Observed, State, word_in, write_event}
 use Rattle.src_tree.specs.declared.trees.Decl.{Decl}
 use Rattle.src_tree.specs.Meaning.{Store, variable_number, evaluated, scalar_set, element_set, run_of}
 use Rattle.src_tree.specs.Trees.{Element, Statement, SetVariable, SetElement, Choice, Loop}
 use Rattle.block_cache_gen.specs.declared.frames.Mode.{Mode}
 use Rattle.block_cache_gen.specs.declared.frames.Mode.TheVariants.{Public, Real, Mirrored}
-use Rattle.block_cache_gen.specs.Homes.{Setting, words_a_block}
+use Rattle.block_cache_gen.specs.Homes.{Setting, home_of, words_a_block}
 use Rattle.block_cache_gen.specs.StandsFor.{StandsFor, FitsHomes}
 use Rattle.block_cache_gen.specs.Accesses.{ArrayAccess, Banks, block_in, access_of, accesses, word_number, seen_of_all}
 
@@ -50,16 +50,21 @@ set_accesses f store (Loop t a) = []
 abbrev pub words_written : Mode → List ℤ → ℕ → ℤ → List ℤ
 words_written mode words n word = slice_set words n (by_mode mode word (word_in words n))
 
+-- the write of a block, unless the block stays in its slot
+abbrev pub write_by : Bool → Observed → List Observed
+write_by true seen = []
+write_by false seen = seen ∷ []
+
 -- the one write of an assignment to an element, and none of one to a scalar
 abbrev pub seen_of_write : Setting → Mode → Banks → Store → Statement → List Observed
 seen_of_write f mode banks store (SetVariable x e) = []
 seen_of_write f mode banks store (SetElement x i e) =
     let index = evaluated f.decls store i in
     let a = access_of f store x index in
-    write_event a.home.bank a.block
+    write_by (home_of f x).resident
+    (write_event a.home.bank a.block
     (words_written mode (block_in banks a.home.bank a.block) (word_number f store x index % words_a_block f)
-    (evaluated f.decls store e))
-    ∷ []
+    (evaluated f.decls store e)))
 seen_of_write f mode banks store (Choice t a b) = []
 seen_of_write f mode banks store (Loop t a) = []
 

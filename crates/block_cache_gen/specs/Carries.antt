@@ -1,6 +1,6 @@
 -- What the check knows where code of a setting stands: the banks of the slots that the code relies on.
 -- (GhostRider, ASPLOS 2015: the security types of L_T; this project's layout of compiled code.)
-use Rattle.std.specs.Prelude.{◌≡◌, ℕ, List, length, Some}
+use Rattle.std.specs.Prelude.{◌≡◌, ◌≢◌, ◌<◌, ℕ, false, List, length, Some}
 use Rattle.gr_base.specs.Lists.{Within}
 use Rattle.gr_word.specs.declared.variables.Label.{Label}
 use Rattle.gr_word.specs.declared.variables.Shape.TheVariants.{Array}
@@ -8,24 +8,28 @@ use Rattle.symbolic_values.specs.Trees.{SlotAt}
 use Rattle.src_tree.specs.Contexts.{context_of}
 use Rattle.trace_patterns.specs.Known.{Known, bank_known}
 use Rattle.trace_patterns.specs.SymStates.{SymState, RamSlot, Entry, slot_held, slot_bank}
-use Rattle.block_cache_gen.specs.Homes.{Setting, home_of}
+use Rattle.block_cache_gen.specs.Homes.{Pin, Setting, pin_at, home_of}
 
--- in public code, where something is known of as many registers and slots as the machine has: slot 0 has plain and slot
--- 1 encrypted memory, and slots 2 to 5 the banks of the arrays that they serve
+-- in public code, where something is known of as many registers and slots as the machine has: each pinned slot has the
+-- bank of its block, and slots 2 to 5 the banks of the arrays that they serve in turn
 pub record Carries (f : Setting) (known : Known) : Type 0 where
   pub registers : length known.secret ≡ 32
   pub slots : length known.banks ≡ 8
-  pub plain_slot : bank_known known 0 ≡ Some 0
-  pub encrypted_slot : bank_known known 1 ≡ Some 1
+  pub pinned : (slot : ℕ) (p : Pin) → pin_at f slot ≡ Some p → slot < 8 → slot ≢ 6
+      → bank_known known slot ≡ Some p.bank
   pub arrays : (x : List ℕ) (label : Label) → context_of f.decls x ≡ Some (label, Array)
-      → Within 2 5 (home_of f x).slot → bank_known known (home_of f x).slot ≡ Some (home_of f x).bank
+      → (home_of f x).resident ≡ false → Within 2 5 (home_of f x).slot
+      → bank_known known (home_of f x).slot ≡ Some (home_of f x).bank
 
--- in an arm of a branch on a secret: the same of a state of as many registers and slots as the machine has, and slot 0
--- still holds what it held at the entry
+-- in an arm of a branch on a secret: the same of a state of as many registers and slots as the machine has, and a
+-- pinned slot of plain memory still holds what it held at the entry
 pub record CarriesInArm (f : Setting) (s : SymState) : Type 0 where
   pub registers : length s.registers ≡ 32
   pub slots : length s.slots ≡ 8
-  pub plain_slot : slot_held s 0 ≡ RamSlot (SlotAt 0) (Entry 0)
-  pub encrypted_slot : slot_bank (slot_held s 1) ≡ Some 1
+  pub plain : (slot : ℕ) (p : Pin) → pin_at f slot ≡ Some p → slot < 8 → slot ≢ 6 → p.bank ≡ 0
+      → slot_held s slot ≡ RamSlot (SlotAt slot) (Entry slot)
+  pub pinned : (slot : ℕ) (p : Pin) → pin_at f slot ≡ Some p → slot < 8 → slot ≢ 6
+      → slot_bank (slot_held s slot) ≡ Some p.bank
   pub arrays : (x : List ℕ) (label : Label) → context_of f.decls x ≡ Some (label, Array)
-      → Within 2 5 (home_of f x).slot → slot_bank (slot_held s (home_of f x).slot) ≡ Some (home_of f x).bank
+      → (home_of f x).resident ≡ false → Within 2 5 (home_of f x).slot
+      → slot_bank (slot_held s (home_of f x).slot) ≡ Some (home_of f x).bank

@@ -78,9 +78,35 @@ load_code false h to = Ldb h.slot h.bank (to + 1) ∷ []
 abbrev pub skips : Mode → Home → Bool
 skips mode h = may_skip_loads mode && is_cached h
 
--- the word of the array in register `to`, with its block in the home's slot
+-- The number of a word in a resident array, in register `to`, becomes its number in the block: the number of the
+-- array's first word is added.
+abbrev pub offset_code : Home → ℕ → List Instr
+offset_code h to = Li (to + 1) (pos h.word) ∷ Alu Add to to (to + 1) ∷ []
+
+-- the number of a word of a resident array in its block, in register `to`
+abbrev pub placed_code : Home → ℕ → Option ℤ → List Instr → List Instr
+placed_code h to (Some z) index = Li to (pos (h.word + fixed_word h z)) ∷ []
+placed_code h to None index = index ++ (reduced_code h to ++ offset_code h to)
+
+-- the number of the word in its block in register `to`, with the block in the home's slot
+abbrev pub access_by : Bool → ℕ → Mode → Home → ℕ → Option ℤ → List Instr → List Instr
+access_by true block_log mode h to fixed index = placed_code h to fixed index
+access_by false block_log mode h to fixed index =
+    located_code block_log h to fixed index ++ load_code (skips mode h) h to
+
+-- the part of it that follows the code of the index
+abbrev pub found_by : Bool → ℕ → Mode → Home → ℕ → List Instr
+found_by true block_log mode h to = reduced_code h to ++ offset_code h to
+found_by false block_log mode h to =
+    reduced_code h to ++ shift_code block_log h to ++ load_code (skips mode h) h to
+
 abbrev pub access_code : ℕ → Mode → Home → ℕ → Option ℤ → List Instr → List Instr
-access_code block_log mode h to fixed index = located_code block_log h to fixed index ++ load_code (skips mode h) h to
+access_code block_log mode h to fixed index = access_by h.resident block_log mode h to fixed index
+
+-- After an element is set its block is stored, unless the slot holds it for the whole run.
+abbrev pub stored_code : Bool → ℕ → List Instr
+stored_code true slot = []
+stored_code false slot = Stb slot ∷ []
 
 -- the value of an expression in register `to`
 abbrev pub expr_code : Setting → Mode → ℕ → Tree → List Instr
@@ -110,6 +136,6 @@ set_code f mode (SetVariable x e) =
 set_code f mode (SetElement x i e) =
     expr_code f mode 0 e
     ++ (access_code f.profile.block_log mode (home_of f x) 1 (fixed_index (home_of f x) i) (expr_code f mode 1 i)
-    ++ (store_code mode (home_of f x).slot ++ Stb (home_of f x).slot ∷ []))
+    ++ (store_code mode (home_of f x).slot ++ stored_code (home_of f x).resident (home_of f x).slot))
 set_code f mode (Choice t a b) = []
 set_code f mode (Loop t a) = []

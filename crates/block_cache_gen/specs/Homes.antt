@@ -1,9 +1,10 @@
 -- What code is made for: a program's variables with their homes, each a place in a bank and the slot of the scratchpad
 -- that serves it. (This project's layout of compiled code.)
-use Rattle.std.specs.Prelude.{◌≡◌, ◌↔◌, ℕ, ◌+◌, ◌*◌, ◌^◌, ◌<◌, ◌≤◌, ◌⊎◌, List, length, slice_index_or, Some}
+use Rattle.std.specs.Prelude.{◌≡◌, ◌↔◌, ℕ, ◌+◌, ◌*◌, ◌^◌, ◌<◌, ◌≤◌, ◌⊎◌, ◌≢◌, Bool, true, false, List, length, slice_index_or, Option, Some, None}
 use Rattle.gr_base.specs.Lists.{Within}
 use Rattle.gr_word.specs.declared.variables.Label.{Label}
 use Rattle.gr_word.specs.declared.variables.Label.TheVariants.{Public}
+use Rattle.gr_word.specs.declared.variables.Shape.{Shape}
 use Rattle.gr_word.specs.declared.variables.Shape.TheVariants.{Scalar, Array}
 use Rattle.lt_isa.specs.declared.profiles.Profile.{Profile}
 use Rattle.lt_isa.specs.Object.{Parts, block_words, blocks_of}
@@ -12,25 +13,30 @@ use Rattle.src_tree.specs.Contexts.{context_of}
 use Rattle.src_tree.specs.Limits.{max_length}
 use Rattle.src_tree.specs.Meaning.{variable_number}
 use Rattle.bank_alloc.specs.Apart.{scalar_bank}
+pub use Rattle.block_cache_gen.specs.declared.frames.Pin.{Pin}
 
--- a bank, a block of it and a word of that block, a number of words, and a slot
+-- a bank, a block of it and a word of that block, a number of words, a slot, and whether that slot holds the block for
+-- the whole run
 pub record Home : Type 0 where
   pub bank : ℕ
   pub block : ℕ
   pub word : ℕ
   pub length : ℕ
   pub slot : ℕ
+  pub resident : Bool
 
--- the declarations with a home for each, in order; the number of blocks of each bank; and the machine's profile
+-- The declarations with a home for each, in order; the number of blocks of each bank; the pin of each slot, none where
+-- it holds other blocks in turn; and the machine's profile.
 pub record Setting : Type 0 where
   pub decls : List Decl
   pub homes : List Home
   pub blocks : List ℕ
+  pub pins : List (Option Pin)
   pub profile : Profile
 
 -- what stands for the home of a name that isn't declared
 abbrev pub no_home : Home
-no_home = record { bank = 0; block = 0; word = 0; length = 0; slot = 0 }
+no_home = record { bank = 0; block = 0; word = 0; length = 0; slot = 0; resident = false }
 
 -- the home of the variable that a name stands for
 abbrev pub home_of : Setting → List ℕ → Home
@@ -43,12 +49,36 @@ words_a_block f = 2 ^ f.profile.block_log
 abbrev pub blocks_set : Setting → ℕ → ℕ
 blocks_set f b = slice_index_or f.blocks b 0
 
--- a scalar is a word of block 0, which slot 0 holds of plain memory and slot 1 of encrypted memory
-pub record IsScalarHome (w : ℕ) (label : Label) (h : Home) : Type 0 where
+-- the block that a slot is pinned to
+abbrev pub pin_at : Setting → ℕ → Option Pin
+pin_at f slot = slice_index_or f.pins slot None
+
+-- the block of a home, as a pin
+abbrev pub pin_of : Home → Pin
+pin_of h = record { bank = h.bank; block = h.block }
+
+-- a pinned block is in plain or encrypted memory; slot 6 is never pinned
+pub record IsPin (o : Parts) (slot : ℕ) (p : Pin) : Type 0 where
+  pub few : slot < 8
+  pub apart : slot ≢ 6
+  pub bank : p.bank < 2
+  pub block : p.block < blocks_of o p.bank
+
+-- no block is pinned to two slots
+abbrev pub PinsApart : Setting → Type 0
+PinsApart f =
+    (j k : ℕ) (p q : Pin) → pin_at f j ≡ Some p → pin_at f k ≡ Some q → p.bank ≡ q.bank → p.block ≡ q.block → j ≡ k
+
+-- a resident variable is within the block that its slot is pinned to
+pub record IsResidentHome (f : Setting) (w : ℕ) (label : Label) (h : Home) : Type 0 where
   pub bank : h.bank ≡ scalar_bank label
-  pub slot : h.slot ≡ h.bank
-  pub block : h.block ≡ 0
-  pub word : h.word < w
+  pub pinned : pin_at f h.slot ≡ Some (pin_of h)
+  pub length : Within 1 max_length h.length
+  pub inside : h.word + h.length ≤ w
+
+-- a scalar is a resident variable of one word
+pub record IsScalarHome (h : Home) : Type 0 where
+  pub resident : h.resident ≡ true
   pub length : h.length ≡ 1
 
 -- slots 2 and 3 serve arrays of plain memory, 4 and 5 those of encrypted memory, and 6 those of oblivious banks
@@ -57,12 +87,13 @@ pub data Serves : (bank slot : ℕ) → Type 0 where
   EncryptedSlot : (slot : ℕ) → Within 4 5 slot → Serves 1 slot
   ObliviousSlot : (bank : ℕ) → 2 ≤ bank → Serves bank 6
 
--- an array stands on whole blocks; in plain and encrypted memory none of them is block 0
-pub record IsArrayHome (o : Parts) (label : Label) (h : Home) : Type 0 where
+-- any other array has whole blocks of its own, which come after the pinned ones of their bank
+pub record IsArrayHome (o : Parts) (f : Setting) (label : Label) (h : Home) : Type 0 where
   pub bank : h.bank < length o.banks
   pub plain : (h.bank ≡ 0) ↔ (label ≡ Public)
   pub slot : Serves h.bank h.slot
-  pub behind : h.bank < 2 → 1 ≤ h.block
+  pub unpinned : pin_at f h.slot ≡ None
+  pub behind : (slot : ℕ) (p : Pin) → pin_at f slot ≡ Some p → p.bank ≡ h.bank → p.block < h.block
   pub word : h.word ≡ 0
   pub length : Within 1 max_length h.length
   pub inside : h.block * block_words o + h.length ≤ blocks_of o h.bank * block_words o
@@ -86,8 +117,12 @@ pub record HasHomes (o : Parts) (f : Setting) : Type 0 where
   pub blocks : (b : ℕ) → b < length o.banks → blocks_of o b ≡ blocks_set f b
   pub count : length f.homes ≡ length f.decls
   pub scalars : (x : List ℕ) (label : Label) → context_of f.decls x ≡ Some (label, Scalar)
-      → IsScalarHome (block_words o) label (home_of f x)
+      → IsScalarHome (home_of f x)
+  pub residents : (x : List ℕ) (label : Label) (shape : Shape) → context_of f.decls x ≡ Some (label, shape)
+      → (home_of f x).resident ≡ true → IsResidentHome f (block_words o) label (home_of f x)
   pub arrays : (x : List ℕ) (label : Label) → context_of f.decls x ≡ Some (label, Array)
-      → IsArrayHome o label (home_of f x)
+      → (home_of f x).resident ≡ false → IsArrayHome o f label (home_of f x)
+  pub pins : (slot : ℕ) (p : Pin) → pin_at f slot ≡ Some p → IsPin o slot p
+  pub pins_apart : PinsApart f
   pub apart : (u v : ℕ) → u < length f.homes → v < length f.homes → ¬ (u ≡ v)
       → HomesApart (block_words o) (slice_index_or f.homes u no_home) (slice_index_or f.homes v no_home)

@@ -1,7 +1,7 @@
 -- For proofs, and for the functions that branch_padding and code_gen build on: the notes of the public code that is
 -- made of expressions, guards and assignments. A note stands behind each load that may be skipped. It claims what a
 -- mask says of the registers below those of the access, and the bank of each slot that the program uses.
-use Rattle.std.specs.Prelude.{ℕ, ◌+◌, ◌-◌, ◌*◌, ◌%◌, ◌^◌, bit_and, ℤ, Bool, ◌==◌, if◌then◌else◌, List, [], ◌∷◌, ◌++◌, length, Option, Some, None}
+use Rattle.std.specs.Prelude.{ℕ, ◌+◌, ◌-◌, ◌*◌, ◌%◌, ◌^◌, bit_and, ℤ, Bool, true, false, ◌==◌, if◌then◌else◌, List, [], ◌∷◌, ◌++◌, length, Option, Some, None}
 use Rattle.std.specs.List.{list_any}
 use Rattle.std.specs.Int.{w32, bit_not}
 use Rattle.gr_word.specs.declared.variables.Label.{Label}
@@ -12,7 +12,7 @@ use Rattle.src_tree.specs.Contexts.{context_of}
 use Rattle.src_tree.specs.Labels.{label_of}
 use Rattle.src_tree.specs.Trees.{Tree, Number, Variable, Element, Operation, Test, Statement, SetVariable, SetElement, Choice, Loop}
 use Rattle.block_cache_gen.specs.declared.frames.Mode.TheVariants as mode
-use Rattle.block_cache_gen.specs.Homes.{Home, Setting, home_of}
+use Rattle.block_cache_gen.specs.Homes.{Home, Pin, Setting, pin_at, home_of}
 use Rattle.block_cache_gen.specs.Codes.{is_cached, fixed_index, expr_code, access_code}
 
 -- every register may hold a secret
@@ -28,24 +28,29 @@ abbrev pub marked_by : Label → ℕ → ℕ → ℕ
 marked_by Public mask r = unmarked mask r
 marked_by Secret mask r = mask
 
--- A variable is served by a slot. Slots 0 and 1 always hold their blocks; slots 2 to 5 have the bank that they serve
--- where a variable uses them; of slots 6 and 7 nothing is claimed.
+-- A slot serves a variable. A pinned slot is claimed to have the bank of its block; of the others, slots 2 to 5 the bank
+-- that they serve if a variable uses them. Nothing is claimed of the rest.
 abbrev pub is_used : Setting → ℕ → Bool
 is_used f slot = list_any (λ h. h.slot == slot) f.homes
 
 abbrev pub claimed_where_used : Setting → (slot bank : ℕ) → ℕ
 claimed_where_used f slot bank = if is_used f slot then bank else any_bank
 
+-- the bank of a pin, and another claim if there is no pin
+abbrev pub claim_by : Option Pin → ℕ → ℕ
+claim_by None other = other
+claim_by (Some p) other = p.bank
+
 abbrev pub slot_claims : Setting → List ℕ
 slot_claims f =
-    0
-    ∷ 1
-    ∷ claimed_where_used f 2 0
-    ∷ claimed_where_used f 3 0
-    ∷ claimed_where_used f 4 1
-    ∷ claimed_where_used f 5 1
+    claim_by (pin_at f 0) any_bank
+    ∷ claim_by (pin_at f 1) any_bank
+    ∷ claim_by (pin_at f 2) (claimed_where_used f 2 0)
+    ∷ claim_by (pin_at f 3) (claimed_where_used f 3 0)
+    ∷ claim_by (pin_at f 4) (claimed_where_used f 4 1)
+    ∷ claim_by (pin_at f 5) (claimed_where_used f 5 1)
     ∷ any_bank
-    ∷ any_bank
+    ∷ claim_by (pin_at f 7) any_bank
     ∷ []
 
 -- the note at a place that claims what a mask says of registers
@@ -57,8 +62,12 @@ abbrev pub access_mask : ℕ → ℕ → ℕ
 access_mask mask to = unmarked (unmarked (unmarked mask to) (to + 1)) (to + 2)
 
 -- The note behind the load of an access whose code stands from a place on, and before it those of the index.
+abbrev pub loaded_notes : Bool → Setting → Home → (mask to behind : ℕ) → List Note
+loaded_notes true f h mask to behind = []
+loaded_notes false f h mask to behind = if is_cached h then note_of f (access_mask mask to) behind ∷ [] else []
+
 abbrev pub load_notes : Setting → Home → (mask to behind : ℕ) → List Note
-load_notes f h mask to behind = if is_cached h then note_of f (access_mask mask to) behind ∷ [] else []
+load_notes f h mask to behind = loaded_notes h.resident f h mask to behind
 
 abbrev pub index_notes : Option ℤ → List Note → List Note
 index_notes (Some z) notes = []

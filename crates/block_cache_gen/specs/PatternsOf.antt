@@ -2,18 +2,18 @@
 -- secret: what is shown, the tree that is left of a public expression, and what the loads leave in the slots. All of it
 -- is told by the setting and the part alone. (GhostRider, ASPLOS 2015: the trace patterns of the type system of L_T;
 -- which code is made is this project's own choice.)
-use Rattle.std.specs.Prelude.{ℕ, ◌+◌, ◌-◌, ◌/◌, ◌==◌, ℤ, pos, if◌then◌else◌, List, [], ◌∷◌, ◌++◌, Option, Some, None}
+use Rattle.std.specs.Prelude.{ℕ, ◌+◌, ◌-◌, ◌/◌, ◌==◌, Bool, true, false, ℤ, pos, if◌then◌else◌, List, [], ◌∷◌, ◌++◌, Option, Some, None}
 use Rattle.std.specs.Option.{option_or}
 use Rattle.gr_word.specs.declared.operations.Op.{Op}
 use Rattle.gr_word.specs.declared.operations.Op.TheVariants.{Add, Remu, And, Shr}
 use Rattle.lt_isa.specs.Object.{is_ram, is_eram}
 use Rattle.lt_isa.specs.Costs.{operation_cost}
-use Rattle.symbolic_values.specs.Trees.{Value, Const, SlotWord, Apply}
+use Rattle.symbolic_values.specs.Trees.{Value, Const, Apply, SlotAt}
 use Rattle.src_tree.specs.Trees.{Tree, Number, Variable, Element, Operation, Test, Statement, SetVariable, SetElement, Choice, Loop}
 use Rattle.trace_patterns.specs.Patterns.{Shown}
 use Rattle.trace_patterns.specs.Events.{TreeEvent, RamRead, EncRead, EncWrite, Oram}
 use Rattle.stretches.specs.Shows.{Show, Gap, Seen, pattern_of}
-use Rattle.trace_patterns.specs.SymStates.{Loaded, SymSlot, AnySlot, RamSlot, EramSlot, OramSlot}
+use Rattle.trace_patterns.specs.SymStates.{Loaded, Entry, SymSlot, AnySlot, RamSlot, EramSlot, OramSlot}
 use Rattle.trace_patterns.specs.Single.{applied_trees, word_tree}
 use Rattle.block_cache_gen.specs.Homes.{Home, Setting, home_of, words_a_block, blocks_set}
 use Rattle.block_cache_gen.specs.Codes.{is_masked, fixed_index, fixed_word}
@@ -37,9 +37,13 @@ abbrev pub word_read : Setting → SymSlot → Option Value → Option Value
 word_read f (RamSlot block origin) (Some t) = Some (word_tree origin block (word_named_by f t))
 word_read f _ _ = None
 
--- the word of a scalar: a public one stands in slot 0, since the entry
+-- what a slot holds for the whole run: of plain memory what it held at the entry
+abbrev pub pinned_slot : Home → SymSlot
+pinned_slot h = if is_ram h.bank then RamSlot (SlotAt h.slot) (Entry h.slot) else AnySlot
+
+-- the word of a scalar
 abbrev pub scalar_tree : Setting → Home → Option Value
-scalar_tree f h = if is_ram h.bank then Some (SlotWord 0 (word_named_by f (Const (pos h.word)))) else None
+scalar_tree f h = word_read f (pinned_slot h) (Some (Const (pos h.word)))
 
 -- The number of an element's word in its array: the index taken modulo the length, or what an index that is a number
 -- comes to. Then the number of its block in the bank.
@@ -51,6 +55,11 @@ reduced_tree h index =
 abbrev pub number_tree : Home → Option ℤ → Option Value → Option Value
 number_tree h (Some z) index = Some (Const (pos (fixed_word h z)))
 number_tree h None index = reduced_tree h index
+
+-- the number of a resident array's word in its block
+abbrev pub placed_tree : Home → Option ℤ → Option Value → Option Value
+placed_tree h (Some z) index = Some (Const (pos (h.word + fixed_word h z)))
+placed_tree h None index = applied_trees Add (reduced_tree h index) (Some (Const (pos h.word)))
 
 abbrev pub shifted_tree : Setting → Home → Option Value → Option Value
 shifted_tree f h number =
@@ -75,6 +84,11 @@ found_shows f h None index =
     ∷ Gap 1
     ∷ operation_gap f Add
     ∷ [])
+
+abbrev pub placed_shows : Setting → Home → Option ℤ → List Show → List Show
+placed_shows f h (Some z) index = Gap 1 ∷ []
+placed_shows f h None index =
+    index ++ (Gap 1 ∷ operation_gap f (reducing h) ∷ Gap 1 ∷ operation_gap f Add ∷ [])
 
 -- what a slot holds once a block of a bank is loaded; in plain and encrypted memory its number must be known
 abbrev pub plain_loaded : Setting → Option Value → SymSlot
@@ -125,20 +139,38 @@ index_loads None loads = loads
 abbrev pub element_slot : Setting → Home → Option ℤ → Option Value → SymSlot
 element_slot f h fixed index = block_loaded f h.bank (block_tree f h fixed index)
 
+-- an access: a resident array's loads nothing
+abbrev pub shows_by : Bool → Setting → Home → Option ℤ → Option Value → List Show → List Show
+shows_by true f h fixed index shows = placed_shows f h fixed shows
+shows_by false f h fixed index shows = found_shows f h fixed shows ++ load_shows (element_slot f h fixed index)
+
 abbrev pub access_shows : Setting → Home → Option ℤ → Option Value → List Show → List Show
-access_shows f h fixed index shows = found_shows f h fixed shows ++ load_shows (element_slot f h fixed index)
+access_shows f h fixed index shows = shows_by h.resident f h fixed index shows
+
+abbrev pub loads_by : Bool → Setting → Home → Option ℤ → Option Value → Loads → Loads
+loads_by true f h fixed index loads = index_loads fixed loads
+loads_by false f h fixed index loads =
+    then_loads (index_loads fixed loads) (one_load h.slot (element_slot f h fixed index))
 
 abbrev pub access_loads : Setting → Home → Option ℤ → Option Value → Loads → Loads
-access_loads f h fixed index loads =
-    then_loads (index_loads fixed loads) (one_load h.slot (element_slot f h fixed index))
+access_loads f h fixed index loads = loads_by h.resident f h fixed index loads
+
+-- the word that is read
+abbrev pub element_by : Bool → Setting → Home → Option ℤ → Option Value → Option Value
+element_by true f h fixed index = word_read f (pinned_slot h) (placed_tree h fixed index)
+element_by false f h fixed index = word_read f (element_slot f h fixed index) (number_tree h fixed index)
+
+-- the store of its block, where it isn't left in its slot
+abbrev pub stored_by : Bool → SymSlot → List Show
+stored_by true bound = []
+stored_by false bound = store_shows bound
 
 -- the tree of an expression, none where a secret stands in it
 abbrev pub tree_of_expr : Setting → Tree → Option Value
 tree_of_expr f (Number z) = Some (Const z)
 tree_of_expr f (Variable x) = scalar_tree f (home_of f x)
 tree_of_expr f (Element x i) =
-    word_read f (element_slot f (home_of f x) (fixed_index (home_of f x) i) (tree_of_expr f i))
-    (number_tree (home_of f x) (fixed_index (home_of f x) i) (tree_of_expr f i))
+    element_by (home_of f x).resident f (home_of f x) (fixed_index (home_of f x) i) (tree_of_expr f i)
 tree_of_expr f (Operation op a b) = applied_trees op (tree_of_expr f a) (tree_of_expr f b)
 
 -- what its code shows
@@ -173,7 +205,7 @@ shows_of_set f (SetElement x i e) =
     ++ (access_shows f (home_of f x) (fixed_index (home_of f x) i) (tree_of_expr f i) (shows_of_expr f i)
     ++ (word_gap f
     ∷ word_gap f
-    ∷ store_shows (element_slot f (home_of f x) (fixed_index (home_of f x) i) (tree_of_expr f i))))
+    ∷ stored_by (home_of f x).resident (element_slot f (home_of f x) (fixed_index (home_of f x) i) (tree_of_expr f i))))
 shows_of_set f (Choice t a b) = []
 shows_of_set f (Loop t a) = []
 

@@ -1,16 +1,21 @@
 -- Which expressions and guards code is made of: each array that a secret indexes lies in an oblivious bank. The same of
 -- assignments, statements and blocks is for proofs.
 -- (GhostRider, ASPLOS 2015: the type system of L_T refuses a secret address of plain or encrypted memory.)
-use Rattle.std.specs.Prelude.{◌≡◌, ℕ, ◌<◌, List}
+use Rattle.std.specs.Prelude.{◌≡◌, ℕ, Bool, true, nat_lt, if◌then◌else◌, List}
 use Rattle.gr_word.specs.declared.variables.Label.TheVariants.{Public}
 use Rattle.src_tree.specs.Contexts.{context_of}
 use Rattle.src_tree.specs.Labels.{label_of}
 use Rattle.src_tree.specs.Trees.{Tree, Number, Variable, Element, Operation, Test, Statement, SetVariable, SetElement, Choice, Loop, Block, Nothing, Then}
-use Rattle.block_cache_gen.specs.Homes.{Setting, home_of}
+use Rattle.block_cache_gen.specs.Homes.{Home, Setting, home_of}
 
--- an index of an array of plain or encrypted memory is public
+-- An access shows where it goes: in plain memory by its word, and in encrypted memory by its block, unless a slot holds
+-- that block for the whole run.
+abbrev pub shows_index : Home → Bool
+shows_index h = nat_lt h.bank (if h.resident then 1 else 2)
+
+-- an index of such an array is public
 abbrev pub IndexIsPublic : Setting → List ℕ → Tree → Type 0
-IndexIsPublic f x i = (home_of f x).bank < 2 → label_of (context_of f.decls) i ≡ Public
+IndexIsPublic f x i = shows_index (home_of f x) ≡ true → label_of (context_of f.decls) i ≡ Public
 
 -- so is each index in an expression and in a guard
 abbrev pub HasPublicIndexes : Setting → Tree → Type 0

@@ -1,6 +1,6 @@
 -- What a frame of the compiler's calls is made for: the homes of its program's variables, and when its parts belong
 -- together. (This project's layout of compiled code.)
-use Rattle.std.specs.Prelude.{◌≡◌, ℕ, List, [], ◌∷◌}
+use Rattle.std.specs.Prelude.{◌≡◌, ℕ, nat_lt, List, [], ◌∷◌, Option, Some}
 use Rattle.lt_isa.specs.Ranges.{ProfileFits}
 use Rattle.src_tree.specs.Trees.{source_of}
 use Rattle.src_tree.specs.Typing.{IsTyped}
@@ -10,12 +10,12 @@ use Rattle.bank_alloc.specs.Places.{IsPlacesOf}
 use Rattle.bank_alloc.specs.Fits.{Fits}
 use Rattle.scratch_alloc.specs.Slots.{slots_of}
 use Rattle.block_cache_gen.specs.declared.frames.Frame.{Frame}
-use Rattle.block_cache_gen.specs.Homes.{Home, Setting}
+use Rattle.block_cache_gen.specs.Homes.{Home, Pin, Setting}
 
 -- a place and the slot that serves it
 abbrev pub home_at : Place → ℕ → Home
 home_at q slot =
-    record { bank = q.bank; block = q.block; word = q.word; length = q.length; slot = slot }
+    record { bank = q.bank; block = q.block; word = q.word; length = q.length; slot = slot; resident = nat_lt slot 2 }
 
 -- each place with its slot, in order
 abbrev pub homes_at : List Place → List ℕ → List Home
@@ -23,12 +23,17 @@ homes_at [] slots = []
 homes_at (q ∷ places) [] = []
 homes_at (q ∷ places) (slot ∷ slots) = home_at q slot ∷ homes_at places slots
 
+-- Slots 0 and 1 hold the blocks of the scalars for the whole run. Each other slot holds several blocks in turn.
+abbrev pub scalar_pins : List (Option Pin)
+scalar_pins = Some (record { bank = 0; block = 0 }) ∷ Some (record { bank = 1; block = 0 }) ∷ []
+
 -- what the code of a frame is made for
 abbrev pub setting_of : Frame → Setting
 setting_of f = record {
   decls = f.program.now.decls.items;
   homes = homes_at f.places.now.of_var.items f.slots.now.of_var.items;
   blocks = f.places.now.blocks.items;
+  pins = scalar_pins;
   profile = f.profile.now;
 }
 

@@ -1,9 +1,9 @@
-ghost use Rattle.std.specs.Prelude.{◌≡◌, ℕ, ◌+◌, ◌*◌, ◌/◌, ◌%◌, ◌^◌, ◌<◌, ◌≤◌, ◌&&◌, ◌==◌, [], ◌∷◌, ◌++◌, OnOk, OnSome, length};
+ghost use Rattle.std.specs.Prelude.{◌≡◌, ℕ, ◌+◌, ◌*◌, ◌/◌, ◌%◌, ◌^◌, ◌<◌, ◌≤◌, ◌&&◌, ◌==◌, [], ◌∷◌, ◌++◌, Some, false, OnOk, OnSome, length};
 ghost use Rattle.std.specs.List.{list_any, range_with_len};
 ghost use Rattle.gr_word.specs.Words.{unsigned_of};
 ghost use Rattle.src_tree.specs.Trees.{expr_tree};
-ghost use Rattle.block_cache_gen.specs.Codes.{shift_code, fixed_code, fixed_index, fixed_word, is_cached, is_masked, is_power, may_skip_loads, literal, load_code, reduced_code, scalar_code, skips};
-ghost use Rattle.block_cache_gen.specs.Notes.{access_mask, load_notes, marked_by, note_of, unmarked};
+ghost use Rattle.block_cache_gen.specs.Codes.{access_by, found_by, placed_code, offset_code, shift_code, fixed_code, fixed_index, fixed_word, is_cached, is_masked, is_power, may_skip_loads, literal, load_code, reduced_code, scalar_code, skips};
+ghost use Rattle.block_cache_gen.specs.Notes.{access_mask, loaded_notes, marked_by, note_of, unmarked};
 ghost use Rattle.block_cache_gen.specs.Emitted.{Appended, CodeGrows, no_notes, notes_in};
 ghost use Rattle.block_cache_gen.specs.TreeWords.{HasWords};
 ghost use Rattle.block_cache_gen.specs.Variables.{home_in};
@@ -54,7 +54,7 @@ fn is_public(mode: Mode) -> bool
 }
 
 // Whether a variable lies in plain or encrypted memory, of which a slot may still hold the block.
-fn is_cached(variable: Variable) -> bool
+pub(crate) fn is_cached(variable: Variable) -> bool
     ensures { result ≡ is_cached (home_in variable) }
 {
     bank_kind(variable.place.bank) != BankKind::Oblivious
@@ -88,7 +88,7 @@ fn is_power(length: u32) -> bool
     is_among_powers(length, 21)
 }
 
-fn is_masked(array: Variable) -> bool
+pub(crate) fn is_masked(array: Variable) -> bool
     ensures { result ≡ is_masked (home_in array) }
 {
     is_cached(array) && is_power(array.place.length)
@@ -173,6 +173,58 @@ pub(crate) fn put_fixed(
             value: block as i64,
         },
     ])
+}
+
+/// Whether a slot holds the variable's block for the whole run.
+pub(crate) fn is_resident(variable: Variable) -> bool
+    ensures { result ≡ (home_in variable).resident }
+{
+    variable.slot < 2
+}
+
+// The number of a resident array's word in its block, where the index is a number.
+fn put_placed_word(out: &mut CodeBuf, array: Variable, index: i64, to: u8) -> Result<(), Memory>
+    requires length { 1 ≤ array.place.length }
+    ensures appended { OnOk result
+        (Appended out.old out.new (placed_code (home_in array) to (Some index) []) no_notes) }
+    ensures grows { CodeGrows out.old out.new }
+{
+    let place = u64::from(array.place.word) + fixed_word(array, index);
+    out.put(&[Instr::Li {
+        rd: to,
+        value: place as i64,
+    }])
+}
+
+// The number of a resident array's first word is added to that of a word.
+fn put_offset(out: &mut CodeBuf, array: Variable, to: u8) -> Result<(), Memory>
+    requires registers { to + 2 < 32 }
+    ensures appended { OnOk result (Appended out.old out.new (offset_code (home_in array) to) no_notes) }
+    ensures grows { CodeGrows out.old out.new }
+{
+    out.put(&[
+        Instr::Li {
+            rd: to + 1,
+            value: i64::from(array.place.word),
+        },
+        Instr::Alu {
+            op: Op::Add,
+            rd: to,
+            ra: to,
+            rb: to + 1,
+        },
+    ])
+}
+
+// The index in a register becomes the number of the resident array's word in its block.
+fn put_placed(out: &mut CodeBuf, array: Variable, to: u8) -> Result<(), Memory>
+    requires registers { to + 2 < 32 }
+    ensures appended { OnOk result
+        (Appended out.old out.new (reduced_code (home_in array) to ++ offset_code (home_in array) to) no_notes) }
+    ensures grows { CodeGrows out.old out.new }
+{
+    put_reduced(out, array, to)?;
+    put_offset(out, array, to)
 }
 
 // The index in a register becomes the number of the word.
@@ -267,9 +319,9 @@ fn put_note_behind(emitter: &Emitter<'_>, out: &mut CodeBuf, secrets: u32) -> Re
     })
 }
 
-/// Appends the load of the block that the next register names into the array's slot: in public code only where it isn't
-/// there, with a note. The only error is want of memory.
-pub(crate) fn put_load(
+// Appends the load of the block that the next register names into the array's slot: in public code only where it isn't
+// there, with a note. The only error is want of memory.
+fn put_load(
     emitter: &Emitter<'_>,
     out: &mut CodeBuf,
     array: Variable,
@@ -280,7 +332,7 @@ pub(crate) fn put_load(
     requires registers { to + 2 < 32 }
     requires room { length out.old.code.items + 3 < 2 ^ 32 }
     ensures appended { OnOk result (Appended out.old out.new (load_code (skips mode (home_in array)) (home_in array) to)
-        (λ place. notes_in mode (load_notes emitter.now (home_in array) mask to
+        (λ place. notes_in mode (loaded_notes false emitter.now (home_in array) mask to
         (place + length (load_code (skips Mode.Public (home_in array)) (home_in array) to))))) }
     ensures grows { CodeGrows out.old out.new }
 {
@@ -306,4 +358,56 @@ pub(crate) fn put_load(
         load,
     ])?;
     put_note_behind(emitter, out, access_mask(mask, to))
+}
+
+/// Appends the code of an access whose index is a number. The only error is want of memory.
+pub(crate) fn put_fixed_access(
+    emitter: &Emitter<'_>,
+    out: &mut CodeBuf,
+    array: Variable,
+    index: i64,
+    to: u8,
+    mode: Mode,
+    mask: u32,
+) -> Result<(), Memory>
+    requires length { 1 ≤ array.place.length }
+    requires registers { to + 2 < 32 }
+    requires room { length out.old.code.items + 6 < 2 ^ 32 }
+    ensures appended { OnOk result (Appended out.old out.new
+        (access_by (home_in array).resident emitter.now.profile.block_log mode (home_in array) to (Some index) [])
+        (λ place. notes_in mode (loaded_notes (home_in array).resident emitter.now (home_in array) mask to
+        (place + length (access_by (home_in array).resident emitter.now.profile.block_log Mode.Public (home_in array) to
+        (Some index) []))))) }
+    ensures grows { CodeGrows out.old out.new }
+{
+    if is_resident(array) {
+        return put_placed_word(out, array, index, to);
+    }
+    put_fixed(emitter, out, array, index, to)?;
+    put_load(emitter, out, array, to, mode, mask)
+}
+
+/// Appends the part of the code of an access that follows the code of its index. The only error is want of memory.
+pub(crate) fn put_found_access(
+    emitter: &Emitter<'_>,
+    out: &mut CodeBuf,
+    array: Variable,
+    to: u8,
+    mode: Mode,
+    mask: u32,
+) -> Result<(), Memory>
+    requires registers { to + 2 < 32 }
+    requires room { length out.old.code.items + 12 < 2 ^ 32 }
+    ensures appended { OnOk result (Appended out.old out.new
+        (found_by (home_in array).resident emitter.now.profile.block_log mode (home_in array) to)
+        (λ place. notes_in mode (loaded_notes (home_in array).resident emitter.now (home_in array) mask to
+        (place + length
+        (found_by (home_in array).resident emitter.now.profile.block_log Mode.Public (home_in array) to))))) }
+    ensures grows { CodeGrows out.old out.new }
+{
+    if is_resident(array) {
+        return put_placed(out, array, to);
+    }
+    put_located(emitter, out, array, to)?;
+    put_load(emitter, out, array, to, mode, mask)
 }

@@ -1,14 +1,18 @@
-ghost use Rattle.std.specs.Prelude.{◌≡◌, ◌+◌, true, is_some, bytes_eq};
+ghost use Rattle.std.specs.Prelude.{◌≡◌, ◌+◌, ◌&&◌, ◌||◌, true, is_some, bytes_eq};
 ghost use Rattle.gr_word.specs.declared.variables.Label.{Label};
 ghost use Rattle.lt_isa.specs.Object.{bank_kind};
 ghost use Rattle.src_tree.specs.Contexts.{context_of};
 ghost use Rattle.src_tree.specs.Trees.{block_of_all, statement_of, expr_tree};
 ghost use Rattle.src_tree.specs.Typing.{TypedBlock, TypedStatement, TypedTree};
 ghost use Rattle.symbolic_values.specs.Sameness.{same_op};
-ghost use Rattle.block_cache_gen.specs.Alike.{both_products, in_one_bank, is_alike, is_pair, is_product, is_same, pair_count};
+ghost use Rattle.block_cache_gen.specs.Alike.{same_flag, reduced_alike, both_products, in_one_bank, is_alike, is_pair, is_product, is_same, pair_count};
+ghost use Rattle.block_cache_gen.specs.Codes.{is_cached, is_masked};
+ghost use Rattle.block_cache_gen.specs.Variables.{home_in};
 ghost use Rattle.block_cache_gen.specs.Homes.{home_of};
 
+use crate::accesses::{is_cached, is_masked, is_resident};
 use crate::emitter::Emitter;
+use crate::variables::Variable;
 use gr_word::{Name, Op};
 use lt_isa::{BankKind, bank_kind};
 use src_tree::{Expr, Stmt};
@@ -114,6 +118,42 @@ fn in_one_bank<'a>(emitter: &Emitter<'a>, x: &'a Name, y: &'a Name) -> bool
     kind_of(emitter, x) == BankKind::Oblivious && bank_of(emitter, x) == bank_of(emitter, y)
 }
 
+fn same_flag(one: bool, other: bool) -> bool
+    ensures { result ≡ same_flag one other }
+{
+    if one { other } else { !other }
+}
+
+// Whether two variables are resident arrays whose indexes are reduced alike.
+fn are_reduced_alike(one: Variable, other: Variable) -> bool
+    ensures { result ≡ ((home_in one).resident
+        && ((home_in other).resident
+        && (same_flag (is_cached (home_in one)) (is_cached (home_in other))
+        && same_flag (is_masked (home_in one)) (is_masked (home_in other))))) }
+{
+    is_resident(one)
+        && (is_resident(other)
+            && (same_flag(is_cached(one), is_cached(other))
+                && same_flag(is_masked(one), is_masked(other))))
+}
+
+fn reduced_alike<'a>(emitter: &Emitter<'a>, x: &'a Name, y: &'a Name) -> bool
+    requires first { is_some (context_of emitter.now.decls x.now) ≡ true }
+    requires second { is_some (context_of emitter.now.decls y.now) ≡ true }
+    ensures { result ≡ reduced_alike emitter.now x.now y.now }
+{
+    are_reduced_alike(emitter.variable(x.bytes()), emitter.variable(y.bytes()))
+}
+
+// Whether elements of two arrays with alike indexes are alike.
+fn in_step<'a>(emitter: &Emitter<'a>, x: &'a Name, y: &'a Name) -> bool
+    requires first { is_some (context_of emitter.now.decls x.now) ≡ true }
+    requires second { is_some (context_of emitter.now.decls y.now) ≡ true }
+    ensures { result ≡ (in_one_bank emitter.now x.now y.now || reduced_alike emitter.now x.now y.now) }
+{
+    in_one_bank(emitter, x, y) || reduced_alike(emitter, x, y)
+}
+
 // Whether two expressions show the same in secret code.
 fn is_alike<'a>(emitter: &Emitter<'a>, e: &'a Expr, other: &'a Expr) -> bool
     requires first { TypedTree (context_of emitter.now.decls) (expr_tree e.now) }
@@ -137,7 +177,7 @@ fn is_alike<'a>(emitter: &Emitter<'a>, e: &'a Expr, other: &'a Expr) -> bool
             Expr::Num(_) => false,
             Expr::Var(_) => false,
             Expr::Item(y, place) => {
-                (in_one_bank(emitter, x, y) && is_alike(emitter, index, place))
+                (in_step(emitter, x, y) && is_alike(emitter, index, place))
                     || (kind_of(emitter, x) != BankKind::Oblivious
                         && (same_name(x, y) && is_same(index, place)))
             }
@@ -172,7 +212,7 @@ fn is_pair<'a>(emitter: &Emitter<'a>, s: &'a Stmt, other: &'a Stmt) -> bool
             Stmt::Set(_, _) => false,
             Stmt::Put(y, j, g) => {
                 is_alike(emitter, e, g)
-                    && ((in_one_bank(emitter, x, y) && is_alike(emitter, i, j))
+                    && ((in_step(emitter, x, y) && is_alike(emitter, i, j))
                         || (kind_of(emitter, x) == BankKind::Encrypted
                             && (same_name(x, y) && is_same(i, j))))
             }

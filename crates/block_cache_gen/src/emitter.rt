@@ -1,12 +1,13 @@
-ghost use Rattle.std.specs.Prelude.{◌≡◌, ◌≤◌, ◌^◌, ◌==◌, true, IfOk, find, is_some, if◌then◌else◌, length, position};
+ghost use Rattle.std.specs.Prelude.{◌≡◌, ◌≤◌, ◌^◌, ◌==◌, true, None, IfOk, find, is_some, if◌then◌else◌, length, position, slice_index_or};
 ghost use Rattle.std.specs.List.{list_any};
 ghost use Rattle.std.specs.Option.{option_map};
 ghost use Rattle.src_tree.specs.Contexts.{context_of};
 ghost use Rattle.src_tree.specs.Labels.{label_at, label_of};
 ghost use Rattle.src_tree.specs.Trees.{expr_tree};
+ghost use Rattle.block_cache_gen.specs.ServedBlocks.{pin_in, pin_or};
 ghost use Rattle.block_cache_gen.specs.Settings.{IsFrame, homes_at, setting_of};
 
-use crate::frames::Frame;
+use crate::frames::{Frame, Pin};
 use crate::variables::{Variable, Variables, gather, variable_at};
 use bank_alloc::Place;
 use gr_base::Memory;
@@ -73,9 +74,39 @@ fn block_of_first(places: &[Place], slots: &[u8], slot: u8) -> Option<u32>
     }
 }
 
+// The block that a slot is pinned to, `None` if it isn't pinned.
+fn pin_at(pins: &[Option<Pin>], slot: usize) -> Option<Pin>
+    ensures { result ≡ slice_index_or pins.now slot None }
+{
+    match pins.get(slot) {
+        Some(pin) => *pin,
+        None => None,
+    }
+}
+
+// A block of a bank, if there is one.
+fn pin_in(bank: u8, block: Option<u32>) -> Option<Pin>
+    ensures { result ≡ pin_in bank block }
+{
+    match block {
+        Some(block) => Some(Pin { bank, block }),
+        None => None,
+    }
+}
+
+// The block that a slot is pinned to, or another if it isn't pinned.
+fn pin_or(pin: Option<Pin>, other: Option<Pin>) -> Option<Pin>
+    ensures { result ≡ pin_or pin other }
+{
+    match pin {
+        Some(pin) => Some(pin),
+        None => other,
+    }
+}
+
 impl<'a> Emitter<'a> {
     ghost use Rattle.block_cache_gen.specs.Notes.{slot_claims};
-    ghost use Rattle.block_cache_gen.specs.ServedBlocks.{block_served};
+    ghost use Rattle.block_cache_gen.specs.ServedBlocks.{block_served, first_blocks};
     ghost use Rattle.block_cache_gen.specs.Variables.{home_in};
     ghost use Rattle.block_cache_gen.specs.Homes.{home_of};
 
@@ -138,14 +169,37 @@ impl<'a> Emitter<'a> {
         self.claims
     }
 
-    /// The first block of the first variable that a slot serves, none where it serves no variable. It serves
-    /// `code_gen`, which loads that block before any access.
-    pub fn block_served(&self, slot: u8) -> Option<u32>
+    /// The block that each slot holds for the whole run. It serves `code_gen`, which stores these blocks at the end.
+    pub fn pins(&self) -> [Option<Pin>; 2]
+        ensures { result ≡ self.now.pins }
+    {
+        self.frame.pins()
+    }
+
+    // The first block of the first variable that a slot serves, `None` if it serves no variable.
+    fn block_served(&self, slot: u8) -> Option<u32>
         ensures { result ≡ block_served self.now slot }
     {
         let places = self.frame.places.of_var.as_slice();
         let slots = self.frame.slots.of_var.as_slice();
         block_of_first(places, slots, slot)
+    }
+
+    /// The block that each slot begins with. It serves `code_gen`, which loads these blocks before any access.
+    pub fn first_blocks(&self) -> [Option<Pin>; 8]
+        ensures { result ≡ first_blocks self.now }
+    {
+        let pins = self.pins();
+        [
+            pin_at(&pins, 0),
+            pin_at(&pins, 1),
+            pin_or(pin_at(&pins, 2), pin_in(0, self.block_served(2))),
+            pin_or(pin_at(&pins, 3), pin_in(0, self.block_served(3))),
+            pin_or(pin_at(&pins, 4), pin_in(1, self.block_served(4))),
+            pin_or(pin_at(&pins, 5), pin_in(1, self.block_served(5))),
+            None,
+            pin_at(&pins, 7),
+        ]
     }
 
     /// The cycles of a jump or a branch that is taken.

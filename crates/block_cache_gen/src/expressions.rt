@@ -9,7 +9,7 @@ ghost use Rattle.block_cache_gen.specs.Emitted.{EmitsAccess, EmitsExpr, CodeGrow
 ghost use Rattle.block_cache_gen.specs.TreeWords.{HasWords};
 ghost use Rattle.block_cache_gen.specs.Variables.{home_in};
 
-use crate::accesses::{fixed_index, marked_by, put_fixed, put_load, put_located, put_scalar};
+use crate::accesses::{fixed_index, marked_by, put_fixed_access, put_found_access, put_scalar};
 use crate::emitter::{Emitter, label_of};
 use crate::frames::{CodeBuf, Mode};
 use crate::variables::Variable;
@@ -86,14 +86,10 @@ pub(crate) fn put_access<'a>(
     ensures grows { CodeGrows out.old out.new }
 {
     match fixed_index(array, index) {
-        Some(number) => {
-            put_fixed(emitter, out, array, number, to)?;
-            put_load(emitter, out, array, to, mode, mask)
-        }
+        Some(number) => { put_fixed_access(emitter, out, array, number, to, mode, mask) }
         None => {
             put_expr(emitter, out, index, to, mode, mask)?;
-            put_located(emitter, out, array, to)?;
-            put_load(emitter, out, array, to, mode, mask)
+            put_found_access(emitter, out, array, to, mode, mask)
         }
     }
 }

@@ -23,6 +23,27 @@ pub struct Frame<'a> {
     pub profile: &'a Profile,
 }
 
+/// A block of a bank, which a slot of the scratchpad holds.
+#[derive(Clone, Copy, Debug, PartialEq, Eq)]
+pub struct Pin {
+    pub bank: u8,
+    pub block: u32,
+}
+
+impl<'a> Frame<'a> {
+    ghost use Rattle.block_cache_gen.specs.Settings.{setting_of};
+
+    /// The block that each slot holds for the whole run, from slot 0 on: those of the scalars. Every other slot holds
+    /// several blocks in turn.
+    pub fn pins(&self) -> [Option<Pin>; 2]
+        ensures { result ≡ (setting_of self.now).pins }
+    {
+        let plain = Pin { bank: 0, block: 0 };
+        let encrypted = Pin { bank: 1, block: 0 };
+        [Some(plain), Some(encrypted)]
+    }
+}
+
 /// How code is made: for public code; or for an arm of a branch on a secret, either so that it has its effect or so
 /// that it only looks as if it had.
 #[derive(Debug, Clone, Copy, PartialEq, Eq)]

@@ -7,14 +7,16 @@ ghost use Rattle.src_tree.specs.Trees.{statement_of, test_of, expr_tree, SetVari
 ghost use Rattle.src_tree.specs.Typing.{TypedStatement, TypedTest};
 ghost use Rattle.lt_isa.specs.Limits.{most_instructions};
 ghost use Rattle.block_cache_gen.specs.Assignments.{IsAssignment};
-ghost use Rattle.block_cache_gen.specs.Codes.{store_code};
+ghost use Rattle.block_cache_gen.specs.Codes.{store_code, stored_code};
 ghost use Rattle.block_cache_gen.specs.Emitted.{Appended, EmitsGuard, EmitsSet, CodeGrows, no_notes};
+ghost use Rattle.block_cache_gen.specs.Variables.{home_in};
 ghost use Rattle.block_cache_gen.specs.TreeWords.{HasWords, SetHasWords, TestHasWords};
 
-use crate::accesses::marked_by;
+use crate::accesses::{is_resident, marked_by};
 use crate::emitter::{Emitter, label_of};
 use crate::expressions::{put_access, put_expr};
 use crate::frames::{CodeBuf, Mode};
+use crate::variables::Variable;
 use gr_base::Memory;
 use gr_word::Name;
 use lt_isa::Instr;
@@ -70,6 +72,18 @@ fn put_store(out: &mut CodeBuf, slot: u8, mode: Mode) -> Result<(), Memory>
     }
 }
 
+// Appends the store of an array's block, unless its slot holds that block for the whole run.
+fn put_block_store(out: &mut CodeBuf, array: Variable) -> Result<(), Memory>
+    ensures appended { OnOk result
+        (Appended out.old out.new (stored_code (home_in array).resident array.slot) no_notes) }
+    ensures grows { CodeGrows out.old out.new }
+{
+    if is_resident(array) {
+        return out.put(&[]);
+    }
+    out.put(&[Instr::Stb { slot: array.slot }])
+}
+
 /// Appends the code of an assignment to a variable. It serves `branch_padding` and `code_gen`: its clause names the
 /// code, and what that does is said by [`emit_set`](crate::emit_set).
 pub fn put_set_variable<'a>(
@@ -122,7 +136,7 @@ pub fn put_set_element<'a>(
     let mask = marked_by(label_of(emitter, value), u32::MAX, 0);
     put_access(emitter, out, array, index, 1, mode, mask)?;
     put_store(out, array.slot, mode)?;
-    out.put(&[Instr::Stb { slot: array.slot }])
+    put_block_store(out, array)
 }
 
 /// Appends the code of an assignment, to a variable or to an element. The only error is want of memory.

@@ -161,7 +161,7 @@ module _ (f : Frame) (is : IsFrame f) (mode : Mode) (t : Test) (a b : Block)
       (taken_arm (pair_count g a b) (padded_codes g Real a) (padded_codes g Mirrored b))) in
       let heavier : test_weight t ≤ statement_weight known label.Secret (Choice t a b) = omega arith in
       extends g banks mode weight (λ m. padded_code g m (Choice t a b)) (λ p. guard_notes g 0 p t) c d
-      (frame_banks f is) x
+      (frame_banks f is) (let fit = homes_fit f is in fit.pins) x
       (omega (arith, short, weighs)) (omega (arith, count, weighs, heavier))
       (padded-fits banks g few (homes_fit f is) (Choice t a b) mode typed_secret words low
       (omega (arith, light, weighs)))

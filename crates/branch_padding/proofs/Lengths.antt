@@ -5,7 +5,7 @@ use Rattle.gr_word.specs.declared.operations.Cmp.{Cmp}
 use Rattle.gr_word.specs.declared.variables.Label.{Label}
 use Rattle.gr_word.specs.declared.variables.Label.TheVariants as label
 use Rattle.lt_isa.specs.declared.instructions.Instr.{Instr}
-use Rattle.lt_isa.specs.declared.instructions.Instr.TheVariants.{Nop, Li, Stb, Jmp}
+use Rattle.lt_isa.specs.declared.instructions.Instr.TheVariants.{Nop, Li, Jmp}
 use Rattle.src_tree.specs.Contexts.{context_of}
 use Rattle.src_tree.specs.Labels.{label_of_test}
 use Rattle.src_tree.specs.Limits.{tree_weight, test_weight, parts_weight, statement_weight, block_weight}
@@ -13,9 +13,9 @@ use Rattle.src_tree.specs.Trees.{Tree, Test, Statement, SetVariable, SetElement,
 use Rattle.block_cache_gen.specs.declared.frames.Mode.{Mode}
 use Rattle.block_cache_gen.specs.declared.frames.Mode.TheVariants as modes
 use Rattle.block_cache_gen.specs.Homes.{Setting, home_of}
-use Rattle.block_cache_gen.specs.Codes.{fixed_index, expr_code, access_code, store_code, guard_code, set_code}
+use Rattle.block_cache_gen.specs.Codes.{fixed_index, expr_code, access_code, store_code, stored_code, guard_code, set_code}
 use Rattle.block_cache_gen.specs.Alike.{pair_count}
-use Rattle.block_cache_gen.proofs.Sizes.{access_short, expr_code_short, store_short}
+use Rattle.block_cache_gen.proofs.Sizes.{access_short, expr_code_short, store_short, stored_short}
 use Rattle.branch_padding.specs.Padded.{idle, in_a_row, arm_mode, untaken_arm, taken_arm, first_padded, second_padded, region_code, padded_code, padded_codes}
 
 -- an assignment
@@ -38,7 +38,7 @@ element-short f mode x i e =
     let index = expr_code f mode 1 i in
     let access = access_code f.profile.block_log mode h 1 (fixed_index h i) index in
     let store = store_code mode h.slot in
-    let last = Stb h.slot ∷ [] in
+    let last = stored_code h.resident h.slot in
     omega (
       arith,
       length-append value (access ++ (store ++ last)),
@@ -48,6 +48,7 @@ element-short f mode x i e =
       expr_code_short f mode 1 i,
       access_short f.profile.block_log mode h 1 (fixed_index h i) index,
       store_short mode h.slot,
+      stored_short h.resident h.slot,
     )
 
 -- at most ten instructions a unit of a guard's weight

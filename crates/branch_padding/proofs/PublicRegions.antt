@@ -67,13 +67,17 @@ carried-in f k carries =
     record {
       registers = sized.registers;
       slots = sized.slots;
-      plain_slot = slot-at_entry k 0 (omega arith) ∙ ap (λ (b : Option ℕ). entry_slot b 0) carries.plain_slot;
-      encrypted_slot = ap slot_bank (slot-at_entry k 1 (omega arith))
-          ∙ ap (λ (b : Option ℕ). slot_bank (entry_slot b 1)) carries.encrypted_slot;
-      arrays = λ x label declared served.
+      plain = λ slot p pinned few apart zero.
+          slot-at_entry k slot few
+          ∙ ap (λ (b : Option ℕ). entry_slot b slot) (carries.pinned slot p pinned few apart ∙ ap Some zero);
+      pinned = λ slot p pinned few apart.
+          ap slot_bank (slot-at_entry k slot few)
+          ∙ ap (λ (b : Option ℕ). slot_bank (entry_slot b slot)) (carries.pinned slot p pinned few apart)
+          ∙ entry-bank p.bank slot;
+      arrays = λ x label declared turn served.
           let slot = (home_of f x).slot in
           ap slot_bank (slot-at_entry k slot (omega arith))
-          ∙ ap (λ (b : Option ℕ). slot_bank (entry_slot b slot)) (carries.arrays x label declared served)
+          ∙ ap (λ (b : Option ℕ). slot_bank (entry_slot b slot)) (carries.arrays x label declared turn served)
           ∙ entry-bank (home_of f x).bank slot;
     }
 
@@ -81,10 +85,9 @@ pub carried-out : (f : Setting) (s : SymState) → CarriesInArm f s → Carries 
 carried-out f s carries = record {
   registers = length-map s.registers is_none ∙ carries.registers;
   slots = length-map s.slots slot_bank ∙ carries.slots;
-  plain_slot = bank-after s 0 ∙ ap slot_bank carries.plain_slot;
-  encrypted_slot = bank-after s 1 ∙ carries.encrypted_slot;
-  arrays = λ x label declared served.
-      bank-after s (home_of f x).slot ∙ carries.arrays x label declared served;
+  pinned = λ slot p pinned few apart. bank-after s slot ∙ carries.pinned slot p pinned few apart;
+  arrays = λ x label declared turn served.
+      bank-after s (home_of f x).slot ∙ carries.arrays x label declared turn served;
 }
 
 -- one of two registers may hold a secret, where one of two labels is secret

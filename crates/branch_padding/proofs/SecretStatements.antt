@@ -16,7 +16,7 @@ use Rattle.block_cache_gen.specs.Homes.{Setting, HasHomes}
 use Rattle.block_cache_gen.specs.Codes.{may_skip_loads, guard_code}
 use Rattle.block_cache_gen.specs.PublicIndexes.{StatementHasPublicIndexes, BlockHasPublicIndexes}
 use Rattle.block_cache_gen.specs.PatternsOf.{Loads, then_loads, tree_of_expr, shows_of_test, slots_of_test}
-use Rattle.block_cache_gen.specs.Alike.{Pair, ToScalars, ToOblivious, ToSame, StartsPaired, NonePaired, OnePaired, pair_count}
+use Rattle.block_cache_gen.specs.Alike.{Pair, ToScalars, ToOblivious, ToResidents, ToSame, StartsPaired, NonePaired, OnePaired, pair_count}
 use Rattle.block_cache_gen.proofs.AlikeShows.{pair-shows, pair-slots}
 use Rattle.block_cache_gen.proofs.AlikeTests.{counts_pairs}
 use Rattle.block_cache_gen.proofs.ArmExpressions.{guard-leaves}
@@ -35,13 +35,16 @@ arm-secret modes.Mirrored = refl
 
 module _ (o : Parts) (f : Setting) (homes : HasHomes o f) where
   -- statements that pair show the same and leave the same
-  pair-shows_of : (s t : Statement) → Pair f s t → shows_of f s ≡ shows_of f t
-  pair-shows_of s t (ToScalars x y e g alike) =
-      pair-shows o f homes (SetVariable x e) (SetVariable y g) (ToScalars x y e g alike)
-  pair-shows_of s t (ToOblivious x y i j e g one index value) =
-      pair-shows o f homes (SetElement x i e) (SetElement y j g) (ToOblivious x y i j e g one index value)
-  pair-shows_of s t (ToSame x i e g encrypted value) =
-      pair-shows o f homes (SetElement x i e) (SetElement x i g) (ToSame x i e g encrypted value)
+  pair-shows_of : (s t : Statement) → Pair f s t → TypedStatement (context_of f.decls) Secret s
+      → TypedStatement (context_of f.decls) Secret t → shows_of f s ≡ shows_of f t
+  pair-shows_of s t (ToScalars x y e g alike) left right =
+      pair-shows o f homes (SetVariable x e) (SetVariable y g) (ToScalars x y e g alike) left right
+  pair-shows_of s t (ToOblivious x y i j e g one index value) left right =
+      pair-shows o f homes (SetElement x i e) (SetElement y j g) (ToOblivious x y i j e g one index value) left right
+  pair-shows_of s t (ToResidents x y i j e g one index value) left right =
+      pair-shows o f homes (SetElement x i e) (SetElement y j g) (ToResidents x y i j e g one index value) left right
+  pair-shows_of s t (ToSame x i e g encrypted value) left right =
+      pair-shows o f homes (SetElement x i e) (SetElement x i g) (ToSame x i e g encrypted value) left right
 
   pair-slots_of : (s t : Statement) → Pair f s t → TypedStatement (context_of f.decls) Secret s
       → TypedStatement (context_of f.decls) Secret t → slots_of f s ≡ slots_of f t
@@ -49,16 +52,19 @@ module _ (o : Parts) (f : Setting) (homes : HasHomes o f) where
       pair-slots o f homes (SetVariable x e) (SetVariable y g) (ToScalars x y e g alike) left right
   pair-slots_of s t (ToOblivious x y i j e g one index value) left right =
       pair-slots o f homes (SetElement x i e) (SetElement y j g) (ToOblivious x y i j e g one index value) left right
+  pair-slots_of s t (ToResidents x y i j e g one index value) left right =
+      pair-slots o f homes (SetElement x i e) (SetElement y j g) (ToResidents x y i j e g one index value) left right
   pair-slots_of s t (ToSame x i e g encrypted value) left right =
       pair-slots o f homes (SetElement x i e) (SetElement x i g) (ToSame x i e g encrypted value) left right
 
   -- so do the first statements of two parts that pair
-  paired-shows : (k : ℕ) (a b : Block) → StartsPaired f k a b → take k (shows_of_each f a) ≡ take k (shows_of_each f b)
-  paired-shows k a b (NonePaired a' b') = refl
-  paired-shows k a b (OnePaired n s t c d pair rest) =
+  paired-shows : (k : ℕ) (a b : Block) → StartsPaired f k a b → TypedBlock (context_of f.decls) Secret a
+      → TypedBlock (context_of f.decls) Secret b → take k (shows_of_each f a) ≡ take k (shows_of_each f b)
+  paired-shows k a b (NonePaired a' b') left right = refl
+  paired-shows k a b (OnePaired n s t c d pair rest) left right =
       let next : suc n ≡ n + 1 = omega arith in
-      let one = pair-shows_of s t pair in
-      let more = paired-shows n c d rest in
+      let one = pair-shows_of s t pair left.0 right.0 in
+      let more = paired-shows n c d rest left.1 right.1 in
       subst (λ (m : ℕ). take m (shows_of f s ∷ shows_of_each f c) ≡ take m (shows_of f t ∷ shows_of_each f d)) next
       (λ i. one i ∷ more i)
 
@@ -92,7 +98,7 @@ module _ (o : Parts) (f : Setting) (homes : HasHomes o f) where
         let shows : shown_in_a_row (take k ys) ++ (shown_in_a_row (drop k xs) ++ shown_in_a_row (drop k ys))
         ≡ shows_of_arms f a b =
         ap (λ (z : List (List Show)). shown_in_a_row z ++ (shown_in_a_row (drop k xs) ++ shown_in_a_row (drop k ys)))
-        (sym (paired-shows k a b paired)) ∙ sym (shown-rests k xs ys) in
+        (sym (paired-shows k a b paired left right)) ∙ sym (shown-rests k xs ys) in
         let loads : then_loads (loaded_in_a_row (take k ms))
         (then_loads (loaded_in_a_row (drop k ls)) (loaded_in_a_row (drop k ms)))
         ≡ slots_of_arms f a b =

@@ -15,7 +15,7 @@ use Rattle.block_cache_gen.specs.declared.frames.Mode.{Mode}
 use Rattle.block_cache_gen.specs.declared.frames.Mode.TheVariants as modes
 use Rattle.block_cache_gen.specs.Homes.{Setting}
 use Rattle.block_cache_gen.specs.Codes.{guard_code}
-use Rattle.block_cache_gen.specs.Alike.{Pair, ToScalars, ToOblivious, ToSame, StartsPaired, NonePaired, OnePaired, pair_count}
+use Rattle.block_cache_gen.specs.Alike.{Pair, ToScalars, ToOblivious, ToResidents, ToSame, StartsPaired, NonePaired, OnePaired, pair_count}
 use Rattle.block_cache_gen.specs.StoredWords.{stored_words}
 use Rattle.block_cache_gen.proofs.AlikeTests.{counts_pairs}
 use Rattle.block_cache_gen.proofs.SecretCodes.{stored-append, guard-stores, variable-stores, element-stores}
@@ -90,6 +90,7 @@ module _ (f : Setting) where
   pair-stores : (s t : Statement) → Pair f s t → (stores_of f label.Secret s ≡ 1) × (stores_of f label.Secret t ≡ 1)
   pair-stores s t (ToScalars x y e g alike) = (refl, refl)
   pair-stores s t (ToOblivious x y i j e g one index value) = (refl, refl)
+  pair-stores s t (ToResidents x y i j e g one index value) = (refl, refl)
   pair-stores s t (ToSame x i e g encrypted value) = (refl, refl)
 
   record BothCount (k : ℕ) (a b : Block) : Type 0 where

@@ -30,6 +30,7 @@ program_setting-of p w o layout = record {
   decls = refl;
   homes = ap (λ n. homes_at (places_of p n) (slots_of (places_of p n))) layout.block_size;
   blocks = ap (blocks_of_banks p) layout.block_size;
+  pins = refl;
   profile = refl;
 }
 

@@ -22,7 +22,7 @@ use Rattle.scratch_alloc.specs.Slots.{slots_of}
 use Rattle.block_cache_gen.specs.declared.frames.Frame.{Frame}
 use Rattle.block_cache_gen.specs.Homes.{Setting}
 use Rattle.block_cache_gen.specs.ProgramWords.{BlockHasWords}
-use Rattle.block_cache_gen.specs.Settings.{IsFrame, homes_at, setting_of}
+use Rattle.block_cache_gen.specs.Settings.{IsFrame, homes_at, scalar_pins, setting_of}
 use Rattle.block_cache_gen.specs.StoredWords.{stored_words}
 use Rattle.block_cache_gen.proofs.Settled.{IsSettingOf}
 use Rattle.code_gen.specs.Compiles.{IsFor, LatenciesFit, latency_for, program_setting, stores_in}
@@ -69,6 +69,7 @@ setting_by f places slots blocks = record {
   decls = f.program.now.decls.items;
   homes = homes_at places slots;
   blocks = blocks;
+  pins = scalar_pins;
   profile = f.profile.now;
 }
 
@@ -130,7 +131,7 @@ module _ (p : Source) (given : Profile) (l : Latencies) (typed : IsTyped p) (wit
   setting = program_setting p given
 
   is-setting : IsSettingOf p given.block_log o setting
-  is-setting = record { decls = refl; homes = refl; blocks = refl; profile = made.profile }
+  is-setting = record { decls = refl; homes = refl; blocks = refl; pins = refl; profile = made.profile }
 
   made-accepted : Accepts o
   made-accepted =
@@ -153,7 +154,7 @@ module _ (p : Source) (given : Profile) (l : Latencies) (typed : IsTyped p) (wit
   made-short : length o.code ≤ 120 * weight_of p + 64
   made-short =
       let taken = profile.taken in
-      omega (arith, ap length made.code, program-short setting p.body taken.1 within.weight)
+      omega (arith, ap length made.code, program-short setting p.body taken.1 (omega arith) within.weight)
 
   made-stores : stored_words o.code ≡ stores_in p given
   made-stores = ap stored_words made.code ∙ program-stored setting p.body typed.body

@@ -27,6 +27,6 @@ body-follows p o fits f padded decls typed within code_is parts =
     subst (λ ds. Follows o f (length (beginning f)) body (run_of_block ds p.body)) decls
     (block-follows o fits f padded parts p.body (length (beginning f))
     (subst (λ ds. TypedBlock (context_of ds) Public p.body) (sym decls) typed.body) within.heights
-    (standing-first body ending
-    (subst (λ n. StandsAt o n (body ++ ending)) place
-    (standing-rest (beginning f) (body ++ ending) (standing-whole o (program_code f padded p.body) code_is)))))
+    (standing-first body (ending f)
+    (subst (λ n. StandsAt o n (body ++ ending f)) place
+    (standing-rest (beginning f) (body ++ ending f) (standing-whole o (program_code f padded p.body) code_is)))))

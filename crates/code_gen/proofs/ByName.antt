@@ -1,17 +1,14 @@
 -- The inputs and the outputs of an object that has a program's layout are the words of the program's variables.
-use Rattle.std.proofs.Common.{◌≡◌, ℕ, zero, suc, ◌+◌, ◌-◌, ◌*◌, ◌%◌, ◌^◌, ◌<◌, ◌≤◌, ℤ, pos, List, [], ◌∷◌, length, map, take, get_or, All, Option, Some, None, refl, sym, ap, ◌∙◌, subst, ⊎_elim, arith}
+use Rattle.std.proofs.Common.{◌≡◌, ℕ, zero, suc, ◌+◌, ◌-◌, ◌*◌, ◌^◌, ◌<◌, ◌≤◌, ℤ, pos, List, [], ◌∷◌, length, map, take, get_or, All, Option, Some, None, refl, sym, ap, ◌∙◌, subst, ⊎_elim, arith}
 use Rattle.std.specs.Prelude.{Contains}
 use Rattle.std.proofs.lemmas.Bool.{cases_eq, cases_lt}
 use Rattle.std.proofs.lemmas.List.{get_or_past}
 use Rattle.std.proofs.lemmas.List.FromFn.{fill_by_all}
 use Rattle.std.proofs.lemmas.List.Sorted.{All-permutation, Contains-permutation}
-use Rattle.std.proofs.Math.Nat.{div-eq_of_lt, mod-eq_of_lt, zero-mul}
 use Rattle.gr_word.specs.Fitting.{FitsWants, AreWords}
-use Rattle.gr_word.specs.declared.variables.Label.{Label}
-use Rattle.gr_word.specs.declared.variables.Shape.TheVariants.{Scalar, Array}
 use Rattle.lt_isa.specs.declared.symbols.Symbol.{Symbol}
 use Rattle.lt_isa.specs.Object.{Parts, block_words, blocks_of, first_word, end_word}
-use Rattle.lt_isa.specs.Machine.{State, block_at, word_in}
+use Rattle.lt_isa.specs.Machine.{State}
 use Rattle.lt_isa.specs.Outputs.{bank_word_numbered, symbol_word, symbol_words, outputs}
 use Rattle.lt_isa.specs.Start.{FitsObject, start_state, want_of}
 use Rattle.lt_isa.proofs.StartWords.{Takes, start_word-taken, bank_word-start}
@@ -19,7 +16,7 @@ use Rattle.src_tree.specs.declared.trees.Decl.{Decl}
 use Rattle.src_tree.specs.Trees.{Source}
 use Rattle.src_tree.specs.Contexts.{context_of, label_and_shape, shape_of}
 use Rattle.src_tree.specs.Limits.{IsWithinLimits, words_of, words_of_length}
-use Rattle.src_tree.specs.Meaning.{Store, variable_number, words_of_number, scalar}
+use Rattle.src_tree.specs.Meaning.{Store, variable_number, words_of_number}
 use Rattle.src_tree.specs.Typing.{DeclaredOnce}
 use Rattle.flow_types.specs.Wants.{declared_wants}
 use Rattle.bank_alloc.specs.declared.places.Place.{Place}
@@ -34,7 +31,7 @@ use Rattle.scratch_alloc.specs.Slots.{slot_behind}
 use Rattle.block_cache_gen.specs.Homes.{Home, Setting, home_of, words_a_block, start_of_home, no_home}
 use Rattle.block_cache_gen.specs.Settings.{home_at}
 use Rattle.block_cache_gen.specs.StandsFor.{FitsHomes}
-use Rattle.block_cache_gen.proofs.Settled.{IsSettingOf, no_decl, no_place, scalar-length, width, bank-count, bank-blocks, home-at, named-below, named-kind, homes-apart}
+use Rattle.block_cache_gen.proofs.Settled.{IsSettingOf, no_decl, no_place, width, bank-count, bank-blocks, home-at, named-below, homes-apart}
 use Rattle.code_gen.specs.Implements.{HasSymbols, by_name}
 use Rattle.code_gen.proofs.Started.{BanksHold}
 use Rattle.code_gen.proofs.Implementing.{NamesWords}
@@ -257,42 +254,13 @@ module _ (p : Source) (w : ℕ) (once : DeclaredOnce p.decls) (limits : IsWithin
       ∙ ap (λ n. get_or (words_named store s) n (pos 0)) back
       ∙ ap (λ words. get_or words i (pos 0)) (symbol-words store k below)
 
-  -- a word of the first block
-  first_block-word : (s : State) (bank block word : ℕ) → block ≡ 0 → word < block_words o
-      → bank_word_numbered (block_words o) s bank ((block * block_words o + word) + 0)
-      ≡ word_in (block_at s bank 0) word
-  first_block-word s bank block word first low =
-      let size = block_words o in
-      let none : block * size ≡ 0 = ap (λ n. n * size) first ∙ zero-mul size in
-      let at : (block * size + word) + 0 ≡ word = omega (arith, none) in
-      ap (bank_word_numbered size s bank) at
-      ∙ ap (λ n. word_in (block_at s bank n) (word % size)) (div-eq_of_lt low)
-      ∙ ap (word_in (block_at s bank 0)) (mod-eq_of_lt low)
-
-  -- what is declared of a name, at its number
-  none-at : (x : List ℕ) (label : Label) → context_of f.decls x ≡ Some (label, Scalar)
-      → (decl (variable_number f.decls x)).length ≡ None
-  none-at x label known =
-      scalar-length (decl (variable_number f.decls x)).length
-      (ap (λ kind. kind.1) (named-kind p w limits room o layout f setting x (label, Scalar) known))
-
   -- The banks at the start hold the store.
   pub banks-start : (store : Store) → FitsWants (declared_wants p.decls) store
       → BanksHold f (start_state o (by_name p o store)) store
   banks-start store given = record {
-    scalars = λ x label known.
+    words = λ x label shape i known within.
         let k = variable_number f.decls x in
-        let below = named-below p w limits room o layout f setting x (label, Scalar) known in
-        let is = scalar_place_at p w k no_decl no_place below (none-at x label known) in
-        let s = start_state o (by_name p o store) in
-        let lies = lies_within p w k no_decl no_place limits room below in
-        subst (λ h. word_in (block_at s h.bank 0) h.word ≡ scalar store k) (sym (home-is k below))
-        (sym (first_block-word s (place k).bank (place k).block (place k).word is.block
-        (omega (arith, lies.word, width p w limits room o layout f setting)))
-        ∙ word-start store k 0 below (omega (arith, is.one_word)));
-    arrays = λ x label i known within.
-        let k = variable_number f.decls x in
-        let below = named-below p w limits room o layout f setting x (label, Array) known in
+        let below = named-below p w limits room o layout f setting x (label, shape) known in
         let s = start_state o (by_name p o store) in
         let short : i < (place k).length = subst (λ h. i < h.length) (home-is k below) within in
         subst (λ h. bank_word_numbered (words_a_block f) s h.bank (start_of_home (words_a_block f) h + i)
@@ -318,36 +286,15 @@ module _ (p : Source) (w : ℕ) (once : DeclaredOnce p.decls) (limits : IsWithin
   word-held : (u : State) (left : Store) → BanksHold f u left → (k i : ℕ) → k < length p.decls → i < (place k).length
       → bank_word_numbered (block_words o) u (place k).bank (first_word (block_words o) (symbol k) + i)
       ≡ get_or (words_of_number left k) i (pos 0)
-  word-held u left hold k i below within = by (decl k).length refl
-    where
-      known-by : (l : Option ℕ) → (decl k).length ≡ l
-          → context_of f.decls (decl k).name ≡ Some ((decl k).label, shape_of l)
-      known-by l is = known-in k below ∙ ap (λ l. Some ((decl k).label, shape_of l)) is
-
-      by : (l : Option ℕ) → (decl k).length ≡ l
-          → bank_word_numbered (block_words o) u (place k).bank (first_word (block_words o) (symbol k) + i)
-          ≡ get_or (words_of_number left k) i (pos 0)
-      by None none =
-          let is = scalar_place_at p w k no_decl no_place below none in
-          let lies = lies_within p w k no_decl no_place limits room below in
-          let first : i ≡ 0 = omega (arith, within, is.one_word) in
-          let there : word_in (block_at u (place k).bank 0) (place k).word ≡ scalar left k =
-          subst (λ h. word_in (block_at u h.bank 0) h.word ≡ scalar left k) (home-in k below)
-          (hold.scalars (decl k).name (decl k).label (known-by None none) ∙ ap (scalar left) (number-in k below)) in
-          ap (λ n. bank_word_numbered (block_words o) u (place k).bank (first_word (block_words o) (symbol k) + n))
-          first
-          ∙ first_block-word u (place k).bank (place k).block (place k).word is.block
-          (omega (arith, lies.word, width p w limits room o layout f setting))
-          ∙ there
-          ∙ ap (λ n. get_or (words_of_number left k) n (pos 0)) (sym first)
-      by (Some n) some =
-          let short : i < (home_of f (decl k).name).length = subst (λ h. i < h.length) (sym (home-in k below)) within in
-          subst (λ size. bank_word_numbered size u (place k).bank (((place k).block * size + (place k).word) + i)
-          ≡ get_or (words_of_number left k) i (pos 0)) (sym wide)
-          (subst (λ h. bank_word_numbered (words_a_block f) u h.bank (start_of_home (words_a_block f) h + i)
-          ≡ get_or (words_of_number left k) i (pos 0)) (home-in k below)
-          (hold.arrays (decl k).name (decl k).label i (known-by (Some n) some) short
-          ∙ ap (λ m. get_or (words_of_number left m) i (pos 0)) (number-in k below)))
+  word-held u left hold k i below within =
+      let d = decl k in
+      let short : i < (home_of f d.name).length = subst (λ h. i < h.length) (sym (home-in k below)) within in
+      subst (λ size. bank_word_numbered size u (place k).bank (((place k).block * size + (place k).word) + i)
+      ≡ get_or (words_of_number left k) i (pos 0)) (sym wide)
+      (subst (λ h. bank_word_numbered (words_a_block f) u h.bank (start_of_home (words_a_block f) h + i)
+      ≡ get_or (words_of_number left k) i (pos 0)) (home-in k below)
+      (hold.words d.name d.label (shape_of d.length) i (known-in k below) short
+      ∙ ap (λ m. get_or (words_of_number left m) i (pos 0)) (number-in k below)))
 
   symbol-told : (u : State) (left : Store) → BanksHold f u left → FitsHomes f left → (k : ℕ) → k < length p.decls
       → symbol_words o u (symbol k) ≡ words_named left (symbol k)

@@ -5,7 +5,7 @@ use Rattle.std.proofs.lemmas.List.{length-append, length-set}
 use Rattle.std.proofs.Math.Seq.{set-append_seam}
 use Rattle.gr_word.specs.declared.variables.Label.TheVariants as label
 use Rattle.lt_isa.specs.declared.instructions.Instr.{Instr}
-use Rattle.lt_isa.specs.declared.instructions.Instr.TheVariants.{Jmp, Br, Li, Stw, Stb}
+use Rattle.lt_isa.specs.declared.instructions.Instr.TheVariants.{Jmp, Br, Li, Stw}
 use Rattle.src_tree.specs.Trees.{Tree, Number, Variable, Element, Operation, Test, Statement, SetVariable, SetElement, Choice, Loop, Block, Nothing, Then}
 use Rattle.src_tree.specs.Contexts.{Context}
 use Rattle.src_tree.specs.Labels.{label_of_test}
@@ -13,11 +13,11 @@ use Rattle.src_tree.specs.Limits.{tree_weight, test_weight, parts_weight, statem
 use Rattle.block_cache_gen.specs.declared.frames.CodeBuf.{CodeBuf}
 use Rattle.block_cache_gen.specs.declared.frames.Mode.TheVariants.{Public}
 use Rattle.block_cache_gen.specs.Homes.{Setting, home_of}
-use Rattle.block_cache_gen.specs.Codes.{expr_code, guard_code, set_code, access_code, fixed_index}
+use Rattle.block_cache_gen.specs.Codes.{expr_code, guard_code, set_code, stored_code, access_code, fixed_index}
 use Rattle.block_cache_gen.specs.Notes.{guard_notes, set_notes}
 use Rattle.block_cache_gen.specs.Emitted.{Appended, no_notes, EmitsGuard, EmitsSet}
 use Rattle.block_cache_gen.proofs.Emitting.{appended_then, appended_length}
-use Rattle.block_cache_gen.proofs.Sizes.{expr_code_short, access_short}
+use Rattle.block_cache_gen.proofs.Sizes.{expr_code_short, access_short, stored_short}
 use Rattle.code_gen.specs.Statements.{statement_code, block_code, statement_notes, block_notes, block_ends_noted, head_note, head_unless, guard_note}
 use Rattle.code_gen.specs.Emitted.{padding_of, EmitsStatement, EmitsBlock, ClosesLoop, noted_behind}
 
@@ -52,13 +52,15 @@ pub element_code-short : (f : Setting) (x : List ℕ) (i e : Tree)
 element_code-short f x i e =
     let h = home_of f x in
     let access = access_code f.profile.block_log Public h 1 (fixed_index h i) (expr_code f Public 1 i) in
+    let stored = Stw 0 h.slot 1 ∷ stored_code h.resident h.slot in
     omega (
       arith,
       expr_code_short f Public 0 e,
       expr_code_short f Public 1 i,
       access_short f.profile.block_log Public h 1 (fixed_index h i) (expr_code f Public 1 i),
-      length-append (expr_code f Public 0 e) (access ++ (Stw 0 h.slot 1 ∷ [] ++ Stb h.slot ∷ [])),
-      length-append access (Stw 0 h.slot 1 ∷ [] ++ Stb h.slot ∷ []),
+      stored_short h.resident h.slot,
+      length-append (expr_code f Public 0 e) (access ++ stored),
+      length-append access stored,
     )
 
 -- the weight of a choice by a public guard

@@ -1,160 +1,222 @@
--- The end of a program's code: the blocks of the scalars are stored, and then the banks hold each variable's words.
-use Rattle.std.proofs.Common.{◌≡◌, ℕ, ◌+◌, ◌/◌, ◌%◌, ◌<◌, ◌≤◌, ℤ, List, [], ◌∷◌, length, set, refl, sym, ap, ◌∙◌, subst, ⊎_elim, arith}
+-- The end of a program's code: each pinned slot's block is stored, and then the banks hold each variable's words.
+use Rattle.std.proofs.Common.{◌≡◌, ◌≢◌, ℕ, suc, ◌+◌, ◌/◌, ◌%◌, ◌<◌, ◌≤◌, Bool, true, false, ℤ, pos, List, [], ◌∷◌, ◌++◌, length, get_or, set, Option, Some, None, refl, sym, ap, ◌∙◌, subst, ⊎_elim, arith}
 use Rattle.std.specs.Prelude.{slice_index_or}
-use Rattle.std.proofs.lemmas.Bool.{cases_eq}
-use Rattle.std.proofs.lemmas.List.{get_or-set_same, get_or-set_other}
 use Rattle.std.proofs.lemmas.Nat.{le-div, pow_pos}
-use Rattle.std.proofs.Math.Nat.{mul-le-mul_right}
+use Rattle.std.proofs.lemmas.Bool.{cases_eq, cases_lt, true≢false}
+use Rattle.std.proofs.lemmas.List.{get_or-set_same, get_or-set_other, get_or_past}
 use Rattle.gr_word.specs.declared.variables.Label.{Label}
-use Rattle.gr_word.specs.declared.variables.Label.TheVariants.{Public, Secret}
-use Rattle.lt_isa.specs.declared.instructions.Instr.TheVariants.{Stb, Halt}
+use Rattle.gr_word.specs.declared.variables.Shape.{Shape}
+use Rattle.gr_word.specs.declared.variables.Shape.TheVariants.{Scalar, Array}
+use Rattle.lt_isa.specs.declared.instructions.Instr.TheVariants.{Stb}
 use Rattle.lt_isa.specs.Object.{Parts}
 use Rattle.lt_isa.specs.Ranges.{IsInRange}
-use Rattle.lt_isa.specs.Machine.{State, Bound, Observed, slot, bank_blocks, block_at, word_in, set_block, write_event, slot_words}
+use Rattle.lt_isa.specs.Machine.{Unbound, Bound, State, Observed, slot, bank_blocks, block_at, word_in, set_block, slot_words, write_event}
+use Rattle.lt_isa.specs.Outputs.{bank_word_numbered}
 use Rattle.lt_isa.specs.Shape.{IsShaped}
-use Rattle.lt_isa.proofs.Cycles.{blocks-least}
+use Rattle.src_tree.specs.Contexts.{context_of}
+use Rattle.src_tree.specs.Meaning.{Store, variable_number, words_of_number}
 use Rattle.stretches.specs.Standing.{StandsAt, greatest_costs}
 use Rattle.stretches.specs.Coming.{RunsThrough}
-use Rattle.stretches.proofs.Standing.{standing-head, standing-first}
-use Rattle.stretches.proofs.RunningThrough.{runs-append}
-use Rattle.stretches.proofs.Coming.{comes-weaker, comes-stb}
-use Rattle.src_tree.specs.Meaning.{Store}
-use Rattle.bank_alloc.specs.Apart.{scalar_bank}
-use Rattle.block_cache_gen.specs.Homes.{Home, Setting, HasHomes, home_of, words_a_block, start_of_home}
+use Rattle.stretches.proofs.Standing.{standing-head}
+use Rattle.stretches.proofs.Coming.{comes-here, comes-stb, comes-weaker}
+use Rattle.stretches.proofs.RunningThrough.{runs-append, runs-weaker}
+use Rattle.block_cache_gen.specs.declared.frames.Pin.{Pin}
+use Rattle.block_cache_gen.specs.Homes.{Setting, HasHomes, pin_at, pin_of, home_of, words_a_block, start_of_home}
 use Rattle.block_cache_gen.specs.StandsFor.{StandsFor}
-use Rattle.code_gen.specs.Programs.{ending}
-use Rattle.code_gen.proofs.Started.{BanksHold}
+use Rattle.code_gen.specs.Programs.{pin_store, each_slot}
+use Rattle.code_gen.proofs.Started.{BanksHold, word-in_block, resident-inside}
 
--- a state in which block 0 of a bank is another than before
-pub record HasStored (s : State) (bank : ℕ) (words : List ℤ) (t : State) : Type 0 where
+-- what the stores of pinned slots show, from slot k on
+abbrev pub pin_shown : State → ℕ → Option Pin → List Observed
+pin_shown s k None = []
+pin_shown s k (Some p) = write_event p.bank p.block (slot_words (slot s k)) ∷ []
+
+abbrev pub pins_shown : State → ℕ → List (Option Pin) → List Observed
+pins_shown s k [] = []
+pins_shown s k (pin ∷ pins) = pin_shown s k pin ++ pins_shown s (k + 1) pins
+
+-- the blocks of the pinned slots below one are stored
+pub record StoredTo (f : Setting) (s : State) (k : ℕ) (t : State) : Type 0 where
   pub slots : t.slots ≡ s.slots
-  pub banks : t.banks ≡ (set_block s bank 0 words).banks
+  pub stored : (j : ℕ) (p : Pin) → j < k → pin_at f j ≡ Some p → block_at t p.bank p.block ≡ slot_words (slot s j)
+  pub others : (b a : ℕ) → ((j : ℕ) (p : Pin) → j < k → pin_at f j ≡ Some p → b ≡ p.bank → a ≡ p.block → ⊥)
+      → block_at t b a ≡ block_at s b a
 
--- that block, and every other
-stored-here : (s : State) (bank : ℕ) (words : List ℤ) (t : State) → HasStored s bank words t → bank < length s.banks
-    → 0 < length (bank_blocks s bank) → block_at t bank 0 ≡ words
-stored-here s bank words t stored exists within =
-    ap (λ banks. slice_index_or (slice_index_or banks bank []) 0 []) stored.banks
-    ∙ ap (λ blocks. slice_index_or blocks 0 [])
-    (get_or-set_same s.banks bank (set (bank_blocks s bank) 0 words) [] exists)
-    ∙ get_or-set_same (bank_blocks s bank) 0 words [] within
+module _ (o : Parts) (fits : IsInRange o) (f : Setting) (homes : HasHomes o f) (s : State) (left : Store)
+    (stands : StandsFor f s left) where
+  -- one block more
+  module _ (t : State) (shaped : IsShaped o t) (k : ℕ) (so_far : StoredTo f s k t) (p : Pin)
+      (pinned : pin_at f k ≡ Some p) (words : List ℤ) (u : State)
+      (banks : u.banks ≡ (set_block t p.bank p.block words).banks) where
+    exists : p.bank < length t.banks
+    exists =
+        let pin = homes.pins k p pinned in
+        omega (arith, fits.bank_count, shaped.bank_count, pin.bank)
 
-stored-other : (s : State) (bank : ℕ) (words : List ℤ) (t : State) → HasStored s bank words t → bank < length s.banks
-    → (b a : ℕ) → (b ≡ bank → 1 ≤ a) → block_at t b a ≡ block_at s b a
-stored-other s bank words t stored exists b a apart =
-    ap (λ banks. slice_index_or (slice_index_or banks b []) a []) stored.banks
-    ∙ ⊎_elim
-    (λ (same : b ≡ bank).
-    let moved : slice_index_or (slice_index_or (set s.banks bank (set (bank_blocks s bank) 0 words)) bank []) a []
-    ≡ block_at s bank a =
-    ap (λ blocks. slice_index_or blocks a [])
-    (get_or-set_same s.banks bank (set (bank_blocks s bank) 0 words) [] exists)
-    ∙ get_or-set_other (bank_blocks s bank) 0 a words [] (λ none. absurd (omega (arith, apart same))) in
-    subst (λ n. slice_index_or (slice_index_or (set s.banks bank (set (bank_blocks s bank) 0 words)) n []) a []
-    ≡ block_at s n a) (sym same) moved)
-    (λ other.
-    ap (λ blocks. slice_index_or blocks a [])
-    (get_or-set_other s.banks bank b (set (bank_blocks s bank) 0 words) [] other))
-    (cases_eq b bank)
+    within : p.block < length (bank_blocks t p.bank)
+    within =
+        let pin = homes.pins k p pinned in
+        omega (arith, shaped.block_counts p.bank (omega (arith, fits.bank_count, pin.bank)), pin.block)
 
--- one store of block 0
-comes-store : (o : Parts) → IsInRange o → (s : State) → IsShaped o s → (k b : ℕ) (words : List ℤ)
-    → slot s k ≡ Bound b 0 words
-    → StandsAt o s.place (Stb k ∷ [])
-    → RunsThrough o s (Stb k ∷ []) (write_event b 0 words ∷ []) (HasStored s b words)
-comes-store o fits s shaped k b words bound at =
-    comes-weaker (write_event b 0 words ∷ []) (s.place + 1) (greatest_costs o (Stb k ∷ [])) (HasStored s b words)
-    (comes-stb o fits s shaped k b 0 words (HasStored s b words) (standing-head (Stb k) [] at) bound
-    (record { slots = refl; banks = refl }))
-    refl refl (omega arith) (λ u shape h. h)
+    here : block_at u p.bank p.block ≡ words
+    here =
+        ap (λ bs. slice_index_or (slice_index_or bs p.bank []) p.block []) banks
+        ∙ ap (λ blocks. slice_index_or blocks p.block [])
+        (get_or-set_same t.banks p.bank (set (bank_blocks t p.bank) p.block words) [] exists)
+        ∙ get_or-set_same (bank_blocks t p.bank) p.block words [] within
 
--- what the stores of an ending show
-abbrev pub ending_shown : (plain encrypted : List ℤ) → List Observed
-ending_shown plain encrypted = write_event 0 0 plain ∷ write_event 1 0 encrypted ∷ []
+    elsewhere : (b a : ℕ) → (b ≡ p.bank → a ≢ p.block) → block_at u b a ≡ block_at t b a
+    elsewhere b a apart =
+        ap (λ bs. slice_index_or (slice_index_or bs b []) a []) banks
+        ∙ ⊎_elim
+        (λ (same : b ≡ p.bank).
+        let blocks = set (bank_blocks t p.bank) p.block words in
+        let moved : slice_index_or (slice_index_or (set t.banks p.bank blocks) p.bank []) a [] ≡ block_at t p.bank a =
+        ap (λ blocks. slice_index_or blocks a []) (get_or-set_same t.banks p.bank blocks [] exists)
+        ∙ get_or-set_other (bank_blocks t p.bank) p.block a words [] (apart same) in
+        subst (λ n. slice_index_or (slice_index_or (set t.banks p.bank blocks) n []) a [] ≡ block_at t n a)
+        (sym same) moved)
+        (λ other.
+        ap (λ blocks. slice_index_or blocks a [])
+        (get_or-set_other t.banks p.bank b (set (bank_blocks t p.bank) p.block words) [] other))
+        (cases_eq b p.bank)
 
-module _ (o : Parts) (fits : IsInRange o) (f : Setting) (homes : HasHomes o f) (s : State) (shaped : IsShaped o s)
-    (left : Store) (stands : StandsFor f s left) where
-  -- where both blocks were stored, the banks hold the store
-  abbrev plain : List ℤ
-  plain = stands.plain_slot.words
-
-  abbrev encrypted : List ℤ
-  encrypted = stands.encrypted_slot.words
-
-  module _ (t : State) (well : IsShaped o t) (once : HasStored s 0 plain t) (u : State)
-      (twice : HasStored t 1 encrypted u) where
-    exists : (b : ℕ) → b < 2 → b < length s.banks
-    exists b low = omega (arith, fits.bank_count, shaped.bank_count)
-
-    exists-then : (b : ℕ) → b < 2 → b < length t.banks
-    exists-then b low = omega (arith, fits.bank_count, well.bank_count)
-
-    plain-stored : block_at u 0 0 ≡ plain
-    plain-stored =
-        stored-other t 1 encrypted u twice (exists-then 1 (omega arith)) 0 0 (λ same. absurd (omega (arith, same)))
-        ∙ stored-here s 0 plain t once (exists 0 (omega arith))
-        (omega (
-          arith,
-          shaped.block_counts 0 (omega (arith, fits.bank_count)),
-          blocks-least o fits 0 (omega (arith, fits.bank_count)),
-        ))
-
-    encrypted-stored : block_at u 1 0 ≡ encrypted
-    encrypted-stored =
-        stored-here t 1 encrypted u twice (exists-then 1 (omega arith))
-        (omega (
-          arith,
-          well.block_counts 1 (omega (arith, fits.bank_count)),
-          blocks-least o fits 1 (omega (arith, fits.bank_count)),
-        ))
-
-    else-same : (b a : ℕ) → (b < 2 → 1 ≤ a) → block_at u b a ≡ block_at s b a
-    else-same b a behind =
-        stored-other t 1 encrypted u twice (exists-then 1 (omega arith)) b a (λ same. behind (omega (arith, same)))
-        ∙ stored-other s 0 plain t once (exists 0 (omega arith)) b a (λ same. behind (omega (arith, same)))
-
-    -- a scalar's slot held the block that its bank has now
-    scalar-words : (label : Label) (k b : ℕ) → k ≡ b → b ≡ scalar_bank label → block_at u b 0 ≡ slot_words (slot s k)
-    scalar-words Public k b same is =
-        ap (λ n. block_at u n 0) is ∙ plain-stored ∙ ap slot_words (sym stands.plain_slot.holds)
-        ∙ ap (λ n. slot_words (slot s n)) (sym (same ∙ is))
-    scalar-words Secret k b same is =
-        ap (λ n. block_at u n 0) is ∙ encrypted-stored ∙ ap slot_words (sym stands.encrypted_slot.holds)
-        ∙ ap (λ n. slot_words (slot s n)) (sym (same ∙ is))
-
-    block-behind : (h : Home) (i : ℕ) → 1 ≤ h.block → 1 ≤ (start_of_home (words_a_block f) h + i) / words_a_block f
-    block-behind h i behind =
-        le-div 1 (start_of_home (words_a_block f) h + i) (words_a_block f) (pow_pos f.profile.block_log)
-        (omega (arith, mul-le-mul_right (words_a_block f) behind))
-
-    pub banks-hold : BanksHold f u left
-    banks-hold = record {
-      scalars = λ x label known.
-          let home = homes.scalars x label known in
-          ap (λ words. word_in words (home_of f x).word)
-          (scalar-words label (home_of f x).slot (home_of f x).bank home.slot home.bank)
-          ∙ stands.scalars x label known;
-      arrays = λ x label i known below.
-          let h = home_of f x in
-          let w = words_a_block f in
-          let at = start_of_home w h + i in
-          ap (λ words. word_in words (at % w))
-          (else-same h.bank (at / w) (λ low. block-behind h i ((homes.arrays x label known).behind low)))
-          ∙ stands.arrays x label i known below;
+    one-more : u.slots ≡ t.slots → words ≡ slot_words (slot s k) → StoredTo f s (k + 1) u
+    one-more slots are = record {
+      slots = slots ∙ so_far.slots;
+      stored = λ j q below pinned'.
+          ⊎_elim
+          (λ (same : j ≡ k).
+          let e : ◌≡◌ {A = Option Pin} (Some q) (Some p) = sym pinned' ∙ ap (pin_at f) same ∙ pinned in
+          let one : q ≡ p = cc in
+          ap (λ (r : Pin). block_at u r.bank r.block) one ∙ here ∙ are ∙ ap (λ n. slot_words (slot s n)) (sym same))
+          (λ (other : j ≢ k).
+          elsewhere q.bank q.block
+          (λ same_bank same_block. other (homes.pins_apart j k q p pinned' pinned same_bank same_block))
+          ∙ so_far.stored j q (omega (arith, below, other)) pinned')
+          (cases_eq j k);
+      others = λ b a apart.
+          elsewhere b a (λ same_bank same_block. apart k p (omega arith) pinned same_bank same_block)
+          ∙ so_far.others b a (λ j q below pinned'. apart j q (omega arith) pinned');
     }
 
-  -- both stores, up to the halt
-  pub comes-ending : StandsAt o s.place ending
-      → RunsThrough o s (Stb 0 ∷ Stb 1 ∷ []) (ending_shown plain encrypted) (λ u. BanksHold f u left)
-  comes-ending at =
-      runs-append s (Stb 0 ∷ []) (Stb 1 ∷ []) (write_event 0 0 plain ∷ []) (write_event 1 0 encrypted ∷ [])
-      (HasStored s 0 plain) (λ u. BanksHold f u left)
-      (standing-first (Stb 0 ∷ Stb 1 ∷ []) (Halt ∷ []) at)
-      (comes-store o fits s shaped 0 0 plain stands.plain_slot.holds)
-      (λ t well once here.
-      comes-weaker (write_event 1 0 encrypted ∷ []) (t.place + 1) (greatest_costs o (Stb 1 ∷ []))
-      (λ u. BanksHold f u left)
-      (comes-store o fits t well 1 1 encrypted
-      (ap (λ slots. slot (record t { slots = slots }) 1) once.slots ∙ stands.encrypted_slot.holds) here)
-      refl refl (omega arith)
-      (λ u shape twice. banks-hold t well once u twice))
+  -- a slot without a pin is passed over
+  passed-over : (t : State) (k : ℕ) → StoredTo f s k t → pin_at f k ≡ None → StoredTo f s (k + 1) t
+  passed-over t k so_far free = record {
+    slots = so_far.slots;
+    stored = λ j q below pinned.
+        so_far.stored j q
+        (omega (arith, below, λ (same : j ≡ k). unpinned j k q pinned free same)) pinned;
+    others = λ b a apart. so_far.others b a (λ j q below pinned. apart j q (omega arith) pinned);
+  }
+    where
+      unpinned : (j k : ℕ) (q : Pin) → pin_at f j ≡ Some q → pin_at f k ≡ None → j ≡ k → ⊥
+      unpinned j k q pinned free same =
+          let e : ◌≡◌ {A = Option Pin} (Some q) None = sym pinned ∙ ap (pin_at f) same ∙ free in cc
+
+  -- the store of one slot
+  comes-pin_store : (t : State) → IsShaped o t → (k : ℕ) → StoredTo f s k t → (pin : Option Pin) → pin_at f k ≡ pin
+      → StandsAt o t.place (pin_store k pin)
+      → RunsThrough o t (pin_store k pin) (pin_shown s k pin) (StoredTo f s (k + 1))
+  comes-pin_store t shaped k so_far None is at =
+      comes-weaker [] (t.place + 0) 0 (StoredTo f s (k + 1))
+      (comes-here t 0 (StoredTo f s (k + 1)) shaped (passed-over t k so_far is))
+      refl (omega arith) (omega arith) (λ u shape h. h)
+  comes-pin_store t shaped k so_far (Some p) is at =
+      let held = stands.pinned k p is in
+      let bound : slot t k ≡ Bound p.bank p.block held.words =
+      ap (λ slots. get_or slots k Unbound) so_far.slots ∙ held.holds in
+      let words : held.words ≡ slot_words (slot s k) = ap slot_words (sym held.holds) in
+      comes-weaker (pin_shown s k (Some p)) (t.place + 1) (greatest_costs o (Stb k ∷ [])) (StoredTo f s (k + 1))
+      (comes-stb o fits t shaped k p.bank p.block held.words (StoredTo f s (k + 1)) (standing-head (Stb k) [] at)
+      bound (one-more t shaped k so_far p is held.words _ refl refl words))
+      (ap (λ l. write_event p.bank p.block l ∷ []) words) refl (omega arith) (λ u shape h. h)
+
+  -- the stores of the slots from one on
+  comes-pin_stores : (pins : List (Option Pin)) (k : ℕ) (t : State) → IsShaped o t → StoredTo f s k t
+      → ((i : ℕ) → get_or pins i None ≡ pin_at f (k + i)) → StandsAt o t.place (each_slot pin_store k pins)
+      → RunsThrough o t (each_slot pin_store k pins) (pins_shown s k pins) (StoredTo f s (k + length pins))
+  comes-pin_stores [] k t shaped so_far are at =
+      let same : k ≡ k + 0 = omega arith in
+      comes-weaker [] (t.place + 0) 0 (StoredTo f s (k + 0))
+      (comes-here t 0 (StoredTo f s (k + 0)) shaped (subst (λ m. StoredTo f s m t) same so_far))
+      refl (omega arith) (omega arith) (λ u shape h. h)
+  comes-pin_stores (pin ∷ pins) k t shaped so_far are at =
+      let here : k + 0 ≡ k = omega arith in
+      let end : k + 1 + length pins ≡ k + length (pin ∷ pins) = omega arith in
+      runs-append t (pin_store k pin) (each_slot pin_store (k + 1) pins) (pin_shown s k pin) (pins_shown s (k + 1) pins)
+      (StoredTo f s (k + 1)) (StoredTo f s (k + length (pin ∷ pins))) at
+      (λ first. comes-pin_store t shaped k so_far pin (sym (are 0 ∙ ap (pin_at f) here)) first)
+      (λ u shape stored there.
+      subst (λ n. RunsThrough o u (each_slot pin_store (k + 1) pins) (pins_shown s (k + 1) pins) (StoredTo f s n)) end
+      (comes-pin_stores pins (k + 1) u shape stored (next are) there))
+    where
+      next : ((i : ℕ) → get_or (pin ∷ pins) i None ≡ pin_at f (k + i)) → (i : ℕ)
+          → get_or pins i None ≡ pin_at f (k + 1 + i)
+      next are i = let same : k + suc i ≡ k + 1 + i = omega arith in are (suc i) ∙ ap (pin_at f) same
+
+  -- a pin is one of the setting's
+  pin-below : (k : ℕ) (p : Pin) → pin_at f k ≡ Some p → k < length f.pins
+  pin-below k p is =
+      ⊎_elim
+      (λ below. below)
+      (λ past. absurd (let e : ◌≡◌ {A = Option Pin} None (Some p) = sym (get_or_past f.pins k None past) ∙ is in cc))
+      (cases_lt k (length f.pins))
+
+  -- then the banks hold the words of resident variables, and still those of other arrays
+  residents-held : (u : State) → StoredTo f s (length f.pins) u → (x : List ℕ) (label : Label) (shape : Shape) (i : ℕ)
+      → context_of f.decls x ≡ Some (label, shape) → (home_of f x).resident ≡ true → i < (home_of f x).length
+      → word_in (block_at u (home_of f x).bank (home_of f x).block) ((home_of f x).word + i)
+      ≡ get_or (words_of_number left (variable_number f.decls x)) i (pos 0)
+  residents-held u stored x label shape i known resident below =
+      let h = home_of f x in
+      let home = homes.residents x label shape known resident in
+      ap (λ words. word_in words (h.word + i))
+      (stored.stored h.slot (pin_of h) (pin-below h.slot (pin_of h) home.pinned) home.pinned)
+      ∙ stands.residents x label shape i known resident below
+
+  arrays-held : (u : State) → StoredTo f s (length f.pins) u → (x : List ℕ) (label : Label) (i : ℕ)
+      → context_of f.decls x ≡ Some (label, Array) → (home_of f x).resident ≡ false → i < (home_of f x).length
+      → bank_word_numbered (words_a_block f) u (home_of f x).bank (start_of_home (words_a_block f) (home_of f x) + i)
+      ≡ get_or (words_of_number left (variable_number f.decls x)) i (pos 0)
+  arrays-held u stored x label i known turn below =
+      let h = home_of f x in
+      let w = words_a_block f in
+      let at = start_of_home w h + i in
+      let home = homes.arrays x label known turn in
+      let behind : h.block ≤ at / w =
+      le-div h.block at w (pow_pos f.profile.block_log) (omega arith) in
+      ap (λ words. word_in words (at % w))
+      (stored.others h.bank (at / w)
+      (λ j p few pinned same_bank same_block.
+      absurd (omega (arith, behind, same_block, home.behind j p pinned (sym same_bank)))))
+      ∙ stands.arrays x label i known turn below
+
+  banks-hold : (u : State) → StoredTo f s (length f.pins) u → BanksHold f u left
+  banks-hold u stored = record {
+    words = λ x label shape i known below. by x label shape i known below (home_of f x).resident refl;
+  }
+    where
+      by : (x : List ℕ) (label : Label) (shape : Shape) (i : ℕ) → context_of f.decls x ≡ Some (label, shape)
+          → i < (home_of f x).length → (resident : Bool) → (home_of f x).resident ≡ resident
+          → bank_word_numbered (words_a_block f) u (home_of f x).bank
+          (start_of_home (words_a_block f) (home_of f x) + i)
+          ≡ slice_index_or (words_of_number left (variable_number f.decls x)) i (pos 0)
+      by x label shape i known below true is =
+          word-in_block u (home_of f x) (words_a_block f) i (resident-inside o f homes x label shape i known is below)
+          ∙ residents-held u stored x label shape i known is below
+      by x label Scalar i known below false is =
+          absurd (true≢false (sym (homes.scalars x label known).resident ∙ is))
+      by x label Array i known below false is = arrays-held u stored x label i known is below
+
+  -- the stores, up to the halt
+  pub comes-ending : IsShaped o s → StandsAt o s.place (each_slot pin_store 0 f.pins)
+      → RunsThrough o s (each_slot pin_store 0 f.pins) (pins_shown s 0 f.pins) (λ u. BanksHold f u left)
+  comes-ending shaped at =
+      let all : 0 + length f.pins ≡ length f.pins = omega arith in
+      runs-weaker s (each_slot pin_store 0 f.pins) (pins_shown s 0 f.pins) (pins_shown s 0 f.pins)
+      (StoredTo f s (0 + length f.pins)) (λ u. BanksHold f u left)
+      (comes-pin_stores f.pins 0 s shaped
+      (record { slots = refl; stored = λ j p below. absurd (omega (arith, below)); others = λ b a apart. refl })
+      (λ i. let same : i ≡ 0 + i = omega arith in ap (pin_at f) same) at)
+      refl (λ u shape stored. banks-hold u (subst (λ n. StoredTo f s n u) all stored))

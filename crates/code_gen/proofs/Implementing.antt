@@ -7,7 +7,7 @@ use Rattle.std.proofs.lemmas.List.Elements.{Contains-append_right}
 use Rattle.std.proofs.Math.Nat.{mul-le-mul_left, mul-le-mul_right}
 use Rattle.gr_word.specs.Fitting.{FitsWants}
 use Rattle.lt_isa.specs.declared.instructions.Instr.{Instr}
-use Rattle.lt_isa.specs.declared.instructions.Instr.TheVariants.{Stb, Halt}
+use Rattle.lt_isa.specs.declared.instructions.Instr.TheVariants.{Halt}
 use Rattle.lt_isa.specs.Object.{Parts}
 use Rattle.lt_isa.specs.Ranges.{IsInRange}
 use Rattle.lt_isa.specs.Machine.{State, Halted}
@@ -22,22 +22,23 @@ use Rattle.lt_isa.proofs.Runs.{trace_from-stops}
 use Rattle.lt_isa.proofs.Stretches.{below, reaches-append, reaches-shaped, trace_split, final_split-stops}
 use Rattle.lt_isa.proofs.Ends.{final_halted}
 use Rattle.stretches.specs.Standing.{StandsAt, greatest_costs}
-use Rattle.stretches.specs.Coming.{Comes}
-use Rattle.stretches.proofs.Standing.{standing-first, standing-rest, greatest_costs-append, standing-whole}
+use Rattle.stretches.specs.Coming.{Comes, RunsThrough}
+use Rattle.stretches.proofs.Standing.{standing-first, standing-rest, standing-head, greatest_costs-append, standing-whole}
 use Rattle.stretches.proofs.Coming.{comes-weaker}
 use Rattle.lt_isa.proofs.Lasting.{lasting-no_halt}
 use Rattle.src_tree.specs.Trees.{Source}
 use Rattle.src_tree.specs.Meaning.{Store, Left, run_of_block, meaning}
 use Rattle.flow_types.specs.Wants.{declared_wants}
 use Rattle.block_cache_gen.specs.Homes.{Setting, HasHomes}
+use Rattle.block_cache_gen.specs.ServedBlocks.{first_blocks}
 use Rattle.block_cache_gen.specs.StandsFor.{StandsFor, FitsHomes}
 use Rattle.code_gen.specs.Implements.{Implements, HasSymbols, by_name}
 use Rattle.code_gen.specs.Statements.{Padding, block_code}
-use Rattle.code_gen.specs.Programs.{beginning, ending, program_code}
+use Rattle.code_gen.specs.Programs.{pin_store, each_slot, beginning, ending, program_code}
 use Rattle.code_gen.specs.Follows.{Follows, Finishes, Lasts}
-use Rattle.code_gen.proofs.Loads.{beginning_shown, comes-beginning}
+use Rattle.code_gen.proofs.Loads.{loads_shown, comes-beginning}
 use Rattle.code_gen.proofs.Started.{BanksHold, stands-started}
-use Rattle.code_gen.proofs.Ended.{ending_shown, comes-ending}
+use Rattle.code_gen.proofs.Ended.{pins_shown, comes-ending}
 
 -- The inputs and the outputs of an object are the words of a program's variables, by the homes that its code is made
 -- for.
@@ -94,25 +95,29 @@ module _ (p : Source) (o : Parts) (fits : IsInRange o) (f : Setting) (homes : Ha
   abbrev costs : ℕ
   costs = greatest_costs o o.code
 
-  costs-are : costs ≡ greatest_costs o
-      (beginning f) + (greatest_costs o body + (greatest_costs o (Stb 0 ∷ Stb 1 ∷ []) + 1))
+  -- the stores at the end
+  abbrev stores : List Instr
+  stores = each_slot pin_store 0 f.pins
+
+  costs-are : costs ≡ greatest_costs o (beginning f) + (greatest_costs o body + (greatest_costs o stores + 1))
   costs-are =
       ap (greatest_costs o) code_is
-      ∙ greatest_costs-append o (beginning f) (body ++ ending)
+      ∙ greatest_costs-append o (beginning f) (body ++ ending f)
       ∙ ap (λ n. greatest_costs o (beginning f) + n)
-      (let last : greatest_costs o ending ≡ greatest_costs o (Stb 0 ∷ Stb 1 ∷ []) + 1 = omega arith in
-      greatest_costs-append o body ending ∙ ap (λ n. greatest_costs o body + n) last)
+      (let last : greatest_costs o (ending f) ≡ greatest_costs o stores + 1 =
+      omega (arith, greatest_costs-append o stores (Halt ∷ [])) in
+      greatest_costs-append o body (ending f) ∙ ap (λ n. greatest_costs o body + n) last)
 
   whole : StandsAt o 0 (program_code f padded p.body)
   whole = standing-whole o (program_code f padded p.body) code_is
 
-  ending-stands : StandsAt o (length (beginning f) + length body) ending
+  ending-stands : StandsAt o (length (beginning f) + length body) (ending f)
   ending-stands =
-      standing-rest body ending (subst (λ n. StandsAt o n (body ++ ending)) (omega arith)
-      (standing-rest (beginning f) (body ++ ending) whole))
+      standing-rest body (ending f) (subst (λ n. StandsAt o n (body ++ ending f)) (omega arith)
+      (standing-rest (beginning f) (body ++ ending f) whole))
 
-  halt-stands : (place : ℕ) → StandsAt o place ending → slice_get o.code (place + 2) ≡ Some Halt
-  halt-stands place at = at.each 2 Halt refl
+  halt-stands : (place : ℕ) → StandsAt o place (ending f) → slice_get o.code (place + length stores) ≡ Some Halt
+  halt-stands place at = standing-head Halt [] (standing-rest stores (Halt ∷ []) at)
 
   -- one run on a store
   module _ (store : Store) (given : FitsWants (declared_wants p.decls) store) where
@@ -126,14 +131,14 @@ module _ (p : Source) (o : Parts) (fits : IsInRange o) (f : Setting) (homes : Ha
     start-shaped = IsShaped-start o inputs (names.inputs store given)
 
     -- it comes to the body
-    pub comes-begun : Comes o start (beginning_shown o f start) (length (beginning f)) (greatest_costs o (beginning f))
-        (λ t. StandsFor f t store)
+    pub comes-begun : Comes o start (loads_shown o start (first_blocks f)) (length (beginning f))
+        (greatest_costs o (beginning f)) (λ t. StandsFor f t store)
     comes-begun =
-        comes-weaker (beginning_shown o f start) (length (beginning f)) (greatest_costs o (beginning f))
+        comes-weaker (loads_shown o start (first_blocks f)) (length (beginning f)) (greatest_costs o (beginning f))
         (λ t. StandsFor f t store)
         (comes-beginning o fits start start-shaped f
         (subst (λ n. StandsAt o n (beginning f)) (sym (place-start o inputs))
-        (standing-first (beginning f) (body ++ ending) whole)))
+        (standing-first (beginning f) (body ++ ending f) whole)))
         refl (ap (λ n. n + length (beginning f)) (place-start o inputs) ∙ (omega arith)) (omega arith)
         (λ t shape loaded. stands-started o f homes start t loaded store (names.hold store given)
         (slot-start o inputs 6))
@@ -141,15 +146,14 @@ module _ (p : Source) (o : Parts) (fits : IsInRange o) (f : Setting) (homes : Ha
     -- where the body is done, it comes behind it and to the halt
     module _ (n : ℕ) (left : Left) (done : Finishes o f comes-begun.end n left (length (beginning f) + length body)
         (greatest_costs o body)) where
-      ended : Comes o done.end (ending_shown done.stands.plain_slot.words done.stands.encrypted_slot.words)
-          (done.end.place + 2) (greatest_costs o (Stb 0 ∷ Stb 1 ∷ [])) (λ u. BanksHold f u left.store)
+      ended : RunsThrough o done.end stores (pins_shown done.end 0 f.pins) (λ u. BanksHold f u left.store)
       ended =
-          comes-ending o fits f homes done.end done.shaped left.store done.stands
-          (subst (λ n. StandsAt o n ending) (sym done.comes) ending-stands)
+          comes-ending o fits f homes done.end left.store done.stands done.shaped
+          (standing-first stores (Halt ∷ []) (subst (λ n. StandsAt o n (ending f)) (sym done.comes) ending-stands))
 
       halt-there : slice_get o.code ended.end.place ≡ Some Halt
       halt-there =
-          ap (slice_get o.code) (ended.comes ∙ ap (λ n. n + 2) done.comes)
+          ap (slice_get o.code) (ended.comes ∙ ap (λ n. n + length stores) done.comes)
           ∙ halt-stands (length (beginning f) + length body) ending-stands
 
       halts-below : HaltsBelow o start (costs * (n + 1)) (λ u. outputs o u ≡ by_name p o left.store)
@@ -157,7 +161,7 @@ module _ (p : Source) (o : Parts) (fits : IsInRange o) (f : Setting) (homes : Ha
           let last = ended.end in
           let bound =
           costs-bound (greatest_costs o (beginning f)) (greatest_costs o body)
-          (greatest_costs o (Stb 0 ∷ Stb 1 ∷ [])) done.used n (omega (arith, done.counts)) in
+          (greatest_costs o stores) done.used n (omega (arith, done.counts)) in
           let in_time : last.cycle < costs * (n + 1) =
           subst (λ c. last.cycle < c * (n + 1)) (sym costs-are)
           (omega (arith, bound, ended.by, done.by, comes-begun.by, cycle-start o inputs)) in
@@ -170,7 +174,7 @@ module _ (p : Source) (o : Parts) (fits : IsInRange o) (f : Setting) (homes : Ha
             in_time = subst (λ c. c < costs * (n + 1)) (sym (step_start-at o last Halt halt-there)) in_time;
             leaves =
                 names.tell (passed o Halt false 0 last.place last) left.store
-                (record { scalars = ended.holds.scalars; arrays = ended.holds.arrays }) done.fits;
+                (record { words = ended.holds.words }) done.fits;
           }
 
     -- where it is spent, it hasn't halted

@@ -1,9 +1,8 @@
--- The beginning of a program's code: a block of each bank that the rest relies on is loaded to its slot.
-use Rattle.std.proofs.Common.{◌≡◌, ℕ, ◌+◌, ◌<◌, Bool, true, false, cond, ◌==◌, if◌then◌else◌, pos, List, [], ◌∷◌, ◌++◌, Option, Some, None, refl, sym, ap, ◌∙◌, arith}
-use Rattle.std.proofs.lemmas.Bool.{cond_both, eqb-true, eqb-false}
+-- The beginning of a program's code: each slot is loaded with the block that it begins with.
+use Rattle.std.proofs.Common.{◌≡◌, ◌≢◌, ℕ, suc, ◌+◌, ◌<◌, ◌≤◌, false, pos, List, [], ◌∷◌, ◌++◌, length, get_or, Option, Some, None, refl, sym, ap, ◌∙◌, subst, ⊎_elim, arith}
+use Rattle.std.proofs.lemmas.Bool.{cases_eq}
 use Rattle.std.proofs.lemmas.List.{get_or-set_same, get_or-set_other}
-use Rattle.std.proofs.Math.Nat.{zero-mod}
-use Rattle.lt_isa.specs.declared.instructions.Instr.{Instr}
+use Rattle.std.proofs.Math.Nat.{mod-eq_of_lt}
 use Rattle.lt_isa.specs.declared.instructions.Instr.TheVariants.{Li, Ldb}
 use Rattle.lt_isa.specs.Object.{Parts, blocks_of}
 use Rattle.lt_isa.specs.Ranges.{IsInRange}
@@ -15,184 +14,144 @@ use Rattle.stretches.specs.Coming.{RunsThrough}
 use Rattle.stretches.proofs.RunningThrough.{runs-append}
 use Rattle.stretches.proofs.Standing.{standing-head}
 use Rattle.stretches.proofs.Coming.{comes-here, comes-weaker, comes-ldb, comes-li}
+use Rattle.block_cache_gen.specs.declared.frames.Pin.{Pin}
 use Rattle.block_cache_gen.specs.Homes.{Setting}
-use Rattle.block_cache_gen.specs.ServedBlocks.{block_served}
-use Rattle.code_gen.specs.Programs.{load_of, beginning}
-
--- a load of a block of a bank to a slot, which is made where there is a block
-pub record Load : Type 0 where
-  pub block : Option ℕ
-  pub to : ℕ
-  pub from : ℕ
-
-abbrev pub load_code : Load → List Instr
-load_code l = load_of l.to l.from l.block
+use Rattle.block_cache_gen.specs.ServedBlocks.{first_blocks}
+use Rattle.code_gen.specs.Programs.{load_code, each_slot, beginning}
 
 -- the block that a number names
 abbrev pub named : Parts → (bank block : ℕ) → ℕ
 named o bank block = block_named o bank (pos block)
 
--- the number 0 names block 0
-pub named-zero : (o : Parts) (bank : ℕ) → named o bank 0 ≡ 0
-named-zero o bank = zero-mod (blocks_of o bank)
+-- a number below the bank's blocks names the block of that number
+pub named-is : (o : Parts) (bank block : ℕ) → block < blocks_of o bank → named o bank block ≡ block
+named-is o bank block below = mod-eq_of_lt below
 
-abbrev pub block_shown : Parts → State → (bank : ℕ) → Option ℕ → List Observed
-block_shown o s bank None = []
-block_shown o s bank (Some block) =
-    read_event bank (named o bank block) (block_at s bank (named o bank block)) ∷ []
+abbrev pub load_shown : Parts → State → Option Pin → List Observed
+load_shown o s None = []
+load_shown o s (Some p) =
+    read_event p.bank (named o p.bank p.block) (block_at s p.bank (named o p.bank p.block)) ∷ []
 
-abbrev pub load_shown : Parts → State → Load → List Observed
-load_shown o s l = block_shown o s l.from l.block
+abbrev pub loads_shown : Parts → State → List (Option Pin) → List Observed
+loads_shown o s [] = []
+loads_shown o s (block ∷ blocks) = load_shown o s block ++ loads_shown o s blocks
 
--- what a load leaves in its slot
-abbrev pub bound_by : Parts → State → (bank : ℕ) → Option ℕ → Slot → Slot
-bound_by o s bank None before = before
-bound_by o s bank (Some block) before =
-    Bound bank (named o bank block) (block_at s bank (named o bank block))
+-- what the load of a block leaves in its slot
+abbrev pub bound_by : Parts → State → Option Pin → Slot → Slot
+bound_by o s None before = before
+bound_by o s (Some p) before =
+    Bound p.bank (named o p.bank p.block) (block_at s p.bank (named o p.bank p.block))
 
--- what is in slot k behind some loads, the last of them first
-abbrev pub slot_after : Parts → State → List Load → ℕ → Slot
-slot_after o s [] k = slot s k
-slot_after o s (l ∷ loads) k =
-    if l.to == k then bound_by o s l.from l.block (slot_after o s loads k) else slot_after o s loads k
-
--- a state behind some loads from another
-pub record HasLoaded (o : Parts) (s : State) (loads : List Load) (t : State) : Type 0 where
+-- a state that is reached from another when the slots below one are loaded
+pub record LoadedTo (o : Parts) (s : State) (blocks : List (Option Pin)) (k : ℕ) (t : State) : Type 0 where
   pub banks : t.banks ≡ s.banks
-  pub slots : (k : ℕ) → slot t k ≡ slot_after o s loads k
+  pub loaded : (j : ℕ) → j < k → slot t j ≡ bound_by o s (get_or blocks j None) (slot s j)
+  pub others : (j : ℕ) → k ≤ j → slot t j ≡ slot s j
 
--- and behind the number of the next block
-record IsNumbered (o : Parts) (s : State) (loads : List Load) (block : ℕ) (t : State) : Type 0 where
-  so_far : HasLoaded o s loads t
+-- the same when the number of the next block is in register 0
+record IsNumbered (o : Parts) (s : State) (blocks : List (Option Pin)) (k block : ℕ) (t : State) : Type 0 where
+  so_far : LoadedTo o s blocks k t
   number : register t 0 ≡ pos block
 
-not_made : (c : Bool) (bound : Slot) → cond c bound bound ≡ bound
-not_made true bound = refl
-not_made false bound = refl
+module _ (o : Parts) (fits : IsInRange o) (s : State) (blocks : List (Option Pin)) where
+  -- one slot more
+  one-more : (t u : State) (k : ℕ) (block : Option Pin) → LoadedTo o s blocks k t → get_or blocks k None ≡ block
+      → u.banks ≡ t.banks → slot u k ≡ bound_by o s block (slot s k)
+      → ((j : ℕ) → j ≢ k → slot u j ≡ slot t j) → LoadedTo o s blocks (k + 1) u
+  one-more t u k block so_far is banks here elsewhere = record {
+    banks = banks ∙ so_far.banks;
+    loaded = λ j below.
+        ⊎_elim
+        (λ (same : j ≡ k).
+        subst (λ n. slot u n ≡ bound_by o s (get_or blocks n None) (slot s n)) (sym same)
+        (here ∙ ap (λ b. bound_by o s b (slot s k)) (sym is)))
+        (λ (other : j ≢ k). elsewhere j other ∙ so_far.loaded j (omega (arith, below, other)))
+        (cases_eq j k);
+    others = λ j past.
+        elsewhere j (λ (same : j ≡ k). absurd (omega (arith, past, same)))
+        ∙ so_far.others j (omega (arith, past));
+  }
 
--- the number of a block
-comes-number : (o : Parts) (fits : IsInRange o) (s t : State) (shaped : IsShaped o t) (loads : List Load)
-    → HasLoaded o s loads t → (block : ℕ) → StandsAt o t.place (Li 0 (pos block) ∷ [])
-    → RunsThrough o t (Li 0 (pos block) ∷ []) [] (IsNumbered o s loads block)
-comes-number o fits s t shaped loads so_far block at =
-    comes-weaker [] (t.place + 1) (greatest_costs o (Li 0 (pos block) ∷ [])) (IsNumbered o s loads block)
-    (comes-li o fits t shaped 0 (pos block) (IsNumbered o s loads block) (standing-head (Li 0 (pos block)) [] at)
-    (record {
-      so_far = record { banks = so_far.banks; slots = so_far.slots };
-      number = get_or-set_same t.registers 0 (pos block) (pos 0) (omega (arith, shaped.register_count));
-    }))
-    refl refl (omega arith) (λ u shape h. h)
-
-module _ (o : Parts) (fits : IsInRange o) (s t : State) (shaped : IsShaped o t) (loads : List Load) (block : ℕ)
-    (before : IsNumbered o s loads block t) where
-  block-same : (b a : ℕ) → block_at t b a ≡ block_at s b a
-  block-same b a = ap (λ banks. block_at (record t { banks = banks }) b a) before.so_far.banks
-
-  set-loaded : (k b : ℕ) → k < 8 → (j : ℕ)
-      → slot (loaded (passed o (Ldb k b 0) false b (t.place + 1) t) k b (named o b block)) j
-      ≡ slot_after o s (record { block = Some block; to = k; from = b } ∷ loads) j
-  set-loaded k b below j =
-      let a = named o b block in
-      let found = Bound b a (block_at t b a) in
-      let after = loaded (passed o (Ldb k b 0) false b (t.place + 1) t) k b a in
-      cond_both (k == j) (Bound b a (block_at s b a)) (slot_after o s loads j) (λ bound. slot after j ≡ bound)
-      (λ same.
-      ap (slot after) (sym (eqb-true k j same))
-      ∙ get_or-set_same t.slots k found Unbound (omega (arith, below, shaped.slot_count))
-      ∙ ap (Bound b a) (block-same b a))
-      (λ other.
-      get_or-set_other t.slots k j found Unbound (λ same. eqb-false k j other (sym same))
-      ∙ before.so_far.slots j)
+  -- the number of a block
+  comes-number : (t : State) → IsShaped o t → (k : ℕ) → LoadedTo o s blocks k t → (block : ℕ)
+      → StandsAt o t.place (Li 0 (pos block) ∷ [])
+      → RunsThrough o t (Li 0 (pos block) ∷ []) [] (IsNumbered o s blocks k block)
+  comes-number t shaped k so_far block at =
+      comes-weaker [] (t.place + 1) (greatest_costs o (Li 0 (pos block) ∷ [])) (IsNumbered o s blocks k block)
+      (comes-li o fits t shaped 0 (pos block) (IsNumbered o s blocks k block)
+      (standing-head (Li 0 (pos block)) [] at)
+      (record {
+        so_far = record { banks = so_far.banks; loaded = so_far.loaded; others = so_far.others };
+        number = get_or-set_same t.registers 0 (pos block) (pos 0) (omega (arith, shaped.register_count));
+      }))
+      refl refl (omega arith) (λ u shape h. h)
 
   -- and its load
-  comes-bound : (k b : ℕ) → k < 8 → StandsAt o t.place (Ldb k b 0 ∷ [])
-      → RunsThrough o t (Ldb k b 0 ∷ []) (block_shown o s b (Some block))
-      (HasLoaded o s (record { block = Some block; to = k; from = b } ∷ loads))
-  comes-bound k b below at =
-      let P = HasLoaded o s (record { block = Some block; to = k; from = b } ∷ loads) in
-      let a = named o b block in
-      comes-weaker (block_shown o s b (Some block)) (t.place + 1) (greatest_costs o (Ldb k b 0 ∷ [])) P
+  comes-bound : (t : State) → IsShaped o t → (k : ℕ) → k < 8 → (p : Pin) → get_or blocks k None ≡ Some p
+      → IsNumbered o s blocks k p.block t → StandsAt o t.place (Ldb k p.bank 0 ∷ [])
+      → RunsThrough o t (Ldb k p.bank 0 ∷ []) (load_shown o s (Some p)) (LoadedTo o s blocks (k + 1))
+  comes-bound t shaped k below p is before at =
+      let b = p.bank in
+      let a = named o b p.block in
+      let found = Bound b a (block_at t b a) in
+      let same : block_at t b a ≡ block_at s b a =
+      ap (λ banks. block_at (record t { banks = banks }) b a) before.so_far.banks in
+      let after = loaded (passed o (Ldb k b 0) false b (t.place + 1) t) k b a in
+      let P = LoadedTo o s blocks (k + 1) in
+      comes-weaker (load_shown o s (Some p)) (t.place + 1) (greatest_costs o (Ldb k b 0 ∷ [])) P
       (comes-ldb o fits t shaped k b 0 a P (standing-head (Ldb k b 0) [] at) (ap (block_named o b) before.number)
-      (record { banks = before.so_far.banks; slots = set-loaded k b below }))
-      (ap (λ words. read_event b a words ∷ []) (block-same b a)) refl (omega arith) (λ u shape h. h)
+      (one-more t after k (Some p) before.so_far is refl
+      (get_or-set_same t.slots k found Unbound (omega (arith, below, shaped.slot_count)) ∙ ap (Bound b a) same)
+      (λ j other. get_or-set_other t.slots k j found Unbound other)))
+      (ap (λ words. read_event b a words ∷ []) same) refl (omega arith) (λ u shape h. h)
 
-pub comes-load : (o : Parts) (fits : IsInRange o) (s t : State) (shaped : IsShaped o t) (loads : List Load)
-    → HasLoaded o s loads t → (l : Load) → l.to < 8 → StandsAt o t.place (load_code l)
-    → RunsThrough o t (load_code l) (load_shown o s l) (HasLoaded o s (l ∷ loads))
-comes-load o fits s t shaped loads so_far l below at = by_block l.block l.to l.from below at
-  where
-    by_block : (block : Option ℕ) (k b : ℕ) → k < 8 → StandsAt o t.place (load_of k b block)
-        → RunsThrough o t (load_of k b block) (block_shown o s b block)
-        (HasLoaded o s (record { block = block; to = k; from = b } ∷ loads))
-    by_block (Some block) k b below at =
-        runs-append t (Li 0 (pos block) ∷ []) (Ldb k b 0 ∷ []) [] (block_shown o s b (Some block))
-        (IsNumbered o s loads block) (HasLoaded o s (record { block = Some block; to = k; from = b } ∷ loads)) at
-        (λ here. comes-number o fits s t shaped loads so_far block here)
-        (λ u shape numbered there. comes-bound o fits s u shape loads block numbered k b below there)
-    by_block None k b below at =
-        comes-weaker [] (t.place + 0) 0 (HasLoaded o s (record { block = None; to = k; from = b } ∷ loads))
-        (comes-here t 0 (HasLoaded o s (record { block = None; to = k; from = b } ∷ loads)) shaped
-        (record {
-          banks = so_far.banks;
-          slots = λ j. so_far.slots j ∙ sym (not_made (k == j) (slot_after o s loads j));
-        }))
-        refl (omega arith) (omega arith) (λ u shape h. h)
+  -- the code of one slot
+  comes-load : (t : State) → IsShaped o t → (k : ℕ) → k < 8 → LoadedTo o s blocks k t → (block : Option Pin)
+      → get_or blocks k None ≡ block → StandsAt o t.place (load_code k block)
+      → RunsThrough o t (load_code k block) (load_shown o s block) (LoadedTo o s blocks (k + 1))
+  comes-load t shaped k below so_far (Some p) is at =
+      runs-append t (Li 0 (pos p.block) ∷ []) (Ldb k p.bank 0 ∷ []) [] (load_shown o s (Some p))
+      (IsNumbered o s blocks k p.block) (LoadedTo o s blocks (k + 1)) at
+      (λ here. comes-number t shaped k so_far p.block here)
+      (λ u shape numbered there. comes-bound u shape k below p is numbered there)
+  comes-load t shaped k below so_far None is at =
+      comes-weaker [] (t.place + 0) 0 (LoadedTo o s blocks (k + 1))
+      (comes-here t 0 (LoadedTo o s blocks (k + 1)) shaped
+      (one-more t t k None so_far is refl (so_far.others k (omega arith)) (λ j other. refl)))
+      refl (omega arith) (omega arith) (λ u shape h. h)
 
--- the loads of a setting's code, the last of them first
-abbrev pub loads_of : Setting → List Load
-loads_of f =
-    record { block = block_served f 5; to = 5; from = 1 }
-    ∷ record { block = block_served f 4; to = 4; from = 1 }
-    ∷ record { block = block_served f 3; to = 3; from = 0 }
-    ∷ record { block = block_served f 2; to = 2; from = 0 }
-    ∷ record { block = Some 0; to = 1; from = 1 }
-    ∷ record { block = Some 0; to = 0; from = 0 }
-    ∷ []
+  -- the code of the slots from one on
+  comes-loads : (more : List (Option Pin)) (k : ℕ) (t : State) → IsShaped o t → LoadedTo o s blocks k t
+      → ((i : ℕ) → get_or more i None ≡ get_or blocks (k + i) None) → k + length more ≤ 8
+      → StandsAt o t.place (each_slot load_code k more)
+      → RunsThrough o t (each_slot load_code k more) (loads_shown o s more) (LoadedTo o s blocks (k + length more))
+  comes-loads [] k t shaped so_far are few at =
+      let same : k ≡ k + 0 = omega arith in
+      comes-weaker [] (t.place + 0) 0 (LoadedTo o s blocks (k + 0))
+      (comes-here t 0 (LoadedTo o s blocks (k + 0)) shaped (subst (λ n. LoadedTo o s blocks n t) same so_far))
+      refl (omega arith) (omega arith) (λ u shape h. h)
+  comes-loads (block ∷ more) k t shaped so_far are few at =
+      let here : k + 0 ≡ k = omega arith in
+      let end : k + 1 + length more ≡ k + length (block ∷ more) = omega arith in
+      runs-append t (load_code k block) (each_slot load_code (k + 1) more) (load_shown o s block) (loads_shown o s more)
+      (LoadedTo o s blocks (k + 1)) (LoadedTo o s blocks (k + length (block ∷ more))) at
+      (λ first.
+      comes-load t shaped k (omega (arith, few)) so_far block
+      (sym (are 0 ∙ ap (λ n. get_or blocks n None) here)) first)
+      (λ u shape stored there.
+      subst
+      (λ n. RunsThrough o u (each_slot load_code (k + 1) more) (loads_shown o s more) (LoadedTo o s blocks n)) end
+      (comes-loads more (k + 1) u shape stored (next are) (omega (arith, few)) there))
+    where
+      next : ((i : ℕ) → get_or (block ∷ more) i None ≡ get_or blocks (k + i) None) → (i : ℕ)
+          → get_or more i None ≡ get_or blocks (k + 1 + i) None
+      next are i = let same : k + suc i ≡ k + 1 + i = omega arith in are (suc i) ∙ ap (λ n. get_or blocks n None) same
 
--- what the beginning shows, from the state that it is run in
-abbrev pub beginning_shown : Parts → Setting → State → List Observed
-beginning_shown o f s =
-    block_shown o s 0 (Some 0)
-    ++ (block_shown o s 1 (Some 0)
-    ++ (block_shown o s 0 (block_served f 2)
-    ++ (block_shown o s 0 (block_served f 3)
-    ++ (block_shown o s 1 (block_served f 4)
-    ++ block_shown o s 1 (block_served f 5)))))
-
-module _ (o : Parts) (fits : IsInRange o) (s : State) (shaped : IsShaped o s) where
-  -- one load, and those behind it
-  load-then : (l : Load) → l.to < 8 → (loads : List Load) (ys : List Instr) (fs : List Observed) (Q : State → Type 0)
-      → (t : State) → IsShaped o t → StandsAt o t.place (load_code l ++ ys) → HasLoaded o s loads t
-      → ((u : State) → IsShaped o u → HasLoaded o s (l ∷ loads) u → StandsAt o u.place ys → RunsThrough o u ys fs Q)
-      → RunsThrough o t (load_code l ++ ys) (load_shown o s l ++ fs) Q
-  load-then l below loads ys fs Q t shape at so_far rest =
-      runs-append t (load_code l) ys (load_shown o s l) fs (HasLoaded o s (l ∷ loads)) Q at
-      (λ here. comes-load o fits s t shape loads so_far l below here)
-      rest
-
-  -- the code of a beginning loads all that it names
-  pub comes-beginning : (f : Setting) → StandsAt o s.place (beginning f)
-      → RunsThrough o s (beginning f) (beginning_shown o f s) (HasLoaded o s (loads_of f))
-  comes-beginning f at =
-      let l0 : Load = record { block = Some 0; to = 0; from = 0 } in
-      let l1 : Load = record { block = Some 0; to = 1; from = 1 } in
-      let l2 : Load = record { block = block_served f 2; to = 2; from = 0 } in
-      let l3 : Load = record { block = block_served f 3; to = 3; from = 0 } in
-      let l4 : Load = record { block = block_served f 4; to = 4; from = 1 } in
-      let l5 : Load = record { block = block_served f 5; to = 5; from = 1 } in
-      let c4 = load_code l4 ++ load_code l5 in
-      let c3 = load_code l3 ++ c4 in
-      let c2 = load_code l2 ++ c3 in
-      let c1 = load_code l1 ++ c2 in
-      let e4 = load_shown o s l4 ++ load_shown o s l5 in
-      let e3 = load_shown o s l3 ++ e4 in
-      let e2 = load_shown o s l2 ++ e3 in
-      let e1 = load_shown o s l1 ++ e2 in
-      let all = HasLoaded o s (loads_of f) in
-      load-then l0 (omega arith) [] c1 e1 all s shaped at (record { banks = refl; slots = λ k. refl })
-      (λ t1 w1 h1 a1. load-then l1 (omega arith) (l0 ∷ []) c2 e2 all t1 w1 a1 h1
-      (λ t2 w2 h2 a2. load-then l2 (omega arith) (l1 ∷ l0 ∷ []) c3 e3 all t2 w2 a2 h2
-      (λ t3 w3 h3 a3. load-then l3 (omega arith) (l2 ∷ l1 ∷ l0 ∷ []) c4 e4 all t3 w3 a3 h3
-      (λ t4 w4 h4 a4. load-then l4 (omega arith) (l3 ∷ l2 ∷ l1 ∷ l0 ∷ []) (load_code l5)
-      (load_shown o s l5) all t4 w4 a4 h4
-      (λ t5 w5 h5 a5. comes-load o fits s t5 w5 (l4 ∷ l3 ∷ l2 ∷ l1 ∷ l0 ∷ []) h5 l5 (omega arith) a5)))))
+-- the code of a beginning loads all slots
+pub comes-beginning : (o : Parts) → IsInRange o → (s : State) → IsShaped o s → (f : Setting)
+    → StandsAt o s.place (beginning f)
+    → RunsThrough o s (beginning f) (loads_shown o s (first_blocks f)) (LoadedTo o s (first_blocks f) 8)
+comes-beginning o fits s shaped f at =
+    comes-loads o fits s (first_blocks f) (first_blocks f) 0 s shaped
+    (record { banks = refl; loaded = λ j below. absurd (omega (arith, below)); others = λ j past. refl })
+    (λ i. let same : i ≡ 0 + i = omega arith in ap (λ n. get_or (first_blocks f) n None) same) (omega arith) at

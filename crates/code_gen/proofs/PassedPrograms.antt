@@ -1,7 +1,6 @@
 -- An object with the code and the notes of a program is accepted.
-use Rattle.std.proofs.Common.{◌≡◌, ℕ, ◌+◌, ◌<◌, ◌≤◌, Bool, true, false, ◌&&◌, pos, List, [], ◌∷◌, ◌++◌, length, length-append, inl, inr, Option, Some, None, refl, sym, ap, ◌∙◌, ⊎_elim, arith, length-set}
+use Rattle.std.proofs.Common.{◌≡◌, ℕ, zero, suc, ◌+◌, ◌<◌, ◌≤◌, Bool, true, false, ◌&&◌, pos, List, [], ◌∷◌, ◌++◌, length, length-append, get_or, inl, Option, Some, None, refl, ap, ◌∙◌, subst, arith, length-set}
 use Rattle.std.specs.Option.{option_map}
-use Rattle.std.proofs.lemmas.Bool.{cases_eq}
 use Rattle.gr_word.specs.declared.variables.Label.TheVariants as label
 use Rattle.lt_isa.specs.declared.symbols.Note.{Note}
 use Rattle.lt_isa.specs.declared.instructions.Instr.{Instr}
@@ -15,19 +14,18 @@ use Rattle.trace_patterns.specs.Known.{Known, bank_known, set_secret, set_bank, 
 use Rattle.trace_patterns.specs.Rules.{Leaves, shows_block, note_of_place, claimed_at, ruling_of}
 use Rattle.trace_patterns.specs.Accepts.{Accepts, has_secret_in_ram}
 use Rattle.stretches.specs.Standing.{StandsAt}
-use Rattle.stretches.specs.Passing.{AsItComes, Passes}
+use Rattle.stretches.specs.Passing.{AsItComes, Done, HoldsAt, Passes}
 use Rattle.stretches.proofs.Standing.{standing-first, standing-rest, standing-head, standing-whole}
 use Rattle.stretches.proofs.Passed.{passes-then, passes-to, passes-goes, passes-noted, GoesOn, NoMore, One, goes-then, ruled-at, rules-li, rules-ldb, rules-stb, secret-same, bank-same, bank-other, LieBetween, no_note-before, no_note-behind}
 use Rattle.stretches.proofs.PassedCode.{passes-accepted}
+use Rattle.block_cache_gen.specs.declared.frames.Pin.{Pin}
 use Rattle.block_cache_gen.specs.Homes.{Setting, HasHomes, home_of}
-use Rattle.block_cache_gen.specs.Notes.{is_used}
-use Rattle.block_cache_gen.specs.ServedBlocks.{block_served}
+use Rattle.block_cache_gen.specs.ServedBlocks.{first_blocks}
 use Rattle.block_cache_gen.specs.Carries.{Carries}
-use Rattle.block_cache_gen.proofs.HomeFacts.{bank_served}
 use Rattle.block_cache_gen.proofs.NamesOfHomes.{array-used, array-served}
-use Rattle.block_cache_gen.proofs.ServedBlocks.{served-used}
+use Rattle.block_cache_gen.proofs.ServedBlocks.{first-pinned, first-served}
 use Rattle.code_gen.specs.Statements.{Padding, block_code, block_notes, block_ends_noted}
-use Rattle.code_gen.specs.Programs.{block_load, load_of, load_used, beginning, ending, program_code, program_notes}
+use Rattle.code_gen.specs.Programs.{load_code, pin_store, each_slot, beginning, ending, program_code, program_notes}
 use Rattle.block_cache_gen.specs.PublicIndexes.{BlockHasPublicIndexes}
 use Rattle.code_gen.proofs.PassedParts.{IsOpenAt, rise-lies, end-open, held-open, stands-as}
 use Rattle.code_gen.proofs.PassedStatements.{BeginsGuarded, PassesPadded, block-noted, block-passed}
@@ -37,45 +35,48 @@ record Loading (k : Known) : Type 0 where
   registers : length k.secret ≡ 32
   slots : length k.banks ≡ 8
 
--- behind the load of a slot, where there is a block
-record Loaded (o : Parts) (p : ℕ) (code : List Instr) (block : Option ℕ) (slot bank : ℕ) (k : Known) : Type 0 where
+-- after the load of a slot, if there is a block
+record Loaded (o : Parts) (p : ℕ) (code : List Instr) (block : Option Pin) (slot : ℕ) (k : Known) : Type 0 where
   after : Known
   goes : GoesOn o p code k after
   loading : Loading after
-  here : (n : ℕ) → block ≡ Some n → bank_known after slot ≡ Some bank
+  here : (q : Pin) → block ≡ Some q → bank_known after slot ≡ Some q.bank
   there : (s : ℕ) → (s ≡ slot → ⊥) → bank_known after s ≡ bank_known k s
 
-loaded_if : (o : Parts) (p : ℕ) (block : Option ℕ) (slot bank : ℕ) (k : Known) → slot < 8 → Loading k
-    → Loaded o p (load_of slot bank block) block slot bank k
-loaded_if o p (Some block) slot bank k low l =
+loaded_if : (o : Parts) (p : ℕ) (block : Option Pin) (slot : ℕ) (k : Known) → slot < 8 → Loading k
+    → Loaded o p (load_code slot block) block slot k
+loaded_if o p (Some b) slot k low l =
     let sizes = l.slots in
     let registers = l.registers in
     let number = set_secret k 0 false in
-    let last = set_bank number slot bank in
+    let last = set_bank number slot b.bank in
     record {
       after = last;
       goes
-          = One p (Li 0 (pos block)) (Ldb slot bank 0 ∷ []) k number last (rules-li o p k 0 (pos block))
-          (One (p + 1) (Ldb slot bank 0) [] number last last
-          (rules-ldb o (p + 1) number slot bank 0
-          (hidden (shows_block bank) (secret-same k 0 false (omega arith)))) (NoMore (p + 1 + 1) last));
+          = One p (Li 0 (pos b.block)) (Ldb slot b.bank 0 ∷ []) k number last (rules-li o p k 0 (pos b.block))
+          (One (p + 1) (Ldb slot b.bank 0) [] number last last
+          (rules-ldb o (p + 1) number slot b.bank 0
+          (hidden (shows_block b.bank) (secret-same k 0 false (omega arith)))) (NoMore (p + 1 + 1) last));
       loading
           = record {
             registers = length-set k.secret 0 false ∙ l.registers;
-            slots = length-set k.banks slot (Some bank) ∙ l.slots;
+            slots = length-set k.banks slot (Some b.bank) ∙ l.slots;
           };
-      here = λ n e. bank-same number slot bank (omega arith);
-      there = λ s apart. bank-other number slot bank s apart;
+      here = λ q e.
+          let f : ◌≡◌ {A = Option Pin} (Some b) (Some q) = e in
+          let same : b ≡ q = cc in
+          bank-same number slot b.bank (omega arith) ∙ ap (λ (r : Pin). Some r.bank) same;
+      there = λ s apart. bank-other number slot b.bank s apart;
     }
   where
     hidden : (b : Bool) {s : Bool} → s ≡ false → (b && s) ≡ false
     hidden true e = e
     hidden false e = refl
-loaded_if o p None slot bank k low l = record {
+loaded_if o p None slot k low l = record {
   after = k;
   goes = NoMore p k;
   loading = l;
-  here = λ n e. absurd (let f : ◌≡◌ {A = Option ℕ} None (Some n) = e in cc);
+  here = λ q e. absurd (let f : ◌≡◌ {A = Option Pin} None (Some q) = e in cc);
   there = λ s apart. refl;
 }
 
@@ -83,34 +84,45 @@ start_loading : Loading start_known
 unfolding start_known
 start_loading = record { registers = refl; slots = refl }
 
-between_two : (n low : ℕ) → low ≤ n → n ≤ low + 1 → ¬ (n ≡ low) → n ≡ low + 1
-between_two n low le ge ne =
-    ⊎_elim (λ (e : n ≡ low). absurd (ne e)) (λ (other : n ≡ low → ⊥). omega arith) (cases_eq n low)
+-- after the loads of the slots from one on
+record LoadedFrom (o : Parts) (p slot : ℕ) (blocks : List (Option Pin)) (k : Known) : Type 0 where
+  after : Known
+  goes : GoesOn o p (each_slot load_code slot blocks) k after
+  loading : Loading after
+  loaded : (i : ℕ) (q : Pin) → get_or blocks i None ≡ Some q → bank_known after (slot + i) ≡ Some q.bank
+  below : (s : ℕ) → s < slot → bank_known after s ≡ bank_known k s
 
--- of two slots that serve a bank, one
-either : (f : Setting) (slot one other bank b : ℕ) (k : Known) → is_used f slot ≡ true
-    → (is_used f one ≡ true → bank_known k one ≡ Some b) → (is_used f other ≡ true → bank_known k other ≡ Some b)
-    → (¬ (slot ≡ one) → slot ≡ other) → bank ≡ b → bank_known k slot ≡ Some bank
-either f slot one other bank b k used first second apart same =
-    ⊎_elim
-    (λ (e : slot ≡ one). ap (bank_known k) e ∙ first (sym (ap (is_used f) e) ∙ used) ∙ ap Some (sym same))
-    (λ (ne : slot ≡ one → ⊥). let e = apart ne in
-    ap (bank_known k) e ∙ second (sym (ap (is_used f) e) ∙ used) ∙ ap Some (sym same))
-    (cases_eq slot one)
-
--- a slot that serves a bank is bound to it
-served : (f : Setting) (slot bank : ℕ) (k : Known) → is_used f slot ≡ true
-    → (is_used f 2 ≡ true → bank_known k 2 ≡ Some 0) → (is_used f 3 ≡ true → bank_known k 3 ≡ Some 0)
-    → (is_used f 4 ≡ true → bank_known k 4 ≡ Some 1) → (is_used f 5 ≡ true → bank_known k 5 ≡ Some 1)
-    → bank_served slot bank → bank_known k slot ≡ Some bank
-served f slot bank k used two three four five (inl h) =
-    let low = h.0.0 in
-    let high = h.0.1 in
-    either f slot 2 3 bank 0 k used two three (λ ne. between_two slot 2 low high ne) h.1
-served f slot bank k used two three four five (inr h) =
-    let low = h.0.0 in
-    let high = h.0.1 in
-    either f slot 4 5 bank 1 k used four five (λ ne. between_two slot 4 low high ne) h.1
+loaded_from : (o : Parts) (p slot : ℕ) (blocks : List (Option Pin)) (k : Known) → slot + length blocks ≤ 8 → Loading k
+    → LoadedFrom o p slot blocks k
+loaded_from o p slot [] k few l = record {
+  after = k;
+  goes = NoMore p k;
+  loading = l;
+  loaded = λ i q e. absurd (let f : ◌≡◌ {A = Option Pin} None (Some q) = e in cc);
+  below = λ s low. refl;
+}
+loaded_from o p slot (block ∷ blocks) k few l =
+    let a = loaded_if o p block slot k (omega (arith, few)) l in
+    let code = load_code slot block in
+    let rest = loaded_from o (p + length code) (slot + 1) blocks a.after (omega (arith, few)) a.loading in
+    record {
+      after = rest.after;
+      goes
+          = goes-then o p code (each_slot load_code (slot + 1) blocks) k a.after rest.after a.goes rest.goes;
+      loading = rest.loading;
+      loaded = by a.after rest.after a.here rest.loaded rest.below;
+      below = λ s low. rest.below s (omega arith) ∙ a.there s (λ e. absurd (omega (arith, e, low)));
+    }
+  where
+    by : (k last : Known) → ((q : Pin) → block ≡ Some q → bank_known k slot ≡ Some q.bank)
+        → ((i : ℕ) (q : Pin) → get_or blocks i None ≡ Some q → bank_known last (slot + 1 + i) ≡ Some q.bank)
+        → ((s : ℕ) → s < slot + 1 → bank_known last s ≡ bank_known k s)
+        → (i : ℕ) (q : Pin) → get_or (block ∷ blocks) i None ≡ Some q → bank_known last (slot + i) ≡ Some q.bank
+    by k last here loaded below zero q e =
+        let same : slot + 0 ≡ slot = omega arith in
+        ap (bank_known last) same ∙ below slot (omega arith) ∙ here q e
+    by k last here loaded below (suc i) q e =
+        let same : slot + suc i ≡ slot + 1 + i = omega arith in ap (bank_known last) same ∙ loaded i q e
 
 -- the whole beginning
 record Begun (o : Parts) (f : Setting) (p : ℕ) (code : List Instr) (k : Known) : Type 0 where
@@ -118,61 +130,66 @@ record Begun (o : Parts) (f : Setting) (p : ℕ) (code : List Instr) (k : Known)
   goes : GoesOn o p code k after
   carries : Carries f after
 
-module _ (o : Parts) (f : Setting) (homes : HasHomes o f) where
-  -- the load of a slot that is used is made
-  made : (slot bank : ℕ) (k : Known)
-      → ((n : ℕ) → block_served f slot ≡ Some n → bank_known k slot ≡ Some bank) → is_used f slot ≡ true
-      → bank_known k slot ≡ Some bank
-  made slot bank k here used = let h = served-used f slot used in here h.0 h.1
+begun : (o : Parts) (f : Setting) → HasHomes o f → Begun o f 0 (beginning f) start_known
+begun o f homes =
+    let a = loaded_from o 0 0 (first_blocks f) start_known (omega arith) start_loading in
+    let l = a.loading in
+    let known : (slot : ℕ) (q : Pin) → get_or (first_blocks f) slot None ≡ Some q
+    → bank_known a.after slot ≡ Some q.bank = (λ slot q e.
+    let same : slot ≡ 0 + slot = omega arith in ap (bank_known a.after) same ∙ a.loaded slot q e) in
+    record {
+      after = a.after;
+      goes = a.goes;
+      carries
+          = record {
+            registers = l.registers;
+            slots = l.slots;
+            pinned = λ slot q is few apart. known slot q (first-pinned f slot q few apart is);
+            arrays = λ x label declared turn range.
+                let h = home_of f x in
+                let first =
+                first-served f h.slot h.bank (array-served o f homes x label declared turn range)
+                (homes.arrays x label declared turn).unpinned (array-used o f homes x label declared) in
+                known h.slot (record { bank = h.bank; block = first.0 }) first.1;
+          };
+    }
 
-  begun : Begun o f 0 (beginning f) start_known
-  begun =
-      let c0 = block_load 0 0 0 in
-      let c1 = block_load 1 1 0 in
-      let c2 = load_used f 2 0 in
-      let c3 = load_used f 3 0 in
-      let c4 = load_used f 4 1 in
-      let c5 = load_used f 5 1 in
-      let p1 = 0 + length c0 in
-      let p2 = p1 + length c1 in
-      let a = loaded_if o 0 (Some 0) 0 0 start_known (omega arith) start_loading in
-      let b = loaded_if o p1 (Some 0) 1 1 a.after (omega arith) a.loading in
-      let p3 = p2 + length c2 in
-      let p4 = p3 + length c3 in
-      let p5 = p4 + length c4 in
-      let d2 = loaded_if o p2 (block_served f 2) 2 0 b.after (omega arith) b.loading in
-      let d3 = loaded_if o p3 (block_served f 3) 3 0 d2.after (omega arith) d2.loading in
-      let d4 = loaded_if o p4 (block_served f 4) 4 1 d3.after (omega arith) d3.loading in
-      let d5 = loaded_if o p5 (block_served f 5) 5 1 d4.after (omega arith) d4.loading in
-      let last = d5.loading in
-      record {
-        after = d5.after;
-        goes
-            = goes-then o 0 c0 (c1 ++ (c2 ++ (c3 ++ (c4 ++ c5)))) start_known a.after d5.after a.goes
-            (goes-then o p1 c1 (c2 ++ (c3 ++ (c4 ++ c5))) a.after b.after d5.after b.goes
-            (goes-then o p2 c2 (c3 ++ (c4 ++ c5)) b.after d2.after d5.after d2.goes
-            (goes-then o p3 c3 (c4 ++ c5) d2.after d3.after d5.after d3.goes
-            (goes-then o p4 c4 c5 d3.after d4.after d5.after d4.goes d5.goes))));
-        carries
-            = record {
-              registers = last.registers;
-              slots = last.slots;
-              plain_slot = d5.there 0 (λ e. absurd (omega arith)) ∙ d4.there 0 (λ e. absurd (omega arith))
-                  ∙ d3.there 0 (λ e. absurd (omega arith)) ∙ d2.there 0 (λ e. absurd (omega arith))
-                  ∙ b.there 0 (λ e. absurd (omega arith)) ∙ a.here 0 refl;
-              encrypted_slot = d5.there 1 (λ e. absurd (omega arith)) ∙ d4.there 1 (λ e. absurd (omega arith))
-                  ∙ d3.there 1 (λ e. absurd (omega arith)) ∙ d2.there 1 (λ e. absurd (omega arith)) ∙ b.here 0 refl;
-              arrays = λ x l declared range.
-                  served f (home_of f x).slot (home_of f x).bank d5.after (array-used o f homes x l declared)
-                  (λ used. d5.there 2 (λ e. absurd (omega arith)) ∙ d4.there 2 (λ e. absurd (omega arith))
-                  ∙ d3.there 2 (λ e. absurd (omega arith)) ∙ made 2 0 d2.after d2.here used)
-                  (λ used. d5.there 3 (λ e. absurd (omega arith)) ∙ d4.there 3 (λ e. absurd (omega arith))
-                  ∙ made 3 0 d3.after d3.here used)
-                  (λ used. d5.there 4 (λ e. absurd (omega arith)) ∙ made 4 1 d4.after d4.here used)
-                  (made 5 1 d5.after d5.here)
-                  (array-served o f homes x l declared range);
-            };
-      }
+-- the stores of pinned slots from one on
+stores-go : (o : Parts) (p slot : ℕ) (pins : List (Option Pin)) (k : Known)
+    → ((i : ℕ) (q : Pin) → get_or pins i None ≡ Some q → bank_known k (slot + i) ≡ Some q.bank)
+    → GoesOn o p (each_slot pin_store slot pins) k k
+stores-go o p slot [] k known = NoMore p k
+stores-go o p slot (None ∷ pins) k known =
+    stores-go o p (slot + 1) pins k
+    (λ i q e. let same : slot + 1 + i ≡ slot + suc i = omega arith in ap (bank_known k) same ∙ known (suc i) q e)
+stores-go o p slot (Some r ∷ pins) k known =
+    let first : slot ≡ slot + 0 = omega arith in
+    One p (Stb slot) (each_slot pin_store (slot + 1) pins) k k k
+    (rules-stb o p k slot r.bank (ap (bank_known k) first ∙ known 0 r refl))
+    (stores-go o (p + 1) (slot + 1) pins k
+    (λ i q e. let same : slot + 1 + i ≡ slot + suc i = omega arith in ap (bank_known k) same ∙ known (suc i) q e))
+
+-- From a place where this holds such code is passed up to the place after it, where the same holds.
+record Ended (o : Parts) (p q : ℕ) (comes holds : Known) : Type 0 where
+  last : Known
+  passes : Passes o p comes q last
+  here : HoldsAt o q last holds
+
+ended : (o : Parts) (p : ℕ) (code : List Instr) (comes holds : Known) → HoldsAt o p comes holds
+    → GoesOn o p code holds holds → StandsAt o p code → ((r : ℕ) → p < r → claimed_at o r ≡ None)
+    → p + length code < length o.code → Ended o p (p + length code) comes holds
+ended o p [] comes holds here goes at quiet inside =
+    let same : p ≡ p + 0 = omega arith in
+    record {
+      last = comes;
+      passes = passes-to o p comes p (p + 0) comes same (Done p comes);
+      here = subst (λ q. HoldsAt o q comes holds) same here;
+    }
+ended o p (i ∷ code) comes holds here goes at quiet inside = record {
+  last = holds;
+  passes = passes-noted o p i code comes holds holds here goes at (λ r after under. quiet r after) inside;
+  here = AsItComes holds (quiet (p + length (i ∷ code)) (omega arith));
+}
 
 -- the end of a program
 halts : (o : Parts) (p : ℕ) (k : Known) → ruling_of o p k Halt ≡ Leaves
@@ -196,10 +213,14 @@ program-accepts o f padded body homes once begins secret typed indexes low light
     let p = length start in
     let q = p + length middle in
     let notes = block_notes f padded p body in
-    let size : length (start ++ (middle ++ ending)) ≡ p + (length middle + 3) = length-append start (middle ++ ending)
-    ∙ ap (λ (n : ℕ). p + n) (length-append middle ending) in
-    let whole : length o.code ≡ p + (length middle + 3) = ap length coded ∙ size in
-    let stands : StandsAt o 0 (start ++ (middle ++ ending)) = standing-whole o (start ++ (middle ++ ending)) coded in
+    let stores = each_slot pin_store 0 f.pins in
+    let last = ending f in
+    let size : length (start ++ (middle ++ last)) ≡ p + (length middle + (length stores + 1)) =
+    length-append start (middle ++ last)
+    ∙ ap (λ (n : ℕ). p + n)
+    (length-append middle last ∙ ap (λ (n : ℕ). length middle + n) (length-append stores (Halt ∷ []))) in
+    let whole : length o.code ≡ p + (length middle + (length stores + 1)) = ap length coded ∙ size in
+    let stands : StandsAt o 0 (start ++ (middle ++ last)) = standing-whole o (start ++ (middle ++ last)) coded in
     let part = block-noted f padded begins body in
     let lie : LieBetween p (q + 1) notes = rise-lies f (p + 1) p (q + 1) notes (omega arith) (part.rises p) in
     let at : (r : ℕ) → claimed_at o r
@@ -211,29 +232,29 @@ program-accepts o f padded body homes once begins secret typed indexes low light
     let a = begun o f homes in
     let zero_p : 0 + length start ≡ p = omega arith in
     let first : Passes o 0 start_known p a.after = passes-to o 0 start_known (0 + length start) p a.after zero_p
-    (passes-goes o 0 start start_known a.after a.goes (standing-first start (middle ++ ending) stands)
+    (passes-goes o 0 start start_known a.after a.goes (standing-first start (middle ++ last) stands)
     (λ r above below. none_low r (omega arith)) (omega arith)) in
-    let rest = stands-as o (0 + length start) p (middle ++ ending) zero_p (standing-rest start
-    (middle ++ ending) stands) in
+    let rest = stands-as o (0 + length start) p (middle ++ last) zero_p (standing-rest start
+    (middle ++ last) stands) in
     let open_body : IsOpenAt o f p = inl (none_low p (omega arith)) in
     let b = block-passed f padded begins o homes once secret body typed indexes low light p a.after
-    (standing-first middle ending rest)
+    (standing-first middle last rest)
     (record { inner = λ r after under. at r; outer = λ n found. at q ∙ ap (option_map note_known) found })
     (omega arith) open_body a.carries in
     let h = held-open o f homes once q b.last
     (end-open o f (block_ends_noted f body) q (at q ∙ ap (option_map note_known) (part.ended p))) b.carries in
-    let stores : List Instr = Stb 0 ∷ Stb 1 ∷ [] in
-    let close : StandsAt o q (stores ++ Halt ∷ []) = standing-rest middle ending rest in
-    let goes : GoesOn o q stores h.held h.held = One q (Stb 0) (Stb 1 ∷ []) h.held h.held h.held
-    (rules-stb o q h.held 0 0 h.carries.plain_slot)
-    (One (q + 1) (Stb 1) [] h.held h.held h.held (rules-stb o (q + 1) h.held 1 1 h.carries.encrypted_slot)
-    (NoMore (q + 1 + 1) h.held)) in
-    let end : Passes o q b.last (q + length stores) h.held = passes-noted o q (Stb 0)
-    (Stb 1 ∷ []) b.last h.held h.held h.here
-    goes (standing-first stores (Halt ∷ []) close) (λ r after under. none_high r (omega arith)) (omega arith) in
+    let close : StandsAt o q last = standing-rest middle last rest in
+    let goes : GoesOn o q stores h.held h.held =
+    stores-go o q 0 f.pins h.held
+    (λ i pin is.
+    let same : 0 + i ≡ i = omega arith in
+    let fits = homes.pins i pin is in
+    ap (bank_known h.held) same ∙ h.carries.pinned i pin is fits.few fits.apart) in
+    let e = ended o q stores b.last h.held h.here goes (standing-first stores (Halt ∷ []) close)
+    (λ r after. none_high r after) (omega arith) in
     let z = q + length stores in
-    passes-accepted o z h.held h.held
-    (passes-then o 0 start_known p a.after first z h.held (passes-then o p a.after q b.last b.passes z h.held end))
-    (AsItComes h.held (none_high z (omega arith)))
+    passes-accepted o z e.last h.held
+    (passes-then o 0 start_known p a.after first z e.last (passes-then o p a.after q b.last b.passes z e.last e.passes))
+    e.here
     (ruled-at o z h.held Halt (standing-head Halt [] (standing-rest stores (Halt ∷ []) close)) ∙ halts o z h.held)
     (omega arith) symbols

@@ -6,7 +6,7 @@ use Rattle.gr_word.specs.declared.variables.Label.{Label}
 use Rattle.gr_word.specs.declared.variables.Label.TheVariants as label
 use Rattle.lt_isa.specs.declared.symbols.Note.{Note}
 use Rattle.lt_isa.specs.declared.instructions.Instr.{Instr}
-use Rattle.lt_isa.specs.declared.instructions.Instr.TheVariants.{Li, Br, Stw, Stb}
+use Rattle.lt_isa.specs.declared.instructions.Instr.TheVariants.{Li, Br, Stw}
 use Rattle.lt_isa.specs.Object.{Parts}
 use Rattle.src_tree.specs.Contexts.{context_of}
 use Rattle.src_tree.specs.Labels.{inside, label_of_test}
@@ -20,7 +20,7 @@ use Rattle.stretches.proofs.Standing.{standing-first}
 use Rattle.stretches.proofs.Passed.{passes-to, no_note-behind, note_at-first, note_at-found}
 use Rattle.block_cache_gen.specs.declared.frames.Mode.TheVariants.{Public}
 use Rattle.block_cache_gen.specs.Homes.{Setting, HasHomes, home_of}
-use Rattle.block_cache_gen.specs.Codes.{expr_code, guard_code, set_code}
+use Rattle.block_cache_gen.specs.Codes.{expr_code, guard_code, set_code, stored_code}
 use Rattle.block_cache_gen.specs.Notes.{guard_notes, set_notes}
 use Rattle.block_cache_gen.specs.Carries.{Carries}
 use Rattle.block_cache_gen.specs.PublicIndexes.{TestHasPublicIndexes}
@@ -178,7 +178,8 @@ module _ (f : Setting) (padded : Padding) (begins : BeginsGuarded f padded) wher
       (expression-longer f e 0)
   statement-longer (SetElement x i e) =
       longer (expr_code f Public 0 e)
-      (array_code f 1 x i ++ Stw 0 (home_of f x).slot 1 ∷ Stb (home_of f x).slot ∷ []) (expression-longer f e 0)
+      (array_code f 1 x i ++ Stw 0 (home_of f x).slot 1 ∷ stored_code (home_of f x).resident (home_of f x).slot)
+      (expression-longer f e 0)
   statement-longer (Choice t a b) =
       choice_longer t a b (label_of_test (context_of f.decls) t) (block_code f padded a) (block_code f padded b)
   statement-longer (Loop t a) = omega arith

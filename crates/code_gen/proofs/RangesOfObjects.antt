@@ -20,7 +20,7 @@ use Rattle.bank_alloc.proofs.Refusals.{bank_count-le}
 use Rattle.block_cache_gen.specs.declared.frames.Frame.{Frame}
 use Rattle.block_cache_gen.specs.Settings.{setting_of, IsFrame}
 use Rattle.block_cache_gen.specs.ProgramWords.{BlockHasWords}
-use Rattle.block_cache_gen.proofs.HomesOfFrames.{homes_fit, served_fits, frame_banks}
+use Rattle.block_cache_gen.proofs.HomesOfFrames.{homes_fit, first_fits, frame_banks}
 use Rattle.block_cache_gen.proofs.RangesOfCode.{HomesFit}
 use Rattle.code_gen.specs.Emitted.{padding_of}
 use Rattle.code_gen.specs.Programs.{program_code, program_notes}
@@ -66,19 +66,20 @@ frame-in_range f frame o profile layout named latencies words code notes =
       symbols
           = subst (λ (n : ℕ). EachAfter (SymbolFits (2 ^ n) o.banks) [] o.symbols) (sym layout.block_size)
           named;
-      note_count = subst (λ (ns : List Note). length ns ≤ most_notes) (sym notes) (notes-few g p.body few light);
+      note_count = subst (λ (ns : List Note). length ns ≤ most_notes) (sym notes)
+          (notes-few g p.body few (omega arith) light);
       notes
-          = subst (EachAfter (NoteFits (length o.banks)) []) (sym notes) (notes-fit g p.body few light
-          (length o.banks) some);
+          = subst (EachAfter (NoteFits (length o.banks)) []) (sym notes) (notes-fit g p.body few (omega arith) light
+          (length o.banks) some homes.pins);
       code_size
           = subst (λ (c : List Instr). Within 1 most_instructions (length c)) (sym code)
-          (program-size g p.body few light);
+          (program-size g p.body few (omega arith) light);
       behind_notes
           = subst (λ (ns : List Note). next_place ns ≤ length o.code) (sym notes)
           (subst (λ (c : List Instr). next_place (program_notes g (padding_of g) p.body) ≤ length c) (sym code)
-          (notes-inside g p.body few light));
+          (notes-inside g p.body few (omega arith) light));
       code
           = subst (All (InstrFits (length o.banks))) (sym code)
-          (program-fits g p.body few light (length o.banks) some homes
-          (served_fits f frame) frame.typed.body words frame.within.heights);
+          (program-fits g p.body few (omega arith) light (length o.banks) some homes
+          (first_fits f frame) frame.typed.body words frame.within.heights);
     }

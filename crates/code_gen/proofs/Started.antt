@@ -1,129 +1,122 @@
--- Behind the beginning of its code a program's run stands for the store that the banks hold at the start.
-use Rattle.std.proofs.Common.{◌≡◌, ℕ, ◌+◌, ◌<◌, true, ◌==◌, ℤ, pos, List, Some, refl, sym, ap, ◌∙◌, subst, ⊎_elim, arith}
+-- After the beginning of its code a program's run stands for the store that the banks hold at the start.
+use Rattle.std.proofs.Common.{◌≡◌, ◌≢◌, ℕ, ◌+◌, ◌*◌, ◌%◌, ◌<◌, true, false, pos, ℤ, List, Some, None, refl, sym, ap, ◌∙◌, ⊎_elim, arith}
 use Rattle.std.specs.Prelude.{slice_index_or}
-use Rattle.std.proofs.lemmas.Bool.{cases_eq, eq-eqb}
-use Rattle.std.proofs.lemmas.List.Folds.{list_any_at}
+use Rattle.std.proofs.lemmas.Bool.{cases_eq}
+use Rattle.std.proofs.lemmas.Nat.{div-mul-add, mod-mul-add}
 use Rattle.gr_base.specs.Lists.{Within}
 use Rattle.gr_word.specs.declared.variables.Label.{Label}
-use Rattle.gr_word.specs.declared.variables.Label.TheVariants.{Public, Secret}
-use Rattle.gr_word.specs.declared.variables.Shape.TheVariants.{Scalar, Array}
+use Rattle.gr_word.specs.declared.variables.Shape.{Shape}
+use Rattle.gr_word.specs.declared.variables.Shape.TheVariants.{Array}
 use Rattle.lt_isa.specs.Object.{Parts}
 use Rattle.lt_isa.specs.Machine.{State, Unbound, Bound, slot, block_at, word_in, slot_words}
 use Rattle.lt_isa.specs.Outputs.{bank_word_numbered}
 use Rattle.src_tree.specs.Contexts.{context_of}
-use Rattle.src_tree.specs.Meaning.{Store, variable_number, words_of_number, scalar}
-use Rattle.src_tree.proofs.VariableNumbers.{number-below}
-use Rattle.bank_alloc.specs.Apart.{scalar_bank}
-use Rattle.block_cache_gen.specs.Homes.{Setting, HasHomes, Serves, PlainSlot, EncryptedSlot, ObliviousSlot, no_home, home_of, words_a_block, start_of_home}
-use Rattle.block_cache_gen.specs.Notes.{is_used}
-use Rattle.block_cache_gen.specs.ServedBlocks.{block_served}
+use Rattle.src_tree.specs.Meaning.{Store, variable_number, words_of_number}
+use Rattle.block_cache_gen.specs.declared.frames.Pin.{Pin}
+use Rattle.block_cache_gen.specs.Homes.{Home, Setting, HasHomes, Serves, PlainSlot, EncryptedSlot, ObliviousSlot, home_of, pin_at, pin_of, words_a_block, start_of_home}
+use Rattle.block_cache_gen.specs.ServedBlocks.{first_blocks}
 use Rattle.block_cache_gen.specs.StandsFor.{StandsFor}
-use Rattle.block_cache_gen.proofs.ServedBlocks.{served-used}
+use Rattle.block_cache_gen.proofs.HomeFacts.{block_words-is}
+use Rattle.block_cache_gen.proofs.NamesOfHomes.{array-used, array-served}
+use Rattle.block_cache_gen.proofs.ServedBlocks.{first-pinned, first-served}
 use Rattle.block_cache_gen.proofs.Stands.{bound-block, bound-words}
-use Rattle.code_gen.proofs.Loads.{HasLoaded, bound_by, loads_of, named, named-zero}
+use Rattle.code_gen.proofs.Loads.{LoadedTo, bound_by, named, named-is}
 
--- each variable's words stand in its home's bank
+-- each variable's words are in its home's bank
 pub record BanksHold (f : Setting) (s : State) (store : Store) : Type 0 where
-  pub scalars : (x : List ℕ) (label : Label) → context_of f.decls x ≡ Some (label, Scalar)
-      → word_in (block_at s (home_of f x).bank 0) (home_of f x).word ≡ scalar store (variable_number f.decls x)
-  pub arrays : (x : List ℕ) (label : Label) (i : ℕ) → context_of f.decls x ≡ Some (label, Array)
+  pub words : (x : List ℕ) (label : Label) (shape : Shape) (i : ℕ) → context_of f.decls x ≡ Some (label, shape)
       → i < (home_of f x).length
       → bank_word_numbered (words_a_block f) s (home_of f x).bank (start_of_home (words_a_block f) (home_of f x) + i)
       ≡ slice_index_or (words_of_number store (variable_number f.decls x)) i (pos 0)
 
+-- a word of a home within one block
+pub word-in_block : (s : State) (h : Home) (w i : ℕ) → h.word + i < w
+    → bank_word_numbered w s h.bank (start_of_home w h + i) ≡ word_in (block_at s h.bank h.block) (h.word + i)
+word-in_block s h w i inside =
+    let same : start_of_home w h + i ≡ h.block * w + (h.word + i) = omega arith in
+    ap (bank_word_numbered w s h.bank) same
+    ∙ ap (λ n. word_in (block_at s h.bank n) ((h.block * w + (h.word + i)) % w))
+    (div-mul-add h.block w (h.word + i) inside)
+    ∙ ap (word_in (block_at s h.bank h.block)) (mod-mul-add h.block w (h.word + i) inside)
+
 unbound : (b a : ℕ) (words : List ℤ) → Unbound ≡ Bound b a words → ⊥
 unbound b a words e = cc
 
-module _ (o : Parts) (f : Setting) (homes : HasHomes o f) (s t : State) (behind : HasLoaded o s (loads_of f) t) where
-  -- an array's slot is used
-  array-used : (x : List ℕ) (label : Label) → context_of f.decls x ≡ Some (label, Array)
-      → is_used f (home_of f x).slot ≡ true
-  array-used x label known =
-      list_any_at (λ h. h.slot == (home_of f x).slot) f.homes (variable_number f.decls x) no_home
-      (omega (arith, homes.count, number-below f.decls x (label, Array) known))
-      (eq-eqb (home_of f x).slot (home_of f x).slot refl)
+module _ (o : Parts) (f : Setting) (homes : HasHomes o f) where
+  -- a word of a resident variable is one of its block
+  pub resident-inside : (x : List ℕ) (label : Label) (shape : Shape) (i : ℕ)
+      → context_of f.decls x ≡ Some (label, shape) → (home_of f x).resident ≡ true → i < (home_of f x).length
+      → (home_of f x).word + i < words_a_block f
+  resident-inside x label shape i known resident below =
+      omega (arith, below, (homes.residents x label shape known resident).inside, block_words-is homes)
 
-  -- and has a block of the bank that it serves
-  record HasFirst (bank k : ℕ) : Type 0 where
-    block : ℕ
-    holds : slot t k ≡ Bound bank block (block_at s bank block)
+  module _ (s t : State) (after : LoadedTo o s (first_blocks f) 8 t) where
+    -- a slot that begins with a block holds it
+    begins : (k : ℕ) (p : Pin) → k < 8 → slice_index_or (first_blocks f) k None ≡ Some p
+        → slot t k ≡ Bound p.bank (named o p.bank p.block) (block_at s p.bank (named o p.bank p.block))
+    begins k p few is = after.loaded k few ∙ ap (λ b. bound_by o s b (slot s k)) is
 
-  first : (bank k : ℕ) → slot t k ≡ bound_by o s bank (block_served f k) (slot s k) → is_used f k ≡ true
-      → HasFirst bank k
-  first bank k is used =
-      let served = served-used f k used in
-      record {
-        block = named o bank served.0;
-        holds = is ∙ ap (λ block. bound_by o s bank block (slot s k)) served.1;
-      }
+    -- a pinned slot holds its block
+    pinned-held : (k : ℕ) (p : Pin) → pin_at f k ≡ Some p
+        → slot t k ≡ Bound p.bank p.block (block_at s p.bank p.block)
+    pinned-held k p is =
+        let pin = homes.pins k p is in
+        begins k p pin.few (first-pinned f k p pin.few pin.apart is)
+        ∙ ap (λ a. Bound p.bank a (block_at s p.bank a)) (named-is o p.bank p.block pin.block)
 
-  -- one of two slots
-  either : (bank one other k : ℕ) → (is_used f one ≡ true → HasFirst bank one)
-      → (is_used f other ≡ true → HasFirst bank other) → ((k ≡ one → ⊥) → k ≡ other) → is_used f k ≡ true
-      → HasFirst bank k
-  either bank one other k first second apart used =
-      ⊎_elim (λ (same : k ≡ one). subst (λ n. is_used f n ≡ true → HasFirst bank n) (sym same) first used)
-      (λ ne. subst (λ n. is_used f n ≡ true → HasFirst bank n) (sym (apart ne)) second used)
-      (cases_eq k one)
+    -- and the slot of another array has a block of its bank
+    record HasFirst (bank k : ℕ) : Type 0 where
+      block : ℕ
+      holds : slot t k ≡ Bound bank block (block_at s bank block)
 
-  served : (bank k : ℕ) → Serves bank k → Within 2 5 k → is_used f k ≡ true → HasFirst bank k
-  served bank k (PlainSlot k' within) low =
-      either 0 2 3 k (first 0 2 (behind.slots 2)) (first 0 3 (behind.slots 3)) (λ ne. omega (arith, within, ne))
-  served bank k (EncryptedSlot k' within) low =
-      either 1 4 5 k (first 1 4 (behind.slots 4)) (first 1 5 (behind.slots 5)) (λ ne. omega (arith, within, ne))
-  served bank k (ObliviousSlot b least) low = absurd (omega (arith, low))
-
-  array-first : (x : List ℕ) (label : Label) → context_of f.decls x ≡ Some (label, Array)
-      → Within 2 5 (home_of f x).slot → HasFirst (home_of f x).bank (home_of f x).slot
-  array-first x label known low =
-      served (home_of f x).bank (home_of f x).slot (homes.arrays x label known).slot low (array-used x label known)
-
-  -- the slots of scalars have block 0 of their banks
-  plain-first : slot t 0 ≡ Bound 0 0 (block_at s 0 0)
-  plain-first = behind.slots 0 ∙ ap (λ a. Bound 0 a (block_at s 0 a)) (named-zero o 0)
-
-  encrypted-first : slot t 1 ≡ Bound 1 0 (block_at s 1 0)
-  encrypted-first = behind.slots 1 ∙ ap (λ a. Bound 1 a (block_at s 1 a)) (named-zero o 1)
-
-  scalar-first : (label : Label) (k b : ℕ) → k ≡ b → b ≡ scalar_bank label → slot_words (slot t k) ≡ block_at s b 0
-  scalar-first Public k b same is =
-      ap (λ n. slot_words (slot t n)) (same ∙ is) ∙ ap slot_words plain-first ∙ ap (λ n. block_at s n 0) (sym is)
-  scalar-first Secret k b same is =
-      ap (λ n. slot_words (slot t n)) (same ∙ is) ∙ ap slot_words encrypted-first ∙ ap (λ n. block_at s n 0) (sym is)
-
-  -- a slot that serves arrays is slot 6 or one of 2 to 5
-  low : (bank k : ℕ) → Serves bank k → (k ≡ 6 → ⊥) → Within 2 5 k
-  low bank k (PlainSlot k' within) other = (omega (arith, within), omega (arith, within))
-  low bank k (EncryptedSlot k' within) other = (omega (arith, within), omega (arith, within))
-  low bank k (ObliviousSlot b least) other = absurd (other refl)
-
-  -- behind the loads the machine stands for the store that the banks hold
-  pub stands-started : (store : Store) → BanksHold f s store → slot s 6 ≡ Unbound → StandsFor f t store
-  stands-started store hold free = record {
-    plain_slot = record { words = block_at s 0 0; holds = plain-first };
-    encrypted_slot = record { words = block_at s 1 0; holds = encrypted-first };
-    scalars = λ x label known.
-        let home = homes.scalars x label known in
-        ap (λ words. word_in words (home_of f x).word)
-        (scalar-first label (home_of f x).slot (home_of f x).bank home.slot home.bank)
-        ∙ hold.scalars x label known;
-    arrays = λ x label i known below.
-        ap (λ banks. bank_word_numbered (words_a_block f) (record t { banks = banks }) (home_of f x).bank
-        (start_of_home (words_a_block f) (home_of f x) + i)) behind.banks
-        ∙ hold.arrays x label i known below;
-    bound = λ x label known within.
-        let found = array-first x label known within in
-        record { block = found.block; words = block_at s (home_of f x).bank found.block; holds = found.holds };
-    current = λ x label block words known holds is.
+    array-first : (x : List ℕ) (label : Label) → context_of f.decls x ≡ Some (label, Array)
+        → (home_of f x).resident ≡ false → Within 2 5 (home_of f x).slot
+        → HasFirst (home_of f x).bank (home_of f x).slot
+    array-first x label known turn low =
         let h = home_of f x in
-        ⊎_elim
-        (λ six. absurd (unbound h.bank block words (sym free ∙ sym (behind.slots 6) ∙ ap (slot t) (sym six) ∙ holds)))
-        (λ other.
-        let found = array-first x label known (low h.bank h.slot (homes.arrays x label known).slot other) in
-        let a = found.block in
-        let both : Bound h.bank a (block_at s h.bank a) ≡ Bound h.bank block words = sym found.holds ∙ holds in
-        sym (bound-words h.bank h.bank a block (block_at s h.bank a) words both)
-        ∙ ap (λ banks. block_at (record s { banks = banks }) h.bank a) (sym behind.banks)
-        ∙ ap (block_at t h.bank) (bound-block h.bank h.bank a block (block_at s h.bank a) words both))
-        (cases_eq h.slot 6);
-  }
+        let first =
+        first-served f h.slot h.bank (array-served o f homes x label known turn low)
+        (homes.arrays x label known turn).unpinned (array-used o f homes x label known) in
+        record {
+          block = named o h.bank first.0;
+          holds = begins h.slot (record { bank = h.bank; block = first.0 }) (omega (arith, low)) first.1;
+        }
+
+    -- a slot that serves arrays is slot 6 or one of 2 to 5
+    low : (bank k : ℕ) → Serves bank k → (k ≡ 6 → ⊥) → Within 2 5 k
+    low bank k (PlainSlot k' within) other = (omega (arith, within), omega (arith, within))
+    low bank k (EncryptedSlot k' within) other = (omega (arith, within), omega (arith, within))
+    low bank k (ObliviousSlot b least) other = absurd (other refl)
+
+    -- after the loads the machine stands for the store that the banks hold
+    pub stands-started : (store : Store) → BanksHold f s store → slot s 6 ≡ Unbound → StandsFor f t store
+    stands-started store hold free = record {
+      pinned = λ k p is. record { words = block_at s p.bank p.block; holds = pinned-held k p is };
+      residents = λ x label shape i known resident below.
+          let h = home_of f x in
+          ap (λ bound. word_in (slot_words bound) (h.word + i))
+          (pinned-held h.slot (pin_of h) (homes.residents x label shape known resident).pinned)
+          ∙ sym (word-in_block s h (words_a_block f) i (resident-inside x label shape i known resident below))
+          ∙ hold.words x label shape i known below;
+      arrays = λ x label i known turn below.
+          ap (λ banks. bank_word_numbered (words_a_block f) (record t { banks = banks }) (home_of f x).bank
+          (start_of_home (words_a_block f) (home_of f x) + i)) after.banks
+          ∙ hold.words x label Array i known below;
+      bound = λ x label known turn within.
+          let found = array-first x label known turn within in
+          record { block = found.block; words = block_at s (home_of f x).bank found.block; holds = found.holds };
+      current = λ x label block words known turn holds is.
+          let h = home_of f x in
+          ⊎_elim
+          (λ (six : h.slot ≡ 6).
+          absurd (unbound h.bank block words
+          (sym free ∙ sym (after.loaded 6 (omega arith)) ∙ ap (slot t) (sym six) ∙ holds)))
+          (λ (other : h.slot ≢ 6).
+          let found = array-first x label known turn (low h.bank h.slot (homes.arrays x label known turn).slot other) in
+          let a = found.block in
+          let both : Bound h.bank a (block_at s h.bank a) ≡ Bound h.bank block words = sym found.holds ∙ holds in
+          sym (bound-words h.bank h.bank a block (block_at s h.bank a) words both)
+          ∙ ap (λ banks. block_at (record s { banks = banks }) h.bank a) (sym after.banks)
+          ∙ ap (block_at t h.bank) (bound-block h.bank h.bank a block (block_at s h.bank a) words both))
+          (cases_eq h.slot 6);
+    }

@@ -4,22 +4,23 @@ use Rattle.gr_word.specs.declared.operations.Cmp.{Cmp}
 use Rattle.gr_word.specs.declared.variables.Label.{Label}
 use Rattle.gr_word.specs.declared.variables.Label.TheVariants as label
 use Rattle.lt_isa.specs.declared.instructions.Instr.{Instr}
-use Rattle.lt_isa.specs.declared.instructions.Instr.TheVariants.{Jmp, Br}
+use Rattle.lt_isa.specs.declared.instructions.Instr.TheVariants.{Jmp, Br, Halt}
 use Rattle.src_tree.specs.Contexts.{context_of}
 use Rattle.src_tree.specs.Labels.{label_of_test}
 use Rattle.src_tree.specs.Trees.{Test, Statement, SetVariable, SetElement, Choice, Loop, Block, Nothing, Then}
 use Rattle.src_tree.specs.Typing.{TypedStatement, TypedBlock}
 use Rattle.block_cache_gen.specs.declared.frames.Mode.TheVariants.{Public}
+use Rattle.block_cache_gen.specs.declared.frames.Pin.{Pin}
 use Rattle.block_cache_gen.specs.Homes.{Setting}
 use Rattle.block_cache_gen.specs.Codes.{guard_code}
-use Rattle.block_cache_gen.specs.ServedBlocks.{block_served}
+use Rattle.block_cache_gen.specs.ServedBlocks.{first_blocks}
 use Rattle.block_cache_gen.specs.Alike.{pair_count}
 use Rattle.block_cache_gen.specs.StoredWords.{stored_words}
 use Rattle.block_cache_gen.proofs.SecretCodes.{stored-append, guard-stores, variable-stores, element-stores}
 use Rattle.branch_padding.specs.Stores.{added_up, choice_stores, stores_of, stores_of_each}
 use Rattle.branch_padding.proofs.StoredRows.{added-first, public_choice-stores}
 use Rattle.code_gen.specs.Statements.{opposite, second_code, places_over, choice_code, loop_code, choice_by, statement_code, block_code}
-use Rattle.code_gen.specs.Programs.{block_load, load_of, load_used, beginning, ending, program_code}
+use Rattle.code_gen.specs.Programs.{load_code, pin_store, each_slot, beginning, ending, program_code}
 use Rattle.code_gen.specs.Emitted.{padding_of}
 
 -- a choice has the stores of its blocks, and a loop those of its body
@@ -106,40 +107,46 @@ module _ (f : Setting) where
         ∙ sym (added-first (stores_of f label.Public s) (stores_of_each f label.Public rest))
 
   -- a whole program has those of its body
-  load-stored : (slot bank : ℕ) (block : Option ℕ) → stored_words (load_of slot bank block) ≡ 0
-  load-stored slot bank None = refl
-  load-stored slot bank (Some block) = refl
-
-  loads-stored : stored_words (load_used f 2 0 ++ (load_used f 3 0 ++ (load_used f 4 1 ++ load_used f 5 1))) ≡ 0
-  loads-stored =
+  slots-stored : (code : (slot : ℕ) → Option Pin → List Instr)
+      → ((slot : ℕ) (pin : Option Pin) → stored_words (code slot pin) ≡ 0) → (slot : ℕ) (pins : List (Option Pin))
+      → stored_words (each_slot code slot pins) ≡ 0
+  slots-stored code none slot [] = refl
+  slots-stored code none slot (pin ∷ pins) =
       omega (
         arith,
-        stored-append (load_used f 2 0) (load_used f 3 0 ++ (load_used f 4 1 ++ load_used f 5 1)),
-        stored-append (load_used f 3 0) (load_used f 4 1 ++ load_used f 5 1),
-        stored-append (load_used f 4 1) (load_used f 5 1),
-        load-stored 2 0 (block_served f 2),
-        load-stored 3 0 (block_served f 3),
-        load-stored 4 1 (block_served f 4),
-        load-stored 5 1 (block_served f 5),
+        stored-append (code slot pin) (each_slot code (slot + 1) pins),
+        none slot pin,
+        slots-stored code none (slot + 1) pins,
       )
 
-  begun-stored : stored_words (beginning f) ≡ 0
-  begun-stored =
-      stored-append (block_load 0 0 0 ++ block_load 1 1 0)
-      (load_used f 2 0 ++ (load_used f 3 0 ++ (load_used f 4 1 ++ load_used f 5 1)))
-      ∙ ap (λ (n : ℕ). 0 + n) loads-stored
+  load-stored : (slot : ℕ) (block : Option Pin) → stored_words (load_code slot block) ≡ 0
+  load-stored slot None = refl
+  load-stored slot (Some p) = refl
+
+  pin-stored : (slot : ℕ) (pin : Option Pin) → stored_words (pin_store slot pin) ≡ 0
+  pin-stored slot None = refl
+  pin-stored slot (Some p) = refl
+
+  ending-stored : stored_words (ending f) ≡ 0
+  ending-stored =
+      let halt : stored_words (Halt ∷ []) ≡ 0 = refl in
+      omega (
+        arith,
+        stored-append (each_slot pin_store 0 f.pins) (Halt ∷ []),
+        slots-stored pin_store pin-stored 0 f.pins,
+        halt,
+      )
 
   -- the stores of a word in a program's code are those of its statements
   pub program-stored : (body : Block) → TypedBlock (context_of f.decls) label.Public body
       → stored_words (program_code f (padding_of f) body) ≡ added_up (stores_of_each f label.Public body)
   program-stored body typed =
       let code = block_code f (padding_of f) body in
-      let none : stored_words ending ≡ 0 = refl in
       omega (
         arith,
-        stored-append (beginning f) (code ++ ending),
-        stored-append code ending,
-        begun-stored,
-        none,
+        stored-append (beginning f) (code ++ ending f),
+        stored-append code (ending f),
+        slots-stored load_code load-stored 0 (first_blocks f),
+        ending-stored,
         block-stored body typed,
       )

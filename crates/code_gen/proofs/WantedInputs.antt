@@ -46,6 +46,7 @@ module _ (p : Source) (w : ℕ) (once : DeclaredOnce p.decls) (limits : IsWithin
     decls = refl;
     homes = ap (λ n. homes_at (places_of p n) (slots_of (places_of p n))) layout.block_size;
     blocks = ap (blocks_of_banks p) layout.block_size;
+    pins = refl;
     profile = refl;
   }
 

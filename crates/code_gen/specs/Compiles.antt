@@ -13,7 +13,7 @@ use Rattle.bank_alloc.specs.Fits.{Refuses}
 use Rattle.bank_alloc.specs.declared.places.PlaceError.TheVariants as place
 use Rattle.scratch_alloc.specs.Slots.{slots_of}
 use Rattle.block_cache_gen.specs.Homes.{Setting}
-use Rattle.block_cache_gen.specs.Settings.{homes_at}
+use Rattle.block_cache_gen.specs.Settings.{homes_at, scalar_pins}
 use Rattle.branch_padding.specs.Stores.{added_up, stores_of_each}
 use Rattle.code_gen.specs.declared.compiling.CompileError.{CompileError}
 use Rattle.code_gen.specs.declared.compiling.CompileError.TheVariants.{TooManyScalars, BankFull, Memory}
@@ -39,6 +39,7 @@ program_setting p profile = record {
   decls = p.decls;
   homes = homes_at (places_of p profile.block_log) (slots_of (places_of p profile.block_log));
   blocks = blocks_of_banks p profile.block_log;
+  pins = scalar_pins;
   profile = profile;
 }
 

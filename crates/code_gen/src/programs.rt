@@ -1,4 +1,4 @@
-ghost use Rattle.std.specs.Prelude.{◌≡◌, ◌≤◌, IfOk, OnOk};
+ghost use Rattle.std.specs.Prelude.{◌≡◌, ◌≤◌, IfOk, OnOk, length};
 ghost use Rattle.gr_word.specs.declared.variables.Label.TheVariants.{Public};
 ghost use Rattle.src_tree.specs.Contexts.{context_of};
 ghost use Rattle.src_tree.specs.Limits.{LowBlock, block_weight, max_weight};
@@ -7,65 +7,85 @@ ghost use Rattle.src_tree.specs.Typing.{TypedBlock};
 ghost use Rattle.block_cache_gen.specs.Emitted.{Appended, no_notes};
 ghost use Rattle.block_cache_gen.specs.ProgramWords.{BlockHasWords};
 ghost use Rattle.code_gen.specs.Emitted.{padding_of};
-ghost use Rattle.code_gen.specs.Programs.{array_loads, beginning, block_load, ending, load_used, program_code, program_notes};
+ghost use Rattle.code_gen.specs.Programs.{beginning, each_slot, ending, load_code, pin_store, program_code, program_notes};
 
 use crate::statements::put_block;
-use block_cache_gen::{CodeBuf, Emitter};
+use block_cache_gen::{CodeBuf, Emitter, Pin};
 use gr_base::Memory;
 use lt_isa::Instr;
 use src_tree::Stmt;
 use std::alloc::Global;
 
-// A block of a bank to a slot.
-fn put_load(out: &mut CodeBuf, slot: u8, bank: u8, block: u32) -> Result<(), Memory>
-    ensures { OnOk result (Appended out.old out.new (block_load slot bank block) no_notes) }
+// The load of a block to a slot, if there is a block.
+fn put_load(out: &mut CodeBuf, slot: u8, block: Option<Pin>) -> Result<(), Memory>
+    ensures { OnOk result (Appended out.old out.new (load_code slot block) no_notes) }
 {
-    let number = Instr::Li {
-        rd: 0,
-        value: i64::from(block),
-    };
-    let load = Instr::Ldb { slot, bank, reg: 0 };
-    out.put(&[number, load])
-}
-
-// The first block that a slot serves, where a variable uses the slot.
-fn put_used(emitter: &Emitter<'_>, out: &mut CodeBuf, slot: u8, bank: u8) -> Result<(), Memory>
-    ensures { OnOk result (Appended out.old out.new (load_used emitter.now slot bank) no_notes) }
-{
-    match emitter.block_served(slot) {
-        Some(block) => put_load(out, slot, bank, block),
-        None => Ok(()),
+    match block {
+        None => out.put(&[]),
+        Some(pin) => {
+            let number = Instr::Li {
+                rd: 0,
+                value: i64::from(pin.block),
+            };
+            let load = Instr::Ldb {
+                slot,
+                bank: pin.bank,
+                reg: 0,
+            };
+            out.put(&[number, load])
+        }
     }
 }
 
-// The loads for arrays that are reached by a slot of their own.
-fn put_array_loads(emitter: &Emitter<'_>, out: &mut CodeBuf) -> Result<(), Memory>
-    ensures { OnOk result (Appended out.old out.new (array_loads emitter.now) no_notes) }
+// The store of a slot's block, if the slot is pinned.
+fn put_pin_store(out: &mut CodeBuf, slot: u8, pin: Option<Pin>) -> Result<(), Memory>
+    ensures { OnOk result (Appended out.old out.new (pin_store slot pin) no_notes) }
 {
-    put_used(emitter, out, 2, 0)?;
-    put_used(emitter, out, 3, 0)?;
-    put_used(emitter, out, 4, 1)?;
-    put_used(emitter, out, 5, 1)
+    match pin {
+        None => out.put(&[]),
+        Some(_) => out.put(&[Instr::Stb { slot }]),
+    }
+}
+
+// Loads blocks to the slots from 0 on.
+fn put_loads(out: &mut CodeBuf, blocks: &[Option<Pin>]) -> Result<(), Memory>
+    requires { length blocks.now ≤ 8 }
+    ensures { OnOk result (Appended out.old out.new (each_slot load_code 0 blocks.now) no_notes) }
+{
+    for (slot, block) in blocks.iter().enumerate() {
+        put_load(out, slot as u8, *block)?;
+    }
+    Ok(())
+}
+
+// Stores the blocks of the pinned slots, from slot 0 on.
+fn put_pin_stores(out: &mut CodeBuf, pins: &[Option<Pin>]) -> Result<(), Memory>
+    requires { length pins.now ≤ 8 }
+    ensures { OnOk result (Appended out.old out.new (each_slot pin_store 0 pins.now) no_notes) }
+{
+    for (slot, pin) in pins.iter().enumerate() {
+        put_pin_store(out, slot as u8, *pin)?;
+    }
+    Ok(())
 }
 
 // The loads of the slots that the rest of a program relies on.
 fn put_beginning(emitter: &Emitter<'_>, out: &mut CodeBuf) -> Result<(), Memory>
     ensures { OnOk result (Appended out.old out.new (beginning emitter.now) no_notes) }
 {
-    put_load(out, 0, 0, 0)?;
-    put_load(out, 1, 1, 0)?;
-    put_array_loads(emitter, out)
+    put_loads(out, &emitter.first_blocks())
 }
 
-// The stores of the scalars, and the end.
-fn put_ending(out: &mut CodeBuf) -> Result<(), Memory>
-    ensures { OnOk result (Appended out.old out.new ending no_notes) }
+// The stores of the blocks that slots hold for the whole run, and the end.
+fn put_ending(emitter: &Emitter<'_>, out: &mut CodeBuf) -> Result<(), Memory>
+    ensures { OnOk result (Appended out.old out.new (ending emitter.now) no_notes) }
 {
-    out.put(&[Instr::Stb { slot: 0 }, Instr::Stb { slot: 1 }, Instr::Halt])
+    put_pin_stores(out, &emitter.pins())?;
+    out.put(&[Instr::Halt])
 }
 
 /// The code of a whole program, and its notes: the loads that the rest relies on, the statements, and the stores of the
-/// scalars. The only error is want of memory.
+/// blocks that slots hold for the whole run. The only error is want of memory.
 pub(crate) fn program_code<'a>(
     alloc: Global,
     emitter: &Emitter<'a>,
@@ -83,6 +103,6 @@ pub(crate) fn program_code<'a>(
     let mut out = CodeBuf::new(alloc);
     put_beginning(emitter, &mut out)?;
     put_block(emitter, &mut out, body)?;
-    put_ending(&mut out)?;
+    put_ending(emitter, &mut out)?;
     Ok(out)
 }

@@ -4,56 +4,37 @@ use Rattle.std.proofs.lemmas.Result.{on_ok_weaker}
 use Rattle.src_tree.specs.Trees.{expr_tree}
 use Rattle.block_cache_gen.specs.Variables.{home_in}
 use Rattle.block_cache_gen.proofs.Emitting.{grows_then}
-use Rattle.block_cache_gen.proofs.EmittedTrees.{access_fixed, access_worked, element_appended, operation_appended, room_for_load, room_behind_left}
+use Rattle.block_cache_gen.proofs.EmittedTrees.{access_fixed, access_worked, element_appended, operation_appended, room_for_found, room_behind_left}
 use Rattle.block_cache_gen.proofs.expressions.+expressions.Goals as goal
 
-pub put_access-put_load-requires-in-None-clause-room : goal.put_access-put_load-requires-in-None-clause-room
-put_access-put_load-requires-in-None-clause-room t c =
-    room_for_load c.args.emitter.now c.args.mode (home_in c.args.array) c.args.mask c.args.to
-    (expr_tree c.args.index.now)
-    c.args.out.now c.put_expr.new.out c.put_located.new.out c.requires.room
-    (c.in_ok-put_expr-in-None.ensures.emitted) (c.in_ok-put_located-in-None.ensures.appended)
+pub put_access-put_found_access-requires-clause-room : goal.put_access-put_found_access-requires-clause-room
+put_access-put_found_access-requires-clause-room t c =
+    room_for_found c.args.emitter.now c.args.mode c.args.mask c.args.to (expr_tree c.args.index.now) c.args.out.now
+    c.put_expr.new.out c.requires.room c.in_ok-put_expr-in-None.ensures.emitted
 
-pub put_access-returns-in_ok-put_fixed-in-Some-clause-emitted :
-    goal.put_access-returns-in_ok-put_fixed-in-Some-clause-emitted
-put_access-returns-in_ok-put_fixed-in-Some-clause-emitted t c =
+pub put_access-returns-in-Some-clause-emitted : goal.put_access-returns-in-Some-clause-emitted
+put_access-returns-in-Some-clause-emitted t c =
     let same : to_z w64 (of_z w64 c.in-Some.number) ≡ c.in-Some.number = search (rules, wraps) in
-    on_ok_weaker c.put_load.result
+    on_ok_weaker c.put_fixed_access.result
     (access_fixed c.args.emitter.now c.args.mode (home_in c.args.array) c.args.mask c.args.to
-    (expr_tree c.args.index.now)
-    (to_z w64 (of_z w64 c.in-Some.number)) c.args.out.now c.put_fixed.new.out c.put_load.new.out
-    (sym c.fixed_index.ensures.fixed ∙ c.in-Some.is ∙ ap (λ z. Some z) (sym same))
-    c.in_ok-put_fixed-in-Some.ensures.appended)
-    c.put_load.ensures.appended
+    (expr_tree c.args.index.now) (to_z w64 (of_z w64 c.in-Some.number)) c.args.out.now c.put_fixed_access.new.out
+    (sym c.fixed_index.ensures.fixed ∙ c.in-Some.is ∙ ap (λ z. Some z) (sym same)))
+    c.put_fixed_access.ensures.appended
 
-pub put_access-returns-in_ok-put_fixed-in-Some-clause-grows :
-    goal.put_access-returns-in_ok-put_fixed-in-Some-clause-grows
-put_access-returns-in_ok-put_fixed-in-Some-clause-grows t c =
-    grows_then c.args.out.now c.put_fixed.new.out c.put_load.new.out c.put_fixed.ensures.grows c.put_load.ensures.grows
-
-pub put_access-returns-in_ok-put_located-in-None-clause-emitted :
-    goal.put_access-returns-in_ok-put_located-in-None-clause-emitted
-put_access-returns-in_ok-put_located-in-None-clause-emitted t c =
-    on_ok_weaker c.put_load-in-None.result
+pub put_access-returns-in_ok-put_expr-in-None-clause-emitted :
+    goal.put_access-returns-in_ok-put_expr-in-None-clause-emitted
+put_access-returns-in_ok-put_expr-in-None-clause-emitted t c =
+    on_ok_weaker c.put_found_access.result
     (access_worked c.args.emitter.now c.args.mode (home_in c.args.array) c.args.mask c.args.to
-    (expr_tree c.args.index.now)
-    c.args.out.now c.put_expr.new.out c.put_located.new.out c.put_load-in-None.new.out
-    (sym c.fixed_index.ensures.fixed ∙ c.in-None.is) c.in_ok-put_expr-in-None.ensures.emitted
-    c.in_ok-put_located-in-None.ensures.appended)
-    c.put_load-in-None.ensures.appended
+    (expr_tree c.args.index.now) c.args.out.now c.put_expr.new.out c.put_found_access.new.out
+    (sym c.fixed_index.ensures.fixed ∙ c.in-None.is) c.in_ok-put_expr-in-None.ensures.emitted)
+    c.put_found_access.ensures.appended
 
-pub put_access-returns-in_err-put_located-in-None-clause-grows :
-    goal.put_access-returns-in_err-put_located-in-None-clause-grows
-put_access-returns-in_err-put_located-in-None-clause-grows t c =
-    grows_then c.args.out.now c.put_expr.new.out c.put_located.new.out c.put_expr.ensures.grows
-    c.put_located.ensures.grows
-
-pub put_access-returns-in_ok-put_located-in-None-clause-grows :
-    goal.put_access-returns-in_ok-put_located-in-None-clause-grows
-put_access-returns-in_ok-put_located-in-None-clause-grows t c =
-    grows_then c.args.out.now c.put_located.new.out c.put_load-in-None.new.out
-    (grows_then c.args.out.now c.put_expr.new.out c.put_located.new.out c.put_expr.ensures.grows
-    c.put_located.ensures.grows) c.put_load-in-None.ensures.grows
+pub put_access-returns-in_ok-put_expr-in-None-clause-grows :
+    goal.put_access-returns-in_ok-put_expr-in-None-clause-grows
+put_access-returns-in_ok-put_expr-in-None-clause-grows t c =
+    grows_then c.args.out.now c.put_expr.new.out c.put_found_access.new.out c.put_expr.ensures.grows
+    c.put_found_access.ensures.grows
 
 pub put_expr-put_expr-requires-in-Bin : goal.put_expr-put_expr-requires-in-Bin
 put_expr-put_expr-requires-in-Bin t c = (

@@ -13,14 +13,14 @@ put_access-requires-clause-room c =
 
 pub returns-clause-emitted : goal.returns-clause-emitted
 returns-clause-emitted c =
-    on_ok_weaker c.put.result
+    on_ok_weaker c.put_block_store.result
     (element_set c.args.emitter.now c.args.mode c.args.name.now c.bytes.result.now (expr_tree c.args.index.now)
     (expr_tree c.args.value.now)
     (home_in c.variable-array.result) c.label_of.result c.marked_by-mask.result c.args.out.now
-    c.put_expr.new.out c.put_access.new.out c.put_store.new.out c.put.new.self c.bytes.ensures.bytes
+    c.put_expr.new.out c.put_access.new.out c.put_store.new.out c.put_block_store.new.out c.bytes.ensures.bytes
     c.variable-array.ensures.home c.label_of.ensures c.marked_by-mask.ensures c.in_ok-put_expr.ensures.emitted
     c.in_ok-put_access.ensures.emitted c.in_ok-put_store.ensures.appended)
-    c.put.ensures.appended
+    c.put_block_store.ensures.appended
 
 pub returns-in_err-put_access-clause-grows : goal.returns-in_err-put_access-clause-grows
 returns-in_err-put_access-clause-grows c =
@@ -35,7 +35,7 @@ returns-in_err-put_store-clause-grows c =
 
 pub returns-clause-grows : goal.returns-clause-grows
 returns-clause-grows c =
-    grows_then c.args.out.now c.put_store.new.out c.put.new.self
+    grows_then c.args.out.now c.put_store.new.out c.put_block_store.new.out
     (grows_then c.args.out.now c.put_access.new.out c.put_store.new.out
     (grows_then c.args.out.now c.put_expr.new.out c.put_access.new.out c.put_expr.ensures.grows
-    c.put_access.ensures.grows) c.put_store.ensures.grows) c.put.ensures.grows
+    c.put_access.ensures.grows) c.put_store.ensures.grows) c.put_block_store.ensures.grows

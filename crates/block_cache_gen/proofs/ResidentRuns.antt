@@ -1,0 +1,157 @@
+-- Runs of the code that finds the place of a resident variable's word in its block, and that reads it there.
+use Rattle.std.proofs.Common.{◌≡◌, ℕ, ◌+◌, ◌%◌, ◌^◌, ◌<◌, true, ℤ, pos, List, [], ◌∷◌, ◌++◌, get_or, append-nil, Option, Some, None, refl, sym, ap, ◌∙◌, subst, arith, mod-lt, mod-eq_of_lt}
+use Rattle.std.proofs.lemmas.Nat.{pow_below}
+use Rattle.gr_word.specs.Words.{applied, unsigned_of}
+use Rattle.gr_word.proofs.SmallNumbers.{add_small}
+use Rattle.gr_word.specs.declared.operations.Op.TheVariants.{Add}
+use Rattle.gr_word.specs.declared.variables.Label.{Label}
+use Rattle.gr_word.specs.declared.variables.Shape.{Shape}
+use Rattle.lt_isa.specs.declared.instructions.Instr.TheVariants.{Li, Alu, Ldw}
+use Rattle.lt_isa.specs.Object.{Parts}
+use Rattle.lt_isa.specs.Ranges.{IsInRange}
+use Rattle.lt_isa.specs.Machine.{State, register, slot, word_in, slot_words}
+use Rattle.lt_isa.specs.Shape.{IsShaped}
+use Rattle.lt_isa.specs.Step.{word_named}
+use Rattle.stretches.specs.Standing.{StandsAt}
+use Rattle.stretches.specs.Coming.{RunsThrough, Sets}
+use Rattle.stretches.proofs.RunningThrough.{runs-cons, runs-one, runs-append, runs-weaker, sets-li, sets-alu, sets-ldw, keeps-set, keeps-on}
+use Rattle.src_tree.specs.Contexts.{context_of}
+use Rattle.src_tree.specs.Meaning.{Store, variable_number, words_of_number, evaluated}
+use Rattle.src_tree.specs.Trees.{Tree}
+use Rattle.block_cache_gen.specs.declared.frames.Mode.{Mode}
+use Rattle.block_cache_gen.specs.Homes.{Home, Setting, HasHomes, home_of, pin_of}
+use Rattle.block_cache_gen.specs.Codes.{fixed_index, fixed_word, reduced_code, offset_code, placed_code, expr_code}
+use Rattle.block_cache_gen.specs.StandsFor.{StandsFor, FitsHomes, HoldsBlock}
+use Rattle.block_cache_gen.specs.Accesses.{accesses, word_number, seen_of_all}
+use Rattle.block_cache_gen.specs.LeavesWord.{LeavesWord}
+use Rattle.block_cache_gen.proofs.Stands.{stands-like}
+use Rattle.block_cache_gen.proofs.IndexRuns.{Reduces, runs-reduced}
+use Rattle.block_cache_gen.proofs.AccessRuns.{fixed-is}
+
+-- the first word of a variable is added to a number
+runs-offset : (o : Parts) (fits : IsInRange o) (h : Home) (to n : ℕ) (s : State) → IsShaped o s → register s to ≡ pos n
+    → to + 2 < 32 → h.word + n < 2 ^ 63 → StandsAt o s.place (offset_code h to)
+    → RunsThrough o s (offset_code h to) [] (Reduces to (h.word + n) s)
+runs-offset o fits h to n s shaped has below small at =
+    runs-cons s (Li (to + 1) (pos h.word)) (Alu Add to to (to + 1) ∷ []) [] [] (Sets s (to + 1) (pos h.word)) _ at
+    (sets-li o fits s shaped (to + 1) (pos h.word) (omega arith))
+    (λ t shape sets at'.
+    let result : applied Add (register t to) (register t (to + 1)) ≡ pos (h.word + n) =
+    ap (λ a. applied Add a (register t (to + 1))) (sets.others to (λ same. absurd (omega arith)) ∙ has)
+    ∙ ap (applied Add (pos n)) sets.value
+    ∙ add_small n h.word (omega arith)
+    ∙ ap pos (omega arith) in
+    runs-weaker t (Alu Add to to (to + 1) ∷ []) [] [] (Sets t to (pos (h.word + n))) _
+    (runs-one t (Alu Add to to (to + 1)) [] (Sets t to (pos (h.word + n))) at'
+    (sets-alu o fits t shape Add to to (to + 1) (pos (h.word + n)) (omega arith) result))
+    refl
+    (λ u shape' sets'. record {
+      word = sets'.value;
+      keeps = keeps-on (keeps-set to sets (omega arith)) (keeps-set to sets' (omega arith));
+    }))
+
+module _ (o : Parts) (fits : IsInRange o) (f : Setting) (homes : HasHomes o f) (store : Store)
+    (store_fits : FitsHomes f store) (x : List ℕ) (label : Label) (shape : Shape)
+    (known : context_of f.decls x ≡ Some (label, shape)) (resident : (home_of f x).resident ≡ true) where
+  -- the number of a word is one of the variable's
+  pub resident_number-is : (z : ℤ) → unsigned_of z % (home_of f x).length ≡ word_number f store x z
+  resident_number-is z = ap (λ m. unsigned_of z % m) (sym (store_fits.lengths x label shape known))
+
+  pub resident-within : (z : ℤ) → word_number f store x z < (home_of f x).length
+  resident-within z =
+      subst (λ n. n < (home_of f x).length) (resident_number-is z)
+      (mod-lt (unsigned_of z) (homes.residents x label shape known resident).length.0)
+
+  -- the block is in its slot, and has as many words as a block
+  pub resident-held : (s : State) → StandsFor f s store
+      → HoldsBlock (slot s (home_of f x).slot) (home_of f x).bank (home_of f x).block
+  resident-held s stands =
+      let h = home_of f x in
+      let home = homes.residents x label shape known resident in
+      stands.pinned h.slot (pin_of h) home.pinned
+
+  -- the word that a register names is read
+  pub runs-read : (to n : ℕ) (s : State) → IsShaped o s → StandsFor f s store → n < (home_of f x).length → to < 32
+      → register s to ≡ pos ((home_of f x).word + n) → StandsAt o s.place (Ldw to (home_of f x).slot to ∷ [])
+      → RunsThrough o s (Ldw to (home_of f x).slot to ∷ []) []
+      (Sets s to (get_or (words_of_number store (variable_number f.decls x)) n (pos 0)))
+  runs-read to n s shaped stands within small has at =
+      let h = home_of f x in
+      let home = homes.residents x label shape known resident in
+      let held = resident-held s stands in
+      let value = get_or (words_of_number store (variable_number f.decls x)) n (pos 0) in
+      let named : word_named o (register s to) ≡ h.word + n =
+      ap (λ word. word_named o word) has ∙ mod-eq_of_lt (omega (arith, home.inside, within)) in
+      let reads : word_in held.words (word_named o (register s to)) ≡ value =
+      ap (λ k. word_in held.words k) named
+      ∙ ap (λ b. word_in (slot_words b) (h.word + n)) (sym held.holds)
+      ∙ stands.residents x label shape n known resident within in
+      runs-one s (Ldw to h.slot to) [] (Sets s to value) at
+      (sets-ldw o fits s shaped to h.slot to h.bank h.block held.words value small held.holds reads)
+
+  -- the place of the word is found, behind the code of the index
+  pub runs-placed : (mode : Mode) (to : ℕ) (i : Tree) (s : State) → IsShaped o s → StandsFor f s store → to + 2 < 32
+      → (StandsAt o s.place (expr_code f mode to i)
+      → RunsThrough o s (expr_code f mode to i) (seen_of_all mode s.banks s.slots (accesses f store i))
+      (LeavesWord f store (accesses f store i) to (evaluated f.decls store i) s))
+      → (fixed : Option ℤ) → fixed_index (home_of f x) i ≡ fixed
+      → StandsAt o s.place (placed_code (home_of f x) to fixed (expr_code f mode to i))
+      → RunsThrough o s (placed_code (home_of f x) to fixed (expr_code f mode to i))
+      (seen_of_all mode s.banks s.slots (accesses f store i))
+      (LeavesWord f store (accesses f store i) to
+      (pos ((home_of f x).word + word_number f store x (evaluated f.decls store i))) s)
+  runs-placed mode to i s shaped stands small run (Some z) is at =
+      let h = home_of f x in
+      let place = pos (h.word + fixed_word h z) in
+      subst
+      (λ e.
+      RunsThrough o s (Li to place ∷ []) (seen_of_all mode s.banks s.slots (accesses f store e))
+      (LeavesWord f store (accesses f store e) to
+      (pos (h.word + word_number f store x (evaluated f.decls store e))) s))
+      (sym (fixed-is h i z is))
+      (runs-weaker s (Li to place ∷ []) [] [] (Sets s to place)
+      (LeavesWord f store [] to (pos (h.word + word_number f store x z)) s)
+      (runs-one s (Li to place) [] (Sets s to place) at (sets-li o fits s shaped to place (omega arith)))
+      refl
+      (λ t shape sets. record {
+        value = sets.value ∙ ap (λ n. pos (h.word + n)) (resident_number-is z);
+        below = λ r under. sets.others r (λ same. absurd (omega arith));
+        banks = sets.banks;
+        slots = sets.slots;
+        stands = stands-like f s t store sets.slots sets.banks stands;
+      }))
+  runs-placed mode to i s shaped stands small run None is at =
+      let h = home_of f x in
+      let home = homes.residents x label shape known resident in
+      let index = evaluated f.decls store i in
+      let n = word_number f store x index in
+      let before = accesses f store i in
+      let seen = seen_of_all mode s.banks s.slots before in
+      let code = expr_code f mode to i in
+      let Done : State → Type 0 = LeavesWord f store before to (pos (h.word + n)) s in
+      let small_place : h.word + n < 2 ^ 63 =
+      let most = pow_below o.profile.block_log 10 (omega (arith, fits.profile.block_log)) in
+      omega (arith, home.inside, resident-within index, most) in
+      runs-weaker s (code ++ (reduced_code h to ++ offset_code h to)) (seen ++ []) seen Done Done
+      (runs-append s code (reduced_code h to ++ offset_code h to) seen [] (LeavesWord f store before to index s) Done at
+      run
+      (λ t shape leaves at'.
+      runs-append t (reduced_code h to) (offset_code h to) [] [] (Reduces to (unsigned_of index % h.length) t) Done at'
+      (runs-reduced o fits h to t index shape leaves.value small home.length.0 home.length.1)
+      (λ u shape' reduces at''.
+      let word : register u to ≡ pos n = reduces.word ∙ ap pos (resident_number-is index) in
+      runs-weaker u (offset_code h to) [] [] (Reduces to (h.word + n) u) Done
+      (runs-offset o fits h to n u shape' word small small_place at'')
+      refl
+      (λ v shape'' offset.
+      let banks = offset.keeps.banks ∙ reduces.keeps.banks in
+      let slots = offset.keeps.slots ∙ reduces.keeps.slots in
+      record {
+        value = offset.word;
+        below = λ r under. offset.keeps.below r under ∙ reduces.keeps.below r under ∙ leaves.below r under;
+        banks = banks ∙ leaves.banks;
+        slots = slots ∙ leaves.slots;
+        stands = stands-like f t v store slots banks leaves.stands;
+      }))))
+      (append-nil seen)
+      (λ t shape done. done)
