@@ -29,9 +29,9 @@ fn taken_by<'a>(usage: &'a str, name: &str) -> Taken<'a> {
     Taken::Unknown
 }
 
-// A word as an option: its name, and the value that stands in it behind `=`.
+// A word as an option: its name, and the value after `=`, if it has one. `-` is a file's name.
 fn option_in(word: &str) -> Option<(&str, Option<&str>)> {
-    if !word.starts_with("-") {
+    if !word.starts_with("-") || word == "-" {
         return None;
     }
     match word.split_once("=") {

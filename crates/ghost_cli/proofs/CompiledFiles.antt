@@ -2,7 +2,7 @@
 use Rattle.std.proofs.Common.{◌≡◌, ◌≢◌, inl, inr, Bool, ℕ, ◌<◌, List, Option, Some, None, Result, Ok, Err, sym, ap, ◌∙◌, subst, arith}
 use Rattle.std.specs.FinMap.{get}
 use Rattle.gr_outside.specs.Shelf.{Files}
-use Rattle.lt_isa.specs.declared.profiles.Profile.{Profile}
+use Rattle.ghost_cli.specs.declared.targets.Target.{Target}
 use Rattle.src_tree.specs.Trees.{Source}
 use Rattle.ghost_cli.specs.declared.source_faults.SourceFault.{SourceFault}
 use Rattle.ghost_cli.specs.Texts.{Said}
@@ -21,12 +21,12 @@ use Rattle.ghost_cli.proofs.CompiledRuns.{compiled-runs}
 use Rattle.ghost_cli.proofs.CompiledTexts.{compiled-texts}
 use Rattle.ghost_cli.proofs.Promised.{answers-of}
 
-module _ (files : Files) (source output : List ℕ) (profile : Profile) (procs : Bool) (ending : Ending)
+module _ (files : Files) (source output : List ℕ) (target : Target) (procs : Bool) (ending : Ending)
     (done : (said_at ending).status ≡ 0) where
   bytes-compiled : (text : List ℕ) (p : Source) → get files source ≡ Some text
-      → SpellsTyped procs text p → (answer : Result (List ℕ) SourceFault) → IsRight (WhichCompiled p profile) answer
+      → SpellsTyped procs text p → (answer : Result (List ℕ) SourceFault) → IsRight (WhichCompiled p target) answer
       → MayEnd (Holds files) (on_compiled output answer) ending
-      → IsCompiledFile procs files (files_at ending files) source output profile
+      → IsCompiledFile procs files (files_at ending files) source output target
   bytes-compiled text p there spells (Ok bytes) compiled comes = record {
     text = text;
     there = there;
@@ -36,8 +36,8 @@ module _ (files : Files) (source output : List ℕ) (profile : Profile) (procs :
       spells = spells;
       written = ap (λ e. files_at e files) (behind-it (Holds files) _ ending comes);
       compiled = compiled;
-      runs = λ o spelled. compiled-runs p profile bytes o spells.typed spells.within compiled spelled;
-      texts = λ o spelled. compiled-texts p profile bytes o spells.typed spells.within compiled spelled;
+      runs = λ o spelled. compiled-runs p target bytes o spells.typed spells.within compiled spelled;
+      texts = λ o spelled. compiled-texts p target bytes o spells.typed spells.within compiled spelled;
       calls = means-its-calls procs text p spells.spells;
     };
   }
@@ -45,21 +45,21 @@ module _ (files : Files) (source output : List ℕ) (profile : Profile) (procs :
       not-done ending _ (behind-it (Holds files) _ ending comes) (inl done)
       (λ e. omega (arith, e)) (λ e. omega (arith, e))
 
-  file-compiled : MayEnd (Holds files) (compile_work source output profile procs) ending
-      → IsCompiledFile procs files (files_at ending files) source output profile
+  file-compiled : MayEnd (Holds files) (compile_work source output target procs) ending
+      → IsCompiledFile procs files (files_at ending files) source output target
   file-compiled comes =
-      let found = programmed-on files ending (inl done) procs source (compiles_to output profile) comes in
+      let found = programmed-on files ending (inl done) procs source (compiles_to output target) comes in
       let asked = behind-it (Holds files) _ ending found.comes in
       bytes-compiled found.text found.p found.there found.spells asked.0 asked.1 asked.2
 
-answer-compiled : (files : Files) (source output : List ℕ) (profile : Profile) (procs : Bool) (asked : Option Work)
+answer-compiled : (files : Files) (source output : List ℕ) (target : Target) (procs : Bool) (asked : Option Work)
     (said : Said) (afterwards : Files)
-    → asked ≡ Some (compile_work source output profile procs) → Answers files asked said afterwards → said.status ≡ 0
-    → IsCompiledFile procs files afterwards source output profile
-answer-compiled files source output profile procs asked said afterwards is NoAnswer done =
-    absurd (let f : ◌≡◌ {A = Option Work} None (Some (compile_work source output profile procs)) = is in cc)
-answer-compiled files source output profile procs asked said afterwards is (AnswersSo work ending comes) done =
-    file-compiled files source output profile procs ending done
+    → asked ≡ Some (compile_work source output target procs) → Answers files asked said afterwards → said.status ≡ 0
+    → IsCompiledFile procs files afterwards source output target
+answer-compiled files source output target procs asked said afterwards is NoAnswer done =
+    absurd (let f : ◌≡◌ {A = Option Work} None (Some (compile_work source output target procs)) = is in cc)
+answer-compiled files source output target procs asked said afterwards is (AnswersSo work ending comes) done =
+    file-compiled files source output target procs ending done
     (subst (λ work. MayEnd (Holds files) work ending) (some-same is) comes)
   where
     some-same : {work other : Work} → Some work ≡ Some other → work ≡ other
@@ -67,17 +67,17 @@ answer-compiled files source output profile procs asked said afterwards is (Answ
 
 -- the promise on what `compile` writes
 pub compiled-of : {asked : Option Work} {before after : Outside} {status : ℕ}
-    → Explains before after status asked → (source output : List ℕ) (profile : Profile) (procs : Bool)
-    → asked ≡ Some (compile_work source output profile procs) → status ≡ 0 → (files : Files)
+    → Explains before after status asked → (source output : List ℕ) (target : Target) (procs : Bool)
+    → asked ≡ Some (compile_work source output target procs) → status ≡ 0 → (files : Files)
     → before.shelf.files ≡ Some files
     → (afterwards : Files) × (after.shelf.files ≡ Some afterwards)
-    × IsCompiledFile procs files afterwards source output profile
-compiled-of {asked = asked} {status = status} explained source output profile procs is done files told =
+    × IsCompiledFile procs files afterwards source output target
+compiled-of {asked = asked} {status = status} explained source output target procs is done files told =
     elim (answers-of explained files told (other 4 (omega arith)) (other 5 (omega arith))) [
       | inl answer ↦ (
         answer.afterwards,
         answer.left,
-        answer-compiled files source output profile procs asked answer.said answer.afterwards is answer.answer
+        answer-compiled files source output target procs asked answer.said answer.afterwards is answer.answer
             (sym answer.is ∙ done),
       )
       | inr unreadable ↦ absurd (other 3 (omega arith) unreadable.is)

@@ -1,7 +1,7 @@
 -- The runs of a compiled object are those that its program means.
 use Rattle.std.proofs.Common.{ℕ, List, sym, ◌∙◌, subst}
 use Rattle.object_file.proofs.ObjectLaws.{spelling-injective}
-use Rattle.lt_isa.specs.declared.profiles.Profile.{Profile}
+use Rattle.ghost_cli.specs.declared.targets.Target.{Target}
 use Rattle.src_tree.specs.Trees.{Source}
 use Rattle.src_tree.specs.Limits.{IsWithinLimits}
 use Rattle.src_tree.specs.Typing.{IsTyped}
@@ -11,13 +11,13 @@ use Rattle.ghost_cli.specs.Compiled.{IsCompiledTo}
 use Rattle.ghost_cli.specs.CompiledRuns.{CompiledRuns, RunsAsMeant}
 
 -- the object that was compiled
-own-runs : (p : Source) (profile : Profile) (bytes : List ℕ) → IsTyped p → IsWithinLimits p
-    → (compiled : IsCompiledTo p profile bytes) → RunsAsMeant p compiled.o
-own-runs p profile bytes typed limits compiled = record {
+own-runs : (p : Source) (target : Target) (bytes : List ℕ) → IsTyped p → IsWithinLimits p
+    → (compiled : IsCompiledTo p target bytes) → RunsAsMeant p compiled.o
+own-runs p target bytes typed limits compiled = record {
   symbols = compiled.implements.symbols;
   shows_public = λ one other n first second agree.
       (accepted_is_oblivious compiled.o compiled.spells.in_range compiled.accepted).same_traces _ _
-      (inputs-agree p profile.block_log typed.once limits compiled.room compiled.o compiled.layout one other first
+      (inputs-agree p target.profile.block_log typed.once limits compiled.room compiled.o compiled.layout one other first
       second agree) n;
   leaves = compiled.implements.done;
   halts = compiled.implements.halts;
@@ -25,8 +25,8 @@ own-runs p profile bytes typed limits compiled = record {
 
 -- it is the only one that its bytes spell
 pub compiled-runs : CompiledRuns
-compiled-runs p profile bytes o typed limits compiled spells =
+compiled-runs p target bytes o typed limits compiled spells =
     subst (RunsAsMeant p)
     (spelling-injective compiled.o o compiled.spells.in_range spells.in_range
     (sym compiled.spells.spelled ∙ spells.spelled))
-    (own-runs p profile bytes typed limits compiled)
+    (own-runs p target bytes typed limits compiled)

@@ -5,7 +5,7 @@ use Rattle.std.specs.List.Sorted.{IsPermutation}
 use Rattle.std.proofs.lemmas.Bool.{cases_lt}
 use Rattle.std.proofs.lemmas.List.{length-map}
 use Rattle.gr_word.specs.declared.variables.Want.{Want}
-use Rattle.lt_isa.specs.declared.profiles.Profile.{Profile}
+use Rattle.ghost_cli.specs.declared.targets.Target.{Target}
 use Rattle.lt_isa.specs.Object.{Parts}
 use Rattle.lt_isa.specs.Outputs.{outputs}
 use Rattle.lt_isa.specs.Runs.{Halts}
@@ -40,16 +40,16 @@ ok-same : {X E : Type 0} (x y : X) → ◌≡◌ {A = Result X E} (Ok x) (Ok y) 
 ok-same x y e = cc
 
 -- the object that was compiled
-module _ (p : Source) (profile : Profile) (bytes : List ℕ) (typed : IsTyped p) (limits : IsWithinLimits p)
-    (compiled : IsCompiledTo p profile bytes) where
+module _ (p : Source) (target : Target) (bytes : List ℕ) (typed : IsTyped p) (limits : IsWithinLimits p)
+    (compiled : IsCompiledTo p target bytes) where
   abbrev o : Parts
   o = compiled.o
 
   arranges : (words : Want → List ℤ) → by_name p o (map words (declared_wants p.decls)) ≡ map words (wants_of o)
-  arranges words = inputs-wanted p profile.block_log typed.once limits compiled.room o compiled.layout words
+  arranges words = inputs-wanted p target.profile.block_log typed.once limits compiled.room o compiled.layout words
 
   permuted : IsPermutation (declared_wants p.decls) (wants_of o)
-  permuted = wants-permuted p profile.block_log typed.once limits compiled.room o compiled.layout
+  permuted = wants-permuted p target.profile.block_log typed.once limits compiled.room o compiled.layout
 
   text-given : (text : List ℕ)
       → inputs_of (wants_of o) (json_of text)
@@ -114,8 +114,8 @@ module _ (p : Source) (profile : Profile) (bytes : List ℕ) (typed : IsTyped p)
 
 -- it is the only one that its bytes spell
 pub compiled-texts : CompiledTexts
-compiled-texts p profile bytes o typed limits compiled spells =
+compiled-texts p target bytes o typed limits compiled spells =
     subst (TextsAsMeant p)
     (spelling-injective compiled.o o compiled.spells.in_range spells.in_range
     (sym compiled.spells.spelled ∙ spells.spelled))
-    (own-texts p profile bytes typed limits compiled)
+    (own-texts p target bytes typed limits compiled)

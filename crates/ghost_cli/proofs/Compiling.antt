@@ -10,22 +10,21 @@ use Rattle.lt_isa.specs.Ranges.{IsInRange, ProfileFits}
 use Rattle.object_file.specs.Spelling.{spelling}
 use Rattle.src_tree.specs.Trees.{Source}
 use Rattle.trace_patterns.specs.Accepts.{Accepts}
-use Rattle.bank_alloc.specs.Fits.{Fits}
-use Rattle.bank_alloc.specs.Layout.{HasLayout}
 use Rattle.block_cache_gen.specs.StoredWords.{stored_words}
 use Rattle.code_gen.specs.declared.compiling.CompileError.{CompileError}
 use Rattle.code_gen.specs.declared.compiling.CompileError.TheVariants as room
-use Rattle.code_gen.specs.Compiles.{IsFor, LatenciesFit, stores_in, ExplainsRoom}
+use Rattle.code_gen.specs.Compiles.{IsFor, LatenciesFit}
 use Rattle.code_gen.specs.Implements.{Implements}
 use Rattle.ghost_cli.specs.declared.replies.Verdict.TheVariants.{BadSource}
 use Rattle.ghost_cli.specs.declared.replies.Done.TheVariants.{Compiled}
 use Rattle.ghost_cli.specs.declared.replies.Reply.{Reply}
 use Rattle.ghost_cli.specs.Texts.{Said}
 use Rattle.ghost_cli.specs.Questions.{WhichCompiled}
-use Rattle.ghost_cli.specs.Compiled.{IsCompiledTo, room_fault}
+use Rattle.ghost_cli.specs.Compiled.{HasLayoutFor, HasRoom, IsCompiledTo, LacksRoom, room_fault, stores_for}
 use Rattle.ghost_cli.specs.Outside.{outside, LeftBy, Explains}
 use Rattle.ghost_cli.specs.Windows.{WindowFits, windowed_profile}
 use Rattle.ghost_cli.specs.declared.windows.Window.{Window}
+use Rattle.ghost_cli.specs.declared.targets.Target.{Target}
 use Rattle.ghost_cli.specs.Compile.{compile_work, compiles_to, on_compiled}
 use Rattle.ghost_cli.specs.Progress.{HasLeft, EndsWorkWith, SaysSource}
 use Rattle.ghost_cli.specs.Work.{IsWritten}
@@ -57,18 +56,18 @@ usual-latencies latencies is = subst LatenciesFit (sym is) (record {
 })
 
 -- the spelling of an object that was compiled for it
-pub spelling-compiled : (p : Source) (profile : Profile) (latencies : Latencies) (o : Parts)
-    → latencies ≡ usual_latencies
-    → Fits p profile.block_log → IsInRange o → Accepts o → Implements p o → HasLayout p profile.block_log o
-    → IsFor profile latencies o → stored_words o.code ≡ stores_in p profile → IsCompiledTo p profile (spelling o)
-spelling-compiled p profile latencies o usually room ranges accepted implements layout machine stores = record {
+pub spelling-compiled : (p : Source) (target : Target) (latencies : Latencies) (o : Parts)
+    → latencies ≡ usual_latencies → HasRoom target.fast p target.profile.block_log → IsInRange o → Accepts o
+    → Implements p o → HasLayoutFor target.fast p target.profile.block_log o → IsFor target.profile latencies o
+    → stored_words o.code ≡ stores_for target.fast p target.profile → IsCompiledTo p target (spelling o)
+spelling-compiled p target latencies o usually room ranges accepted implements layout machine stores = record {
   room = room;
   o = o;
   spells = record { in_range = ranges; spelled = refl };
   accepted = accepted;
   implements = implements;
   layout = layout;
-  machine = subst (λ (l : Latencies). IsFor profile l o) usually machine;
+  machine = subst (λ (l : Latencies). IsFor target.profile l o) usually machine;
   stores = stores;
 }
 
@@ -76,24 +75,24 @@ spelling-compiled p profile latencies o usually room ranges accepted implements 
 
 -- an object file was to be written
 pub compiled-said : (shelf between now : ShelfSeen) (before after : SinkSeen) (result : Result ℕ Reply)
-    (source output : List ℕ) (profile : Profile) (procs : Bool) (p : Source) (bytes slice : List ℕ)
-    → HasLeft shelf (compile_work source output profile procs) (compiles_to output profile p) → between ≡ shelf
-    → IsCompiledTo p profile bytes → slice ≡ bytes
+    (source output : List ℕ) (target : Target) (procs : Bool) (p : Source) (bytes slice : List ℕ)
+    → HasLeft shelf (compile_work source output target procs) (compiles_to output target p) → between ≡ shelf
+    → IsCompiledTo p target bytes → slice ≡ bytes
     → IfOk result (λ status.
     LeftBy (outside between before) (outside now after) status (IsWritten output slice Compiled))
     → IfOk result (λ status.
-    Explains (outside shelf before) (outside now after) status (Some (compile_work source output profile procs)))
-compiled-said shelf between now before after result source output profile procs p bytes slice leads same done is left =
-    written-said shelf between now before after result (compile_work source output profile procs) output bytes slice
-    Compiled (leads-on shelf (compile_work source output profile procs) (WhichCompiled p profile) (on_compiled output)
+    Explains (outside shelf before) (outside now after) status (Some (compile_work source output target procs)))
+compiled-said shelf between now before after result source output target procs p bytes slice leads same done is left =
+    written-said shelf between now before after result (compile_work source output target procs) output bytes slice
+    Compiled (leads-on shelf (compile_work source output target procs) (WhichCompiled p target) (on_compiled output)
     (Ok bytes) leads done) same is left
 
 -- what is said of a program that wasn't compiled ends the work
-pub room-refuses : (p : Source) (profile : Profile) (e : CompileError) (said : Said)
-    → ExplainsRoom e p profile.block_log → SaysSource (room_fault e) said → (output : List ℕ)
-    → EndsWorkWith (WhichCompiled p profile) (on_compiled output) said
-room-refuses p profile (room.TooManyScalars label) said explains says output =
+pub room-refuses : (p : Source) (target : Target) (e : CompileError) (said : Said)
+    → LacksRoom target.fast e p target.profile.block_log → SaysSource (room_fault e) said → (output : List ℕ)
+    → EndsWorkWith (WhichCompiled p target) (on_compiled output) said
+room-refuses p target (room.TooManyScalars label) said explains says output =
     inr (Err _, BadSource _, (room.TooManyScalars label, explains, refl), refl, says)
-room-refuses p profile (room.BankFull bank) said explains says output =
+room-refuses p target (room.BankFull bank) said explains says output =
     inr (Err _, BadSource _, (room.BankFull bank, explains, refl), refl, says)
-room-refuses p profile room.Memory said explains says output = inl says
+room-refuses p target room.Memory said explains says output = inl says

@@ -11,7 +11,7 @@ use Rattle.std.proofs.lemmas.Slice.Eq.{bytes_eq-Decides}
 use Rattle.gr_outside.specs.Shelf.{Files}
 use Rattle.gr_word.specs.declared.variables.Want.{Want}
 use Rattle.lt_isa.specs.Object.{Parts}
-use Rattle.lt_isa.specs.declared.profiles.Profile.{Profile}
+use Rattle.ghost_cli.specs.declared.targets.Target.{Target}
 use Rattle.src_tree.specs.Trees.{Source}
 use Rattle.trace_patterns.specs.declared.reasons.Reason.{Reason}
 use Rattle.bus_arbiter.specs.declared.errors.BusError.{BusError}
@@ -169,8 +169,8 @@ module _ (P : List ℕ → Type 0) where
     compiled-only (Ok bytes) = writes output _ _ is
     compiled-only (Err fault) = ending _ _
 
-    compile-only : (name : Text) (profile : Profile) (procs : Bool) → Only (compile_work name output profile procs)
-    compile-only name profile procs = source procs name _ (λ p. asks _ _ compiled-only)
+    compile-only : (name : Text) (target : Target) (procs : Bool) → Only (compile_work name output target procs)
+    compile-only name target procs = source procs name _ (λ p. asks _ _ compiled-only)
 
     sampled-only : (n : ℕ) (made : Made) (halt : Option ℕ) → Only (on_sampled n output made halt)
     sampled-only n made (Some at) = writes output _ _ is

@@ -7,7 +7,7 @@ use Rattle.gr_outside.specs.Shelf.{Files, with_file}
 use Rattle.lt_isa.specs.Object.{Parts}
 use Rattle.lt_isa.specs.Oblivious.{IsOblivious}
 use Rattle.lt_isa.specs.Start.{trace, wants_of}
-use Rattle.lt_isa.specs.declared.profiles.Profile.{Profile}
+use Rattle.ghost_cli.specs.declared.targets.Target.{Target}
 use Rattle.flow_types.specs.Wants.{declared_wants}
 use Rattle.object_file.specs.Spelling.{spelling}
 use Rattle.run_data.specs.OutputText.{output_of}
@@ -22,7 +22,7 @@ use Rattle.ghost_cli.specs.declared.replies.Done.TheVariants.{Evaluated, Halted}
 use Rattle.ghost_cli.specs.Calls.{MeansItsCalls}
 use Rattle.ghost_cli.specs.Check.{check_work}
 use Rattle.ghost_cli.specs.CommandLines.{Part, Text, has_flag, value_in}
-use Rattle.ghost_cli.specs.Compile.{compile_work}
+use Rattle.ghost_cli.specs.Compile.{target_for}
 use Rattle.ghost_cli.specs.Compiled.{IsCompiledTo}
 use Rattle.ghost_cli.specs.Evaluate.{evaluate_work, evaluates_on, on_left}
 use Rattle.ghost_cli.specs.Headline.{Compiles, Evaluates, HasRun, HoldsInputs, HoldsObject, HoldsOblivious, Infers, IsObjectOf, Runs, SpellsForCalls, SpellsProgram, Traces, done_status, with_output}
@@ -40,7 +40,6 @@ use Rattle.ghost_cli.specs.Texts.{verdict_status}
 use Rattle.ghost_cli.specs.Trace.{shows_on, trace_work}
 use Rattle.ghost_cli.specs.VerbLines.{Call}
 use Rattle.ghost_cli.specs.Verbs.{work_of}
-use Rattle.ghost_cli.specs.Windows.{windowed_profile}
 use Rattle.ghost_cli.specs.Work.{Asks, Ending, Ends, Holds, IsVerdict, MayEnd, Work, Writes, files_at, said_at}
 use Rattle.ghost_cli.proofs.Behind.{behind-it}
 use Rattle.ghost_cli.proofs.Calls.{means-its-calls}
@@ -88,15 +87,15 @@ typed-program procs text p spells =
     spells-program procs text p spells.spells (means-its-calls procs text p spells.spells)
 
 -- what is compiled of a text that spells a program
-pub compiled-program : (procs : Bool) (text : List ℕ) (p : Source) (profile : Profile) (bytes : List ℕ)
-    → SpellsTyped procs text p → IsCompiledTo p profile bytes → IsObjectOf procs text bytes
-compiled-program procs text p profile bytes spells compiled = record {
+pub compiled-program : (procs : Bool) (text : List ℕ) (p : Source) (target : Target) (bytes : List ℕ)
+    → SpellsTyped procs text p → IsCompiledTo p target bytes → IsObjectOf procs text bytes
+compiled-program procs text p target bytes spells compiled = record {
   p = p;
   program = typed-program procs text p spells;
   o = compiled.o;
   spells = compiled.spells;
-  runs = compiled-runs p profile bytes compiled.o spells.typed spells.within compiled compiled.spells;
-  texts = compiled-texts p profile bytes compiled.o spells.typed spells.within compiled compiled.spells;
+  runs = compiled-runs p target bytes compiled.o spells.typed spells.within compiled compiled.spells;
+  texts = compiled-texts p target bytes compiled.o spells.typed spells.within compiled compiled.spells;
 }
 
 -- ---- runs
@@ -313,7 +312,8 @@ module _ (words : List Text) (files afterwards : Files) (put : List ℕ) (status
       let procs = has_flag (codes "procs") parts in
       let work = asked words files afterwards put status called (inl zero) (codes "compile") call.more call.are in
       let given = compile-given call.more source output parts work.0 call.says work.1 in
-      let found = compiled-of called.promises.explained source output (windowed_profile given.0 given.1) procs
+      let target = target_for given.0 given.1 (has_flag (codes "fast") parts) in
+      let found = compiled-of called.promises.explained source output target procs
       (ap work_of call.are ∙ work.1 ∙ ap Some given.4) zero files called.tells.told in
       let file = found.2.file in
       record {
@@ -322,8 +322,7 @@ module _ (words : List Text) (files afterwards : Files) (put : List ℕ) (status
         bytes = file.bytes;
         written = written-is output file.bytes files afterwards
             (same_Some afterwards found.0 (sym called.tells.left ∙ found.1) ∙ file.written);
-        object = compiled-program procs found.2.text file.p (windowed_profile given.0 given.1) file.bytes file.spells
-            file.compiled;
+        object = compiled-program procs found.2.text file.p target file.bytes file.spells file.compiled;
       }
 
   pub inferred : (object output : Text) (parts : List Part)

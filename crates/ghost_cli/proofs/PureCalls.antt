@@ -2,7 +2,7 @@
 use Rattle.std.proofs.Common.{◌≡◌, ◌⊎◌, inl, inr, ℕ, ℤ, Bool, List, [], Option, Some, None, Result, Ok, Err, refl, sym, ap, ◌∙◌, subst}
 use Rattle.lt_isa.specs.Object.{Parts}
 use Rattle.lt_isa.specs.Start.{wants_of}
-use Rattle.lt_isa.specs.declared.profiles.Profile.{Profile}
+use Rattle.ghost_cli.specs.declared.targets.Target.{Target}
 use Rattle.object_file.specs.declared.errors.DecodeError.{DecodeError}
 use Rattle.src_tree.specs.Trees.{Source}
 use Rattle.trace_patterns.specs.declared.reasons.Reason.{Reason}
@@ -62,32 +62,32 @@ not-accepted bytes o said spells ends = elim (ends some-write) [
     by (Some refusal) verdict first e is =
         NotAccepted o refusal.0 refusal.1 spells first (says (Refused refusal.0 refusal.1) verdict said e is)
 
-pub no-program : (procs : Bool) (text : List ℕ) (profile : Profile) (said : Said)
+pub no-program : (procs : Bool) (text : List ℕ) (target : Target) (said : Said)
     → ((next : Source → Work) → EndsWorkWith (WhichSource procs text) (or_ends BadSource next) said)
-    → NotCompiled procs text profile said
-no-program procs text profile said ends = elim (ends (λ p. some-write)) [
+    → NotCompiled procs text target said
+no-program procs text target said ends = elim (ends (λ p. some-write)) [
   | inl none ↦ NoRoomLeft none
   | inr why ↦ by why.0 why.1 why.2 why.3 why.4
 ]
   where
     by : (answer : Result Source SourceFault) (verdict : Verdict) → IsRight (WhichSource procs text) answer
         → or_ends BadSource (λ p. some-write) answer ≡ Ends nothing_seen verdict → said ≡ comes_to verdict
-        → NotCompiled procs text profile said
+        → NotCompiled procs text target said
     by (Ok p) verdict spells e is = goes-on verdict e
     by (Err fault) verdict first e is = NoProgram fault first (says (BadSource fault) verdict said e is)
 
-pub not-compiled : (procs : Bool) (text : List ℕ) (p : Source) (profile : Profile) (said : Said)
+pub not-compiled : (procs : Bool) (text : List ℕ) (p : Source) (target : Target) (said : Said)
     → SpellsTyped procs text p
-    → ((output : List ℕ) → EndsWorkWith (WhichCompiled p profile) (on_compiled output) said)
-    → NotCompiled procs text profile said
-not-compiled procs text p profile said spells ends = elim (ends []) [
+    → ((output : List ℕ) → EndsWorkWith (WhichCompiled p target) (on_compiled output) said)
+    → NotCompiled procs text target said
+not-compiled procs text p target said spells ends = elim (ends []) [
   | inl none ↦ NoRoomLeft none
   | inr why ↦ by why.0 why.1 why.2 why.3 why.4
 ]
   where
-    by : (answer : Result (List ℕ) SourceFault) (verdict : Verdict) → IsRight (WhichCompiled p profile) answer
+    by : (answer : Result (List ℕ) SourceFault) (verdict : Verdict) → IsRight (WhichCompiled p target) answer
         → on_compiled [] answer ≡ Ends nothing_seen verdict → said ≡ comes_to verdict
-        → NotCompiled procs text profile said
+        → NotCompiled procs text target said
     by (Ok bytes) verdict compiled e is =
         absurd (let f : ◌≡◌ {A = Work} (Writes [] bytes Compiled) (Ends nothing_seen verdict) = e in cc)
     by (Err fault) verdict room e is =

@@ -1,7 +1,7 @@
 -- What a sample that is done leaves, and how else it ends.
 use Rattle.std.proofs.Common.{◌≡◌, ◌≢◌, ◌⊎◌, inl, inr, false, ℕ, ◌<◌, List, Option, Some, None, refl, sym, ap, ◌∙◌, subst, arith}
 use Rattle.gr_outside.specs.Shelf.{Files}
-use Rattle.ghost_cli.specs.Histogram.{Made, IsMade, sample_profile, sample_text}
+use Rattle.ghost_cli.specs.Histogram.{Made, IsMade, sample_target, sample_text}
 use Rattle.ghost_cli.specs.Outside.{Outside, Gives, Explains, NoWork, NoRoom, Worked, Unread, Long, Judged, Written, NotWritten, Starved}
 use Rattle.ghost_cli.specs.Promises.{Answers, NoAnswer, AnswersSo, IsDone, IsWrittenFor}
 use Rattle.ghost_cli.specs.Sample.{on_sampled, sample_work, samples_on}
@@ -79,7 +79,7 @@ sampled-of (Worked work ending comes (Starved name bytes done refused rose calm 
 made-left : (files : Files) (n : ℕ) (output : List ℕ) (made : Made)
     → IsMade n made → (halt : Option ℕ) (ending : Ending)
     → MayEnd (Holds files) (on_sampled n output made halt) ending → (said_at ending).status ≡ 0
-    → IsWrittenFor false files (files_at ending files) (sample_text n) output sample_profile
+    → IsWrittenFor false files (files_at ending files) (sample_text n) output sample_target
 made-left files n output made is (Some at) ending comes done = record {
   p = made.program;
   bytes = made.bytes;
@@ -87,9 +87,9 @@ made-left files n output made is (Some at) ending comes done = record {
   written = ap (λ e. files_at e files) (behind-it (Holds files) _ ending comes);
   compiled = is.compiled;
   runs = λ o spelled.
-      compiled-runs made.program sample_profile made.bytes o is.spells.typed is.spells.within is.compiled spelled;
+      compiled-runs made.program sample_target made.bytes o is.spells.typed is.spells.within is.compiled spelled;
   texts = λ o spelled.
-      compiled-texts made.program sample_profile made.bytes o is.spells.typed is.spells.within is.compiled spelled;
+      compiled-texts made.program sample_target made.bytes o is.spells.typed is.spells.within is.compiled spelled;
   calls = tt;
 }
 made-left files n output made is None ending comes done =
@@ -98,7 +98,7 @@ made-left files n output made is None ending comes done =
 
 sample-left : (files : Files) (n : ℕ) (output : List ℕ) (ending : Ending)
     → MayEnd (Holds files) (sample_work n output) ending → (said_at ending).status ≡ 0
-    → IsWrittenFor false files (files_at ending files) (sample_text n) output sample_profile
+    → IsWrittenFor false files (files_at ending files) (sample_text n) output sample_target
 sample-left files n output ending comes done =
     let made = behind-it (Holds files) (sample_work n output) ending comes in
     let run = behind-it (Holds files) (samples_on n output made.0) ending made.2 in
@@ -106,7 +106,7 @@ sample-left files n output ending comes done =
 
 answer-left : (files : Files) (n : ℕ) (output : List ℕ) (asked : Option Work) (said : Said) (afterwards : Files)
     → asked ≡ Some (sample_work n output) → Answers files asked said afterwards → said.status ≡ 0
-    → IsWrittenFor false files afterwards (sample_text n) output sample_profile
+    → IsWrittenFor false files afterwards (sample_text n) output sample_target
 answer-left files n output asked said afterwards is NoAnswer done = none-asked (sample_work n output) is
 answer-left files n output asked said afterwards is (AnswersSo work ending comes) done =
     sample-left files n output ending (subst (λ work. MayEnd (Holds files) work ending) (some-same is) comes) done
@@ -116,7 +116,7 @@ pub sample-of : {asked : Option Work} {before after : Outside} {status : ℕ}
     → Explains before after status asked → (n : ℕ) (output : List ℕ)
     → asked ≡ Some (sample_work n output) → status ≡ 0 → (files : Files) → before.shelf.files ≡ Some files
     → (afterwards : Files) × (after.shelf.files ≡ Some afterwards)
-    × IsWrittenFor false files afterwards (sample_text n) output sample_profile
+    × IsWrittenFor false files afterwards (sample_text n) output sample_target
 sample-of {asked = asked} {status = status} explained n output is done files told =
     elim (answers-of explained files told (other 4 (omega arith)) (other 5 (omega arith))) [
       | inl answer ↦ (

@@ -5,7 +5,7 @@ use Rattle.std.specs.Prelude.{codes, decimal, ◌++◌}
 use Rattle.std.proofs.lemmas.Fmt.{length-decimal-le}
 use Rattle.gr_base.specs.Lists.{Within}
 use Rattle.gr_word.specs.declared.variables.Label.TheVariants.{Public, Secret}
-use Rattle.lt_isa.specs.declared.profiles.Profile.{Profile}
+use Rattle.ghost_cli.specs.declared.targets.Target.{Target}
 use Rattle.lt_isa.specs.Object.{Parts}
 use Rattle.lt_isa.specs.Ranges.{IsInRange}
 use Rattle.object_file.specs.Spelling.{spelling}
@@ -37,7 +37,7 @@ use Rattle.ghost_cli.specs.declared.replies.Verdict.{Verdict}
 use Rattle.ghost_cli.specs.declared.source_faults.SourceFault.{SourceFault}
 use Rattle.ghost_cli.specs.Compile.{on_compiled}
 use Rattle.ghost_cli.specs.Compiled.{IsCompiledTo, room_fault}
-use Rattle.ghost_cli.specs.Histogram.{sample_text, sample_profile}
+use Rattle.ghost_cli.specs.Histogram.{sample_text, sample_target}
 use Rattle.ghost_cli.specs.Progress.{EndsWorkWith}
 use Rattle.ghost_cli.specs.Questions.{IsRight, WhichSource, WhichCompiled, WhetherAccepted}
 use Rattle.ghost_cli.specs.SampleTree.{sample_program}
@@ -164,7 +164,7 @@ no-room_fault n few room.Memory shown none is =
     absurd (let f : ◌≡◌ {A = Option SourceFault} None (Some shown) = is in cc)
 
 object-starved : (n : ℕ) → n ≤ 65536 → (verdict : Verdict) (answer : Result (List ℕ) SourceFault)
-    → IsRight (WhichCompiled (sample_program n) sample_profile) answer
+    → IsRight (WhichCompiled (sample_program n) sample_target) answer
     → on_compiled [] answer ≡ Ends nothing_seen verdict → ⊥
 object-starved n few verdict (Ok bytes) right ends =
     absurd (let f : ◌≡◌ {A = Work} (Writes [] bytes Compiled) (Ends nothing_seen verdict) = ends in cc)
@@ -172,25 +172,25 @@ object-starved n few verdict (Err shown) why ends = no-room_fault n few why.0 sh
 
 -- so is its compilation
 pub compile-starved : (n : ℕ) → n ≤ 65536 → (p : Source) → SpellsTyped false (sample_text n) p → (said : Said)
-    → ((output : List ℕ) → EndsWorkWith (WhichCompiled p sample_profile) (on_compiled output) said) → said ≡ no_memory
+    → ((output : List ℕ) → EndsWorkWith (WhichCompiled p sample_target) (on_compiled output) said) → said ≡ no_memory
 compile-starved n few p spells said refuses =
-    elim (subst (λ (q : Source). EndsWorkWith (WhichCompiled q sample_profile) (on_compiled []) said)
+    elim (subst (λ (q : Source). EndsWorkWith (WhichCompiled q sample_target) (on_compiled []) said)
     (is-sample n (omega (arith, few)) p spells) (refuses [])) [
       | inl starved ↦ starved
       | inr why ↦ absurd (object-starved n few why.1 why.0 why.2 why.3)
     ]
 
 -- the object of a compiled program is the one that is spelled, and so accepted
-pub compiled-object : (p : Source) (profile : Profile) (o : Parts)
-    → IsInRange o → (compiled : IsCompiledTo p profile (spelling o)) → compiled.o ≡ o
-compiled-object p profile o range compiled =
+pub compiled-object : (p : Source) (target : Target) (o : Parts)
+    → IsInRange o → (compiled : IsCompiledTo p target (spelling o)) → compiled.o ≡ o
+compiled-object p target o range compiled =
     spelling-injective compiled.o o compiled.spells.in_range range (sym compiled.spells.spelled)
 
 -- a compiled object is accepted
-pub compiled-accepted : (p : Source) (profile : Profile) (o : Parts) → IsInRange o
-    → IsCompiledTo p profile (spelling o) → Accepts o
-compiled-accepted p profile o range compiled =
-    subst Accepts (compiled-object p profile o range compiled) compiled.accepted
+pub compiled-accepted : (p : Source) (target : Target) (o : Parts) → IsInRange o
+    → IsCompiledTo p target (spelling o) → Accepts o
+compiled-accepted p target o range compiled =
+    subst Accepts (compiled-object p target o range compiled) compiled.accepted
 
 judged-starved : (o : Parts)
     → Accepts o → (verdict : Verdict) (answer : Option (ℕ × Reason)) → IsRight (WhetherAccepted o) answer

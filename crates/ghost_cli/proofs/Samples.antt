@@ -19,7 +19,7 @@ use Rattle.ghost_cli.specs.declared.replies.Verdict.TheVariants.{Spent}
 use Rattle.ghost_cli.specs.declared.sample.CountedRun.{CountedRun}
 use Rattle.ghost_cli.specs.declared.sample.SampleFile.{SampleFile}
 use Rattle.ghost_cli.specs.Compiled.{IsCompiledTo}
-use Rattle.ghost_cli.specs.Histogram.{Made, IsMade, figures_of, sample_profile, sample_cycles, sample_inputs, sample_store, sample_trace, sample_words, sum_left}
+use Rattle.ghost_cli.specs.Histogram.{Made, IsMade, figures_of, sample_target, sample_cycles, sample_inputs, sample_store, sample_trace, sample_words, sum_left}
 use Rattle.ghost_cli.specs.Outside.{outside, LeftBy, Explains}
 use Rattle.ghost_cli.specs.Progress.{HasLeft, Stops}
 use Rattle.ghost_cli.specs.Questions.{WhatIsMade, WhenItHalts}
@@ -46,7 +46,7 @@ pub ready-made : (n : ℕ) (p : Source) (o : Parts) (bytes : List ℕ)
     → SampleIsReady n p o → bytes ≡ spelling o → IsMade n (made_of p bytes o)
 ready-made n p o bytes ready is = record {
   spells = ready.spells;
-  compiled = subst (IsCompiledTo p sample_profile) (sym is) ready.compiled;
+  compiled = subst (IsCompiledTo p sample_target) (sym is) ready.compiled;
   object = record { in_range = ready.in_range; spelled = is };
 }
 
@@ -54,14 +54,14 @@ ready-made n p o bytes ready is = record {
 pub ready-done : (n : ℕ) (p : Source) (o : Parts) (at : ℕ) → SampleIsReady n p o → HaltsAt (sample_trace o) at
     → (left : Store) × (meaning p (sample_store p) sample_cycles ≡ Some left)
 ready-done n p o at ready halts =
-    let is = compiled-object p sample_profile o ready.in_range ready.compiled in
-    let layout : HasLayout p sample_profile.block_log o =
-    subst (HasLayout p sample_profile.block_log) is ready.compiled.layout in
+    let is = compiled-object p sample_target o ready.in_range ready.compiled in
+    let layout : HasLayout p sample_target.profile.block_log o =
+    subst (HasLayout p sample_target.profile.block_log) is ready.compiled.layout in
     let inputs : by_name p o (sample_store p) ≡ sample_inputs (wants_of o) =
-    inputs-wanted p sample_profile.block_log ready.spells.typed.once ready.spells.within ready.compiled.room o layout
+    inputs-wanted p sample_target.profile.block_log ready.spells.typed.once ready.spells.within ready.compiled.room o layout
     sample_words in
     let runs =
-    compiled-runs p sample_profile (spelling o) o ready.spells.typed ready.spells.within ready.compiled
+    compiled-runs p sample_target (spelling o) o ready.spells.typed ready.spells.within ready.compiled
     (record { in_range = ready.in_range; spelled = refl }) in
     let done = runs.leaves (sample_store p) sample_cycles (sample-fit (declared_wants p.decls))
     (at, subst (λ (i : List (List ℤ)). HaltsAt (trace o i sample_cycles) at) (sym inputs) halts) in

@@ -4,7 +4,7 @@ use Rattle.std.specs.FinMap.{remove}
 use Rattle.gr_outside.specs.Shelf.{Files}
 use Rattle.gr_outside.proofs.WrittenFiles.{remove_with_file}
 use Rattle.gr_word.specs.declared.variables.Want.{Want}
-use Rattle.lt_isa.specs.declared.profiles.Profile.{Profile}
+use Rattle.ghost_cli.specs.declared.targets.Target.{Target}
 use Rattle.src_lexer.specs.declared.tokens.Token.{Token}
 use Rattle.src_lexer.proofs.OneReading.{one_reading}
 use Rattle.src_parser.specs.Grammar.{limits}
@@ -99,11 +99,11 @@ module _ (files : Files) where
       by p None = ends-once is_done files nothing_seen _
 
   -- a compilation that is done wrote some object
-  compiles : (source output : List ℕ) (profile : Profile) (procs : Bool) (ending : Ending)
-      → MayEnd (Holds files) (compile_work source output profile procs) ending → is_done ending
+  compiles : (source output : List ℕ) (target : Target) (procs : Bool) (ending : Ending)
+      → MayEnd (Holds files) (compile_work source output target procs) ending → is_done ending
       → (bytes : List ℕ) × (ending ≡ IsWritten output bytes Compiled)
-  compiles source output profile procs ending comes done =
-      by-file ending (of-told files (compile_work source output profile procs) ending comes) done
+  compiles source output target procs ending comes done =
+      by-file ending (of-told files (compile_work source output target procs) ending comes) done
     where
       by-object : (answer : Result (List ℕ) SourceFault) (ending : Ending)
           → MayEnd (Holds files) (on_compiled output answer) ending → is_done ending
@@ -113,16 +113,16 @@ module _ (files : Files) where
           not-done ending _ (of-told files _ ending comes) done (λ e. omega (arith, e)) (λ e. omega (arith, e))
 
       by-program : (answer : Result Source SourceFault) (ending : Ending)
-          → MayEnd (Holds files) (or_ends BadSource (compiles_to output profile) answer) ending → is_done ending
+          → MayEnd (Holds files) (or_ends BadSource (compiles_to output target) answer) ending → is_done ending
           → (bytes : List ℕ) × (ending ≡ IsWritten output bytes Compiled)
       by-program (Ok p) ending comes done =
-          let asked = of-told files (compiles_to output profile p) ending comes in
+          let asked = of-told files (compiles_to output target p) ending comes in
           by-object asked.0 ending asked.2 done
       by-program (Err fault) ending comes done =
           not-done ending _ (of-told files _ ending comes) done (λ e. omega (arith, e)) (λ e. omega (arith, e))
 
       by-file : (ending : Ending) → OfRead files source source_limit
-          (λ text. Asks (WhichSource procs text) (or_ends BadSource (compiles_to output profile))) ending
+          (λ text. Asks (WhichSource procs text) (or_ends BadSource (compiles_to output target))) ending
           → is_done ending
           → (bytes : List ℕ) × (ending ≡ IsWritten output bytes Compiled)
       by-file ending (Lacks none) done =
@@ -132,7 +132,7 @@ module _ (files : Files) where
           (λ e. omega (arith, e))
       by-file ending (Gives text ending' gives short comes) done =
           let asked =
-          of-told files (Asks (WhichSource procs text) (or_ends BadSource (compiles_to output profile))) ending comes in
+          of-told files (Asks (WhichSource procs text) (or_ends BadSource (compiles_to output target))) ending comes in
           by-program asked.0 ending asked.2 done
 
 pub evaluate-done : (source input output : List ℕ) (turns : ℕ) (procs : Bool)
@@ -140,13 +140,13 @@ pub evaluate-done : (source input output : List ℕ) (turns : ℕ) (procs : Bool
 evaluate-done source input output turns procs =
     done-once _ (λ files. evaluates-done files source input output turns procs)
 
-pub compile-done : (source output : List ℕ) (profile : Profile) (procs : Bool)
-    → IsDoneBut output (compile_work source output profile procs)
-compile-done source output profile procs files said other left right first second done done' =
-    let a = answer-of files (Some (compile_work source output profile procs)) said left first _ refl in
-    let b = answer-of files (Some (compile_work source output profile procs)) other right second _ refl in
-    let one = compiles files source output profile procs a.ending a.comes (subst (λ (s : Said). IsDone s.status) a.is done) in
-    let two = compiles files source output profile procs b.ending b.comes (subst (λ (s : Said). IsDone s.status) b.is done') in (
+pub compile-done : (source output : List ℕ) (target : Target) (procs : Bool)
+    → IsDoneBut output (compile_work source output target procs)
+compile-done source output target procs files said other left right first second done done' =
+    let a = answer-of files (Some (compile_work source output target procs)) said left first _ refl in
+    let b = answer-of files (Some (compile_work source output target procs)) other right second _ refl in
+    let one = compiles files source output target procs a.ending a.comes (subst (λ (s : Said). IsDone s.status) a.is done) in
+    let two = compiles files source output target procs b.ending b.comes (subst (λ (s : Said). IsDone s.status) b.is done') in (
       a.is ∙ ap said_at one.1 ∙ sym (b.is ∙ ap said_at two.1),
       ap (λ (f : Files). Some (remove f output)) (b.leaves ∙ ap (λ (e : Ending). files_at e files) two.1)
           ∙ ap (λ (f : Files). Some f) (remove_with_file output two.0 files)

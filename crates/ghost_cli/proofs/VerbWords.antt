@@ -7,7 +7,7 @@ use Rattle.clap.specs.Walk.{Row, Text, first_of}
 use Rattle.ghost_cli.specs.Assemble.{assemble_work}
 use Rattle.ghost_cli.specs.Check.{check_row, check_work}
 use Rattle.ghost_cli.specs.CommandLines.{AreTexts, IsAmong, Part, Says, compile_options, has_flag, names_in, run_options, value_in}
-use Rattle.ghost_cli.specs.Compile.{compile_named, compile_row, compile_work}
+use Rattle.ghost_cli.specs.Compile.{compile_named, compile_row, compile_work, target_for}
 use Rattle.ghost_cli.specs.Disassemble.{disassemble_work}
 use Rattle.ghost_cli.specs.Evaluate.{evaluate_named, evaluate_row, evaluate_work}
 use Rattle.ghost_cli.specs.Infer.{infer_work}
@@ -17,7 +17,7 @@ use Rattle.ghost_cli.specs.Sample.{sample_named, sample_row, sample_work}
 use Rattle.ghost_cli.specs.Trace.{trace_named, trace_row, trace_work}
 use Rattle.ghost_cli.specs.VerbRows.{VerbRow, command_of, row_of_two}
 use Rattle.ghost_cli.specs.Verbs.{asked_for, verb_named, work_of}
-use Rattle.ghost_cli.specs.Windows.{window_given, windowed_profile}
+use Rattle.ghost_cli.specs.Windows.{window_given}
 use Rattle.ghost_cli.specs.WordsAsk.{AskExactly, AsksByOne, AsksByTwo, AsksToCompile, AsksToEvaluate, AsksToRun, AsksToSample, AsksToTrace, WordsAsk, verb_names}
 use Rattle.ghost_cli.specs.Work.{Work}
 use Rattle.ghost_cli.specs.declared.windows.Window.{Window}
@@ -383,7 +383,7 @@ evaluate-words words work texts = (
 compile-asks : (words : List Text) (parts : List Part) (t u : Text) → SaysRow compile_row words parts
     → names_in parts ≡ t ∷ u ∷ [] → compile_row.asks (found_by compile_row parts)
     ≡ option_and_then (λ w. option_map (λ at.
-    compile_work t u (windowed_profile w at) (has_flag (codes "procs") parts))
+    compile_work t u (target_for w at (has_flag (codes "fast") parts)) (has_flag (codes "procs") parts))
     (window_given (value_in (codes "window") parts))) (block_log_given (value_in (codes "block-log") parts))
 compile-asks words parts t u says are =
     let rows = found_by compile_row parts in
@@ -393,19 +393,22 @@ compile-asks words parts t u says are =
     let block_log = value-of compile_row compile-verb words parts says (codes "block-log") (inl refl) in
     let window = value-of compile_row compile-verb words parts says (codes "window") (inr (inl refl)) in
     let procs = flag-of compile_row compile-verb words parts says (codes "procs") (inl refl) in
-    (λ k. compile_named (first k) (second k) (block_log k) (window k) (first_of (codes "procs") rows))
-    ∙ (λ k. option_and_then (λ w. option_map (λ at. compile_work t u (windowed_profile w at) (procs k))
+    let fast = flag-of compile_row compile-verb words parts says (codes "fast") (inr (inl refl)) in
+    (λ k. compile_named (first k) (second k) (block_log k) (window k) (first_of (codes "fast") rows)
+    (first_of (codes "procs") rows))
+    ∙ (λ k. option_and_then (λ w. option_map (λ at. compile_work t u (target_for w at (fast k)) (procs k))
     (window_given (value_in (codes "window") parts))) (block_log_given (value_in (codes "block-log") parts)))
 
 pub compile-given : (words : List Text) (source output : Text) (parts : List Part) (work : Work)
-    → Says compile_options (codes "procs" ∷ []) words (source ∷ output ∷ []) parts
+    → Says compile_options (codes "procs" ∷ codes "fast" ∷ []) words (source ∷ output ∷ []) parts
     → work_of (codes "compile" ∷ words) ≡ Some work
     → (block_log : ℕ) × (window : Window) × (block_log_given (value_in (codes "block-log") parts) ≡ Some block_log)
     × (window_given (value_in (codes "window") parts) ≡ Some window)
-    × (work ≡ compile_work source output (windowed_profile block_log window) (has_flag (codes "procs") parts))
+    × (work ≡ compile_work source output (target_for block_log window (has_flag (codes "fast") parts))
+    (has_flag (codes "procs") parts))
 unfolding verb_named asked_for
 compile-given words source output parts work says asked =
-    two-given (λ w at. compile_work source output (windowed_profile w at) (has_flag (codes "procs") parts)) work
+    two-given (λ w at. compile_work source output (target_for w at (has_flag (codes "fast") parts)) (has_flag (codes "procs") parts)) work
     (block_log_given (value_in (codes "block-log") parts)) (window_given (value_in (codes "window") parts))
     (row-made compile_row compile-verb words parts work _
     (says-all compile_row words (source ∷ output ∷ []) parts says tt)
@@ -434,8 +437,8 @@ compile-words words work texts = (
       let says = says-all compile_row words (asks.source ∷ asks.output ∷ []) asks.parts asks.says tt in
       row-asked compile_row compile-verb words asks.parts says
       ∙ compile-asks words asks.parts asks.source asks.output says asks.says.are
-      ∙ (λ k. option_and_then (λ w. option_map (λ at. compile_work asks.source asks.output (windowed_profile w at)
-      (has_flag (codes "procs") asks.parts)) (asks.window_is k)) (asks.block_log_is k)) ∙ ap Some (sym asks.is)),
+      ∙ (λ k. option_and_then (λ w. option_map (λ at. compile_work asks.source asks.output
+      (target_for w at (has_flag (codes "fast") asks.parts)) (has_flag (codes "procs") asks.parts)) (asks.window_is k)) (asks.block_log_is k)) ∙ ap Some (sym asks.is)),
 )
 
 -- ---- `sample`

@@ -1,5 +1,5 @@
 -- What `compile` writes: an object file of a program, for a machine of a profile and the usual latencies.
-use Rattle.std.specs.Prelude.{◌≡◌, ℕ, List, Option, Some, None, Result, Ok, Err}
+use Rattle.std.specs.Prelude.{◌≡◌, ℕ, Bool, true, false, List, Option, Some, None, Result, Ok, Err}
 use Rattle.lt_isa.specs.Object.{Parts, usual_latencies}
 use Rattle.lt_isa.specs.declared.profiles.Profile.{Profile}
 use Rattle.src_tree.specs.Trees.{Source}
@@ -13,20 +13,38 @@ use Rattle.code_gen.specs.declared.compiling.CompileError.{CompileError}
 use Rattle.code_gen.specs.declared.compiling.CompileError.TheVariants as room
 use Rattle.ghost_cli.specs.declared.source_faults.SourceFault.{SourceFault}
 use Rattle.ghost_cli.specs.declared.source_faults.SourceFault.TheVariants as fault
+use Rattle.ghost_cli.specs.declared.targets.Target.{Target}
 use Rattle.ghost_cli.specs.Objects.{SpellsObject}
+
+-- With `--fast` arrays stay in the scratchpad, so the layout, the room and the stores of a word are other ones.
+abbrev pub HasRoom : Bool → Source → ℕ → Type 0
+HasRoom false p w = Fits p w
+HasRoom true p w = Fits p w
+
+abbrev pub HasLayoutFor : Bool → Source → ℕ → Parts → Type 0
+HasLayoutFor false p w o = HasLayout p w o
+HasLayoutFor true p w o = HasLayout p w o
+
+abbrev pub stores_for : Bool → Source → Profile → ℕ
+stores_for false p profile = stores_in p profile
+stores_for true p profile = stores_in p profile
+
+abbrev pub LacksRoom : Bool → CompileError → Source → ℕ → Type 0
+LacksRoom false e p w = ExplainsRoom e p w
+LacksRoom true e p w = ExplainsRoom e p w
 
 -- There is room for the program's variables. The bytes spell an object that is accepted, that does what the program
 -- means, and that has the program's layout for the profile's blocks, that profile and the usual latencies, and as many
 -- stores of a word as the padding makes.
-pub record IsCompiledTo (p : Source) (profile : Profile) (bytes : List ℕ) : Type 0 where
-  pub room : Fits p profile.block_log
+pub record IsCompiledTo (p : Source) (target : Target) (bytes : List ℕ) : Type 0 where
+  pub room : HasRoom target.fast p target.profile.block_log
   pub o : Parts
   pub spells : SpellsObject bytes o
   pub accepted : Accepts o
   pub implements : Implements p o
-  pub layout : HasLayout p profile.block_log o
-  pub machine : IsFor profile usual_latencies o
-  pub stores : stored_words o.code ≡ stores_in p profile
+  pub layout : HasLayoutFor target.fast p target.profile.block_log o
+  pub machine : IsFor target.profile usual_latencies o
+  pub stores : stored_words o.code ≡ stores_for target.fast p target.profile
 
 -- what lacks room as it is shown; want of memory is no fault
 abbrev pub room_fault : CompileError → Option SourceFault
@@ -35,6 +53,7 @@ room_fault (room.BankFull bank) = Some (fault.BankFull bank)
 room_fault room.Memory = None
 
 -- an object file of the program, or what lacks room first
-abbrev pub IsCompiled : Source → Profile → Result (List ℕ) SourceFault → Type 0
-IsCompiled p profile (Ok bytes) = IsCompiledTo p profile bytes
-IsCompiled p profile (Err shown) = (e : CompileError) × ExplainsRoom e p profile.block_log × (room_fault e ≡ Some shown)
+abbrev pub IsCompiled : Source → Target → Result (List ℕ) SourceFault → Type 0
+IsCompiled p target (Ok bytes) = IsCompiledTo p target bytes
+IsCompiled p target (Err shown) =
+    (e : CompileError) × LacksRoom target.fast e p target.profile.block_log × (room_fault e ≡ Some shown)

@@ -2,7 +2,7 @@
 -- (GhostRider, ASPLOS 2015: the compiler keeps the meaning, and what it makes is memory-trace oblivious.)
 use Rattle.std.specs.Prelude.{◌≡◌, ℕ, ◌+◌, ◌*◌, List, Some}
 use Rattle.gr_word.specs.Fitting.{FitsWants}
-use Rattle.lt_isa.specs.declared.profiles.Profile.{Profile}
+use Rattle.ghost_cli.specs.declared.targets.Target.{Target}
 use Rattle.lt_isa.specs.Object.{Parts}
 use Rattle.lt_isa.specs.Outputs.{outputs}
 use Rattle.lt_isa.specs.Runs.{Halts}
@@ -38,5 +38,5 @@ pub record RunsAsMeant (p : Source) (o : Parts) : Type 0 where
 
 -- whatever object a compiled program's bytes spell runs as the program means
 abbrev pub CompiledRuns : Type 0
-CompiledRuns = (p : Source) (profile : Profile) (bytes : List ℕ) (o : Parts) → IsTyped p → IsWithinLimits p
-    → IsCompiledTo p profile bytes → SpellsObject bytes o → RunsAsMeant p o
+CompiledRuns = (p : Source) (target : Target) (bytes : List ℕ) (o : Parts) → IsTyped p → IsWithinLimits p
+    → IsCompiledTo p target bytes → SpellsObject bytes o → RunsAsMeant p o

@@ -1,7 +1,7 @@
 -- What is read and written as JSON text for the runs of a compiled object, said of the variables of its program.
 use Rattle.std.specs.Prelude.{◌≡◌, ℕ, ℤ, List, length, Some, Ok}
 use Rattle.std.specs.Result.{result_map_both}
-use Rattle.lt_isa.specs.declared.profiles.Profile.{Profile}
+use Rattle.ghost_cli.specs.declared.targets.Target.{Target}
 use Rattle.lt_isa.specs.Object.{Parts}
 use Rattle.lt_isa.specs.Runs.{Halts}
 use Rattle.lt_isa.specs.Start.{wants_of}
@@ -37,5 +37,5 @@ pub record TextsAsMeant (p : Source) (o : Parts) : Type 0 where
 
 -- whatever object a compiled program's bytes spell reads and writes what the program does
 abbrev pub CompiledTexts : Type 0
-CompiledTexts = (p : Source) (profile : Profile) (bytes : List ℕ) (o : Parts) → IsTyped p → IsWithinLimits p
-    → IsCompiledTo p profile bytes → SpellsObject bytes o → TextsAsMeant p o
+CompiledTexts = (p : Source) (target : Target) (bytes : List ℕ) (o : Parts) → IsTyped p → IsWithinLimits p
+    → IsCompiledTo p target bytes → SpellsObject bytes o → TextsAsMeant p o

@@ -5,6 +5,7 @@ use Rattle.std.specs.Prelude.{false, ℕ, suc, zero, ◌+◌, ◌*◌, ◌%◌, 
 use Rattle.std.specs.List.{range_with_len}
 use Rattle.gr_word.specs.declared.variables.Want.{Want}
 use Rattle.lt_isa.specs.declared.profiles.Profile.{Profile}
+use Rattle.ghost_cli.specs.declared.targets.Target.{Target}
 use Rattle.lt_isa.specs.Object.{Parts, usual_profile}
 use Rattle.lt_isa.specs.Start.{trace, wants_of}
 use Rattle.lt_isa.specs.Trace.{Stamped}
@@ -27,6 +28,9 @@ sample_text n =
 -- blocks of 2^9 words
 abbrev pub sample_profile : Profile
 sample_profile = usual_profile 9
+
+abbrev pub sample_target : Target
+sample_target = record { profile = sample_profile; fast = false }
 
 -- the numbers: x(0) is 1, and each makes the next
 abbrev pub next_number : ℕ → ℕ
@@ -69,7 +73,7 @@ pub record Made : Type 0 where
 
 pub record IsMade (n : ℕ) (made : Made) : Type 0 where
   pub spells : SpellsTyped false (sample_text n) made.program
-  pub compiled : IsCompiledTo made.program sample_profile made.bytes
+  pub compiled : IsCompiledTo made.program sample_target made.bytes
   pub object : SpellsObject made.bytes made.object
 
 -- the sum of some words

@@ -1,20 +1,41 @@
--- How a name that stands in an input file is put: as JSON text (RFC 8259) in which every control character is escaped.
--- JSON lets those from 127 to 159 stand, on which a terminal may act (ECMA-48); they are escaped too.
-use Rattle.std.specs.Prelude.{ℕ, ◌/◌, ◌%◌, Bool, ◌&&◌, nat_le, if◌then◌else◌, List, [], ◌∷◌, ◌++◌, codes, flat_map}
+-- How a name that was given from outside is put into a line, so that no character of it acts on a terminal or can't be
+-- seen: control characters, and those of Unicode that are bidirectional controls, line separators or ignorable by
+-- default (ECMA-48; Unicode Standard Annex 9 and Annex 44), are written as JSON escapes (RFC 8259).
+use Rattle.std.specs.Prelude.{ℕ, ◌+◌, ◌-◌, ◌/◌, ◌%◌, Bool, ◌&&◌, nat_le, if◌then◌else◌, List, [], ◌∷◌, ◌++◌, codes, flat_map}
+use Rattle.std.specs.List.{list_any}
 use Rattle.std.specs.Char.{digit_char, encode_utf8}
 use Rattle.std.specs.Str.{chars}
 use Rattle.json.specs.Print.{quoted}
 
-abbrev pub is_late_control : ℕ → Bool
-is_late_control c = nat_le 127 c && nat_le c 159
+-- the first and the last of each range of hidden characters
+abbrev pub hidden_ranges : List (ℕ × ℕ)
+hidden_ranges =
+    (0, 31) ∷ (127, 159) ∷ (173, 173) ∷ (847, 847) ∷ (1564, 1564) ∷ (4447, 4448) ∷ (6068, 6069) ∷ (6155, 6159)
+    ∷ (8203, 8207) ∷ (8232, 8238) ∷ (8288, 8303) ∷ (12644, 12644) ∷ (65024, 65039) ∷ (65279, 65279)
+    ∷ (65440, 65440) ∷ (65520, 65531) ∷ (113824, 113827) ∷ (119155, 119162) ∷ (917504, 921599) ∷ []
 
--- what stands for a character: \u00 and two hexadecimal digits, or the character's own bytes
+abbrev pub is_hidden : ℕ → Bool
+is_hidden c = list_any (λ range. nat_le range.0 c && nat_le c range.1) hidden_ranges
+
+-- `\u` and the four hexadecimal digits of a unit of UTF-16
+abbrev pub escaped_unit : ℕ → List ℕ
+escaped_unit unit =
+    codes "\\u"
+    ++ (digit_char (unit / 4096) ∷ digit_char (unit / 256 % 16) ∷ digit_char (unit / 16 % 16)
+    ∷ digit_char (unit % 16) ∷ [])
+
+-- a character above U+FFFF is two units
+abbrev pub escaped_char : ℕ → List ℕ
+escaped_char c =
+    if nat_le c 65535 then escaped_unit c
+    else escaped_unit (55296 + (c - 65536) / 1024) ++ escaped_unit (56320 + (c - 65536) % 1024)
+
 abbrev pub shown_char : ℕ → List ℕ
-shown_char c =
-    if is_late_control c then codes "\\u00" ++ (digit_char (c / 16) ∷ digit_char (c % 16) ∷ []) else encode_utf8 c
+shown_char c = if is_hidden c then escaped_char c else encode_utf8 c
 
-abbrev pub without_late_controls : List ℕ → List ℕ
-without_late_controls text = flat_map shown_char (chars text)
+abbrev pub without_hidden : List ℕ → List ℕ
+without_hidden text = flat_map shown_char (chars text)
 
+-- a name of an input file, as JSON text
 abbrev pub name_text : List ℕ → List ℕ
-name_text name = without_late_controls (quoted name)
+name_text name = without_hidden (quoted name)

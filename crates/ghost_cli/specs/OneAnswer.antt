@@ -4,7 +4,7 @@
 use Rattle.std.specs.Prelude.{◌≡◌, ℕ, ◌≤◌, ℤ, Bool, false, List, length, Some, None, Ok}
 use Rattle.std.specs.FinMap.{get}
 use Rattle.gr_outside.specs.Shelf.{Files, SameBut}
-use Rattle.lt_isa.specs.declared.profiles.Profile.{Profile}
+use Rattle.ghost_cli.specs.declared.targets.Target.{Target}
 use Rattle.lt_isa.specs.Object.{Parts}
 use Rattle.lt_isa.specs.Start.{Agree, wants_of}
 use Rattle.trace_patterns.specs.Accepts.{Accepts}
@@ -58,8 +58,8 @@ pub record OneAnswer : Type 0 where
   pub infer : (object output : List ℕ) → IsDoneOnce (infer_work object output)
   pub evaluate : (source input output : List ℕ) (turns : ℕ) (procs : Bool)
       → IsDoneOnce (evaluate_work source input output turns procs)
-  pub compile : (source output : List ℕ) (profile : Profile) (procs : Bool)
-      → IsDoneBut output (compile_work source output profile procs)
+  pub compile : (source output : List ℕ) (target : Target) (procs : Bool)
+      → IsDoneBut output (compile_work source output target procs)
 
 -- Files hold an accepted object under a name, and inputs of it under another. Neither file is too long.
 pub record HoldRun (files : Files) (object input : List ℕ) (o : Parts) (inputs : List (List ℤ)) : Type 0 where

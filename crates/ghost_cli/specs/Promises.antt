@@ -4,7 +4,7 @@ use Rattle.std.specs.FinMap.{get}
 use Rattle.gr_base.specs.Counts.{Rose}
 use Rattle.gr_base.specs.Added.{Adds, AddsLess}
 use Rattle.gr_outside.specs.Shelf.{Files, SameBut, with_file}
-use Rattle.lt_isa.specs.declared.profiles.Profile.{Profile}
+use Rattle.ghost_cli.specs.declared.targets.Target.{Target}
 use Rattle.lt_isa.specs.Object.{Parts}
 use Rattle.lt_isa.specs.Oblivious.{IsOblivious}
 use Rattle.trace_patterns.specs.Accepts.{Accepts}
@@ -20,7 +20,7 @@ use Rattle.ghost_cli.specs.Compile.{compile_work}
 use Rattle.ghost_cli.specs.Compiled.{IsCompiledTo}
 use Rattle.ghost_cli.specs.CompiledRuns.{RunsAsMeant}
 use Rattle.ghost_cli.specs.CompiledTexts.{TextsAsMeant}
-use Rattle.ghost_cli.specs.Histogram.{sample_text, sample_profile}
+use Rattle.ghost_cli.specs.Histogram.{sample_text, sample_target}
 use Rattle.ghost_cli.specs.Infer.{infer_work}
 use Rattle.ghost_cli.specs.Inferred.{GetsNotes}
 use Rattle.ghost_cli.specs.Sample.{sample_work}
@@ -139,23 +139,23 @@ pub record IsSafe (files : Files) (name : List ℕ) : Type 0 where
 -- The text spells a program, and of the files only the output changed: it has the bytes of the program's compiled
 -- object, whose runs show and leave what the program means, and take and give text as the program does. Where the text
 -- was read with procedures, that is what its calls mean.
-pub record IsWrittenFor (procs : Bool) (files afterwards : Files) (text output : List ℕ) (profile : Profile)
+pub record IsWrittenFor (procs : Bool) (files afterwards : Files) (text output : List ℕ) (target : Target)
     : Type 0 where
   pub p : Source
   pub bytes : List ℕ
   pub spells : SpellsTyped procs text p
   pub written : afterwards ≡ with_file output bytes files
-  pub compiled : IsCompiledTo p profile bytes
+  pub compiled : IsCompiledTo p target bytes
   pub runs : (o : Parts) → SpellsObject bytes o → RunsAsMeant p o
   pub texts : (o : Parts) → SpellsObject bytes o → TextsAsMeant p o
   pub calls : MeansItsCalls procs text p spells.spells
 
 -- so it is for the text of a file
-pub record IsCompiledFile (procs : Bool) (files afterwards : Files) (source output : List ℕ) (profile : Profile)
+pub record IsCompiledFile (procs : Bool) (files afterwards : Files) (source output : List ℕ) (target : Target)
     : Type 0 where
   pub text : List ℕ
   pub there : get files source ≡ Some text
-  pub file : IsWrittenFor procs files afterwards text output profile
+  pub file : IsWrittenFor procs files afterwards text output target
 
 -- The file spells an object, and of the files only the output changed: it has the bytes of the object with its least
 -- notes. So it is safe.
@@ -214,11 +214,11 @@ pub record CallLaws (asked : Option Work) (before after : Outside) (status : ℕ
   pub bus : (pairs : List Pair) (cycles : ℕ) → asked ≡ Some (bus_work pairs cycles) → IsDone status
       → (files : Files) → before.shelf.files ≡ Some files → (p : Pair) → Contains pairs p → IsSafe files p.object
   -- A compilation that is done leaves the object file of the program that the source spells.
-  pub compiled : (source output : List ℕ) (profile : Profile) (procs : Bool)
-      → asked ≡ Some (compile_work source output profile procs) → status ≡ 0
+  pub compiled : (source output : List ℕ) (target : Target) (procs : Bool)
+      → asked ≡ Some (compile_work source output target procs) → status ≡ 0
       → (files : Files) → before.shelf.files ≡ Some files
       → (afterwards : Files) × (after.shelf.files ≡ Some afterwards)
-      × IsCompiledFile procs files afterwards source output profile
+      × IsCompiledFile procs files afterwards source output target
   -- `infer` that is done leaves the object with its least notes.
   pub inferred : (object output : List ℕ) → asked ≡ Some (infer_work object output) → status ≡ 0
       → (files : Files) → before.shelf.files ≡ Some files
@@ -230,7 +230,7 @@ pub record CallLaws (asked : Option Work) (before after : Outside) (status : ℕ
       → IsDone status ⊎ (status ≡ 4) ⊎ (status ≡ 5)
   pub sample : (items : ℕ) (output : List ℕ) → asked ≡ Some (sample_work items output) → status ≡ 0
       → (files : Files) → before.shelf.files ≡ Some files → (afterwards : Files) × (after.shelf.files ≡ Some afterwards)
-      × IsWrittenFor false files afterwards (sample_text items) output sample_profile
+      × IsWrittenFor false files afterwards (sample_text items) output sample_target
 
 -- so it is for all work
 abbrev pub PromisesFollow : Type 0

@@ -1,10 +1,10 @@
 -- What the calls over bytes return: what they found, or why they found nothing. They read no files. (This project's
--- profile.)
+-- target.)
 use Rattle.std.specs.Prelude.{◌≡◌, ℕ, ℤ, Bool, List, Ok, Err}
 use Rattle.lt_isa.specs.Object.{Parts}
 use Rattle.lt_isa.specs.Oblivious.{IsOblivious}
 use Rattle.lt_isa.specs.Start.{wants_of}
-use Rattle.lt_isa.specs.declared.profiles.Profile.{Profile}
+use Rattle.ghost_cli.specs.declared.targets.Target.{Target}
 use Rattle.object_file.specs.FirstFaults.{IsFirstObjectFault}
 use Rattle.object_file.specs.declared.errors.DecodeError.{DecodeError}
 use Rattle.run_data.specs.InputsOf.{inputs_of, json_of}
@@ -33,12 +33,12 @@ pub data NotChecked (bytes : List ℕ) (said : Said) : Type 0 where
 
 -- Why a text gives no object file: memory ran out; or it spells no program, and this is its first fault; or the program
 -- has no room on the machine.
-pub data NotCompiled (procs : Bool) (text : List ℕ) (profile : Profile) (said : Said) : Type 0 where
-  NoRoomLeft : said ≡ no_memory → NotCompiled procs text profile said
+pub data NotCompiled (procs : Bool) (text : List ℕ) (target : Target) (said : Said) : Type 0 where
+  NoRoomLeft : said ≡ no_memory → NotCompiled procs text target said
   NoProgram : (fault : SourceFault) → IsFirstSourceFault procs text fault → said ≡ comes_to (BadSource fault)
-      → NotCompiled procs text profile said
-  NoRoomOnMachine : (p : Source) (fault : SourceFault) → SpellsTyped procs text p → IsCompiled p profile (Err fault)
-      → said ≡ comes_to (BadSource fault) → NotCompiled procs text profile said
+      → NotCompiled procs text target said
+  NoRoomOnMachine : (p : Source) (fault : SourceFault) → SpellsTyped procs text p → IsCompiled p target (Err fault)
+      → said ≡ comes_to (BadSource fault) → NotCompiled procs text target said
 
 -- Why an object and inputs give no run: memory ran out; or there is no accepted object; or the bytes give it no inputs,
 -- and this is their first fault.

@@ -3,7 +3,7 @@
 use Rattle.std.specs.Prelude.{◌≡◌, Bool, true, false, ℕ, ℤ, List, Option, Result, Ok, Err, MatchOption, MatchResult}
 use Rattle.gr_word.specs.declared.variables.Want.{Want}
 use Rattle.src_tree.specs.Trees.{Source}
-use Rattle.lt_isa.specs.declared.profiles.Profile.{Profile}
+use Rattle.ghost_cli.specs.declared.targets.Target.{Target}
 use Rattle.lt_isa.specs.Object.{Parts}
 use Rattle.lt_isa.specs.Start.{trace}
 use Rattle.bus_arbiter.specs.Laws.{traces_on}
@@ -44,7 +44,7 @@ pub data Question : Type 0 where
   WhatIsJoined : (objects : List Parts) (inputs : List (List (List ℤ))) (cycles : ℕ) → Question
   WhatIsShown : (recursive : Bool) (o : Parts) (inputs : List (List ℤ)) (cycles seed : ℕ) → Question
   WhatIsLeft : (p : Source) (inputs : List (List ℤ)) (turns : ℕ) → Question
-  WhichCompiled : (p : Source) (profile : Profile) → Question
+  WhichCompiled : (p : Source) (target : Target) → Question
   WhatIsMade : (items : ℕ) → Question
   WhatIsInferred : (o : Parts) → Question
 
@@ -62,7 +62,7 @@ Answer (WhenItHalts o inputs cycles) = Option ℕ
 Answer (WhatIsJoined objects inputs cycles) = List Transfer
 Answer (WhatIsShown recursive o inputs cycles seed) = Seen
 Answer (WhatIsLeft p inputs turns) = Option (List (List ℤ))
-Answer (WhichCompiled p profile) = Result (List ℕ) SourceFault
+Answer (WhichCompiled p target) = Result (List ℕ) SourceFault
 Answer (WhatIsMade items) = Made
 Answer (WhatIsInferred o) = Result Parts InferError
 
@@ -94,6 +94,6 @@ IsRight (WhatIsJoined objects inputs cycles) answer = IsJoined (traces_on object
 IsRight (WhatIsShown false o inputs cycles seed) answer = IsShown o inputs cycles seed answer
 IsRight (WhatIsShown true o inputs cycles seed) answer = IsShownInTrees o inputs cycles seed answer
 IsRight (WhatIsLeft p inputs turns) answer = meaning p inputs turns ≡ answer
-IsRight (WhichCompiled p profile) answer = IsCompiled p profile answer
+IsRight (WhichCompiled p target) answer = IsCompiled p target answer
 IsRight (WhatIsMade items) answer = IsMade items answer
 IsRight (WhatIsInferred o) answer = MatchResult answer (GetsNotes o) (GetsNone o)

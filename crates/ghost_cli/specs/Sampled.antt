@@ -7,7 +7,7 @@ use Rattle.object_file.specs.Spelling.{spelling}
 use Rattle.src_tree.specs.Trees.{Source}
 use Rattle.ghost_cli.specs.Compiled.{IsCompiledTo}
 use Rattle.ghost_cli.specs.Counting.{is_plain, is_encrypted, is_second, how_many}
-use Rattle.ghost_cli.specs.Histogram.{Made, IsMade, figures_of, sample_profile, sample_text, sample_trace}
+use Rattle.ghost_cli.specs.Histogram.{Made, IsMade, figures_of, sample_target, sample_text, sample_trace}
 use Rattle.processor.specs.Ends.{NoHalt}
 use Rattle.ghost_cli.specs.Sources.{SpellsTyped}
 use Rattle.ghost_cli.specs.declared.sample.CountedRun.{CountedRun}
@@ -17,7 +17,7 @@ use Rattle.ghost_cli.specs.declared.sample.SampleFile.{SampleFile}
 pub record SampleIsReady (n : ℕ) (p : Source) (o : Parts) : Type 0 where
   pub spells : SpellsTyped false (sample_text n) p
   pub in_range : IsInRange o
-  pub compiled : IsCompiledTo p sample_profile (spelling o)
+  pub compiled : IsCompiledTo p sample_target (spelling o)
 
 -- the run halted at a cycle and showed so many accesses
 pub record RanSo (o : Parts) (run : CountedRun) : Type 0 where

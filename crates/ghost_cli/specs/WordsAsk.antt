@@ -6,7 +6,7 @@ use Rattle.ghost_cli.specs.Assemble.{assemble_work}
 use Rattle.ghost_cli.specs.Bus.{Pair, bus_work, pairs_of}
 use Rattle.ghost_cli.specs.Check.{check_work}
 use Rattle.ghost_cli.specs.CommandLines.{AreTexts, IsAmong, Part, Says, StandTogether, Text, compile_options, has_flag, run_options, value_in}
-use Rattle.ghost_cli.specs.Compile.{compile_work}
+use Rattle.ghost_cli.specs.Compile.{compile_work, target_for}
 use Rattle.ghost_cli.specs.Disassemble.{disassemble_work}
 use Rattle.ghost_cli.specs.Evaluate.{evaluate_work}
 use Rattle.ghost_cli.specs.Infer.{infer_work}
@@ -15,7 +15,7 @@ use Rattle.ghost_cli.specs.Run.{run_work}
 use Rattle.ghost_cli.specs.Sample.{sample_work}
 use Rattle.ghost_cli.specs.Trace.{trace_work}
 use Rattle.ghost_cli.specs.Verbs.{work_of}
-use Rattle.ghost_cli.specs.Windows.{window_given, windowed_profile}
+use Rattle.ghost_cli.specs.Windows.{window_given}
 use Rattle.ghost_cli.specs.Work.{Work}
 
 -- a verb with one name, and with two, that has no options
@@ -72,10 +72,11 @@ pub record AsksToCompile (words : List Text) (work : Work) : Type 0 where
   pub parts : List Part
   pub block_log : ℕ
   pub window : Window
-  pub says : Says compile_options (codes "procs" ∷ []) words (source ∷ output ∷ []) parts
+  pub says : Says compile_options (codes "procs" ∷ codes "fast" ∷ []) words (source ∷ output ∷ []) parts
   pub block_log_is : block_log_given (value_in (codes "block-log") parts) ≡ Some block_log
   pub window_is : window_given (value_in (codes "window") parts) ≡ Some window
-  pub is : work ≡ compile_work source output (windowed_profile block_log window) (has_flag (codes "procs") parts)
+  pub is : work
+      ≡ compile_work source output (target_for block_log window (has_flag (codes "fast") parts)) (has_flag (codes "procs") parts)
 
 pub record AsksToSample (words : List Text) (work : Work) : Type 0 where
   pub number : Text

@@ -5,7 +5,7 @@ ghost use Rattle.object_file.specs.Spelling.{spelling};
 ghost use Rattle.src_tree.specs.Trees.{source_of};
 ghost use Rattle.clap.specs.Words.{found_of, rows_of};
 ghost use Rattle.ghost_cli.specs.Compile.{compile_named, compile_row, compile_work, on_compiled};
-ghost use Rattle.ghost_cli.specs.Compiled.{IsCompiledTo, room_fault};
+ghost use Rattle.ghost_cli.specs.Compiled.{IsCompiledTo, LacksRoom, room_fault};
 ghost use Rattle.ghost_cli.specs.Outside.{Explains, outside};
 ghost use Rattle.ghost_cli.specs.Progress.{EndsWorkWith, LeavesToSay, SaysSource};
 ghost use Rattle.ghost_cli.specs.Questions.{WhichCompiled};
@@ -15,6 +15,7 @@ use crate::options::{block_log_given, flag_given, value};
 use crate::replies::{Done, Reply, Verdict};
 use crate::source_faults::room_fault;
 use crate::sources::find_source;
+use crate::targets::Target;
 use crate::verbs::{Argument, VerbWords};
 use crate::windows::{window_given, windowed};
 use crate::writing::write_and_say;
@@ -22,7 +23,7 @@ use clap::ArgMatches;
 use code_gen::CompileError;
 use flow_types::Typed;
 use gr_outside::{Shelf, Sink};
-use lt_isa::{Latencies, Object, Profile};
+use lt_isa::{Latencies, Object};
 use object_file::encode;
 use std::alloc::Global;
 
@@ -32,20 +33,20 @@ pub const WORDS: VerbWords<'static> = VerbWords {
     place: Argument::Word,
     places: &["SRC", "OUT"],
     options: &["block-log", "window"],
-    flags: &["procs"],
+    flags: &["procs", "fast"],
 };
 
-/// The names of the file that is read and of the one that is written, the profile of the machine, and whether the file
-/// is read with procedures.
+/// The names of the file that is read and of the one that is written, what is compiled for, and whether the file is read
+/// with procedures.
 #[derive(Clone, Copy)]
 pub struct CompileWords<'a> {
     source: &'a str,
     output: &'a str,
-    profile: Profile,
+    target: Target,
     procs: bool,
 }
 
-/// The verb `compile SRC OUT [--block-log w] [--window P:O:C] [--procs]`: writes the object file of the program that a
+/// The verb `compile SRC OUT [--fast] [--block-log w] [--window P:O:C] [--procs]`: writes the object file of the program that a
 /// source text spells. `Err` where nothing was put yet: the reply is to be said.
 pub fn compile<'a, F: Shelf, O: Sink>(
     alloc: Global,
@@ -64,6 +65,7 @@ pub fn compile<'a, F: Shelf, O: Sink>(
         value(matches, "OUT"),
         value(matches, "block-log"),
         value(matches, "window"),
+        value(matches, "fast"),
         value(matches, "procs"),
     ) else {
         return Err(Reply::Usage);
@@ -76,18 +78,22 @@ fn words_in<'a>(
     output: Option<&'a str>,
     block_log: Option<&'a str>,
     window: Option<&'a str>,
+    fast: Option<&'a str>,
     procs: Option<&'a str>,
 ) -> Option<CompileWords<'a>>
-    ensures asked { option_map (λ a. compile_work a.source.now a.output.now a.profile a.procs) result
+    ensures asked { option_map (λ a. compile_work a.source.now a.output.now a.target a.procs) result
         ≡ compile_named (option_map (λ t. t.now) source.entry) (option_map (λ t. t.now) output.entry)
         (option_map (λ t. t.now) block_log.entry) (option_map (λ t. t.now) window.entry)
-        (option_map (λ t. t.now) procs.entry) }
-    ensures within { IfSome result (λ a. ProfileFits a.profile) }
+        (option_map (λ t. t.now) fast.entry) (option_map (λ t. t.now) procs.entry) }
+    ensures within { IfSome result (λ a. ProfileFits a.target.profile) }
 {
     Some(CompileWords {
         source: source?,
         output: output?,
-        profile: windowed(block_log_given(block_log)?, window_given(window)?),
+        target: Target {
+            profile: windowed(block_log_given(block_log)?, window_given(window)?),
+            fast: flag_given(fast),
+        },
         procs: flag_given(procs),
     })
 }
@@ -98,46 +104,62 @@ fn compile_file<'a, F: Shelf, O: Sink>(
     shelf: &mut F,
     out: &mut O,
 ) -> Result<u8, Reply<'a>>
-    requires { ProfileFits asked.profile }
+    requires { ProfileFits asked.target.profile }
     ensures done { IfOk result (λ status. Explains (outside (F.seen shelf.old) (O.seen out.old))
         (outside (F.seen shelf.new) (O.seen out.new)) status
-        (Some (compile_work asked.entry.source.now asked.entry.output.now asked.entry.profile asked.entry.procs))) }
+        (Some (compile_work asked.entry.source.now asked.entry.output.now asked.entry.target asked.entry.procs))) }
     ensures stopped { IfErr result (λ reply. LeavesToSay (F.seen shelf.old) (F.seen shelf.new)
-        (Some (compile_work asked.entry.source.now asked.entry.output.now asked.entry.profile asked.entry.procs))
+        (Some (compile_work asked.entry.source.now asked.entry.output.now asked.entry.target asked.entry.procs))
         (said reply)) }
     ensures unput { OnErr result (O.seen out.new ≡ O.seen out.old) }
 {
     let program = find_source(alloc, asked.source, asked.procs, shelf)?;
-    let bytes = object_bytes(alloc, &program, &asked.profile)?;
+    let bytes = object_bytes(alloc, &program, &asked.target)?;
     write_and_say(alloc, asked.output, &bytes, Done::Compiled, shelf, out)
 }
 
-/// The bytes of the program's object file, for a machine of this profile, or what is said where it has none.
+/// The bytes of the program's object file, for this target, or what is said where it has none.
 pub(crate) fn object_bytes<'a>(
     alloc: Global,
     program: &Typed,
-    profile: &Profile,
+    target: &Target,
 ) -> Result<Vec<u8>, Reply<'a>>
-    requires { ProfileFits profile.now }
-    ensures compiled { IfOk result (λ bytes. IsCompiledTo (source_of program.now) profile.now bytes.items) }
+    requires { ProfileFits target.now.profile }
+    ensures compiled { IfOk result (λ bytes. IsCompiledTo (source_of program.now) target.now bytes.items) }
     ensures refused { IfErr result (λ reply. (output : List ℕ)
-        → EndsWorkWith (WhichCompiled (source_of program.now) profile.now) (on_compiled output) (said reply)) }
+        → EndsWorkWith (WhichCompiled (source_of program.now) target.now) (on_compiled output) (said reply)) }
 {
-    let object = object_of(alloc, program, profile)?;
+    let object = object_of(alloc, program, target)?;
     Ok(encode(alloc, &object)?)
 }
 
-/// The program's object for a machine of this profile, or what is said where it has none.
-pub fn object_of<'a>(alloc: Global, program: &Typed, profile: &Profile) -> Result<Object, Reply<'a>>
-    requires { ProfileFits profile.now }
+/// The program's object for this target, or what is said where it has none.
+pub fn object_of<'a>(alloc: Global, program: &Typed, target: &Target) -> Result<Object, Reply<'a>>
+    requires { ProfileFits target.now.profile }
     ensures in_range { IfOk result (λ o. IsInRange o) }
-    ensures compiled { IfOk result (λ o. IsCompiledTo (source_of program.now) profile.now (spelling o)) }
+    ensures compiled { IfOk result (λ o. IsCompiledTo (source_of program.now) target.now (spelling o)) }
     ensures refused { IfErr result (λ reply. (output : List ℕ)
-        → EndsWorkWith (WhichCompiled (source_of program.now) profile.now) (on_compiled output) (said reply)) }
+        → EndsWorkWith (WhichCompiled (source_of program.now) target.now) (on_compiled output) (said reply)) }
 {
-    match code_gen::compile(alloc, program, profile, &Latencies::usual()) {
+    match compiled(alloc, program, target) {
         Ok(object) => Ok(object),
         Err(fault) => Err(no_room(fault)),
+    }
+}
+
+/// Compiles a program for this target.
+fn compiled(alloc: Global, program: &Typed, target: &Target) -> Result<Object, CompileError>
+    requires { ProfileFits target.now.profile }
+    ensures compiled { IfOk result (λ o. IsCompiledTo (source_of program.now) target.now (spelling o)) }
+    ensures in_range { IfOk result (λ o. IsInRange o) }
+    ensures refused { IfErr result (λ e.
+        LacksRoom target.now.fast e (source_of program.now) target.now.profile.block_log) }
+{
+    let latencies = Latencies::usual();
+    if target.fast {
+        code_gen::compile_fast(alloc, program, &target.profile, &latencies)
+    } else {
+        code_gen::compile(alloc, program, &target.profile, &latencies)
     }
 }
 

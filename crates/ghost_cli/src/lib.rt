@@ -38,6 +38,7 @@ pub mod run;
 pub mod sample;
 pub mod source_faults;
 pub mod sources;
+pub mod targets;
 pub mod top;
 pub mod trace;
 pub mod trace_watch;

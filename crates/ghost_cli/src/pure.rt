@@ -19,9 +19,9 @@ use crate::reading::{checked, inputs_in, object_in};
 use crate::replies::Reply;
 use crate::run::{Ran, run_to_end};
 use crate::sources::source_in;
+use crate::targets::Target;
 use gr_word::Inputs;
 use lt_checker::Accepted;
-use lt_isa::Profile;
 use std::alloc::Global;
 
 /// The accepted object that these bytes spell: `check` over bytes. The bytes are at most 33,554,432.
@@ -38,7 +38,7 @@ pub fn checked_bytes<'a>(alloc: Global, bytes: &[u8]) -> Result<Accepted, Reply<
     checked(alloc, object)
 }
 
-/// The bytes of the object file of the program that this text spells, for a machine of this profile: `compile` over
+/// The bytes of the object file of the program that this text spells, for this target: `compile` over
 /// bytes. With `procs` the text may have procedures. It has at most 1,048,576 bytes.
 ///
 /// `Err` if the text spells no program, if the program has no room on the machine, or if memory runs out: the reply
@@ -47,15 +47,15 @@ pub fn compiled_bytes<'a>(
     alloc: Global,
     text: &[u8],
     procs: bool,
-    profile: &Profile,
+    target: &Target,
 ) -> Result<Vec<u8>, Reply<'a>>
     requires short { length text.now ≤ source_limit }
-    requires fits { ProfileFits profile.now }
+    requires fits { ProfileFits target.now.profile }
     ensures compiled { IfOk result (λ bytes. IsObjectOf procs text.now bytes.items) }
-    ensures refused { IfErr result (λ reply. NotCompiled procs text.now profile.now (said reply)) }
+    ensures refused { IfErr result (λ reply. NotCompiled procs text.now target.now (said reply)) }
 {
     let program = source_in(alloc, text, procs)?;
-    object_bytes(alloc, &program, profile)
+    object_bytes(alloc, &program, target)
 }
 
 /// Runs the accepted object that the first bytes spell on the inputs that the second give as JSON, for at most that

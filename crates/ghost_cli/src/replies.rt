@@ -3,7 +3,7 @@ ghost use Rattle.ghost_cli.specs.NameText.{name_text};
 ghost use Rattle.ghost_cli.specs.declared.replies.Reply.TheVariants.{NoMemory};
 ghost use Rattle.ghost_cli.specs.Texts.{bus_fault, done_text, figures_text, input_fault, notes_fault, object_fault, said, text_fault, verdict_status, verdict_text};
 
-use crate::name_text::without_late_controls;
+use crate::name_text::without_hidden;
 use crate::source_faults::SourceFault;
 use bus_arbiter::BusError;
 use gr_base::Memory;
@@ -16,7 +16,7 @@ use std::alloc::{AllocError, AllocFailed, Global};
 use std::fmt;
 use std::marker::Model;
 
-/// A text as JSON writes it, within quotation marks and without control characters.
+/// A text as JSON writes it, within quotation marks and without hidden characters.
 #[derive(Drop)]
 pub struct JsonText {
     text: String,
@@ -36,7 +36,7 @@ impl JsonText {
         ensures { IfOk result (λ json. json ≡ name_text text.now) }
     {
         let quoted = Value::String(String::from_str(alloc, text)?).to_string(alloc)?;
-        let text = without_late_controls(alloc, quoted.as_str())?;
+        let text = without_hidden(alloc, quoted.as_str())?;
         Ok(JsonText { text })
     }
 
@@ -199,23 +199,6 @@ impl Verdict {
 
 /// The line for want of memory, which is put where there is none for any other.
 pub const NO_MEMORY: &str = "fault 5 memory\n";
-
-/// The bytes of the line.
-impl fmt::Display for Reply<'_> {
-    ghost output = { λ reply. Some (said reply).text };
-
-    fn fmt<W: fmt::Write>(&self, f: &mut fmt::Formatter<W>) -> fmt::Result {
-        match self {
-            Reply::Usage => f.write_str("fault 2 usage\n"),
-            Reply::Unread(name) => write!(f, "fault 3 read {name}\n"),
-            Reply::Unwritten(name) => write!(f, "fault 4 write {name}\n"),
-            Reply::NoMemory => f.write_str(NO_MEMORY),
-            Reply::TooLong(name, limit) => write!(f, "fault 11 long {name} {limit}\n"),
-            Reply::Comes(verdict) => write!(f, "{verdict}"),
-            Reply::Wrote(done) => write!(f, "{done}\n"),
-        }
-    }
-}
 
 impl fmt::Display for Verdict {
     ghost output = { λ verdict. Some (verdict_text verdict) };

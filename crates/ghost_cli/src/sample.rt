@@ -22,6 +22,7 @@ use crate::oblivious::{SeededOram, load_seeded};
 use crate::options::{items_given, seed_given, value};
 use crate::reading::checked;
 use crate::replies::{Done, Figures, Reply, Verdict};
+use crate::targets::Target;
 use crate::verbs::{Argument, VerbWords};
 use crate::windows::{ALWAYS_OPEN, windowed};
 use crate::writing::write_and_say;
@@ -162,7 +163,11 @@ fn ready<'a>(alloc: Global, items: u32) -> Result<ReadySample, Reply<'a>>
     ensures starved { IfErr result (λ reply. said reply ≡ no_memory) }
 {
     let program = sample_program(alloc, items)?;
-    let object = object_of(alloc, &program, &windowed(SAMPLE_BLOCK_LOG, ALWAYS_OPEN))?;
+    let target = Target {
+        profile: windowed(SAMPLE_BLOCK_LOG, ALWAYS_OPEN),
+        fast: false,
+    };
+    let object = object_of(alloc, &program, &target)?;
     let accepted = checked(alloc, object)?;
     Ok(ReadySample { program, accepted })
 }

@@ -31,7 +31,7 @@ use std::alloc::Global;
 ///
 /// The verbs are `check OBJ`, `trace OBJ INPUT [--cycles n] [--seed s] [--paths] [--recursive]`,
 /// `run OBJ INPUT OUT [--cycles n] [--seed s] [--recursive]`, `asm TEXT OUT`, `dis OBJ OUT`,
-/// `eval SRC INPUT OUT [--turns n] [--procs]`, `compile SRC OUT [--block-log w] [--window P:O:C] [--procs]`,
+/// `eval SRC INPUT OUT [--turns n] [--procs]`, `compile SRC OUT [--fast] [--block-log w] [--window P:O:C] [--procs]`,
 /// `sample N OUT [--seed s]`, `bus OBJ INPUT [OBJ INPUT ..] [--cycles n] [--seed s]` and `infer OBJ OUT`.
 ///
 /// Statuses: 0 the work was done; 2 the words ask for no work; 3 a file couldn't be read; 4 the text or the output

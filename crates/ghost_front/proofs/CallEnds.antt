@@ -25,11 +25,11 @@ pub not_done : (file : Option (List ℕ)) (before : SinkSeen) (verdict : ℕ) �
 not_done file before verdict other = NotDone other refl
 
 pub whole : (file : Option (List ℕ)) (before mid after : SinkSeen) (verdict : ℕ) (bytes : List ℕ) → verdict ≡ 0
-    → bytes ≡ bytes_of file → Adds before.held mid.held bytes → after.held ≡ mid.held
-    → Delivers file before after verdict 0
-whole file before mid after verdict bytes done same adds flushed =
+    → bytes ≡ bytes_of file → Adds before.held mid.held bytes → mid.faults ≡ before.faults
+    → after.held ≡ mid.held → after.faults ≡ mid.faults → Delivers file before after verdict 0
+whole file before mid after verdict bytes done same adds calm flushed still =
     Whole done (subst (λ held. Adds before.held held (bytes_of file)) (sym flushed)
-    (subst (λ b. Adds before.held mid.held b) same adds))
+    (subst (λ b. Adds before.held mid.held b) same adds)) (still ∙ calm)
 
 pub not_put : (file : Option (List ℕ)) (before after : SinkSeen) (verdict : ℕ) → verdict ≡ 0
     → Rose before.faults after.faults → Delivers file before after verdict 4

@@ -26,10 +26,11 @@ bytes_of (Some bytes) = bytes
 bytes_of None = []
 
 -- Standard output gains the file that the verb wrote to `-`, if the verb ended with status 0; otherwise it stays as it
--- was. If it couldn't take the file, the status is 4.
+-- was. If it couldn't take the file, or couldn't be flushed after it, the status is 4.
 pub data Delivers (file : Option (List ℕ)) (before after : SinkSeen) (verdict : ℕ) : ℕ → Type 0 where
   NotDone : verdict ≢ 0 → after ≡ before → Delivers file before after verdict verdict
-  Whole : verdict ≡ 0 → Adds before.held after.held (bytes_of file) → Delivers file before after verdict 0
+  Whole : verdict ≡ 0 → Adds before.held after.held (bytes_of file) → after.faults ≡ before.faults
+      → Delivers file before after verdict 0
   NotPut : verdict ≡ 0 → Rose before.faults after.faults → Delivers file before after verdict 4
 
 -- The verb's text went to standard error, which then had `said`, and the file OUT to standard output.

@@ -11,24 +11,24 @@ use Rattle.ghost_cli.proofs.compile.compile_file.Goals as goal
 pub returns-in_err-program-clause-stopped : goal.returns-in_err-program-clause-stopped
 returns-in_err-program-clause-stopped g c =
     passed-on c.from_residual.result _ _ _ _ c.from_residual.ensures.1
-    (WorkStops _ refl (c.in_err-program.ensures.stopped (compiles_to c.args.asked.output.now c.args.asked.profile)))
+    (WorkStops _ refl (c.in_err-program.ensures.stopped (compiles_to c.args.asked.output.now c.args.asked.target)))
 
 pub returns-in_err-bytes-clause-stopped : goal.returns-in_err-bytes-clause-stopped
 returns-in_err-bytes-clause-stopped g c =
     passed-on c.from_residual-in_err-bytes.result _ _ _ _ c.from_residual-in_err-bytes.ensures.1
     (WorkStops _ refl
     (refused-stops (g.F.Shelf.seen c.args.shelf.now) (g.F.Shelf.seen c.find_source.new.shelf) _
-    (WhichCompiled (source_of c.in_ok-program.program) c.args.asked.profile) (on_compiled c.args.asked.output.now) _
-    (c.in_ok-program.ensures.found (compiles_to c.args.asked.output.now c.args.asked.profile))
+    (WhichCompiled (source_of c.in_ok-program.program) c.args.asked.target) (on_compiled c.args.asked.output.now) _
+    (c.in_ok-program.ensures.found (compiles_to c.args.asked.output.now c.args.asked.target))
     c.in_ok-program.ensures.calm (c.in_err-bytes.ensures.refused c.args.asked.output.now)))
 
 pub returns-clause-done : goal.returns-clause-done
 returns-clause-done g c =
     compiled-said (g.F.Shelf.seen c.args.shelf.now) (g.F.Shelf.seen c.find_source.new.shelf)
     (g.F.Shelf.seen c.write_and_say.new.shelf) (g.O.Sink.seen c.args.out.now)
-    (g.O.Sink.seen c.write_and_say.new.out) c.write_and_say.result _ c.args.asked.output.now c.args.asked.profile
+    (g.O.Sink.seen c.write_and_say.new.out) c.write_and_say.result _ c.args.asked.output.now c.args.asked.target
     c.args.asked.procs (source_of c.in_ok-program.program) _ _
-    (c.in_ok-program.ensures.found (compiles_to c.args.asked.output.now c.args.asked.profile))
+    (c.in_ok-program.ensures.found (compiles_to c.args.asked.output.now c.args.asked.target))
     c.in_ok-program.ensures.calm c.in_ok-bytes.ensures.compiled c.deref.ensures.value c.write_and_say.ensures.left
 
 pub returns-clause-stopped : goal.returns-clause-stopped

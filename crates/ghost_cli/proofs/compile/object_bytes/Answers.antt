@@ -5,5 +5,5 @@ use Rattle.ghost_cli.proofs.compile.object_bytes.Goals as goal
 
 pub returns-clause-compiled : goal.returns-clause-compiled
 returns-clause-compiled c =
-    subst (λ (bytes : List ℕ). IsCompiledTo (source_of c.args.program.now) c.args.profile.now bytes)
+    subst (λ (bytes : List ℕ). IsCompiledTo (source_of c.args.program.now) c.args.target.now bytes)
     (sym c.in_ok-encode.ensures.spelled) c.in_ok-object.ensures.compiled

@@ -8,16 +8,16 @@ pub returns-in_err-program-clause-refused : goal.returns-in_err-program-clause-r
 returns-in_err-program-clause-refused c =
     let passed = err_from_is_err_and c.from_residual.result c.from_residual.ensures.1 in
     rw (passed.1, passed.2)
-    (no-program c.args.procs c.args.text.now c.args.profile.now _ c.in_err-program.ensures.refused)
+    (no-program c.args.procs c.args.text.now c.args.target.now _ c.in_err-program.ensures.refused)
 
 pub returns-clause-compiled : goal.returns-clause-compiled
 returns-clause-compiled c =
     IfOk-weaker c.object_bytes.result _ _
-    (λ bytes. compiled-program c.args.procs c.args.text.now _ c.args.profile.now bytes.items
+    (λ bytes. compiled-program c.args.procs c.args.text.now _ c.args.target.now bytes.items
     c.in_ok-program.ensures.found) c.object_bytes.ensures.compiled
 
 pub returns-clause-refused : goal.returns-clause-refused
 returns-clause-refused c =
     IfErr-weaker c.object_bytes.result _ _
-    (λ reply. not-compiled c.args.procs c.args.text.now (source_of c.in_ok-program.program) c.args.profile.now _
+    (λ reply. not-compiled c.args.procs c.args.text.now (source_of c.in_ok-program.program) c.args.target.now _
     c.in_ok-program.ensures.found) c.object_bytes.ensures.refused

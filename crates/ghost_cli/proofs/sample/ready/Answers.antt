@@ -20,15 +20,16 @@ returns-in_err-object-clause-starved c =
     (compile-starved c.args.items c.requires.1
     (source_of c.in_ok-program.program) c.in_ok-program.ensures.spells _
     (λ output. subst
-    (λ (q : Profile). EndsWorkWith (WhichCompiled (source_of c.in_ok-program.program) q) (on_compiled output)
+    (λ (q : Profile). EndsWorkWith
+    (WhichCompiled (source_of c.in_ok-program.program) (record { profile = q; fast = false })) (on_compiled output)
     (said c.in_err-object.field-0.0)) c.windowed.ensures.value (c.in_err-object.ensures.refused output)))
 
 pub returns-in_err-accepted-clause-starved : goal.returns-in_err-accepted-clause-starved
 returns-in_err-accepted-clause-starved c =
     let p = err_from_is_err_and c.from_residual-in_err-accepted.result c.from_residual-in_err-accepted.ensures.1 in
     rw (p.1, p.2)
-    (check-starved c.in_ok-object.object (compiled-accepted (source_of c.in_ok-program.program) c.windowed.result
-    c.in_ok-object.object c.in_ok-object.ensures.in_range
+    (check-starved c.in_ok-object.object (compiled-accepted (source_of c.in_ok-program.program)
+    (record { profile = c.windowed.result; fast = false }) c.in_ok-object.object c.in_ok-object.ensures.in_range
     c.in_ok-object.ensures.compiled) _ c.in_err-accepted.ensures.refused)
 
 pub returns-clause-ready : goal.returns-clause-ready
@@ -39,6 +40,7 @@ returns-clause-ready c =
       spells = c.in_ok-program.ensures.spells;
       in_range = c.in_ok-object.ensures.in_range;
       compiled = subst
-          (λ (q : Profile). IsCompiledTo (source_of c.in_ok-program.program) q (spelling c.in_ok-object.object))
+          (λ (q : Profile). IsCompiledTo (source_of c.in_ok-program.program) (record { profile = q; fast = false })
+          (spelling c.in_ok-object.object))
           c.windowed.ensures.value c.in_ok-object.ensures.compiled;
     })
