@@ -11,11 +11,20 @@ const Layout = (() => {
     'The bus shows the number of each block that is accessed, and hides its words.',
     'The bus shows that the bank is accessed, and hides which block, and its words.',
   ];
-  const REASONS = [
-    'The compiler places public variables here.',
-    'The compiler places a secret variable here if all its accesses are at public places.',
-    'The compiler places a secret array here if a secret chooses the place of one of its accesses.',
-  ];
+  const OBLIVIOUS = 'The compiler places a secret array here if a secret chooses the place of one of its accesses';
+  const REASONS = {
+    memory: [
+      'The compiler places public variables here.',
+      'The compiler places a secret variable here if all its accesses are at public places.',
+      `${OBLIVIOUS}.`,
+    ],
+    scratchpad: [
+      'The compiler places public variables here, and keeps scalars and arrays that fit in the scratchpad during a run.',
+      'The compiler keeps secret scalars and arrays that fit in the scratchpad during a run; it places them here, with '
+        + 'the other secret variables whose accesses are all at public places.',
+      `${OBLIVIOUS}, and the array finds no room in the scratchpad.`,
+    ],
+  };
 
   // the boxes of a bank: blocks with the same variables are one
   function boxesOf(layout, bank) {
@@ -44,8 +53,9 @@ const Layout = (() => {
     if (!held.length) made(item, 'span', { class: 'quiet' }, 'free');
   }
 
-  // shows the banks; only of a compiled object the reasons of the places are known
-  function show(parent, layout, isCompiled) {
+  // shows the banks, and of a compiled object the reasons of the places
+  function show(parent, layout, job) {
+    const reasons = job.form === 'source' ? REASONS[job.options.fast ? 'scratchpad' : 'memory'] : [];
     made(parent, 'h2', {}, 'Where the variables are');
     const banks = made(parent, 'div', { id: 'layout' });
     layout.banks.forEach(({ blocks, latency }, bank) => {
@@ -53,7 +63,7 @@ const Layout = (() => {
       const name = Objects.memoryOf(bank);
       made(part, 'h3', {}, `${name[0].toUpperCase()}${name.slice(1)}: ${counted(blocks, 'block')} of `
         + `${layout.blockWords} words, ${grouped(latency)} cycles an access`);
-      const words = [SHOWN[bank], ...(isCompiled ? [REASONS[bank]] : [])].join(' ');
+      const words = [SHOWN[bank], ...reasons.slice(bank, bank + 1)].join(' ');
       if (bank < SHOWN.length) made(part, 'p', { class: 'quiet' }, words);
       const boxes = boxesOf(layout, bank);
       const row = made(part, 'ol', { class: 'boxes' });

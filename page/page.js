@@ -102,7 +102,7 @@ function restore() {
 
 // ---- what is kept, and links
 
-const FIELDS = ['block-log', 'cycles', 'seed-1', 'seed-2'];
+const FIELDS = ['block-log', 'arrays', 'cycles', 'seed-1', 'seed-2'];
 
 const optionsKept = () => ({
   ...Object.fromEntries(FIELDS.map((id) => [id, at(id).value])), paths: at('paths').checked });
@@ -170,6 +170,7 @@ function optionsOf(verb) {
   return {
     cycles: needsInputs ? numberIn('cycles', 1n, 4294967295n) : '1',
     blockLog: at('block-log').value,
+    fast: at('arrays').value === 'fast',
     paths,
     seeds: paths ? [numberIn('seed-1', 0n, MOST_SEED), numberIn('seed-2', 0n, MOST_SEED)] : [],
   };
@@ -266,7 +267,7 @@ function listenToInputs() {
 }
 
 function listenToOptions() {
-  at('block-log').onchange = () => changed('program');
+  for (const id of ['block-log', 'arrays']) at(id).onchange = () => changed('program');
   for (const id of ['cycles', 'seed-1', 'seed-2']) {
     at(id).oninput = () => {
       at(id).removeAttribute('aria-invalid');

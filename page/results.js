@@ -39,13 +39,13 @@ const Results = (() => {
 
   const SHOWS = {
     check(result, job) {
-      Layout.show(at('shown'), result.layout, job.form === 'source');
+      Layout.show(at('shown'), result.layout, job);
       return ['good', ['Accepted: the memory bus shows only public data in each of its runs.']];
     },
     compile(result, job) {
       heading(`The object as assembly: ${counted(result.listing.starts.length, 'line')}`);
       Listing.show(at('shown'), result.listing, 'listing', 'The object as assembly');
-      Layout.show(at('shown'), result.layout, job.form === 'source');
+      Layout.show(at('shown'), result.layout, job);
       offer('save-listing', result.listing.bytes, 'text/plain', `${job.base}.asm`, 'Save the assembly');
       return ['good', [`The object has ${grouped(result.object.length)} bytes.`]];
     },

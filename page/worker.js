@@ -35,7 +35,8 @@ function ghostWorker(engine, objects, marks, tell) {
       if (form === 'assembly') return this.call('assemble', ['asm', 'program', 'output'], program).output;
       const size = options.blockLog ? ['--block-log', options.blockLog] : [];
       const procedures = options.procedures ? ['--procs'] : [];
-      return this.call('compile', ['compile', 'program', 'output', ...size, ...procedures], program).output;
+      const fast = options.fast ? ['--fast'] : [];
+      return this.call('compile', ['compile', 'program', 'output', ...size, ...fast, ...procedures], program).output;
     }
 
     checked() {

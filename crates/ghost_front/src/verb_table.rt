@@ -41,10 +41,11 @@ pub(crate) const VERBS: [VerbHelp; 13] = [
             --procs the program may have procedures and calls.\n",
     },
     VerbHelp {
-        usage: "compile SRC OUT [--block-log W] [--window P:O:C] [--procs]",
+        usage: "compile SRC OUT [--fast] [--block-log W] [--window P:O:C] [--procs]",
         text: "    Compiles a program and writes the object file to OUT, with blocks of 2^W words. With\n    \
-            --window memory is open only from cycle O to cycle C - 1 of each period of P cycles. With\n    \
-            --procs the program may have procedures and calls.\n",
+            --fast arrays that fit stay in the scratchpad for the whole run, which takes far fewer\n    \
+            cycles and shows no more. With --window memory is open only from cycle O to cycle C - 1\n    \
+            of each period of P cycles. With --procs the program may have procedures and calls.\n",
     },
     VerbHelp {
         usage: "sample ITEMS OUT [--seed S]",
@@ -72,8 +73,9 @@ pub(crate) const VERBS: [VerbHelp; 13] = [
         text: "    Runs an accepted object and prints the number of events of each memory, and the cycles.\n",
     },
     VerbHelp {
-        usage: "layout SRC [--block-log W] [--window P:O:C] [--procs]",
-        text: "    Prints the bank and the block in which the compiler stores each variable.\n",
+        usage: "layout SRC [--fast] [--block-log W] [--window P:O:C] [--procs]",
+        text: "    Prints the bank and the block in which the compiler stores each variable, and with --fast\n    \
+            which ones stay in a slot of the scratchpad.\n",
     },
 ];
 

@@ -89,4 +89,21 @@ async function paths(user) {
   user.says(left === 0, 'and not if they aren’t');
 }
 
-module.exports = [opens, examples, leaks, paths];
+async function scratchpad(user) {
+  await user.chooses('histogram.gr');
+  await user.presses('trace');
+  const inMemory = await user.textOf('verdict');
+  await user.value(`${element('options')}.open = true`);
+  await user.value(`${element('arrays')}.focus()`);
+  await user.browser.key('End');
+  await user.presses('trace');
+  const inScratchpad = await user.textOf('verdict');
+  user.says(inScratchpad !== inMemory, 'arrays in the scratchpad take other cycles', inScratchpad);
+  await user.presses('check');
+  user.says((await user.textOf('shown')).includes('in the scratchpad during a run'),
+    'the layout says which variables stay in the scratchpad', await user.textOf('shown'));
+  await user.value(`${element('arrays')}.focus()`);
+  await user.browser.key('Home');
+}
+
+module.exports = [opens, examples, leaks, paths, scratchpad];
