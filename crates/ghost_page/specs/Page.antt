@@ -1,5 +1,5 @@
 -- What a call of the program from a page comes to. (This project's profile.)
-use Rattle.std.specs.Prelude.{◌≡◌, ℕ, All, ◌≤◌, ◌==◌, List, [], ◌∷◌, codes, take, length, Some, MatchOption}
+use Rattle.std.specs.Prelude.{◌≡◌, ◌⊎◌, ℕ, All, ◌≤◌, ◌==◌, List, [], ◌∷◌, codes, take, length, Some, MatchOption}
 use Rattle.std.specs.List.{slice_split}
 use Rattle.std.specs.FinMap.{from_entries, get}
 use Rattle.gr_outside.specs.Shelf.{Files, ShelfSeen}
@@ -66,6 +66,20 @@ pub record IsAnswered (lines program input text output : List ℕ) (status writt
       (outside (shelf_seen shelf) (sink_seen sink)) status
   pub put : IsText sink text text_size
   pub left : IsFile shelf output written output_size
+
+-- nothing was printed, and there is no file `output`
+pub record IsNothing (written text_size output_size : ℕ) : Type 0 where
+  pub no_file : written ≡ 0
+  pub no_text : text_size ≡ 0
+  pub no_bytes : output_size ≡ 0
+
+-- Words that are text are answered by the program, unless memory ran out before it was called; words that aren't are a
+-- usage error.
+abbrev pub IsAnsweredOrStarved : (lines program input text output : List ℕ)
+    → (status written text_size output_size : ℕ) → Type 0
+IsAnsweredOrStarved lines program input text output status written text_size output_size =
+    IsAnswered lines program input text output status written text_size output_size
+    ⊎ (status ≡ 5) × IsNothing written text_size output_size
 
 -- The words for people: so many printable characters and line feeds, which stand at the front of their room.
 abbrev pub IsPlainText : List ℕ → ℕ → Type 0

@@ -21,6 +21,7 @@ impl Answer {
         ensures status { result.status ≡ status }
         ensures no_file { result.written ≡ 0 }
         ensures no_text { result.text ≡ 0 }
+        ensures no_bytes { result.output ≡ 0 }
     {
         Answer {
             status,

@@ -1,6 +1,6 @@
-ghost use Rattle.std.specs.Prelude.{◌≡◌, ◌≢◌, IfOk};
+ghost use Rattle.std.specs.Prelude.{◌≡◌, IfOk};
 ghost use Rattle.std.specs.Str.{IsUtf8};
-ghost use Rattle.ghost_page.specs.Page.{IsAnswered, IsFile, IsText};
+ghost use Rattle.ghost_page.specs.Page.{IsAnswered, IsAnsweredOrStarved, IsFile, IsNothing, IsText};
 
 use crate::answers::{Answer, put};
 use crate::given::{shelf_of, words_of};
@@ -9,19 +9,19 @@ use gr_base::Memory;
 use gr_outside::{MemShelf, MemSink};
 use std::alloc::Global;
 
-/// The status where the words are no text.
+/// The status of words that aren't text.
 pub(crate) const USAGE: u32 = 2;
 
-/// The status where memory ran out.
+/// The status if memory ran out.
 pub(crate) const NO_MEMORY: u32 = 5;
 
-/// Calls the program with these words, one a line, over two files that are called `program` and `input`. What it puts
-/// is written at the front of `text`, and the file `output`, where it is there afterwards, at the front of `output`.
+/// Calls the program with these words, one a line, over two files that are called `program` and `input`. Its text is
+/// written to the beginning of `text`, and the file `output`, if the call left one, to the beginning of `output`.
 ///
-/// The status is the program's. It is 4 where the text is longer than its room, of which then a part stands there.
-/// Where the file is longer than its room, `answer.output` says so, and nothing of it stands there. Words that are no
-/// UTF-8 are status 2, and want of memory before the call is 5; both then have no text and no file. (This project's
-/// profile.)
+/// The status is the program's. It is 4 if the text is longer than its room, which then has a prefix of it. If the file
+/// is longer than its room, `answer.output` has its length, and the room is as it was. The status is 2 if the words
+/// aren't UTF-8, and 5 if memory ran out before the program was called; then there is no text and no file. (This
+/// project's profile.)
 #[unsafe(no_mangle)]
 pub extern "C" fn ghost_call(
     alloc: Global,
@@ -32,10 +32,11 @@ pub extern "C" fn ghost_call(
     output: &mut [u8],
     answer: &mut Answer,
 )
-    ensures answered { answer.new.status ≢ 5 → IsUtf8 words.now
-        → IsAnswered words.now program.now input.now text.new output.new
+    ensures answered { IsUtf8 words.now
+        → IsAnsweredOrStarved words.now program.now input.now text.new output.new
         answer.new.status answer.new.written answer.new.text answer.new.output }
-    ensures no_text { ¬ IsUtf8 words.now → answer.new.status ≡ 2 }
+    ensures no_text { ¬ IsUtf8 words.now
+        → (answer.new.status ≡ 2) × IsNothing answer.new.written answer.new.text answer.new.output }
 {
     let Ok(lines) = std::str::from_utf8(words) else {
         *answer = Answer::without_text(USAGE);
