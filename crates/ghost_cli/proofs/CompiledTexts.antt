@@ -46,10 +46,16 @@ module _ (p : Source) (target : Target) (bytes : List ℕ) (typed : IsTyped p) (
   o = compiled.o
 
   arranges : (words : Want → List ℤ) → by_name p o (map words (declared_wants p.decls)) ≡ map words (wants_of o)
-  arranges words = inputs-wanted p target.profile.block_log typed.once limits compiled.room o compiled.layout words
+  arranges words =
+      inputs-wanted p target.profile.block_log typed.once limits
+      (room-for target.fast p target.profile.block_log compiled.room) o
+      (layout-for target.fast p target.profile.block_log o compiled.layout) words
 
   permuted : IsPermutation (declared_wants p.decls) (wants_of o)
-  permuted = wants-permuted p target.profile.block_log typed.once limits compiled.room o compiled.layout
+  permuted =
+      wants-permuted p target.profile.block_log typed.once limits
+      (room-for target.fast p target.profile.block_log compiled.room) o
+      (layout-for target.fast p target.profile.block_log o compiled.layout)
 
   text-given : (text : List ℕ)
       → inputs_of (wants_of o) (json_of text)
