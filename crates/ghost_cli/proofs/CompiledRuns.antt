@@ -9,7 +9,7 @@ use Rattle.lt_checker.proofs.Soundness.{accepted_is_oblivious}
 use Rattle.code_gen.proofs.AgreeingStores.{inputs-agree}
 use Rattle.ghost_cli.specs.Compiled.{IsCompiledTo}
 use Rattle.ghost_cli.specs.CompiledRuns.{CompiledRuns, RunsAsMeant}
-use Rattle.ghost_cli.proofs.Targets.{layout-for, room-for}
+use Rattle.ghost_cli.proofs.OnTarget.{layout-for, room-for}
 
 -- the object that was compiled
 own-runs : (p : Source) (target : Target) (bytes : List ℕ) → IsTyped p → IsWithinLimits p

@@ -35,6 +35,7 @@ use Rattle.code_gen.proofs.WantsInOrder.{wants-permuted, wants-differ, words_nam
 use Rattle.ghost_cli.specs.Compiled.{IsCompiledTo}
 use Rattle.ghost_cli.specs.CompiledRuns.{IsStoreOf}
 use Rattle.ghost_cli.specs.CompiledTexts.{TextsAsMeant, CompiledTexts}
+use Rattle.ghost_cli.proofs.OnTarget.{layout-for, room-for}
 
 ok-same : {X E : Type 0} (x y : X) → ◌≡◌ {A = Result X E} (Ok x) (Ok y) → x ≡ y
 ok-same x y e = cc

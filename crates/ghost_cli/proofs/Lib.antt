@@ -17,6 +17,7 @@ pub mod LinesAlone
 pub mod Wording
 pub mod Evaluating
 pub mod Compiling
+mod OnTarget
 pub mod CompiledRuns
 pub mod CompiledTexts
 pub mod Behind

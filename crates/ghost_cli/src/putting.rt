@@ -3,7 +3,7 @@ ghost use Rattle.ghost_cli.specs.Outside.{PutsSaid};
 ghost use Rattle.ghost_cli.specs.Texts.{no_memory, said};
 
 use crate::name_text::without_hidden;
-use crate::replies::{NO_MEMORY, Reply};
+use crate::replies::{LongDetail, NO_MEMORY, Reply};
 use gr_base::Memory;
 use gr_outside::Sink;
 use std::alloc::{AllocError, Global};
@@ -54,7 +54,8 @@ fn line_in(alloc: Global, reply: &Reply) -> Result<String, AllocError>
         Reply::NoMemory => String::from_str(alloc, NO_MEMORY),
         Reply::TooLong(name, limit) => {
             let name = without_hidden(alloc, name)?;
-            format!(in alloc; "fault 11 long {name} {limit}\n")
+            let detail = LongDetail(name.as_str(), *limit);
+            format!(in alloc; "{detail}")
         }
         Reply::Comes(verdict) => format!(in alloc; "{verdict}"),
         Reply::Wrote(done) => format!(in alloc; "{done}\n"),

@@ -1,4 +1,4 @@
-ghost use Rattle.std.specs.Prelude.{◌≡◌, IfOk, Some};
+ghost use Rattle.std.specs.Prelude.{◌≡◌, ◌++◌, IfOk, Some, codes, decimal};
 ghost use Rattle.ghost_cli.specs.NameText.{name_text};
 ghost use Rattle.ghost_cli.specs.declared.replies.Reply.TheVariants.{NoMemory};
 ghost use Rattle.ghost_cli.specs.Texts.{bus_fault, done_text, figures_text, input_fault, notes_fault, object_fault, said, text_fault, verdict_status, verdict_text};
@@ -295,6 +295,21 @@ impl fmt::Display for InputFault {
                 write!(f, "word {text}")
             }
         }
+    }
+}
+
+/// That a file is longer than a limit: its name, without hidden characters, and the limit.
+#[derive(Clone, Copy)]
+pub(crate) struct LongDetail<'a>(pub &'a str, pub u32);
+
+impl fmt::Display for LongDetail<'_> {
+    ghost output = { λ detail. Some (codes "fault 11 long " ++ detail.0.now ++ codes " " ++ decimal detail.1
+        ++ codes "\n") };
+
+    fn fmt<W: fmt::Write>(&self, f: &mut fmt::Formatter<W>) -> fmt::Result {
+        let name = self.0;
+        let limit = self.1;
+        write!(f, "fault 11 long {name} {limit}\n")
     }
 }
 
