@@ -34,12 +34,19 @@ pub data StandsBefore (size : ℕ) (s t : Symbol) : Type 0 where
   InEarlierBank : (bank : s.bank < t.bank) → StandsBefore size s t
   AtEarlierWord : (bank : s.bank ≡ t.bank) (word : first_word size s < first_word size t) → StandsBefore size s t
 
--- exactly one symbol for each variable, in order of bank and place
-pub record AreSymbolsOf (p : Source) (w : ℕ) (symbols : List Symbol) : Type 0 where
-  pub each : IsPermutation (placed_symbols p.decls (places_of p w)) symbols
+-- exactly one symbol for each variable, in order of bank and place, where the variables are at some places
+pub record AreSymbolsAt (p : Source) (w : ℕ) (places : List Place) (symbols : List Symbol) : Type 0 where
+  pub each : IsPermutation (placed_symbols p.decls places) symbols
   pub order : AllPairs (StandsBefore (2 ^ w)) symbols
 
-pub record HasLayout (p : Source) (w : ℕ) (o : Parts) : Type 0 where
+-- the object has these places and numbers of blocks
+pub record IsLaidOut (p : Source) (w : ℕ) (places : List Place) (blocks : List ℕ) (o : Parts) : Type 0 where
   pub block_size : o.profile.block_log ≡ w
-  pub blocks : map (λ b. b.blocks) o.banks ≡ blocks_of_banks p w
-  pub symbols : AreSymbolsOf p w o.symbols
+  pub blocks : map (λ b. b.blocks) o.banks ≡ blocks
+  pub symbols : AreSymbolsAt p w places o.symbols
+
+abbrev pub AreSymbolsOf : Source → ℕ → List Symbol → Type 0
+AreSymbolsOf p w symbols = AreSymbolsAt p w (places_of p w) symbols
+
+abbrev pub HasLayout : Source → ℕ → Parts → Type 0
+HasLayout p w o = IsLaidOut p w (places_of p w) (blocks_of_banks p w) o
