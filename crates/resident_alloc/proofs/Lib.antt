@@ -1,0 +1,3 @@
+pub mod RoomSteps
+pub mod PlanSteps
+pub mod ResidentLacks
