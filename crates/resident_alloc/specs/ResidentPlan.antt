@@ -1,6 +1,6 @@
 -- Where the variables of a program are stored that is compiled with `--fast`, which slot serves each, and which block
 -- each slot holds for the whole run. (This project's profile.)
-use Rattle.std.specs.Prelude.{ℕ, ◌+◌, ◌-◌, ◌%◌, ◌^◌, ◌==◌, ◌&&◌, min, Bool, true, false, if◌then◌else◌, List, [], ◌∷◌, ◌++◌, length, map, count_by, find, Option, Some, None}
+use Rattle.std.specs.Prelude.{ℕ, zero, suc, ◌+◌, ◌-◌, ◌%◌, ◌^◌, ◌==◌, ◌&&◌, min, Bool, true, false, if◌then◌else◌, List, [], ◌∷◌, ◌++◌, length, map, count_by, find, Option, Some, None}
 use Rattle.std.specs.Option.{option_map}
 use Rattle.std.specs.List.{range_with_len}
 use Rattle.src_tree.specs.Trees.{Source}
@@ -8,11 +8,12 @@ use Rattle.bank_alloc.specs.declared.classes.Class.{Class}
 use Rattle.bank_alloc.specs.declared.classes.Class.TheVariants.{PublicScalar, SecretScalar, PublicArray, EncryptedArray, ObliviousArray}
 use Rattle.bank_alloc.specs.declared.places.Place.{Place}
 use Rattle.bank_alloc.specs.Places.{blocks_for}
-use Rattle.scratch_alloc.specs.Plans.{Plan, Pin}
+use Rattle.scratch_alloc.specs.declared.plans.Pin.{Pin}
+use Rattle.scratch_alloc.specs.Plans.{Plan}
 use Rattle.scratch_alloc.specs.Slots.{alternate_slot}
 use Rattle.resident_alloc.specs.declared.wants.Want.{Want}
 use Rattle.resident_alloc.specs.declared.storages.Storage.{Storage}
-use Rattle.resident_alloc.specs.declared.storages.Storage.TheVariants.{Scalar, Shared, Own, Cached, Oblivious}
+use Rattle.resident_alloc.specs.declared.storages.Storage.TheVariants.{Shared, Own}
 use Rattle.resident_alloc.specs.Residents.{is_of, room_after, room_beside, room_for, unshared, is_short, short_among, blocks_of_all, own_most, storage_of, wants_of}
 
 -- how many secret arrays with a secret index have a slot of their own, and a block of encrypted memory
@@ -21,7 +22,7 @@ own_secret size all = min (own_most size all ObliviousArray) (short_among size (
 
 -- some arrays without the first n short ones
 abbrev pub without_short : ℕ → ℕ → List Want → List Want
-without_short size 0 vs = vs
+without_short size zero vs = vs
 without_short size n [] = []
 without_short size (suc n) (v ∷ vs) =
     if is_short size v then without_short size n vs else v ∷ without_short size (suc n) vs
@@ -79,8 +80,8 @@ place_by size all before v ObliviousArray storage = oblivious_place size (in_obl
 
 -- the slots for secret arrays with a secret index that have their own: 7, 5 and 4
 abbrev pub spare_slot : ℕ → ℕ
-spare_slot 0 = 7
-spare_slot 1 = 5
+spare_slot zero = 7
+spare_slot (suc zero) = 5
 spare_slot n = 4
 
 -- the slot that serves a variable
@@ -138,8 +139,8 @@ pins_of all =
 
 -- the blocks of a bank
 abbrev pub resident_blocks : ℕ → List Want → ℕ → ℕ
-resident_blocks size all 0 = 1 + blocks_of_all size (unshared size all PublicArray all)
-resident_blocks size all 1 = 1 + (own_secret size all + blocks_of_all size (unshared size all EncryptedArray all))
+resident_blocks size all zero = 1 + blocks_of_all size (unshared size all PublicArray all)
+resident_blocks size all (suc zero) = 1 + (own_secret size all + blocks_of_all size (unshared size all EncryptedArray all))
 resident_blocks size all bank = blocks_in_turn size (bank - 2) 0 (in_oblivious_banks size all all)
 
 -- plain and encrypted memory, and as many oblivious banks as are used

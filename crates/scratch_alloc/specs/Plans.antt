@@ -80,7 +80,7 @@ pub record IsSoundResident (w : ℕ) (d : Decl) (q : Place) (p : Pin) : Type 0 w
 -- any other variable is an array with whole blocks of its own, of which no slot holds one for the whole run
 pub record IsSoundArray (w : ℕ) (plan : Plan) (d : Decl) (q : Place) (slot : ℕ) : Type 0 where
   pub array : (n : ℕ) × (d.length ≡ Some n)
-  pub slot : Serves q.bank slot
+  pub served : Serves q.bank slot
   pub word : q.word ≡ 0
   pub apart : (k : ℕ) (p : Pin) → pin_of_slot plan k ≡ Some p → p.bank ≡ q.bank
       → (p.block < q.block) ⊎ (end_of_place (2 ^ w) q ≤ p.block * 2 ^ w)
