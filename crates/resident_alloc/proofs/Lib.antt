@@ -1,0 +1,4 @@
+pub mod Rooms
+pub mod Zones
+pub mod Stored
+pub mod Numbered
