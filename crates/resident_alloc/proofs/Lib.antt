@@ -6,3 +6,7 @@ pub mod Served
 pub mod PlannedEach
 pub mod ApartByZones
 pub mod OwnPins
+pub mod BlocksSome
+pub mod PlannedApart
+pub mod SoundPins
+pub mod SoundPlan

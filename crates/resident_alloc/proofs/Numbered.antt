@@ -196,10 +196,10 @@ same_number plain encrypted s t SpareArrays SpareArrays i j own a b is =
 
 -- which slots these are
 pub numbered_slot : (plain encrypted : ℕ) (s : Storage) (f : Family) (i : ℕ) → IsNumber plain encrypted s f i
-    → (2 ≤ family_slot f i) × ((family_slot f i < 8) × (family_slot f i ≡ 6 → ⊥))
+    → (2 ≤ family_slot f i) × (family_slot f i < 8) × (family_slot f i ≡ 6 → ⊥)
 numbered_slot plain encrypted s PlainArrays i h =
-    (omega arith, (omega (arith, mod-le i 2), λ is. omega (arith, is, mod-le i 2)))
+    (omega arith, omega (arith, mod-le i 2), λ is. omega (arith, is, mod-le i 2))
 numbered_slot plain encrypted s EncryptedArrays i h =
-    (omega arith, (omega (arith, mod-le i 2), λ is. omega (arith, is, mod-le i 2)))
+    (omega arith, omega (arith, mod-le i 2), λ is. omega (arith, is, mod-le i 2))
 numbered_slot plain encrypted s SpareArrays i h =
-    let high = spare_high i in (omega (arith, high.0), (omega (arith, high.1), spare_apart i))
+    let high = spare_high i in (omega (arith, high.0), omega (arith, high.1), spare_apart i)

@@ -1,5 +1,5 @@
 -- What a variable's storage says of its place and its slot.
-use Rattle.std.proofs.Common.{◌≡◌, ℕ, zero, suc, ◌+◌, ◌*◌, ◌-◌, ◌<◌, ◌≤◌, ◌%◌, Bool, true, false, cond, List, [], ◌∷◌, ◌++◌, length, refl, sym, ap, ◌∙◌, subst, arith, length-append}
+use Rattle.std.proofs.Common.{◌≡◌, ℕ, zero, suc, ◌+◌, ◌*◌, ◌-◌, ◌<◌, ◌≤◌, ◌%◌, Bool, true, false, cond, List, [], ◌∷◌, ◌++◌, length, Option, Some, None, refl, sym, ap, ◌∙◌, subst, arith, length-append}
 use Rattle.std.specs.Prelude.{nat_le, min, count_by}
 use Rattle.std.proofs.Math.Nat.{mod-le}
 use Rattle.std.proofs.lemmas.Bool.{leb-true}
@@ -11,6 +11,8 @@ use Rattle.bank_alloc.specs.declared.classes.Class.{Class}
 use Rattle.bank_alloc.specs.declared.classes.Class.TheVariants.{PublicScalar, SecretScalar, PublicArray, EncryptedArray, ObliviousArray}
 use Rattle.bank_alloc.specs.declared.places.Place.{Place}
 use Rattle.bank_alloc.specs.Apart.{IsBankOf, scalar_bank}
+use Rattle.bank_alloc.specs.Classes.{class_by}
+use Rattle.bank_alloc.specs.PlaceRules.{is_same}
 use Rattle.scratch_alloc.specs.Plans.{Serves, PlainSlot, EncryptedSlot}
 use Rattle.resident_alloc.specs.declared.storages.Storage.{Storage}
 use Rattle.resident_alloc.specs.declared.storages.Storage.TheVariants.{Scalar, Shared, Own, Cached, Oblivious}
@@ -27,6 +29,19 @@ abbrev pub class_label : Class → Label
 class_label PublicScalar = Public
 class_label PublicArray = Public
 class_label c = Secret
+
+pub class_label-is : (label : Label) (l : Option ℕ) (indexed : Bool) → class_label (class_by label l indexed) ≡ label
+class_label-is Public None indexed = refl
+class_label-is Public (Some n) indexed = refl
+class_label-is Secret None indexed = refl
+class_label-is Secret (Some n) true = refl
+class_label-is Secret (Some n) false = refl
+
+pub array_length : (label : Label) (l : Option ℕ) (indexed : Bool) → is_scalar_class (class_by label l indexed) ≡ false
+    → (n : ℕ) × (l ≡ Some n)
+array_length label (Some n) indexed is = (n, refl)
+array_length Public None indexed is = absurd (let e : true ≡ false = is in cc)
+array_length Secret None indexed is = absurd (let e : true ≡ false = is in cc)
 
 -- a place of a variable of a class and of n words
 pub record IsPlaced (size : ℕ) (all : List Want) (c : Class) (n : ℕ) (q : Place) : Type 0 where
@@ -53,6 +68,7 @@ pub record IsAlone (size : ℕ) (all before : List Want) (c : Class) (n : ℕ) (
 -- an array whose blocks are loaded when they are accessed
 pub record IsCached (size : ℕ) (all before : List Want) (c : Class) (n : ℕ) (q : Place) (slot : ℕ) : Type 0 where
   pub array : is_scalar_class c ≡ false
+  pub visible : is_same ObliviousArray c ≡ false
   pub low : q.bank < 2
   pub block : 1 ≤ q.block
   pub word : q.word ≡ 0
@@ -245,6 +261,7 @@ served size all before n rest c s one fit whole (OwnsOblivious long short few) =
 }
 served size all before n rest c s one fit whole (CachesPublic long) = record {
   array = refl;
+  visible = refl;
   low = omega arith;
   block = omega arith;
   word = refl;
@@ -253,6 +270,7 @@ served size all before n rest c s one fit whole (CachesPublic long) = record {
 }
 served size all before n rest c s one fit whole (CachesEncrypted long) = record {
   array = refl;
+  visible = refl;
   low = omega arith;
   block = omega arith;
   word = refl;
