@@ -1,17 +1,17 @@
 -- The slots 2 to 5 and 7: which number an array has among those that they serve, and that a slot of a single array serves
 -- no other.
-use Rattle.std.proofs.Common.{◌≡◌, ℕ, zero, suc, ◌+◌, ◌-◌, ◌<◌, ◌≤◌, ◌%◌, Bool, true, false, cond, List, [], ◌∷◌, ◌++◌, length, refl, sym, ap, ◌∙◌, subst, arith, length-append}
+use Rattle.std.proofs.Common.{◌≡◌, ℕ, zero, suc, ◌+◌, ◌-◌, ◌<◌, ◌≤◌, Bool, true, false, cond, List, [], ◌∷◌, ◌++◌, length, refl, sym, ap, ◌∙◌, arith, length-append}
 use Rattle.std.specs.Prelude.{nat_le, min}
 use Rattle.std.proofs.Math.Nat.{mod-le, mod-eq_of_lt}
 use Rattle.std.proofs.lemmas.Bool.{leb-true, le-leb}
 use Rattle.std.proofs.lemmas.List.Sums.{sum_by_push}
 use Rattle.bank_alloc.specs.declared.classes.Class.{Class}
-use Rattle.bank_alloc.specs.declared.classes.Class.TheVariants.{PublicScalar, SecretScalar, PublicArray, EncryptedArray, ObliviousArray}
+use Rattle.bank_alloc.specs.declared.classes.Class.TheVariants.{PublicArray, EncryptedArray, ObliviousArray}
 use Rattle.scratch_alloc.specs.Slots.{alternate_slot}
 use Rattle.resident_alloc.specs.declared.storages.Storage.{Storage}
-use Rattle.resident_alloc.specs.declared.storages.Storage.TheVariants.{Scalar, Shared, Own, Cached, Oblivious}
+use Rattle.resident_alloc.specs.declared.storages.Storage.TheVariants.{Own, Cached}
 use Rattle.resident_alloc.specs.declared.wants.Want.{Want}
-use Rattle.resident_alloc.specs.Residents.{is_of, room_after, room_for, left_out, unshared, is_short, short_among, own_most}
+use Rattle.resident_alloc.specs.Residents.{is_of, room_after, room_for, left_out, unshared, is_short, short_among}
 use Rattle.resident_alloc.specs.ResidentPlan.{spare_slot, slot_by}
 use Rattle.resident_alloc.proofs.Rooms.{left_out-append, left_out_push}
 use Rattle.resident_alloc.proofs.Zones.{short_rise}

@@ -1,25 +1,23 @@
 -- The variables of a program as they are planned: which lie apart, and which are served by one slot.
-use Rattle.std.proofs.Common.{◌≡◌, ℕ, zero, suc, ◌+◌, ◌*◌, ◌-◌, ◌^◌, ◌<◌, ◌≤◌, Bool, true, false, List, [], ◌∷◌, ◌++◌, length, map, take, drop, get_or, Option, Some, None, ◌⊎◌, inl, inr, refl, sym, ap, ◌∙◌, subst, arith}
+use Rattle.std.proofs.Common.{◌≡◌, ℕ, ◌+◌, ◌*◌, ◌^◌, ◌<◌, ◌≤◌, List, [], ◌∷◌, ◌++◌, length, take, drop, get_or, ◌⊎◌, inl, inr, refl, sym, ap, ◌∙◌, subst, arith}
 use Rattle.std.proofs.lemmas.Bool.{cases_order}
 use Rattle.std.proofs.lemmas.List.{get_or-map, length-map}
 use Rattle.std.proofs.lemmas.List.FromFn.{get_or-map-range_with_len, length-map-range_with_len}
-use Rattle.src_tree.specs.declared.trees.Decl.{Decl}
 use Rattle.src_tree.specs.Limits.{words_of, IsWithinLimits}
 use Rattle.src_tree.specs.Trees.{Source}
-use Rattle.bank_alloc.specs.declared.places.Place.{Place}
 use Rattle.bank_alloc.specs.Apart.{AreApart, start_of_place, end_of_place}
 use Rattle.bank_alloc.specs.Classes.{class_of}
-use Rattle.scratch_alloc.specs.Plans.{Plan, decl_at, place_at, slot_at, no_decl, no_place}
+use Rattle.scratch_alloc.specs.Plans.{decl_at, place_at, slot_at, no_decl, no_place}
 use Rattle.resident_alloc.specs.declared.storages.Storage.{Storage}
-use Rattle.resident_alloc.specs.declared.storages.Storage.TheVariants.{Scalar, Shared, Own, Cached, Oblivious}
+use Rattle.resident_alloc.specs.declared.storages.Storage.TheVariants.{Scalar, Own}
 use Rattle.resident_alloc.specs.declared.wants.Want.{Want}
 use Rattle.resident_alloc.specs.Residents.{wants_of}
 use Rattle.resident_alloc.specs.ResidentFits.{ResidentsFit}
 use Rattle.resident_alloc.specs.ResidentPlan.{Planned, planned_for, resident_blocks, resident_banks, resident_plan}
 use Rattle.resident_alloc.proofs.Stored.{want}
-use Rattle.resident_alloc.proofs.Served.{IsServed, IsAlone}
+use Rattle.resident_alloc.proofs.Served.{IsServed}
 use Rattle.resident_alloc.proofs.Numbered.{in_family, family_rises, IsNumbered, same_number}
-use Rattle.resident_alloc.proofs.PlannedEach.{IsVariable, variable_at, length-planned_behind, length-wants, wants_split, wants_before, words_some, scalars_fit}
+use Rattle.resident_alloc.proofs.PlannedEach.{IsVariable, variable_at, length-planned_behind, length-wants, wants_split, wants_before, scalars_fit}
 use Rattle.resident_alloc.proofs.ApartByZones.{apart_by_zones, lies_inside}
 
 abbrev pub no_planned : Planned

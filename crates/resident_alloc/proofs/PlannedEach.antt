@@ -1,20 +1,18 @@
 -- What is planned for variable number k, by the variables before it.
 use Rattle.std.proofs.Common.{◌≡◌, ℕ, zero, suc, ◌+◌, ◌^◌, ◌<◌, ◌≤◌, Bool, true, false, cond, List, [], ◌∷◌, ◌++◌, length, map, take, drop, get_or, Option, Some, None, refl, sym, ap, ◌∙◌, subst, arith, append_assoc}
 use Rattle.std.specs.Prelude.{count_by, ◌&&◌, is_none}
-use Rattle.std.specs.List.{AllByRecursion}
 use Rattle.std.proofs.lemmas.Nat.{pow_pos}
 use Rattle.std.proofs.lemmas.List.{append-nil, get_or-map, get_or-take, length-map, length-take-le, take-append-drop, take_more, take-take}
 use Rattle.std.proofs.lemmas.List.Sums.{sum_by-cons}
 use Rattle.gr_word.specs.declared.variables.Label.{Label}
 use Rattle.gr_word.specs.declared.variables.Label.TheVariants.{Public, Secret}
-use Rattle.gr_base.specs.Lists.{Within}
 use Rattle.src_tree.specs.declared.trees.Decl.{Decl}
 use Rattle.src_tree.specs.Limits.{words_of, words_of_length, LengthFits, IsWithinLimits}
 use Rattle.src_tree.specs.Trees.{Source}
 use Rattle.bank_alloc.specs.declared.classes.Class.{Class}
-use Rattle.bank_alloc.specs.declared.classes.Class.TheVariants.{PublicScalar, SecretScalar, PublicArray, EncryptedArray, ObliviousArray}
+use Rattle.bank_alloc.specs.declared.classes.Class.TheVariants.{PublicScalar, SecretScalar}
 use Rattle.bank_alloc.specs.Classes.{class_by, class_of, is_labelled, is_scalar}
-use Rattle.bank_alloc.specs.Fits.{scalars_of, ScalarsFit}
+use Rattle.bank_alloc.specs.Fits.{ScalarsFit}
 use Rattle.bank_alloc.specs.Indexes.{has_secret_index}
 use Rattle.bank_alloc.proofs.Apart.{length_at}
 use Rattle.resident_alloc.specs.declared.wants.Want.{Want}
@@ -23,7 +21,7 @@ use Rattle.resident_alloc.specs.Residents.{is_of, wants_of, storage_of}
 use Rattle.resident_alloc.specs.ResidentPlan.{Planned, planned, planned_behind, planned_for}
 use Rattle.resident_alloc.proofs.Zones.{ScalarsFitBlock}
 use Rattle.resident_alloc.proofs.Stored.{want, is_scalar_class, LiesIn, stored, lies}
-use Rattle.resident_alloc.proofs.Served.{class_label, IsPlaced, IsServed, placed, served}
+use Rattle.resident_alloc.proofs.Served.{IsPlaced, IsServed, placed, served}
 
 -- as many as there are variables
 pub length-planned_behind : (size : ℕ) (all before vs : List Want)
@@ -85,7 +83,6 @@ one_word Secret (Some n) false is = absurd (let e : false ≡ true = is in cc)
 pub some_word : (l : Option ℕ) → LengthFits l → 1 ≤ words_of_length l
 some_word None fits = omega arith
 some_word (Some n) fits = fits.0
-
 
 -- scalars are counted alike
 abbrev scalar_class : Label → Class

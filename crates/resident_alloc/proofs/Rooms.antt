@@ -1,10 +1,9 @@
 -- What the arrays of a list take, one after another: of a room, of the slots, and of the oblivious banks.
-use Rattle.std.proofs.Common.{◌≡◌, ℕ, zero, suc, ◌+◌, ◌-◌, ◌<◌, ◌≤◌, Bool, true, false, cond, List, [], ◌∷◌, ◌++◌, length, refl, sym, ap, ◌∙◌, subst, arith}
+use Rattle.std.proofs.Common.{◌≡◌, ℕ, zero, suc, ◌+◌, ◌-◌, ◌≤◌, Bool, true, false, cond, List, [], ◌∷◌, ◌++◌, length, refl, sym, ap, ◌∙◌, arith}
 use Rattle.std.specs.Prelude.{nat_le, nat_lt, ◌&&◌}
 use Rattle.std.proofs.lemmas.Bool.{ltb-false}
 use Rattle.std.proofs.lemmas.List.Sums.{sum_by-cons}
 use Rattle.bank_alloc.specs.declared.classes.Class.{Class}
-use Rattle.bank_alloc.specs.Places.{blocks_for}
 use Rattle.resident_alloc.specs.declared.wants.Want.{Want}
 use Rattle.resident_alloc.specs.Residents.{is_of, room_after, left_out, is_short, short_among}
 use Rattle.resident_alloc.specs.ResidentPlan.{without_short, blocks_in_turn}
@@ -76,7 +75,7 @@ without_short-append size n m [] ys is =
 without_short-append size zero m (x ∷ xs) ys is =
     let none : zero ≡ m = omega (arith, is) in ap (λ k. (x ∷ xs) ++ without_short size k ys) none
 without_short-append size (suc n) m (x ∷ xs) ys is =
-    by (is_short size x) (sym (sum_by-cons (λ v. cond (is_short size v) 1 0) x xs) )
+    by (is_short size x) (sym (sum_by-cons (λ v. cond (is_short size v) 1 0) x xs))
     (λ k. without_short-append size k m xs ys) where
       by : (b : Bool) → cond b 1 0 + short_among size xs ≡ short_among size (x ∷ xs)
           → ((k : ℕ) → m ≡ k - short_among size xs

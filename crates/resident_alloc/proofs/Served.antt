@@ -1,6 +1,6 @@
 -- What a variable's storage says of its place and its slot.
-use Rattle.std.proofs.Common.{◌≡◌, ℕ, zero, suc, ◌+◌, ◌*◌, ◌-◌, ◌<◌, ◌≤◌, ◌%◌, Bool, true, false, cond, List, [], ◌∷◌, ◌++◌, length, Option, Some, None, refl, sym, ap, ◌∙◌, subst, arith, length-append}
-use Rattle.std.specs.Prelude.{nat_le, min, count_by}
+use Rattle.std.proofs.Common.{◌≡◌, ℕ, ◌+◌, ◌-◌, ◌<◌, ◌≤◌, ◌%◌, Bool, true, false, cond, List, [], ◌∷◌, ◌++◌, length, Option, Some, None, refl, ap, ◌∙◌, arith, length-append}
+use Rattle.std.specs.Prelude.{nat_le, count_by}
 use Rattle.std.proofs.Math.Nat.{mod-le}
 use Rattle.std.proofs.lemmas.Bool.{leb-true}
 use Rattle.std.proofs.lemmas.List.Sums.{sum_by_push}
@@ -21,7 +21,7 @@ use Rattle.resident_alloc.specs.Residents.{is_of, room_after, room_beside, room_
 use Rattle.resident_alloc.specs.ResidentPlan.{without_short, in_oblivious_banks, place_by, slot_by, resident_banks}
 use Rattle.resident_alloc.proofs.Rooms.{room_after-le, left_out_push, without_short_push}
 use Rattle.resident_alloc.proofs.Zones.{ScalarsFitBlock, counts_rise, in_banks_rise}
-use Rattle.resident_alloc.proofs.Stored.{want, has_room, is_scalar_class, IsStored, ScalarOfPublic, ScalarOfSecret, SharesPublic, SharesEncrypted, SharesOblivious, OwnsPublic, OwnsEncrypted, OwnsOblivious, CachesPublic, CachesEncrypted, InObliviousBank}
+use Rattle.resident_alloc.proofs.Stored.{want, is_scalar_class, IsStored, ScalarOfPublic, ScalarOfSecret, SharesPublic, SharesEncrypted, SharesOblivious, OwnsPublic, OwnsEncrypted, OwnsOblivious, CachesPublic, CachesEncrypted, InObliviousBank}
 use Rattle.resident_alloc.proofs.Numbered.{IsNumbered, own_numbered, cached_numbered}
 
 -- the label of the variables of a class

@@ -1,12 +1,11 @@
 -- The slots that hold one block for the whole run, and those that hold none.
-use Rattle.std.proofs.Common.{◌≡◌, ℕ, zero, suc, ◌+◌, ◌*◌, ◌-◌, ◌^◌, ◌<◌, ◌≤◌, Bool, true, false, List, [], ◌∷◌, length, get_or, Option, Some, None, ◌⊎◌, inl, inr, ⊎_elim, refl, sym, ap, ◌∙◌, subst, arith}
+use Rattle.std.proofs.Common.{◌≡◌, ℕ, zero, suc, ◌*◌, ◌^◌, ◌<◌, ◌≤◌, length, get_or, Option, Some, None, ◌⊎◌, inl, inr, ⊎_elim, refl, sym, ap, ◌∙◌, arith}
 use Rattle.std.proofs.Math.Nat.{mul-le-mul_left}
 use Rattle.std.proofs.lemmas.Bool.{cases_eq, cases_lt}
 use Rattle.std.proofs.lemmas.Nat.{pow_pos}
-use Rattle.src_tree.specs.Limits.{words_of, IsWithinLimits}
+use Rattle.src_tree.specs.Limits.{IsWithinLimits}
 use Rattle.src_tree.specs.Trees.{Source}
-use Rattle.bank_alloc.specs.declared.places.Place.{Place}
-use Rattle.bank_alloc.specs.Apart.{end_of_place, start_of_place}
+use Rattle.bank_alloc.specs.Apart.{end_of_place}
 use Rattle.bank_alloc.specs.Classes.{class_of}
 use Rattle.bank_alloc.proofs.Apart.{scalar_bank-lt}
 use Rattle.scratch_alloc.specs.declared.plans.Pin.{Pin}
@@ -17,11 +16,11 @@ use Rattle.resident_alloc.specs.Residents.{wants_of}
 use Rattle.resident_alloc.specs.ResidentFits.{ResidentsFit}
 use Rattle.resident_alloc.specs.ResidentPlan.{planned_for, own_pin, pins_of, resident_banks, resident_blocks, resident_plan}
 use Rattle.resident_alloc.proofs.Served.{IsAlone, IsCached, class_label}
-use Rattle.resident_alloc.proofs.Numbered.{in_family, PlainArrays, EncryptedArrays, family_slot, IsNumbered, numbered_slot}
-use Rattle.resident_alloc.proofs.OwnPins.{pin_of, OwnsSlot, owns_slot, own_pin_some, IsPinned, ByScalars, ByArray, pinned, pin_by_array}
+use Rattle.resident_alloc.proofs.Numbered.{IsNumbered, numbered_slot}
+use Rattle.resident_alloc.proofs.OwnPins.{pin_of, OwnsSlot, owns_slot, own_pin_some, IsPinned, ByScalars, ByArray, pin_by_array}
 use Rattle.resident_alloc.proofs.PlannedEach.{words_some}
 use Rattle.resident_alloc.proofs.BlocksSome.{bank_some}
-use Rattle.resident_alloc.proofs.PlannedApart.{no_planned, item, words_at, wanted, wants_to, length-planned, length-blocks, blocks-is, known, item_inside, items_apart_any, served_as, one_array}
+use Rattle.resident_alloc.proofs.PlannedApart.{no_planned, item, words_at, wanted, wants_to, length-planned, blocks-is, known, item_inside, items_apart_any, served_as, one_array}
 
 -- fewer blocks have fewer words
 less_blocks : (size a b : ℕ) → a * size < b * size → a < b

@@ -1,30 +1,27 @@
 -- The plan of resident variables is sound for each program with room for them.
-use Rattle.std.proofs.Common.{◌≡◌, ℕ, ◌+◌, ◌*◌, ◌^◌, ◌<◌, ◌≤◌, Bool, true, false, List, length, get_or, Option, Some, None, ◌⊎◌, refl, sym, ap, ◌∙◌, subst, arith}
+use Rattle.std.proofs.Common.{◌≡◌, ℕ, ◌*◌, ◌^◌, ◌<◌, ◌≤◌, true, false, length, get_or, Option, Some, None, refl, sym, ap, ◌∙◌, subst, arith}
 use Rattle.std.proofs.lemmas.Nat.{pow_pos}
 use Rattle.gr_base.specs.Lists.{Within}
-use Rattle.gr_word.specs.declared.variables.Label.{Label}
-use Rattle.src_tree.specs.Limits.{words_of, IsWithinLimits}
+use Rattle.src_tree.specs.Limits.{IsWithinLimits}
 use Rattle.src_tree.specs.Trees.{Source}
-use Rattle.lt_isa.specs.Limits.{most_blocks}
-use Rattle.bank_alloc.specs.declared.classes.Class.{Class}
 use Rattle.bank_alloc.specs.declared.classes.Class.TheVariants.{ObliviousArray}
 use Rattle.bank_alloc.specs.declared.places.Place.{Place}
-use Rattle.bank_alloc.specs.Apart.{IsBankOf, AreApart, scalar_bank, end_of_place}
+use Rattle.bank_alloc.specs.Apart.{IsBankOf, AreApart, scalar_bank}
 use Rattle.bank_alloc.specs.Classes.{class_of}
 use Rattle.bank_alloc.specs.Indexes.{has_secret_index}
 use Rattle.bank_alloc.specs.PlaceRules.{is_same}
 use Rattle.bank_alloc.proofs.Apart.{scalar_bank-lt}
 use Rattle.scratch_alloc.specs.declared.plans.Pin.{Pin}
-use Rattle.scratch_alloc.specs.Plans.{IsSoundPlan, IsSoundPlace, IsSoundResident, IsSoundArray, IsSoundByPin, Serves, ObliviousSlot, pin_of_slot, decl_at, place_at, slot_at}
+use Rattle.scratch_alloc.specs.Plans.{IsSoundPlan, IsSoundPlace, IsSoundByPin, Serves, ObliviousSlot, pin_of_slot, decl_at, place_at, slot_at}
 use Rattle.resident_alloc.specs.declared.storages.Storage.{Storage}
 use Rattle.resident_alloc.specs.declared.storages.Storage.TheVariants.{Scalar, Shared, Own, Cached, Oblivious}
 use Rattle.resident_alloc.specs.Residents.{wants_of}
 use Rattle.resident_alloc.specs.ResidentFits.{ResidentsFit}
 use Rattle.resident_alloc.specs.ResidentPlan.{planned_for, pins_of, resident_banks, resident_plan}
-use Rattle.resident_alloc.proofs.Served.{class_label, class_label-is, array_length, IsBeside, IsAlone, IsCached, IsOblivious}
+use Rattle.resident_alloc.proofs.Served.{class_label, class_label-is, array_length, IsBeside}
 use Rattle.resident_alloc.proofs.OwnPins.{pin_of, pinned}
 use Rattle.resident_alloc.proofs.BlocksSome.{bank_some}
-use Rattle.resident_alloc.proofs.PlannedApart.{item, words_at, wants_to, length-places, length-slots, place-is, slot-is, length-blocks, blocks-is, known, item_inside, items_apart, served_as}
+use Rattle.resident_alloc.proofs.PlannedApart.{item, words_at, length-places, length-slots, place-is, slot-is, length-blocks, blocks-is, known, item_inside, items_apart, served_as}
 use Rattle.resident_alloc.proofs.SoundPins.{scalars_slot, own_pin_is, cached_pin, pin_sound, pins_differ, array_apart}
 
 -- the label of a variable, by its class
@@ -101,7 +98,7 @@ module _ (p : Source) (w : ℕ) (limits : IsWithinLimits p) (room : ResidentsFit
         word = h.word;
         apart = λ slot q here same.
             array_apart p w limits room k within (λ own. let e : Cached ≡ Own = sym is ∙ own in cc) h.word
-                (λ low. h.block) slot q (pinned (planned_for p w) slot q here) same;
+            (λ low. h.block) slot q (pinned (planned_for p w) slot q here) same;
       })
 
   oblivious_sound : (k : ℕ) → k < length p.decls → (item p w k).storage ≡ Oblivious
@@ -121,7 +118,7 @@ module _ (p : Source) (w : ℕ) (limits : IsWithinLimits p) (room : ResidentsFit
         word = h.word;
         apart = λ slot q here same.
             array_apart p w limits room k within (λ own. let e : Oblivious ≡ Own = sym is ∙ own in cc) h.word
-                (λ low. absurd (omega (arith, low, past))) slot q (pinned (planned_for p w) slot q here) same;
+            (λ low. absurd (omega (arith, low, past))) slot q (pinned (planned_for p w) slot q here) same;
       })
 
   item_served : (k : ℕ) → k < length p.decls
@@ -178,12 +175,12 @@ resident_sound p w limits log room = record {
       (omega (arith, blocks-is p w b here, some), omega (arith, blocks-is p w b here, most));
   place = λ k within.
       subst (IsSoundPlace w (resident_plan p w) (decl_at p k)) (sym (place-is p w k within))
-          (item_placed p w limits room k within);
+      (item_placed p w limits room k within);
   served = λ k within.
       subst (λ q. IsSoundByPin w (resident_plan p w) (decl_at p k) q (slot_at (resident_plan p w) k)
-          (pin_of_slot (resident_plan p w) (slot_at (resident_plan p w) k))) (sym (place-is p w k within))
-          (subst (λ s. IsSoundByPin w (resident_plan p w) (decl_at p k) (item p w k).place s
-          (pin_of_slot (resident_plan p w) s)) (sym (slot-is p w k within)) (item_served p w limits room k within));
+      (pin_of_slot (resident_plan p w) (slot_at (resident_plan p w) k))) (sym (place-is p w k within))
+      (subst (λ s. IsSoundByPin w (resident_plan p w) (decl_at p k) (item p w k).place s
+      (pin_of_slot (resident_plan p w) s)) (sym (slot-is p w k within)) (item_served p w limits room k within));
   hidden = λ k within class none.
       let place = ap (λ (q : Place). q.bank) (place-is p w k within) in
       let slot = ap (pin_of_slot (resident_plan p w)) (slot-is p w k within) in
@@ -191,9 +188,9 @@ resident_sound p w limits log room = record {
       omega (arith, place, past);
   apart = λ i j less within.
       subst (λ q. AreApart (2 ^ w) q (place_at (resident_plan p w) j))
-          (sym (place-is p w i (omega (arith, less, within))))
-          (subst (AreApart (2 ^ w) (item p w i).place) (sym (place-is p w j within))
-          (items_apart p w limits room i j less within));
+      (sym (place-is p w i (omega (arith, less, within))))
+      (subst (AreApart (2 ^ w) (item p w i).place) (sym (place-is p w j within))
+      (items_apart p w limits room i j less within));
   pins = λ slot q here. pin_sound p w limits room slot q (pinned (planned_for p w) slot q here);
   pins_apart = λ j k q r first second.
       pins_differ p w limits room j k q r (pinned (planned_for p w) j q first) (pinned (planned_for p w) k r second);

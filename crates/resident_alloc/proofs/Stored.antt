@@ -1,6 +1,6 @@
 -- How each variable is stored, by cases, and in which zone.
-use Rattle.std.proofs.Common.{◌≡◌, ℕ, zero, suc, ◌+◌, ◌*◌, ◌-◌, ◌<◌, ◌≤◌, ◌%◌, Bool, true, false, cond, List, [], ◌∷◌, ◌++◌, length, refl, sym, ap, ◌∙◌, subst, arith}
-use Rattle.std.specs.Prelude.{nat_le, min, count_by}
+use Rattle.std.proofs.Common.{◌≡◌, ℕ, suc, ◌+◌, ◌*◌, ◌-◌, ◌<◌, ◌≤◌, ◌%◌, Bool, true, false, cond, List, [], ◌∷◌, ◌++◌, length, refl, ap, ◌∙◌, arith}
+use Rattle.std.specs.Prelude.{nat_le, min}
 use Rattle.std.proofs.lemmas.Bool.{leb-true, le-leb, ltb-true, eq-eqb, and_parts}
 use Rattle.std.proofs.lemmas.List.Sums.{sum_by_push}
 use Rattle.bank_alloc.specs.declared.classes.Class.{Class}
@@ -12,7 +12,7 @@ use Rattle.bank_alloc.proofs.EachPlace.{blocks_for-hold}
 use Rattle.resident_alloc.specs.declared.storages.Storage.{Storage}
 use Rattle.resident_alloc.specs.declared.storages.Storage.TheVariants.{Scalar, Shared, Own, Cached, Oblivious}
 use Rattle.resident_alloc.specs.declared.wants.Want.{Want}
-use Rattle.resident_alloc.specs.Residents.{is_of, room_after, room_beside, room_for, left_out, unshared, is_short, short_among, blocks_of_all, own_most, is_shared, is_own, storage_of}
+use Rattle.resident_alloc.specs.Residents.{is_of, room_after, room_beside, room_for, unshared, is_short, short_among, blocks_of_all, own_most, is_own, storage_of}
 use Rattle.resident_alloc.specs.ResidentPlan.{without_short, in_oblivious_banks, blocks_in_turn, place_by}
 use Rattle.resident_alloc.proofs.Rooms.{room_after-le, room_after_push, left_out_push, without_short_push, blocks_in_turn-append}
 use Rattle.resident_alloc.proofs.Zones.{base, used}
