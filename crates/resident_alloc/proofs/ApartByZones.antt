@@ -1,4 +1,4 @@
--- Variables in zones lie within their bank, and apart.
+-- Variables in zones are within their bank, and no two share a word.
 use Rattle.std.proofs.Common.{◌≡◌, ℕ, suc, ◌+◌, ◌*◌, ◌-◌, ◌<◌, ◌≤◌, List, [], ◌∷◌, ◌++◌, ◌⊎◌, inl, inr, ap, arith}
 use Rattle.std.proofs.lemmas.Bool.{cases_order}
 use Rattle.bank_alloc.specs.declared.places.Place.{Place}

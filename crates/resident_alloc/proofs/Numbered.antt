@@ -35,7 +35,7 @@ family_slot PlainArrays i = alternate_slot 2 i
 family_slot EncryptedArrays i = alternate_slot 4 i
 family_slot SpareArrays i = spare_slot i
 
--- which numbers there are, where there are so many plain and so many encrypted arrays
+-- which numbers there are, by the numbers of plain and of encrypted arrays that slots serve
 abbrev pub IsNumber : (plain encrypted : ℕ) → Storage → Family → ℕ → Type 0
 IsNumber plain encrypted s PlainArrays i = (i < plain) × (s ≡ Own → plain ≤ 2)
 IsNumber plain encrypted s EncryptedArrays i = (i < encrypted) × (s ≡ Own → encrypted ≤ 2)

@@ -1,4 +1,5 @@
--- The variables of a program as they are planned: which lie apart, and which are served by one slot.
+-- The variables of a program as they are planned: no two share a word, and a slot that holds an array for the whole run
+-- serves no other.
 use Rattle.std.proofs.Common.{◌≡◌, ℕ, ◌+◌, ◌*◌, ◌^◌, ◌<◌, ◌≤◌, List, [], ◌∷◌, ◌++◌, length, take, drop, get_or, ◌⊎◌, inl, inr, refl, sym, ap, ◌∙◌, subst, arith}
 use Rattle.std.proofs.lemmas.Bool.{cases_order}
 use Rattle.std.proofs.lemmas.List.{get_or-map, length-map}
@@ -30,7 +31,7 @@ item p w k = get_or (planned_for p w) k no_planned
 abbrev pub words_at : Source → ℕ → ℕ
 words_at p k = words_of (decl_at p k)
 
--- its class and words, and those of the variables before it
+-- the class and the words of variable number k, and those of the variables before it
 abbrev pub wanted : Source → ℕ → Want
 wanted p k = want (class_of p (decl_at p k)) (words_at p k)
 
@@ -78,7 +79,7 @@ module _ (p : Source) (w : ℕ) (limits : IsWithinLimits p) (room : ResidentsFit
       lies_inside (2 ^ w) (wants_of p) (wants_to p k) (drop (k + 1) (wants_of p)) (wanted p k) (item p w k).place
       (scalars_fit p w room.scalars) (wants_split p k no_decl within) (known k within).lies
 
-  -- two variables lie apart
+  -- no two variables share a word
   pub items_apart : (i j : ℕ) → i < j → j < length p.decls
       → AreApart (2 ^ w) (item p w i).place (item p w j).place
   items_apart i j less within =

@@ -40,7 +40,7 @@ get_or-planned_behind size all before (v ∷ vs) (suc k) d e within =
     get_or-planned_behind size all (before ++ v ∷ []) vs k d e (omega arith)
     ∙ ap (λ b. planned size all b (get_or vs k e)) (append_assoc before (v ∷ []) (take k vs))
 
--- the variables before number k, number k, and those behind it
+-- the variables before number k, number k, and those after it
 pub split_at : (xs : List Want) (k : ℕ) (d : Want) → k < length xs
     → xs ≡ (take k xs ++ get_or xs k d ∷ []) ++ drop (k + 1) xs
 split_at xs k d within =
@@ -135,7 +135,7 @@ want_at p k e within = get_or-map (want_of p) p.decls k e no_want within
 pub length-wants : (p : Source) → length (wants_of p) ≡ length p.decls
 length-wants p = length-map p.decls (want_of p)
 
--- the variables before number k, number k, and those behind it
+-- the variables before number k, number k, and those after it
 pub wants_split : (p : Source) (k : ℕ) (e : Decl) → k < length p.decls
     → wants_of p ≡ (take k (wants_of p)
     ++ want (class_of p (get_or p.decls k e)) (words_of (get_or p.decls k e)) ∷ []) ++ drop (k + 1) (wants_of p)

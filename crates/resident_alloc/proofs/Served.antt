@@ -193,6 +193,18 @@ placed size all before n rest c s some word fit whole (InObliviousBank long othe
 in_turn_within : (slot arrays : ℕ) → Within slot (slot + 1) (slot + arrays % 2)
 in_turn_within slot arrays = (omega arith, omega (arith, mod-le arrays 2))
 
+alone_at : (size : ℕ) (all before : List Want) (n : ℕ) (rest : List Want) (c : Class) (q : Place)
+    → all ≡ (before ++ want c n ∷ []) ++ rest → IsStored size all before n c Own
+    → q.bank ≡ scalar_bank (class_label c) → 1 ≤ q.block → q.word ≡ 0 → n ≤ size
+    → IsAlone size all before c n q (slot_by size all before c Own)
+alone_at size all before n rest c q whole how bank block word short = record {
+  bank = bank;
+  block = block;
+  word = word;
+  short = short;
+  numbered = own_numbered size all before n rest c Own whole refl how;
+}
+
 pub served : (size : ℕ) (all before : List Want) (n : ℕ) (rest : List Want) (c : Class) (s : Storage)
     → (is_scalar_class c ≡ true → n ≡ 1) → ScalarsFitBlock size all → all ≡ (before ++ want c n ∷ []) ++ rest
     → IsStored size all before n c s
@@ -238,27 +250,17 @@ served size all before n rest c s one fit whole (SharesOblivious room) = record 
     shared_fits ObliviousArray (room_for size all ObliviousArray) size n before (omega arith) room,
   );
 }
-served size all before n rest c s one fit whole (OwnsPublic long short few) = record {
-  bank = refl;
-  block = omega arith;
-  word = refl;
-  short = short;
-  numbered = own_numbered size all before n rest PublicArray Own whole refl (OwnsPublic long short few);
-}
-served size all before n rest c s one fit whole (OwnsEncrypted long short few) = record {
-  bank = refl;
-  block = omega arith;
-  word = refl;
-  short = short;
-  numbered = own_numbered size all before n rest EncryptedArray Own whole refl (OwnsEncrypted long short few);
-}
-served size all before n rest c s one fit whole (OwnsOblivious long short few) = record {
-  bank = refl;
-  block = omega arith;
-  word = refl;
-  short = short;
-  numbered = own_numbered size all before n rest ObliviousArray Own whole refl (OwnsOblivious long short few);
-}
+served size all before n rest c s one fit whole (OwnsPublic long short few) =
+    alone_at size all before n rest PublicArray (place_by size all before (want PublicArray n) PublicArray Own) whole
+    (OwnsPublic long short few) refl (omega arith) refl short
+served size all before n rest c s one fit whole (OwnsEncrypted long short few) =
+    alone_at size all before n rest EncryptedArray
+    (place_by size all before (want EncryptedArray n) EncryptedArray Own) whole (OwnsEncrypted long short few) refl
+    (omega arith) refl short
+served size all before n rest c s one fit whole (OwnsOblivious long short few) =
+    alone_at size all before n rest ObliviousArray
+    (place_by size all before (want ObliviousArray n) ObliviousArray Own) whole (OwnsOblivious long short few) refl
+    (omega arith) refl short
 served size all before n rest c s one fit whole (CachesPublic long) = record {
   array = refl;
   visible = refl;

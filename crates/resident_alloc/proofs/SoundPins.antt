@@ -62,56 +62,55 @@ module _ (p : Source) (w : ℕ) (limits : IsWithinLimits p) (room : ResidentsFit
   owner_block : (slot : ℕ) (q : Pin) (o : OwnsSlot (planned_for p w) slot q) → (item p w o.at).place.block ≡ q.block
   owner_block slot q o = ap (λ (x : Pin). x.block) (o.pin no_planned)
 
+  -- the slot of an array with a number holds a block for the whole run only if some array has it to itself
+  numbered_pin : (k : ℕ) (s : Storage) → IsNumbered (2 ^ w) (wants_of p) (wants_to p k) (wanted p k) s (item p w k).slot
+      → get_or (pins_of (planned_for p w)) (item p w k).slot None ≡ own_pin (planned_for p w) (item p w k).slot
+  numbered_pin k s h =
+      let slots = numbered-slot p w k s (item p w k).slot h in
+      pin_by_array (planned_for p w) (item p w k).slot slots.0 slots.1 slots.2
+
+  -- and that array is the one with the number
+  owner_is : (k : ℕ) (s : Storage) → k < length p.decls
+      → IsNumbered (2 ^ w) (wants_of p) (wants_to p k) (wanted p k) s (item p w k).slot
+      → (q : Pin) (o : OwnsSlot (planned_for p w) (item p w k).slot q) → o.at ≡ k
+  owner_is k s within h q o =
+      let here = owner (item p w k).slot q o in
+      one_array p w limits room o.at k s (owner_within (item p w k).slot q o) within here.numbered h
+      (o.slot_is no_planned)
+
   -- an array's own slot holds its block
   pub own_pin_is : (k : ℕ) → k < length p.decls → (item p w k).storage ≡ Own
       → get_or (pins_of (planned_for p w)) (item p w k).slot None ≡ Some (pin_of (item p w k))
-  own_pin_is k within own =
-      pin_by_array (planned_for p w) (item p w k).slot slots.0 slots.1 slots.2
-      ∙ by (own_pin (planned_for p w) (item p w k).slot) refl where
-        alone : IsAlone (2 ^ w) (wants_of p) (wants_to p k) (class_of p (decl_at p k)) (words_at p k)
-            (item p w k).place (item p w k).slot
-        alone = served_as p w limits room k Own within own
+  own_pin_is k within own = numbered_pin k Own alone.numbered ∙ by (own_pin (planned_for p w) (item p w k).slot) refl where
+    alone : IsAlone (2 ^ w) (wants_of p) (wants_to p k) (class_of p (decl_at p k)) (words_at p k) (item p w k).place
+        (item p w k).slot
+    alone = served_as p w limits room k Own within own
 
-        slots : (2 ≤ (item p w k).slot) × ((item p w k).slot < 8) × ((item p w k).slot ≡ 6 → ⊥)
-        slots = numbered-slot p w k Own (item p w k).slot alone.numbered
-
-        by : (o : Option Pin) → own_pin (planned_for p w) (item p w k).slot ≡ o
-            → own_pin (planned_for p w) (item p w k).slot ≡ Some (pin_of (item p w k))
-        by None none =
-            absurd (own_pin_some (planned_for p w) k no_planned (omega (arith, within, length-planned p w)) own none)
-        by (Some q) some =
-            let o = owns_slot (planned_for p w) (item p w k).slot q some in
-            let here = owner (item p w k).slot q o in
-            let same =
-            one_array p w limits room o.at k Own (owner_within (item p w k).slot q o) within here.numbered
-            alone.numbered (o.slot_is no_planned) in
-            some ∙ ap (λ (x : Pin). Some x) (sym (o.pin no_planned) ∙ ap (λ m. pin_of (item p w m)) same)
+    by : (o : Option Pin) → own_pin (planned_for p w) (item p w k).slot ≡ o
+        → own_pin (planned_for p w) (item p w k).slot ≡ Some (pin_of (item p w k))
+    by None none =
+        absurd (own_pin_some (planned_for p w) k no_planned (omega (arith, within, length-planned p w)) own none)
+    by (Some q) some =
+        let o = owns_slot (planned_for p w) (item p w k).slot q some in
+        let same = owner_is k Own within alone.numbered q o in
+        some ∙ ap (λ (x : Pin). Some x) (sym (o.pin no_planned) ∙ ap (λ m. pin_of (item p w m)) same)
 
   -- the slot of an array whose blocks are loaded holds none for the whole run
   pub cached_pin : (k : ℕ) → k < length p.decls → (item p w k).storage ≡ Cached
       → get_or (pins_of (planned_for p w)) (item p w k).slot None ≡ None
-  cached_pin k within is =
-      pin_by_array (planned_for p w) (item p w k).slot slots.0 slots.1 slots.2
-      ∙ by (own_pin (planned_for p w) (item p w k).slot) refl where
-        cached : IsCached (2 ^ w) (wants_of p) (wants_to p k) (class_of p (decl_at p k)) (words_at p k)
-            (item p w k).place (item p w k).slot
-        cached = served_as p w limits room k Cached within is
+  cached_pin k within is = numbered_pin k Cached held.numbered ∙ by (own_pin (planned_for p w) (item p w k).slot) refl where
+    held : IsCached (2 ^ w) (wants_of p) (wants_to p k) (class_of p (decl_at p k)) (words_at p k) (item p w k).place
+        (item p w k).slot
+    held = served_as p w limits room k Cached within is
 
-        slots : (2 ≤ (item p w k).slot) × ((item p w k).slot < 8) × ((item p w k).slot ≡ 6 → ⊥)
-        slots = numbered-slot p w k Cached (item p w k).slot cached.numbered
-
-        by : (o : Option Pin) → own_pin (planned_for p w) (item p w k).slot ≡ o
-            → own_pin (planned_for p w) (item p w k).slot ≡ None
-        by None none = none
-        by (Some q) some =
-            let o = owns_slot (planned_for p w) (item p w k).slot q some in
-            let here = owner (item p w k).slot q o in
-            let same =
-            one_array p w limits room o.at k Cached (owner_within (item p w k).slot q o) within here.numbered
-            cached.numbered (o.slot_is no_planned) in
-            let e : Own ≡ Cached =
-            sym (o.own no_planned) ∙ ap (λ m. (item p w m).storage) same ∙ is in
-            absurd (cc)
+    by : (o : Option Pin) → own_pin (planned_for p w) (item p w k).slot ≡ o
+        → own_pin (planned_for p w) (item p w k).slot ≡ None
+    by None none = none
+    by (Some q) some =
+        let o = owns_slot (planned_for p w) (item p w k).slot q some in
+        let same = owner_is k Cached within held.numbered q o in
+        let e : Own ≡ Cached = sym (o.own no_planned) ∙ ap (λ m. (item p w m).storage) same ∙ is in
+        absurd cc
 
   -- each such block is in its bank
   pub pin_sound : (slot : ℕ) (q : Pin) → IsPinned (planned_for p w) slot q → IsSoundPin (resident_plan p w) slot q

@@ -1,6 +1,6 @@
 -- How each variable is stored, by cases, and in which zone.
 use Rattle.std.proofs.Common.{◌≡◌, ℕ, suc, ◌+◌, ◌*◌, ◌-◌, ◌<◌, ◌≤◌, ◌%◌, Bool, true, false, cond, List, [], ◌∷◌, ◌++◌, length, refl, ap, ◌∙◌, arith}
-use Rattle.std.specs.Prelude.{nat_le, min}
+use Rattle.std.specs.Prelude.{nat_le, nat_lt, min}
 use Rattle.std.proofs.lemmas.Bool.{leb-true, le-leb, ltb-true, eq-eqb, and_parts}
 use Rattle.std.proofs.lemmas.List.Sums.{sum_by_push}
 use Rattle.bank_alloc.specs.declared.classes.Class.{Class}
@@ -20,14 +20,14 @@ use Rattle.resident_alloc.proofs.Zones.{base, used}
 abbrev pub want : Class → ℕ → Want
 want c n = record { class = c; words = n }
 
--- whether an array of a class and so many words finds room beside the scalars, behind others
+-- whether an array of a class and n words finds room beside the scalars, after those declared before it
 abbrev pub has_room : ℕ → List Want → List Want → ℕ → Class → Bool
 has_room size all before n c = nat_le n (room_after c (room_for size all c) before)
 
 abbrev pub short_before : ℕ → List Want → List Want → Class → ℕ
 short_before size all before c = short_among size (unshared size all c before)
 
--- how a variable of a class and of n words is stored behind others
+-- how a variable of a class and of n words is stored, if others are declared before it
 pub data IsStored (size : ℕ) (all before : List Want) (n : ℕ) : Class → Storage → Type 0 where
   ScalarOfPublic : IsStored size all before n PublicScalar Scalar
   ScalarOfSecret : IsStored size all before n SecretScalar Scalar
@@ -47,43 +47,42 @@ pub data IsStored (size : ℕ) (all before : List Want) (n : ℕ) : Class → St
   InObliviousBank : has_room size all before n ObliviousArray ≡ false
       → is_own size all before (want ObliviousArray n) ≡ false → IsStored size all before n ObliviousArray Oblivious
 
+-- by the two tests of an array
+by_tests : (P : Storage → Type 0) (other : Storage) (shared own : Bool) → (shared ≡ true → P Shared)
+    → (shared ≡ false → own ≡ true → P Own) → (shared ≡ false → own ≡ false → P other)
+    → P (cond shared Shared (cond own Own other))
+by_tests P other true own first second third = first refl
+by_tests P other false true first second third = second refl refl
+by_tests P other false false first second third = third refl refl
+
+own_parts : (size : ℕ) (all before : List Want) (n : ℕ) (c : Class) → is_own size all before (want c n) ≡ true
+    → (n ≤ size) × (short_before size all before c < own_most size all c)
+own_parts size all before n c own =
+    let parts = and_parts (nat_le n size) (nat_lt (short_before size all before c) (own_most size all c)) own in
+    (leb-true n size parts.0, ltb-true (short_before size all before c) (own_most size all c) parts.1)
+
 -- each variable is stored in one of these ways
 pub stored : (size : ℕ) (all before : List Want) (c : Class) (n : ℕ)
     → IsStored size all before n c (storage_of size all before (want c n))
 stored size all before PublicScalar n = ScalarOfPublic
 stored size all before SecretScalar n = ScalarOfSecret
 stored size all before PublicArray n =
-    by (has_room size all before n PublicArray) refl (is_own size all before (want PublicArray n)) refl where
-      by : (s : Bool) → has_room size all before n PublicArray ≡ s
-          → (o : Bool) → is_own size all before (want PublicArray n) ≡ o
-          → IsStored size all before n PublicArray (cond s Shared (cond o Own Cached))
-      by true room o own = SharesPublic room
-      by false room true own =
-          let parts = and_parts (nat_le n size) _ own in
-          OwnsPublic room (leb-true n size parts.0) (ltb-true _ _ parts.1)
-      by false room false own = CachesPublic room
+    by_tests (IsStored size all before n PublicArray) Cached (has_room size all before n PublicArray)
+    (is_own size all before (want PublicArray n)) (λ room. SharesPublic room)
+    (λ long own. let parts = own_parts size all before n PublicArray own in OwnsPublic long parts.0 parts.1)
+    (λ long other. CachesPublic long)
 stored size all before EncryptedArray n =
-    by (has_room size all before n EncryptedArray) refl (is_own size all before (want EncryptedArray n)) refl where
-      by : (s : Bool) → has_room size all before n EncryptedArray ≡ s
-          → (o : Bool) → is_own size all before (want EncryptedArray n) ≡ o
-          → IsStored size all before n EncryptedArray (cond s Shared (cond o Own Cached))
-      by true room o own = SharesEncrypted room
-      by false room true own =
-          let parts = and_parts (nat_le n size) _ own in
-          OwnsEncrypted room (leb-true n size parts.0) (ltb-true _ _ parts.1)
-      by false room false own = CachesEncrypted room
+    by_tests (IsStored size all before n EncryptedArray) Cached (has_room size all before n EncryptedArray)
+    (is_own size all before (want EncryptedArray n)) (λ room. SharesEncrypted room)
+    (λ long own. let parts = own_parts size all before n EncryptedArray own in OwnsEncrypted long parts.0 parts.1)
+    (λ long other. CachesEncrypted long)
 stored size all before ObliviousArray n =
-    by (has_room size all before n ObliviousArray) refl (is_own size all before (want ObliviousArray n)) refl where
-      by : (s : Bool) → has_room size all before n ObliviousArray ≡ s
-          → (o : Bool) → is_own size all before (want ObliviousArray n) ≡ o
-          → IsStored size all before n ObliviousArray (cond s Shared (cond o Own Oblivious))
-      by true room o own = SharesOblivious room
-      by false room true own =
-          let parts = and_parts (nat_le n size) _ own in
-          OwnsOblivious room (leb-true n size parts.0) (ltb-true _ _ parts.1)
-      by false room false own = InObliviousBank room own
+    by_tests (IsStored size all before n ObliviousArray) Oblivious (has_room size all before n ObliviousArray)
+    (is_own size all before (want ObliviousArray n)) (λ room. SharesOblivious room)
+    (λ long own. let parts = own_parts size all before n ObliviousArray own in OwnsOblivious long parts.0 parts.1)
+    (λ long other. InObliviousBank long other)
 
--- a variable at a place is in a zone of its bank, behind the variables that are declared before it
+-- a variable at a place is in a zone of its bank, after the variables that are declared before it
 pub record LiesIn (size : ℕ) (all before : List Want) (v : Want) (q : Place) : Type 0 where
   pub zone : ℕ
   pub start : base size all q.bank zone + used size all q.bank zone before ≤ start_of_place size q
