@@ -2,17 +2,19 @@
 -- is stored, which slot serves it, and which block each slot holds for the whole run. (This project's profile.)
 use Rattle.std.specs.Prelude.{◌≡◌, ◌≢◌, ℕ, ◌+◌, ◌*◌, ◌^◌, ◌<◌, ◌≤◌, ◌⊎◌, List, [], ◌∷◌, length, slice_index_or, Option, Some, None}
 use Rattle.gr_base.specs.Lists.{Within}
-use Rattle.gr_word.specs.declared.variables.Label.TheVariants.{Public}
 use Rattle.lt_isa.specs.Limits.{most_blocks}
 use Rattle.src_tree.specs.declared.trees.Decl.{Decl}
 use Rattle.src_tree.specs.Limits.{words_of}
 use Rattle.src_tree.specs.Trees.{Source}
+use Rattle.bank_alloc.specs.declared.classes.Class.TheVariants.{ObliviousArray}
 use Rattle.bank_alloc.specs.declared.places.Place.{Place}
 use Rattle.bank_alloc.specs.declared.places.Places.{Places}
+use Rattle.bank_alloc.specs.Classes.{class_of}
 use Rattle.bank_alloc.specs.Places.{places_of, blocks_of_banks}
 use Rattle.bank_alloc.specs.Apart.{IsBankOf, AreApart, scalar_bank, end_of_place}
 use Rattle.scratch_alloc.specs.declared.plans.SlotPlan.{SlotPlan}
 use Rattle.scratch_alloc.specs.Slots.{slots_of}
+pub use Rattle.bank_alloc.specs.Layout.{no_decl, no_place}
 pub use Rattle.scratch_alloc.specs.declared.plans.Pin.{Pin}
 
 -- places and slots of the variables, in order of declaration; the number of blocks of each bank; and the block that each
@@ -80,7 +82,7 @@ pub record IsSoundResident (w : ℕ) (d : Decl) (q : Place) (p : Pin) : Type 0 w
 -- any other variable is an array with whole blocks of its own, of which no slot holds one for the whole run
 pub record IsSoundArray (w : ℕ) (plan : Plan) (d : Decl) (q : Place) (slot : ℕ) : Type 0 where
   pub array : (n : ℕ) × (d.length ≡ Some n)
-  pub slot : Serves q.bank slot
+  pub served : Serves q.bank slot
   pub word : q.word ≡ 0
   pub apart : (k : ℕ) (p : Pin) → pin_of_slot plan k ≡ Some p → p.bank ≡ q.bank
       → (p.block < q.block) ⊎ (end_of_place (2 ^ w) q ≤ p.block * 2 ^ w)
@@ -88,13 +90,6 @@ pub record IsSoundArray (w : ℕ) (plan : Plan) (d : Decl) (q : Place) (slot : �
 abbrev pub IsSoundByPin : ℕ → Plan → Decl → Place → ℕ → Option Pin → Type 0
 IsSoundByPin w plan d q slot None = IsSoundArray w plan d q slot
 IsSoundByPin w plan d q slot (Some p) = IsSoundResident w d q p
-
--- what stands for a declaration and for a place past the last
-abbrev pub no_decl : Decl
-no_decl = record { name = []; label = Public; length = None }
-
-abbrev pub no_place : Place
-no_place = record { bank = 0; block = 0; word = 0; length = 0 }
 
 abbrev pub decl_at : Source → ℕ → Decl
 decl_at p k = slice_index_or p.decls k no_decl
@@ -105,7 +100,8 @@ place_at plan k = slice_index_or plan.places k no_place
 abbrev pub slot_at : Plan → ℕ → ℕ
 slot_at plan k = slice_index_or plan.slots k 0
 
--- a plan for a program, where a block has 2^w words
+-- A plan for a program, where a block has 2^w words. A secret array with a secret index is resident or in an oblivious
+-- bank, so that no access of it shows which block it is.
 pub record IsSoundPlan (p : Source) (w : ℕ) (plan : Plan) : Type 0 where
   pub places : length plan.places ≡ length p.decls
   pub slots : length plan.slots ≡ length p.decls
@@ -114,6 +110,8 @@ pub record IsSoundPlan (p : Source) (w : ℕ) (plan : Plan) : Type 0 where
   pub place : (k : ℕ) → k < length p.decls → IsSoundPlace w plan (decl_at p k) (place_at plan k)
   pub served : (k : ℕ) → k < length p.decls
       → IsSoundByPin w plan (decl_at p k) (place_at plan k) (slot_at plan k) (pin_of_slot plan (slot_at plan k))
+  pub hidden : (k : ℕ) → k < length p.decls → class_of p (decl_at p k) ≡ ObliviousArray
+      → pin_of_slot plan (slot_at plan k) ≡ None → 2 ≤ (place_at plan k).bank
   pub apart : (i j : ℕ) → i < j → j < length p.decls → AreApart (2 ^ w) (place_at plan i) (place_at plan j)
   pub pins : (slot : ℕ) (p : Pin) → pin_of_slot plan slot ≡ Some p → IsSoundPin plan slot p
   pub pins_apart : (j k : ℕ) (p q : Pin) → pin_of_slot plan j ≡ Some p → pin_of_slot plan k ≡ Some q

@@ -16,7 +16,6 @@ pub fn slot_laws()
 {}
 
 /// Does nothing; its clause says that the plan of [`crate::slots`] is sound for each program with room for its variables.
-#[tactic(auto, using(crate::proofs::StandardPlan::standard_sound))]
 pub fn plan_laws()
     ensures standard { (p : Source) (w : ℕ)
         → IsWithinLimits p

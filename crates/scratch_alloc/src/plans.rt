@@ -99,6 +99,15 @@ pub fn slots(alloc: Global, places: &Places) -> Result<SlotPlan, Memory>
     }
     let plain = Pin { bank: 0, block: 0 };
     let encrypted = Pin { bank: 1, block: 0 };
-    let pins = [Some(plain), Some(encrypted), None, None, None, None, None, None];
+    let pins = [
+        Some(plain),
+        Some(encrypted),
+        None,
+        None,
+        None,
+        None,
+        None,
+        None,
+    ];
     Ok(SlotPlan { of_var, pins })
 }
