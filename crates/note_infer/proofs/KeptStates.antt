@@ -1,6 +1,6 @@
--- The states that are kept when one more branch joins: they are under way, where the branch waits, and each place that
--- leads into its region from outside.
-use Rattle.std.proofs.Common.{◌≡◌, ℕ, ◌<◌, ◌≤◌, List, [], ◌∷◌, length, slice_get, ◌⊎◌, inl, inr, Option, Some, None, sym, ◌∙◌, subst, ⊎_elim, arith}
+-- The states that are kept when one more branch joins: they are under way if the branch waits, and each place that leads
+-- into its region from outside.
+use Rattle.std.proofs.Common.{◌≡◌, ℕ, ◌<◌, ◌≤◌, List, [], ◌∷◌, length, ◌⊎◌, inl, inr, Option, Some, sym, ◌∙◌, subst, ⊎_elim, arith}
 use Rattle.std.specs.List.{Contains}
 use Rattle.std.proofs.lemmas.Bool.{cases_lt, cases_eq}
 use Rattle.std.proofs.lemmas.Option.{slice_get_within}

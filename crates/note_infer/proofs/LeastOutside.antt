@@ -1,7 +1,7 @@
--- Where one more branch joins whose region stands apart, the least states outside that region are not above those that
--- are closed then. What is closed then, with what is carried through the region, is closed where the branch isn't
--- crossed, as far as it is at most the least states: two states meet in the region only where no more is secret behind
--- each step than behind one of them.
+-- If one more branch joins whose region is apart, the least states outside that region are not above those that are
+-- closed then. Take the states that are closed then, within the region together with what is carried through it, and of
+-- both what the least states have too. These are closed while the branch isn't crossed: two states meet in the region
+-- only where no more is secret after a step than after the same step from one of them.
 use Rattle.std.proofs.Common.{◌≡◌, ℕ, ◌+◌, ◌-◌, ◌<◌, ◌≤◌, ◌&&◌, nat_lt, Bool, true, false, ℤ, List, [], ◌∷◌, length, slice_get, ◌⊎◌, inl, inr, Option, Some, None, refl, sym, ap, ◌∙◌, subst, ⊎_elim, arith}
 use Rattle.std.specs.Prelude.{◌||◌}
 use Rattle.std.proofs.lemmas.Bool.{cases_lt, cases_eq, lt-ltb, le-ltb, eq-eqb, false≢true}
@@ -132,7 +132,7 @@ module _ (o : Parts) (crossed : List ℕ) (place join : ℕ) (cmp : Cmp) (ra rb 
       (early : (p q : ℕ) → place < q → q < first → IsTargetOf o [] p q → (place ≤ p) × (p < q))
       (knows : (q : ℕ) → first ≤ q → q < join → (rd slot : ℕ) (k : Known) → slice_get o.code q ≡ Some (Idb rd slot)
       → states q ≡ Some k → bank_known k slot ≡ None → ⊥) (h : Inner o crossed others place join) where
-    -- the others, but for places to which steps lead by the branch alone
+    -- the others, but for places to which steps lead only from the branch
     abbrev pick : Bool → ℕ → Option Known
     pick true x = None
     pick false x = others x

@@ -10,7 +10,7 @@ use Rattle.trace_patterns.proofs.Notes.{IsClaim, fits_claim, claim_tested}
 use Rattle.note_infer.specs.Least.{States, IsAtLeast, IsFull}
 use Rattle.note_infer.proofs.SameParts.{known_once, none_not}
 
--- so many items, made one by one
+-- n items, made one by one
 pub made : {X : Type 0} → ℕ → (ℕ → X) → List X
 made count f = map f (range_with_len 0 count)
 

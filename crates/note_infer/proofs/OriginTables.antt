@@ -1,10 +1,9 @@
--- The lists of places that lead to each place: one place more, their end, and how they are followed. What is forgotten of a
--- region, and the places that wait then.
-use Rattle.std.proofs.Common.{◌≡◌, ℕ, zero, suc, ◌+◌, ◌-◌, ◌<◌, ◌≤◌, false, ℤ, List, [], ◌∷◌, ◌++◌, length, get_or, set, slice_get, ◌⊎◌, inl, inr, Option, Some, None, refl, sym, ap, ◌∙◌, subst, ⊎_elim, arith, get_or-set_same, get_or-set_other, length-set}
+-- The lists of places that lead to each place: one more place, their end, and how they are followed. What is forgotten
+-- of a region, and the places that wait then.
+use Rattle.std.proofs.Common.{◌≡◌, ℕ, ◌+◌, ◌-◌, ◌<◌, ◌≤◌, ℤ, List, [], ◌∷◌, length, get_or, set, slice_get, ◌⊎◌, inl, inr, Option, Some, None, refl, sym, ap, ◌∙◌, subst, ⊎_elim, arith, get_or-set_same, get_or-set_other, length-set}
 use Rattle.std.specs.Prelude.{replicate}
 use Rattle.std.proofs.lemmas.Bool.{cases_lt, cases_eq}
 use Rattle.std.proofs.lemmas.List.{get_or_past, get_or-replicate, length-replicate}
-use Rattle.std.proofs.lemmas.Option.{slice_get_within}
 use Rattle.gr_word.specs.declared.operations.Cmp.{Cmp}
 use Rattle.lt_isa.specs.declared.instructions.Instr.{Instr}
 use Rattle.lt_isa.specs.declared.instructions.Instr.TheVariants.{Halt, Jmp, Br}
@@ -28,7 +27,7 @@ linked_still before p v link x falls le (LinkedBefore l head y e rest) =
     (sym (get_or-set_other before p head v 0 (λ (f : head ≡ p). omega (arith, e, le, f))))
     (linked_still before p v (get_or before head 0) x falls (omega (arith, falls head, e, le)) rest))
 
--- one place is told of
+-- one more place is listed
 module _ (o : Parts) (p : ℕ) (last before : List ℕ) (h : OriginsBelow o p last before) where
   target_inside : (r q : ℕ) → IsTargetOf o [] r q → q < length o.code
   target_inside r q (ByJump r' q' offset at to lt) = lt
@@ -160,7 +159,7 @@ followed_all before first link seen none h p linked = by (h p linked)
     by (inl (LinkedHere l x e)) = absurd (omega (arith, e, none))
     by (inl (LinkedBefore l head x e rest)) = absurd (omega (arith, e, none))
 
--- one place more waits, where it stands outside
+-- one more place waits, if it is outside
 pub awaits_one : (place join origin size : ℕ) (stack between after : List ℕ) → origin < size
     → AwaitsOne place join origin between after → ((x : ℕ) → Waits stack x → Waits between x)
     → (((x : ℕ) → Waits stack x → x < size) → (x : ℕ) → Waits between x → x < size)

@@ -68,7 +68,7 @@ next_outside place bound r q to ne out lt le =
     (λ (more : r ≤ place). ne (omega (arith, to, lt, more)))
     (cases_lt place r)
 
--- No way leads behind the branch and before a bound from elsewhere, but from the branch.
+-- No way leads from elsewhere to a place between the branch and a bound.
 module _ (o : Parts) (crossed : List ℕ) (place bound : ℕ) (cmp : Cmp) (ra rb : ℕ) (offset : ℤ)
     (branch : slice_get o.code place ≡ Some (Br cmp ra rb offset))
     (entered : (p q : ℕ) → place < q → q < bound → IsTargetOf o [] p q → (place ≤ p) × (p < q)) where

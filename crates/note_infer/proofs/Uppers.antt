@@ -1,6 +1,7 @@
--- The lowest state that is at least two states, and what is known behind an instruction: no more is secret behind it than
--- behind the two, unless the two know different banks of a slot where the address of its block is read.
-use Rattle.std.proofs.Common.{◌≡◌, ℕ, ◌<◌, ◌≤◌, ◌||◌, Bool, true, false, not, ◌⊎◌, inl, inr, Option, Some, None, refl, sym, ap, ◌∙◌, subst, ⊎_elim, arith, get_or-set_same, get_or-set_other}
+-- The lowest state that two states are at most, and what is known after an instruction from there: no more is secret than
+-- after the instruction from one of the two, unless they know different banks of a slot and the address of its block is
+-- read.
+use Rattle.std.proofs.Common.{◌≡◌, ℕ, ◌<◌, ◌≤◌, ◌||◌, Bool, true, false, not, ◌⊎◌, inl, inr, Option, Some, None, refl, sym, ap, ◌∙◌, ⊎_elim, arith, get_or-set_same, get_or-set_other}
 use Rattle.std.proofs.lemmas.Bool.{cases_lt, cases_eq, eqb-true, false≢true}
 use Rattle.std.proofs.lemmas.List.{get_or_past}
 use Rattle.lt_isa.specs.declared.instructions.Instr.{Instr}

@@ -1,4 +1,4 @@
--- Which states are kept where one more branch joins, and which branches are told as those that may join next. (Only
+-- Which states are kept when one more branch joins, and which branches are listed as those that may join next. (Only
 -- clauses of the search cite this.)
 use Rattle.std.specs.Prelude.{◌≡◌, ℕ, ◌+◌, ◌<◌, ◌≤◌, ◌⊎◌, false, List, [], ◌∷◌, ◌++◌, length, slice_get, slice_set, slice_index_or, Option, Some, None}
 use Rattle.std.specs.List.{Contains}
@@ -39,7 +39,7 @@ pub record OriginsBelow (o : Parts) (bound : ℕ) (last before : List ℕ) : Typ
 abbrev pub TellsOrigins : Parts → (last before : List ℕ) → Type 0
 TellsOrigins o last before = OriginsBelow o (length o.code) last before
 
--- one more place is told of a target
+-- one more place is listed for a target
 pub record TellsOne (p target : ℕ) (last before last_after before_after : List ℕ) : Type 0 where
   pub inside : target < length last → (last_after ≡ slice_set last target (p + 1))
       × (before_after ≡ slice_set before p (link_at last target))
@@ -49,7 +49,7 @@ pub record TellsOne (p target : ℕ) (last before last_after before_after : List
 abbrev pub IsFollowed : List ℕ → (first link : ℕ) → (ℕ → Type 0) → Type 0
 IsFollowed before first link seen = (p : ℕ) → IsLinked before first p → IsLinked before link p ⊎ seen p
 
--- jumps and branches lead to a place only from places at or behind another one, and before it
+-- jumps and branches lead to place q only from `place` and places between the two
 abbrev pub LedFromWithin : (last before : List ℕ) → (place q : ℕ) → Type 0
 LedFromWithin last before place q = (p : ℕ) → IsLinked before (link_at last q) p → (place ≤ p) × (p < q)
 
@@ -63,9 +63,9 @@ abbrev pub KnowsBlockAt : Parts → List (Option Known) → ℕ → Type 0
 KnowsBlockAt o states q = (rd slot : ℕ) (k : Known) → slice_get o.code q ≡ Some (Idb rd slot)
     → slice_index_or states q None ≡ Some k → bank_known k slot ≡ None → ⊥
 
--- States outside the region of a branch stay the least when that branch joins: up to a first place steps come into it
--- by the branch alone, from there on the bank of each block is known whose address is read, and no branch within it is
--- crossed.
+-- States outside the region of a branch stay the least when that branch joins. No branch within is crossed. Before a
+-- first place, steps enter the region only by its branch. From that place on, if the address of a block is read, the
+-- block's bank is known.
 pub record IsApart (o : Parts) (crossed : List ℕ) (states : List (Option Known)) (place join : ℕ) : Type 0 where
   pub first : ℕ
   pub within : first ≤ join
@@ -73,12 +73,12 @@ pub record IsApart (o : Parts) (crossed : List ℕ) (states : List (Option Known
   pub alone : (q : ℕ) → place < q → q < join → is_crossed crossed q ≡ false
   pub known : (q : ℕ) → first ≤ q → q < join → KnowsBlockAt o states q
 
--- a place within a region needn't wait, another one does
+-- a place within a region needn't wait, any other one does
 pub data AwaitsOne (place join origin : ℕ) (stack : List ℕ) : List ℕ → Type 0 where
   Within : place ≤ origin → origin < join → AwaitsOne place join origin stack stack
   Outside : AwaitsOne place join origin stack (stack ++ origin ∷ [])
 
--- More places wait than before, among them those outside a region of a kind.
+-- Other places may wait than before, among them those of a kind that are outside a region.
 pub record Awaits (place join size : ℕ) (awaited : ℕ → Type 0) (stack after : List ℕ) : Type 0 where
   pub keeps : (x : ℕ) → Waits stack x → Waits after x
   pub inside : ((x : ℕ) → Waits stack x → x < size) → (x : ℕ) → Waits after x → x < size
@@ -94,7 +94,7 @@ pub record AwaitsBelow (last before : List ℕ) (place join bound : ℕ) (stack 
 abbrev pub IsAwaiting : (last before : List ℕ) → (place join : ℕ) → (stack : List ℕ) → Type 0
 IsAwaiting last before place join stack = AwaitsBelow last before place join join stack
 
--- the states without those behind a place and before another
+-- the states without those between two places
 pub record IsWithout (place join : ℕ) (before after : List (Option Known)) : Type 0 where
   pub size : length after ≡ length before
   pub inside : (q : ℕ) → place < q → q < join → slice_index_or after q None ≡ None

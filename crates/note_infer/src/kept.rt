@@ -18,8 +18,8 @@ use region_walk::RegionValues;
 use std::alloc::Global;
 use trace_patterns::Known;
 
-/// Crosses one branch more, the lowest that may join, and answers the least states with all branches that are crossed
-/// then. States outside its region stay as they are if its region stands apart; else the search begins anew.
+/// Crosses one more branch, the lowest that may join, and returns the least states with all branches that are crossed
+/// then. States outside its region stay as they are if the region is apart; otherwise the search begins anew.
 pub fn join_next(
     alloc: Global,
     object: &Object,
@@ -126,10 +126,10 @@ fn awaited(alloc: Global, origins: &Origins, place: u32, join: u32) -> Result<Ve
     Ok(stack)
 }
 
-// Whether the states outside the region of a branch stay the least when it joins. They may not if a branch within is
-// crossed: a region that is crossed for itself leaves less than one that is carried through with those around it. Nor
-// if states from two ways meet within where the address of a block is read: if two banks show it, it is public on each
-// way, but secret after they have met, since the bank isn't known then.
+// Whether the states outside the region of a branch stay the least when it joins. They may fall if a branch within is
+// crossed: a region that is crossed by itself leaves less than one that is carried through with those around it. They
+// may also fall if ways from outside lead to a place that reads the address of a block whose bank isn't known. If two
+// ways met there with two banks that show addresses, the address was public on each way, but secret once they had met.
 fn stands_apart(
     object: &Object,
     crossed: &Crossed,
@@ -182,7 +182,7 @@ fn first_entered(origins: &Origins, place: u32, join: u32) -> u32
     join
 }
 
-// Whether the bank of each block is known whose address is read at a place from one to another.
+// Whether, from a first place up to a join, the bank of each block is known whose address is read.
 fn knows_blocks(object: &Object, states: &[Option<Known>], first: u32, join: u32) -> bool
     requires range { IsInRange object.now }
     requires before { first ≤ join }
@@ -233,7 +233,7 @@ fn slot_read(instr: Instr) -> Option<u8>
     }
 }
 
-// Forgets what is known behind a place and before another.
+// Forgets what is known between two places.
 #[tactic(auto, using(crate::proofs::OriginTables::without_begun, crate::proofs::OriginTables::without_more))]
 fn forget_within(states: &mut Vec<Option<Known>>, place: u32, join: u32)
     requires before { place < join }

@@ -32,7 +32,7 @@ pub fn origins_of(alloc: Global, object: &Object) -> Result<Origins, Memory>
     }
 }
 
-// Tells of all places, in tables that tell of none.
+// Lists all places, in tables that list none.
 #[tactic(auto, using(crate::proofs::OriginTables::origins_begun, crate::proofs::OriginTables::origins_ended))]
 fn told_origins(object: &Object, none_last: Vec<u32>, none_before: Vec<u32>) -> Origins
     requires range { IsInRange object.now }
@@ -53,7 +53,7 @@ fn told_origins(object: &Object, none_last: Vec<u32>, none_before: Vec<u32>) -> 
     Origins { last, before }
 }
 
-// Tells of the place to which the instruction at a place jumps or branches.
+// Lists a place for the target to which its instruction jumps or branches, if it does.
 fn tell_from(object: &Object, last: &mut Vec<u32>, before: &mut Vec<u32>, place: u32, instr: Instr)
     requires range { IsInRange object.now }
     requires inside { place < length object.now.code }
@@ -83,7 +83,7 @@ fn tell_from(object: &Object, last: &mut Vec<u32>, before: &mut Vec<u32>, place:
     }
 }
 
-// Tells of one place that leads to another, if that is one of the code.
+// Lists one place for its target, if that is one of the code.
 fn tell(last: &mut Vec<u32>, before: &mut Vec<u32>, place: u32, target: usize)
     requires small { place + 1 < 2 ^ 32 }
     requires inside { place < length before.old.items }
@@ -95,7 +95,7 @@ fn tell(last: &mut Vec<u32>, before: &mut Vec<u32>, place: u32, target: usize)
     }
 }
 
-/// Whether a jump or a branch leads to a place of a region from outside, or from behind that place.
+/// Whether a jump or a branch leads to a place of a region from before the region, or from that place or a later one.
 pub fn is_entered(origins: &Origins, place: u32, inner: u32) -> bool
     requires inside { inner < length origins.now.last.items }
     requires links { LinksFall origins.now.last.items origins.now.before.items }
@@ -115,7 +115,7 @@ pub fn is_entered(origins: &Origins, place: u32, inner: u32) -> bool
     false
 }
 
-/// Makes each place wait that jumps or branches to a place of a region from outside it.
+/// Makes each place wait that jumps or branches to a place of a region from outside the region.
 pub fn await_origins(
     origins: &Origins,
     place: u32,
@@ -140,7 +140,7 @@ pub fn await_origins(
     Ok(())
 }
 
-// Makes a place wait that isn't within a region.
+// Makes a place wait, unless it is within a region.
 fn await_one(place: u32, join: u32, origin: u32, stack: &mut Vec<u32>) -> Result<(), Memory>
     ensures { OnOk result (AwaitsOne place join origin stack.old.items stack.new.items) }
 {

@@ -1,5 +1,5 @@
 -- The places seen so far stand in the region, before the place.
-use Rattle.std.proofs.Common.{ℕ, ◌<◌, ◌≤◌, length, get_or}
+use Rattle.std.proofs.Common.{◌<◌, ◌≤◌, length, get_or}
 use Rattle.note_infer.specs.Kept.{IsFollowed}
 use Rattle.note_infer.proofs.origins.is_entered.Given as goal
 
