@@ -64,8 +64,34 @@ def compared(source, folder):
     return '', f'{len(ours)} notes found, {len(theirs)} of the compiler, {differ} places differ'
 
 
+def entered(regions):
+    """A text of regions into each of which a branch leads, in a loop that makes one more register secret each time."""
+    lines = ['.object 1 3 1 70 2 3', '.bank 4 1', '.bank 4 1', 'ldb 7 E r0', 'ldw r31 7 r0', 'top:']
+    lines += [f'add r{it} r{it - 1} r{it}' for it in range(19, 1, -1)]
+    for it in range(regions):
+        lines += [f'br eq r0 r0 -> way{it}', f'br eq r31 r0 -> second{it}', 'nop', f'way{it}:', 'li r20 1',
+                  f'jmp -> join{it}', f'second{it}:', 'li r20 2', f'join{it}:']
+    return [*lines, 'add r1 r20 r0', 'br eq r0 r0 -> top', 'halt']
+
+
+def quick(folder):
+    """What is wrong with `infer` on many regions into which branches lead, which it must decide quickly."""
+    text, bare, found = (f'{folder}/{it}' for it in ('text', 'bare.obj', 'found.obj'))
+    with open(text, 'w', encoding='ascii') as it:
+        it.writelines(f'{line}\n' for line in entered(20000))
+    if answer('asm', text, bare)[0]:
+        return 'it is not assembled'
+    try:
+        status, said = answer('infer', bare, found)
+    except subprocess.TimeoutExpired as late:
+        return f'infer takes more than {late.timeout} seconds'
+    return '' if (status, said) == (7, 'fault 7 refused 21 11\n') else f'infer: {said.strip()}'
+
+
 def main(folder):
-    passed = failed = 0
+    why = quick(folder)
+    passed, failed = (0, 1) if why else (1, 0)
+    print(f'FAILED: 20,000 regions into which branches lead: {why}' if why else 'ok: 20,000 regions into which branches lead')
     for source in sorted(glob.glob(f'{ROOT}/examples/programs/*.gr') + glob.glob(f'{ROOT}/examples/procedures/*.gr')):
         why, said = compared(source, folder)
         passed, failed = (passed, failed + 1) if why else (passed + 1, failed)

@@ -5,5 +5,6 @@ pub mod EachPlace
 pub mod Placed
 pub mod Apart
 pub mod BankSizes
+pub mod SoundPlaces
 pub mod SymbolOrder
 pub mod SampleLaid

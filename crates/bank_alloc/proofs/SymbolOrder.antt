@@ -1,11 +1,11 @@
 -- The symbols of a program's variables, sorted: they are in order of bank and place, and in range.
-use Rattle.std.proofs.Common.{◌≡◌, ◌≢◌, ℕ, zero, suc, ◌+◌, ◌*◌, ◌^◌, ◌<◌, ◌≤◌, List, [], ◌∷◌, ◌++◌, length, map, take, get_or, ◌⊎◌, inl, inr, ⊎_elim, refl, sym, ap, ◌∙◌, subst, arith}
+use Rattle.std.proofs.Common.{◌≡◌, ◌≢◌, ℕ, zero, suc, ◌+◌, ◌*◌, ◌^◌, ◌<◌, ◌≤◌, List, [], ◌∷◌, ◌++◌, length, map, take, get_or, Option, Some, None, ◌⊎◌, inl, inr, ⊎_elim, refl, sym, ap, ◌∙◌, subst, arith}
 use Rattle.std.specs.Prelude.{IsTrue}
 use Rattle.std.specs.List.{All, AllPairs}
 use Rattle.std.specs.List.Sorted.{IsPermutation, IsNonDecreasingBy}
 use Rattle.std.proofs.Math.Nat.{mul-le-mul_left}
 use Rattle.std.proofs.lemmas.Bool.{cases_lt}
-use Rattle.std.proofs.lemmas.List.{get_or-take, get_or_default, length-take-le}
+use Rattle.std.proofs.lemmas.List.{get_or-take, get_or_default, length-take-le, get_or-map, length-map}
 use Rattle.std.proofs.lemmas.List.Sorted.{All-permutation, sum_by-IsPermutation}
 use Rattle.std.proofs.lemmas.List.Sums.{sum_by-cons, sum_by_more_le}
 use Rattle.gr_base.specs.Lists.{Within, EachAfter, at_last}
@@ -14,28 +14,21 @@ use Rattle.gr_base.proofs.EachAfter.{EachAfter-from_below}
 use Rattle.gr_word.specs.Names.{is_name}
 use Rattle.lt_isa.specs.declared.profiles.BankSpec.{BankSpec}
 use Rattle.lt_isa.specs.declared.symbols.Symbol.{Symbol}
-use Rattle.lt_isa.specs.Limits.{most_words}
+use Rattle.lt_isa.specs.Limits.{most_words, most_blocks}
 use Rattle.lt_isa.specs.Object.{no_bank, first_word, end_word}
 use Rattle.lt_isa.specs.Ranges.{SymbolFits, total_length}
 use Rattle.lt_isa.specs.SymbolPlaces.{LiesBehind, last_bank, last_end}
 use Rattle.lt_isa.proofs.SymbolPlaces.{most_blocks-le}
 use Rattle.src_tree.specs.declared.trees.Decl.{Decl}
-use Rattle.src_tree.specs.Limits.{IsWithinLimits, total_words, words_of}
+use Rattle.src_tree.specs.Limits.{IsWithinLimits, LengthFits, total_words, words_of, words_of_length}
+use Rattle.src_tree.specs.Contexts.{shape_of}
 use Rattle.src_tree.specs.Trees.{Source}
 use Rattle.src_tree.specs.Typing.{IsTyped}
 use Rattle.src_tree.proofs.NamesDiffer.{names_differ}
-use Rattle.bank_alloc.specs.declared.classes.Class.{Class}
-use Rattle.bank_alloc.specs.declared.classes.Class.TheVariants.{PublicScalar, SecretScalar, PublicArray, EncryptedArray, ObliviousArray}
 use Rattle.bank_alloc.specs.declared.places.Place.{Place}
-use Rattle.bank_alloc.specs.Classes.{class_of}
-use Rattle.bank_alloc.specs.Fits.{Fits}
 use Rattle.bank_alloc.specs.Keys.{symbol_key}
-use Rattle.bank_alloc.specs.Layout.{placed_symbol, placed_symbols, StandsBefore, InEarlierBank, AtEarlierWord, AreSymbolsOf}
-use Rattle.bank_alloc.specs.Places.{place_behind, places_behind, places_of, bank_count, blocks_needed, blocks_of_banks}
-use Rattle.bank_alloc.specs.Apart.{LiesWithin}
-use Rattle.bank_alloc.proofs.Apart.{lies_within, variables_apart}
-use Rattle.bank_alloc.proofs.BankSizes.{bank_count-is, blocks_in-is}
-use Rattle.bank_alloc.proofs.EachPlace.{any_decl, any_place, length-places}
+use Rattle.bank_alloc.specs.Layout.{placed_symbol, placed_symbols, StandsBefore, InEarlierBank, AtEarlierWord, AreSymbolsAt, ArePlacesIn, IsWithinBank, no_decl, no_place}
+use Rattle.bank_alloc.proofs.Apart.{length_at}
 use Rattle.bank_alloc.proofs.PlacedBehind.{block_range}
 use Rattle.gr_base.proofs.Permuted.{EachTwo, each_two_permuted}
 
@@ -57,13 +50,13 @@ get_or-symbols_at (x ∷ ds) (y ∷ places) zero d q s same within = refl
 get_or-symbols_at (x ∷ ds) (y ∷ places) (suc k) d q s same within =
     get_or-symbols_at ds places k d q s (omega (arith, same)) (omega (arith, within))
 
--- a symbol lies within its bank
-record SymbolLies (p : Source) (w : ℕ) (s : Symbol) : Type 0 where
-  pub bank : s.bank < bank_count (places_of p w)
-  pub block : s.block < blocks_needed p w s.bank
+-- a symbol is within its bank
+record SymbolLies (blocks : List ℕ) (w : ℕ) (s : Symbol) : Type 0 where
+  pub bank : s.bank < length blocks
+  pub block : s.block < get_or blocks s.bank 0
   pub word : s.word < 2 ^ w
   pub size : Within 1 (most_words s.shape) s.length
-  pub inside : end_word (2 ^ w) s ≤ blocks_needed p w s.bank * 2 ^ w
+  pub inside : end_word (2 ^ w) s ≤ get_or blocks s.bank 0 * 2 ^ w
 
 -- two symbols have other names, and lie apart
 record AreTwo (size : ℕ) (s t : Symbol) : Type 0 where
@@ -71,105 +64,115 @@ record AreTwo (size : ℕ) (s t : Symbol) : Type 0 where
   pub apart : s.bank ≡ t.bank → (end_word size s ≤ first_word size t) ⊎ (end_word size t ≤ first_word size s)
 
 -- what is known of some symbols, in whatever order they are
-record AreKnown (p : Source) (w : ℕ) (symbols : List Symbol) : Type 0 where
-  pub lie : All (SymbolLies p w) symbols
+record AreKnown (blocks : List ℕ) (w : ℕ) (symbols : List Symbol) : Type 0 where
+  pub lie : All (SymbolLies blocks w) symbols
   pub two : EachTwo (AreTwo (2 ^ w)) symbols
   pub total : total_length symbols ≤ 4194304
   pub names : All (λ s. IsTrue (is_name s.name)) symbols
 
-symbol_lies : (p : Source) (w : ℕ) (d : Decl) (q : Place) → LiesWithin p w d q → SymbolLies p w (placed_symbol d q)
-symbol_lies p w d q lies =
-    record { bank = lies.bank; block = lies.block; word = lies.word; size = lies.size; inside = lies.inside }
+-- the words of a variable, by its length
+size_by : (length : Option ℕ) → LengthFits length → Within 1 (most_words (shape_of length)) (words_of_length length)
+size_by None fits = (omega arith, omega arith)
+size_by (Some n) fits = fits
 
--- each at its place
-symbol_is : (p : Source) (w k : ℕ) (d : Decl) (q : Place) (s : Symbol) → k < length p.decls
-    → get_or (placed_symbols p.decls (places_of p w)) k s
-    ≡ placed_symbol (get_or p.decls k d) (get_or (places_of p w) k q)
-symbol_is p w k d q s within = get_or-symbols_at p.decls (places_of p w) k d q s (length-places p w) within
+symbol_lies : (blocks : List ℕ) (w : ℕ) (d : Decl) (q : Place)
+    → LengthFits d.length → IsWithinBank (2 ^ w) blocks d q → SymbolLies blocks w (placed_symbol d q)
+symbol_lies blocks w d q fits is =
+    let size : Within 1 (most_words (shape_of d.length)) q.length =
+    subst (Within 1 (most_words (shape_of d.length))) (sym is.words) (size_by d.length fits) in
+    record {
+      bank = is.bank;
+      block =
+          ⊎_elim (λ less. less)
+          (λ past. let more : 2 ^ w * get_or blocks q.bank 0 ≤ 2 ^ w * q.block = mul-le-mul_left (2 ^ w) past in
+          absurd (omega (arith, more, is.inside, size.0)))
+          (cases_lt q.block (get_or blocks q.bank 0));
+      word = is.word;
+      size = size;
+      inside = is.inside;
+    }
 
-symbols_counted : (p : Source) (w : ℕ) → length (placed_symbols p.decls (places_of p w)) ≡ length p.decls
-symbols_counted p w = length-symbols_at p.decls (places_of p w) (length-places p w)
+-- the words of all variables
+total_placed : (ds : List Decl) (places : List Place) → length places ≡ length ds
+    → ((k : ℕ) → k < length ds → (get_or places k no_place).length ≡ words_of (get_or ds k no_decl))
+    → total_length (placed_symbols ds places) ≡ total_words ds
+total_placed [] places same long = refl
+total_placed (d ∷ ds) [] same long = absurd (omega (arith, same))
+total_placed (d ∷ ds) (q ∷ places) same long =
+    let more = sum_by-cons (λ (s : Symbol). s.length) (placed_symbol d q) (placed_symbols ds places) in
+    let rest = total_placed ds places (omega (arith, same)) (λ k below. long (suc k) (omega (arith, below))) in
+    let first : q.length ≡ words_of d = long 0 (omega arith) in
+    omega (arith, more, rest, first)
 
--- a place is as long as its variable
-pub length-place : (size : ℕ) (before : List Place) (class : Class) (words : ℕ)
-    → (place_behind size before class words).length ≡ words
-length-place size before PublicScalar words = refl
-length-place size before SecretScalar words = refl
-length-place size before PublicArray words = refl
-length-place size before EncryptedArray words = refl
-length-place size before ObliviousArray words = refl
-
-total_placed : (class : Decl → Class) (size : ℕ) (before : List Place) (ds : List Decl)
-    → total_length (placed_symbols ds (places_behind class size before ds)) ≡ total_words ds
-unfolding places_behind
-total_placed class size before [] = refl
-total_placed class size before (d ∷ ds) =
-    let q = place_behind size before (class d) (words_of d) in
-    let more =
-    sum_by-cons (λ (s : Symbol). s.length) (placed_symbol d q)
-    (placed_symbols ds (places_behind class size (before ++ q ∷ []) ds)) in
-    let rest = total_placed class size (before ++ q ∷ []) ds in
-    omega (arith, more, rest, length-place size before (class d) (words_of d))
-
-placed_known : (p : Source) (w : ℕ) → IsTyped p → IsWithinLimits p → Fits p w
-    → All (λ s. IsTrue (is_name s.name)) (placed_symbols p.decls (places_of p w))
-    → AreKnown p w (placed_symbols p.decls (places_of p w))
-placed_known p w typed limits fit names =
-    let all = placed_symbols p.decls (places_of p w) in
+placed_known : (p : Source) (w : ℕ) (blocks : List ℕ) (places : List Place)
+    → IsTyped p → IsWithinLimits p → ArePlacesIn p w blocks places
+    → All (λ s. IsTrue (is_name s.name)) (placed_symbols p.decls places)
+    → AreKnown blocks w (placed_symbols p.decls places)
+placed_known p w blocks places typed limits are names =
+    let all = placed_symbols p.decls places in
     let in_decls : (k : ℕ) → k < length all → k < length p.decls =
-    λ k within. omega (arith, within, symbols_counted p w) in
+    λ k within. omega (arith, within, length-symbols_at p.decls places are.count) in
     record {
       lie = λ k s within.
           let here = in_decls k within in
-          let d = any_decl in
-          let q = any_place in
-          subst (SymbolLies p w) (sym (symbol_is p w k d q s here))
-          (symbol_lies p w (get_or p.decls k d) (get_or (places_of p w) k q) (lies_within p w k d q limits fit here));
+          subst (SymbolLies blocks w) (sym (symbol_is k s here))
+          (symbol_lies blocks w (decl k) (place k) (length_at p.decls limits.lengths k no_decl here)
+          (are.place k here));
       two = record { at = λ i j s in_i in_j differ. two_at i j s (in_decls i in_i) (in_decls j in_j) differ };
-      total = omega (arith, total_placed (class_of p) (2 ^ w) [] p.decls, limits.words);
+      total = omega (
+        arith,
+        total_placed p.decls places are.count (λ k below. (are.place k below).words),
+        limits.words,
+      );
       names = names;
     }
   where
-    two_of : (i j : ℕ) (d : Decl) (q : Place) → i < length p.decls → j < length p.decls → i ≢ j
-        → AreTwo (2 ^ w) (placed_symbol (get_or p.decls i d) (get_or (places_of p w) i q))
-        (placed_symbol (get_or p.decls j d) (get_or (places_of p w) j q))
-    two_of i j d q in_i in_j differ =
+    decl : ℕ → Decl
+    decl k = get_or p.decls k no_decl
+
+    place : ℕ → Place
+    place k = get_or places k no_place
+
+    -- each at its place
+    symbol_is : (k : ℕ) (s : Symbol) → k < length p.decls
+        → get_or (placed_symbols p.decls places) k s ≡ placed_symbol (decl k) (place k)
+    symbol_is k s within = get_or-symbols_at p.decls places k no_decl no_place s are.count within
+
+    two_of : (i j : ℕ) → i < length p.decls → j < length p.decls → i ≢ j
+        → AreTwo (2 ^ w) (placed_symbol (decl i) (place i)) (placed_symbol (decl j) (place j))
+    two_of i j in_i in_j differ =
         ⊎_elim
         (λ less. record {
-          names = names_differ p.decls typed.once i j d less in_j;
-          apart = λ same. variables_apart p w i j d q fit less in_j same;
+          names = names_differ p.decls typed.once i j no_decl less in_j;
+          apart = λ same. are.apart i j less in_j same;
         })
         (λ past.
         let less : j < i = omega (arith, past, differ) in
         record {
-          names = λ same. names_differ p.decls typed.once j i d less in_i (sym same);
-          apart = λ same. ⊎_elim (λ a. inr a) (λ b. inl b) (variables_apart p w j i d q fit less in_i (sym same));
+          names = λ same. names_differ p.decls typed.once j i no_decl less in_i (sym same);
+          apart = λ same. ⊎_elim (λ a. inr a) (λ b. inl b) (are.apart j i less in_i (sym same));
         })
         (cases_lt i j)
 
     two_at : (i j : ℕ) (s : Symbol) → i < length p.decls → j < length p.decls → i ≢ j → AreTwo (2 ^ w)
-        (get_or (placed_symbols p.decls (places_of p w)) i s) (get_or (placed_symbols p.decls (places_of p w)) j s)
+        (get_or (placed_symbols p.decls places) i s) (get_or (placed_symbols p.decls places) j s)
     two_at i j s in_i in_j differ =
-        let d = any_decl in
-        let q = any_place in
-        subst (λ x. AreTwo (2 ^ w) x (get_or (placed_symbols p.decls (places_of p w)) j s))
-        (sym (symbol_is p w i d q s in_i))
-        (subst (λ y. AreTwo (2 ^ w) (placed_symbol (get_or p.decls i d) (get_or (places_of p w) i q)) y)
-        (sym (symbol_is p w j d q s in_j))
-        (two_of i j d q in_i in_j differ))
+        subst (λ x. AreTwo (2 ^ w) x (get_or (placed_symbols p.decls places) j s)) (sym (symbol_is i s in_i))
+        (subst (AreTwo (2 ^ w) (placed_symbol (decl i) (place i))) (sym (symbol_is j s in_j))
+        (two_of i j in_i in_j differ))
 
-permuted_known : (p : Source) (w : ℕ) (xs ys : List Symbol) → IsPermutation xs ys → AreKnown p w xs → AreKnown p w ys
-permuted_known p w xs ys permuted known = record {
-  lie = All-permutation (SymbolLies p w) xs ys permuted known.lie;
+permuted_known : (blocks : List ℕ) (w : ℕ) (xs ys : List Symbol) → IsPermutation xs ys → AreKnown blocks w xs → AreKnown blocks w ys
+permuted_known blocks w xs ys permuted known = record {
+  lie = All-permutation (SymbolLies blocks w) xs ys permuted known.lie;
   two = each_two_permuted (AreTwo (2 ^ w)) xs ys permuted known.two;
   total = omega (arith, sum_by-IsPermutation (λ (s : Symbol). s.length) xs ys permuted, known.total);
   names = All-permutation (λ s. IsTrue (is_name s.name)) xs ys permuted known.names;
 }
 
 -- of two symbols of one bank that lie apart, the one with the lower key ends before the other
-ends_before : (p : Source) (w : ℕ) (s t : Symbol) → SymbolLies p w s → SymbolLies p w t → AreTwo (2 ^ w) s t
+ends_before : (blocks : List ℕ) (w : ℕ) (s t : Symbol) → SymbolLies blocks w s → SymbolLies blocks w t → AreTwo (2 ^ w) s t
     → 2 ^ w ≤ 512 → s.bank ≡ t.bank → symbol_key s ≤ symbol_key t → end_word (2 ^ w) s ≤ first_word (2 ^ w) t
-ends_before p w s t s_lies t_lies two range same less =
+ends_before blocks w s t s_lies t_lies two range same less =
     ⊎_elim
     (λ ends. ends)
     (λ other.
@@ -185,28 +188,32 @@ ends_before p w s t s_lies t_lies two range same less =
     (cases_lt s.block t.block))
     (two.apart same)
 
+-- the banks have as many blocks as they may have
+abbrev AreFewBlocks : List ℕ → Type 0
+AreFewBlocks blocks = (b : ℕ) → b < length blocks → get_or blocks b 0 ≤ most_blocks b
+
 -- a block's number is small
-small_block : (p : Source) (w : ℕ) (s : Symbol) → Fits p w → SymbolLies p w s → s.block < 65536
-small_block p w s fit lies = omega (arith, lies.block, fit.banks s.bank lies.bank, most_blocks-le s.bank)
+small_block : (blocks : List ℕ) (w : ℕ) (s : Symbol) → AreFewBlocks blocks → SymbolLies blocks w s → s.block < 65536
+small_block blocks w s few lies = omega (arith, lies.block, few s.bank lies.bank, most_blocks-le s.bank)
 
 -- the one with the lower key stands before the other
-stands_before : (p : Source) (w : ℕ) (s t : Symbol)
-    → Fits p w → SymbolLies p w s → SymbolLies p w t → AreTwo (2 ^ w) s t
+stands_before : (blocks : List ℕ) (w : ℕ) (s t : Symbol)
+    → AreFewBlocks blocks → SymbolLies blocks w s → SymbolLies blocks w t → AreTwo (2 ^ w) s t
     → 2 ^ w ≤ 512 → symbol_key s ≤ symbol_key t → StandsBefore (2 ^ w) s t
-stands_before p w s t fit s_lies t_lies two range less =
+stands_before blocks w s t few s_lies t_lies two range less =
     ⊎_elim
     (λ earlier. InEarlierBank earlier)
     (λ past.
-    let same : s.bank ≡ t.bank = omega (arith, past, less, small_block p w t fit t_lies, t_lies.word, range) in
-    AtEarlierWord same (omega (arith, ends_before p w s t s_lies t_lies two range same less, s_lies.size.0)))
+    let same : s.bank ≡ t.bank = omega (arith, past, less, small_block blocks w t few t_lies, t_lies.word, range) in
+    AtEarlierWord same (omega (arith, ends_before blocks w s t s_lies t_lies two range same less, s_lies.size.0)))
     (cases_lt s.bank t.bank)
 
-sorted_order : (p : Source) (w : ℕ) (symbols : List Symbol)
-    → Fits p w → 2 ^ w ≤ 512 → AreKnown p w symbols → IsNonDecreasingBy symbol_key symbols
+sorted_order : (blocks : List ℕ) (w : ℕ) (symbols : List Symbol)
+    → AreFewBlocks blocks → 2 ^ w ≤ 512 → AreKnown blocks w symbols → IsNonDecreasingBy symbol_key symbols
     → AllPairs (StandsBefore (2 ^ w)) symbols
-sorted_order p w symbols fit range known sorted i j d less within =
+sorted_order blocks w symbols few range known sorted i j d less within =
     let here : i < length symbols = omega (arith, less, within) in
-    stands_before p w (get_or symbols i d) (get_or symbols j d) fit (known.lie i d here) (known.lie j d within)
+    stands_before blocks w (get_or symbols i d) (get_or symbols j d) few (known.lie i d here) (known.lie j d within)
     (known.two.at i j d here within (omega (arith, less))) range (sorted i j d (omega (arith, less)) within)
 
 -- what standing before another says
@@ -227,21 +234,24 @@ last_of f symbols k d within =
     at_last-get_or f (take (suc k) symbols) k d (omega (arith, length-take-le (suc k) symbols (omega (arith, within))))
     ∙ ap f (get_or-take (suc k) symbols k d (omega arith))
 
-lies_behind : (p : Source) (w : ℕ) (banks : List BankSpec) (symbols : List Symbol) (k : ℕ) (d : Symbol)
-    → map (λ b. b.blocks) banks ≡ blocks_of_banks p w → AreKnown p w symbols → AllPairs (StandsBefore (2 ^ w)) symbols
+lies_behind : (blocks : List ℕ) (w : ℕ) (banks : List BankSpec) (symbols : List Symbol) (k : ℕ) (d : Symbol)
+    → map (λ b. b.blocks) banks ≡ blocks → AreKnown blocks w symbols → AllPairs (StandsBefore (2 ^ w)) symbols
     → k < length symbols → LiesBehind (2 ^ w) banks (take k symbols) (get_or symbols k d)
-lies_behind p w banks symbols k d is known order within =
+lies_behind blocks w banks symbols k d is known order within =
     let s = get_or symbols k d in
     let lies = known.lie k d within in
-    let blocks = blocks_in-is p w banks s.bank no_bank is lies.bank in
+    let counted : length banks ≡ length blocks = sym (length-map banks (λ (b : BankSpec). b.blocks)) ∙ ap length is in
+    let held : (get_or banks s.bank no_bank).blocks ≡ get_or blocks s.bank 0 =
+    sym (get_or-map (λ (b : BankSpec). b.blocks) banks s.bank no_bank 0 (omega (arith, lies.bank, counted)))
+    ∙ ap (λ (l : List ℕ). get_or l s.bank 0) is in
     record {
       order = by_order k within;
-      bank = omega (arith, lies.bank, bank_count-is p w banks is);
-      block = omega (arith, lies.block, blocks);
+      bank = omega (arith, lies.bank, counted);
+      block = omega (arith, lies.block, held);
       word = lies.word;
       apart = by_apart k within;
       length = lies.size;
-      inside = subst (λ n. end_word (2 ^ w) s ≤ n * 2 ^ w) (sym blocks) lies.inside;
+      inside = subst (λ n. end_word (2 ^ w) s ≤ n * 2 ^ w) (sym held) lies.inside;
     }
   where
     by_order : (k : ℕ) → k < length symbols → last_bank (take k symbols) ≤ (get_or symbols k d).bank
@@ -265,47 +275,47 @@ lies_behind p w banks symbols k d is known order within =
         (sym (same ∙ bank)) in
         omega (arith, end, ends)
 
-symbols_fit : (p : Source) (w : ℕ) (banks : List BankSpec) (symbols : List Symbol)
-    → map (λ b. b.blocks) banks ≡ blocks_of_banks p w → AreKnown p w symbols → AllPairs (StandsBefore (2 ^ w)) symbols
+symbols_fit : (blocks : List ℕ) (w : ℕ) (banks : List BankSpec) (symbols : List Symbol)
+    → map (λ b. b.blocks) banks ≡ blocks → AreKnown blocks w symbols → AllPairs (StandsBefore (2 ^ w)) symbols
     → EachAfter (SymbolFits (2 ^ w) banks) [] symbols
-symbols_fit p w banks symbols is known order =
+symbols_fit blocks w banks symbols is known order =
     EachAfter-from_below (SymbolFits (2 ^ w) banks) symbols (λ k d within. record {
       name = known.names k d within;
       new = λ i e less.
           let low : i < k = omega (arith, less, length-take-le k symbols (omega (arith, within))) in
           subst (λ (x : Symbol). x.name ≢ (get_or symbols k d).name) (sym (get_or-take k symbols i e low))
           (names_at symbols known i k e d low within);
-      lies = lies_behind p w banks symbols k d is known order within;
+      lies = lies_behind blocks w banks symbols k d is known order within;
       total = omega (arith, sum_by_more_le (λ (s : Symbol). s.length) symbols k d within, known.total);
     })
   where
-    names_at : (symbols : List Symbol) → AreKnown p w symbols → (i k : ℕ) (e d : Symbol) → i < k → k < length symbols
+    names_at : (symbols : List Symbol) → AreKnown blocks w symbols → (i k : ℕ) (e d : Symbol) → i < k → k < length symbols
         → (get_or symbols i e).name ≢ (get_or symbols k d).name
     names_at symbols known i k e d low within =
         subst (λ (x : Symbol). (get_or symbols i e).name ≢ x.name) (get_or_default symbols k e d within)
         (known.two.at i k e (omega (arith, low, within)) within (omega (arith, low))).names
 
 -- the symbols of a program, in order of bank and place
-pub symbols_sorted : (p : Source) (w : ℕ) (symbols : List Symbol)
-    → IsTyped p → IsWithinLimits p → Within 3 9 w → Fits p w
-    → All (λ s. IsTrue (is_name s.name)) (placed_symbols p.decls (places_of p w))
-    → IsPermutation (placed_symbols p.decls (places_of p w)) symbols → IsNonDecreasingBy symbol_key symbols
-    → AreSymbolsOf p w symbols
-symbols_sorted p w symbols typed limits log fit names permuted sorted = record {
+pub symbols_sorted : (p : Source) (w : ℕ) (blocks : List ℕ) (places : List Place) (symbols : List Symbol)
+    → IsTyped p → IsWithinLimits p → Within 3 9 w → ArePlacesIn p w blocks places
+    → All (λ s. IsTrue (is_name s.name)) (placed_symbols p.decls places)
+    → IsPermutation (placed_symbols p.decls places) symbols → IsNonDecreasingBy symbol_key symbols
+    → AreSymbolsAt p w places symbols
+symbols_sorted p w blocks places symbols typed limits log are names permuted sorted = record {
   each = permuted;
-  order = sorted_order p w symbols fit (block_range w log).1
-      (permuted_known p w (placed_symbols p.decls (places_of p w)) symbols permuted
-      (placed_known p w typed limits fit names)) sorted;
+  order = sorted_order blocks w symbols are.limits (block_range w log).1
+      (permuted_known blocks w (placed_symbols p.decls places) symbols permuted
+      (placed_known p w blocks places typed limits are names)) sorted;
 }
 
 -- the symbols of a program are in range, in an object with its banks
-pub symbols_in_range : (p : Source) (w : ℕ) (banks : List BankSpec) (symbols : List Symbol)
-    → IsTyped p → IsWithinLimits p → Fits p w
-    → All (λ s. IsTrue (is_name s.name)) (placed_symbols p.decls (places_of p w))
-    → AreSymbolsOf p w symbols → map (λ b. b.blocks) banks ≡ blocks_of_banks p w
+pub symbols_in_range : (p : Source) (w : ℕ) (blocks : List ℕ) (places : List Place) (banks : List BankSpec)
+    (symbols : List Symbol) → IsTyped p → IsWithinLimits p → ArePlacesIn p w blocks places
+    → All (λ s. IsTrue (is_name s.name)) (placed_symbols p.decls places)
+    → AreSymbolsAt p w places symbols → map (λ b. b.blocks) banks ≡ blocks
     → EachAfter (SymbolFits (2 ^ w) banks) [] symbols
-symbols_in_range p w banks symbols typed limits fit names are is =
-    symbols_fit p w banks symbols is
-    (permuted_known p w (placed_symbols p.decls (places_of p w)) symbols are.each
-    (placed_known p w typed limits fit names))
-    are.order
+symbols_in_range p w blocks places banks symbols typed limits are names sorted is =
+    symbols_fit blocks w banks symbols is
+    (permuted_known blocks w (placed_symbols p.decls places) symbols sorted.each
+    (placed_known p w blocks places typed limits are names))
+    sorted.order

@@ -7,10 +7,8 @@ ghost use Rattle.lt_isa.specs.declared.profiles.BankSpec.{BankSpec};
 ghost use Rattle.src_tree.specs.Limits.{IsWithinLimits};
 ghost use Rattle.src_tree.specs.Trees.{source_of};
 ghost use Rattle.src_tree.specs.Typing.{IsTyped};
-ghost use Rattle.bank_alloc.specs.Fits.{Fits};
 ghost use Rattle.bank_alloc.specs.Keys.{symbol_key};
-ghost use Rattle.bank_alloc.specs.Layout.{AreSymbolsOf, placed_symbol, placed_symbols};
-ghost use Rattle.bank_alloc.specs.Places.{IsPlacesOf, blocks_of_banks};
+ghost use Rattle.bank_alloc.specs.Layout.{ArePlacesIn, AreSymbolsAt, placed_symbol, placed_symbols};
 
 use crate::places::{Place, Places};
 use gr_base::Memory;
@@ -70,17 +68,16 @@ fn sort(symbols: &mut Vec<Symbol>) -> Result<(), Memory>
 }
 
 /// The symbols of an object that a program is compiled to: one for each variable, with its name, label, shape, length
-/// and place, in order of bank and place. The places are those that [`crate::banks`] answered for the program and for
-/// blocks of 2^w words. The only error is want of memory.
+/// and place, in order of bank and place. A block has 2^w words, each variable is within its bank, and no two share a
+/// word, as [`crate::banks`] places them. The only error is want of memory.
 pub fn symbols(alloc: Global, p: &Program, w: u8, places: &Places) -> Result<Vec<Symbol>, Memory>
     requires typed { IsTyped (source_of p.now) }
     requires within { IsWithinLimits (source_of p.now) }
     requires block_log { Within 3 9 w }
-    requires fits { Fits (source_of p.now) w }
-    requires places { IsPlacesOf (source_of p.now) w places.now }
-    ensures symbols { IfOk result (λ symbols. AreSymbolsOf (source_of p.now) w symbols.items) }
+    requires places { ArePlacesIn (source_of p.now) w places.now.blocks.items places.now.of_var.items }
+    ensures symbols { IfOk result (λ symbols. AreSymbolsAt (source_of p.now) w places.now.of_var.items symbols.items) }
     ensures in_range { IfOk result
-        (λ symbols. (banks : List BankSpec) → map (λ b. b.blocks) banks ≡ blocks_of_banks (source_of p.now) w
+        (λ symbols. (banks : List BankSpec) → map (λ b. b.blocks) banks ≡ places.now.blocks.items
         → EachAfter (SymbolFits (2 ^ w) banks) [] symbols.items) }
 {
     let decls = p.decls.as_slice();

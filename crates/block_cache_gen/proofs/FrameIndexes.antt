@@ -8,10 +8,9 @@ use Rattle.src_tree.specs.Contexts.{Context, context_of}
 use Rattle.src_tree.specs.Labels.{inside}
 use Rattle.src_tree.specs.Statements.{with_parts, in_order}
 use Rattle.src_tree.specs.Trees.{Statement, SetVariable, SetElement, Choice, Loop, Block, Nothing, Then, source_of}
-use Rattle.scratch_alloc.specs.Slots.{slots_of}
 use Rattle.block_cache_gen.specs.declared.frames.Frame.{Frame}
 use Rattle.block_cache_gen.specs.Homes.{Setting}
-use Rattle.block_cache_gen.specs.Settings.{IsFrame, homes_at, setting_of}
+use Rattle.block_cache_gen.specs.Settings.{IsFrame, plan_of, setting_of}
 use Rattle.src_tree.specs.Statements.{StandsIn}
 use Rattle.block_cache_gen.specs.PublicIndexes.{SetHasPublicIndexes, StatementHasPublicIndexes, BlockHasPublicIndexes}
 use Rattle.block_cache_gen.proofs.IndexesOfPrograms.{body-public}
@@ -44,11 +43,9 @@ pub frame_public : (f : Frame) → IsFrame f → (code : Label) (s : Statement) 
 frame_public f is code s stands =
     let p = source_of f.program.now in
     let known = context_of p.decls in
-    let homes = ap (homes_at f.places.now.of_var.items) is.slots
-    ∙ ap (λ places. homes_at places (slots_of places)) is.places.of_var in
     All-contains (PublicIn (setting_of f)) (in_order known Public p.body) (code, s)
     (block_public (setting_of f) known Public p.body
-    (body-public p f.profile.now.block_log (setting_of f) refl homes is.typed.body)) stands
+    (body-public p f.profile.now.block_log (plan_of f) is.plan (setting_of f) refl refl is.typed.body)) stands
 
 -- the same, said of an assignment
 pub set_of_statement : (f : Setting) (s : Statement) → StatementHasPublicIndexes f s → SetHasPublicIndexes f s

@@ -1,8 +1,8 @@
 -- In the code of a program each index of an array of plain or encrypted memory is public: a secret array that a secret
 -- indexes lies in an oblivious bank.
 use Rattle.std.proofs.Common.{◌≡◌, ℕ, suc, ◌+◌, ◌^◌, ◌<◌, ◌≤◌, Bool, true, false, ◌&&◌, List, [], ◌∷◌, length, get_or, take, Option, Some, None, refl, sym, ap, ◌∙◌, subst, arith}
-use Rattle.std.specs.Prelude.{if◌then◌else◌, bytes_eq}
-use Rattle.std.proofs.lemmas.Bool.{or_parts, false≢true}
+use Rattle.std.specs.Prelude.{if◌then◌else◌, bytes_eq, is_some, nat_lt}
+use Rattle.std.proofs.lemmas.Bool.{or_parts, false≢true, le-ltb}
 use Rattle.std.proofs.lemmas.Slice.Eq.{bytes_eq-Decides}
 use Rattle.gr_base.proofs.ListTests.{bytes_eq-own}
 use Rattle.gr_word.specs.declared.variables.Label.{Label}
@@ -13,26 +13,20 @@ use Rattle.lt_isa.specs.Object.{Parts}
 use Rattle.src_tree.specs.declared.trees.Decl.{Decl}
 use Rattle.src_tree.specs.Contexts.{context_of, label_and_shape, shape_of}
 use Rattle.src_tree.specs.Labels.{inside, label_or_public, label_at, label_of, secret_label}
-use Rattle.src_tree.specs.Limits.{IsWithinLimits, words_of}
 use Rattle.src_tree.specs.Meaning.{variable_number}
 use Rattle.src_tree.specs.Trees.{Tree, Number, Variable, Element, Operation, Test, Statement, SetVariable, SetElement, Choice, Loop, Block, Nothing, Then, Source}
 use Rattle.src_tree.specs.Typing.{Flows, TypedTree, TypedTest, TypedStatement, TypedBlock}
-use Rattle.bank_alloc.specs.declared.places.Place.{Place}
-use Rattle.bank_alloc.specs.Classes.{class_by, class_of}
+use Rattle.bank_alloc.specs.declared.classes.Class.TheVariants.{ObliviousArray}
+use Rattle.bank_alloc.specs.Apart.{scalar_bank}
+use Rattle.bank_alloc.specs.Classes.{class_by}
 use Rattle.bank_alloc.specs.Indexes.{secret_index_in, secret_index_in_test, secret_index_in_statement, secret_index_in_block, has_secret_index}
-use Rattle.bank_alloc.specs.Places.{places_of, place_behind}
-use Rattle.bank_alloc.specs.Fits.{Fits}
-use Rattle.bank_alloc.specs.Layout.{HasLayout}
 use Rattle.src_tree.proofs.NoTypingFault.{public}
 use Rattle.src_tree.proofs.VariableNumbers.{number-below, kind-of_number}
-use Rattle.bank_alloc.proofs.EachPlace.{length-places, get_or-places}
-use Rattle.scratch_alloc.specs.Slots.{slots_of}
-use Rattle.scratch_alloc.proofs.EachSlot.{length-slots}
-use Rattle.block_cache_gen.specs.Homes.{Setting, home_of, no_home}
-use Rattle.block_cache_gen.specs.Settings.{homes_at}
-use Rattle.block_cache_gen.proofs.HomeFacts.{shown-low}
+use Rattle.scratch_alloc.specs.Plans.{Plan, IsSoundPlan, IsSoundByPin, pin_of_slot, no_decl, no_place}
+use Rattle.block_cache_gen.specs.Homes.{Setting, Pin, home_of, no_home}
+use Rattle.block_cache_gen.specs.Settings.{home_at, homes_at}
 use Rattle.block_cache_gen.specs.PublicIndexes.{shows_index, IndexIsPublic, HasPublicIndexes, TestHasPublicIndexes, StatementHasPublicIndexes, BlockHasPublicIndexes}
-use Rattle.block_cache_gen.proofs.Settled.{IsSettingOf, no_decl, no_place, get_or-homes_at}
+use Rattle.block_cache_gen.proofs.Settled.{IsSettingOf, get_or-homes_at}
 
 -- secret arrays of plain and encrypted memory
 record IsCached (f : Setting) (x : List ℕ) : Type 0 where
@@ -109,16 +103,13 @@ module _ (f : Setting) where
       block-public rest code typed.1 (λ x cached. let p = or_parts _ _ (apart x cached) in p.1),
     )
 
--- the bank of a secret array that a secret indexes
-oblivious_bank : (size : ℕ) (before : List Place) (l : Label) (size_of : Option ℕ) (indexed : Bool) (words : ℕ)
-    → l ≡ Secret → shape_of size_of ≡ Array → indexed ≡ true
-    → 2 ≤ (place_behind size before (class_by l size_of indexed) words).bank
-oblivious_bank size before Secret (Some n) true words secret array e = omega arith
-oblivious_bank size before Secret (Some n) false words secret array e = absurd (false≢true e)
-oblivious_bank size before Secret None indexed words secret array e =
-    absurd (let g : ◌≡◌ {A = Shape} Scalar Array = array in cc)
-oblivious_bank size before Public size_of indexed words secret array e =
-    absurd (let g : ◌≡◌ {A = Label} Public Secret = secret in cc)
+-- a secret array that a secret indexes is oblivious
+oblivious_class : (l : Label) (size_of : Option ℕ) (indexed : Bool) → l ≡ Secret → shape_of size_of ≡ Array
+    → indexed ≡ true → class_by l size_of indexed ≡ ObliviousArray
+oblivious_class Secret (Some n) true secret array e = refl
+oblivious_class Secret (Some n) false secret array e = absurd (false≢true e)
+oblivious_class Secret None indexed secret array e = absurd (let g : ◌≡◌ {A = Shape} Scalar Array = array in cc)
+oblivious_class Public size_of indexed secret array e = absurd (let g : ◌≡◌ {A = Label} Public Secret = secret in cc)
 
 -- what stands at a name's number has that name
 name_if : (d : Decl) (ds : List Decl) (x : List ℕ) (kind : Label × Shape) (default : Decl) (same : Bool)
@@ -136,8 +127,8 @@ name-at_number [] x kind default e = absurd (let g : ◌≡◌ {A = Option (Labe
 name-at_number (d ∷ ds) x kind default e =
     name_if d ds x kind default (bytes_eq x d.name) refl e (name-at_number ds x kind default)
 
-module _ (p : Source) (w : ℕ) (f : Setting) (decls : f.decls ≡ p.decls)
-    (homes : f.homes ≡ homes_at (places_of p w) (slots_of (places_of p w))) where
+module _ (p : Source) (w : ℕ) (plan : Plan) (sound : IsSoundPlan p w plan) (f : Setting) (decls : f.decls ≡ p.decls)
+    (homes : f.homes ≡ homes_at plan.pins plan.places plan.slots) where
   -- a declared name's number, what is declared there, and its home
   number-inside : (x : List ℕ) (kind : Label × Shape) → context_of f.decls x ≡ Some kind
       → variable_number f.decls x < length p.decls
@@ -149,38 +140,45 @@ module _ (p : Source) (w : ℕ) (f : Setting) (decls : f.decls ≡ p.decls)
       ap (λ ds. label_and_shape (get_or ds (variable_number f.decls x) no_decl)) (sym decls)
       ∙ kind-of_number f.decls x no_decl kind known
 
-  home-bank : (k : ℕ) → k < length p.decls → (get_or f.homes k no_home).bank ≡ (get_or (places_of p w) k no_place).bank
-  home-bank k within =
-      let places = places_of p w in
-      let here : k < length places = omega (arith, within, length-places p w) in
-      ap (λ hs. (get_or hs k no_home).bank) homes
-      ∙ ap (λ h. h.bank) (get_or-homes_at places (slots_of places) k (length-slots places) here)
+  number-home : (k : ℕ) → k < length p.decls → get_or f.homes k no_home
+      ≡ home_at plan.pins (get_or plan.places k no_place) (get_or plan.slots k 0)
+  number-home k within =
+      ap (λ hs. get_or hs k no_home) homes
+      ∙ get_or-homes_at plan.pins plan.places plan.slots k (sound.slots ∙ sym sound.places)
+      (omega (arith, within, sound.places))
 
-  -- a secret array of plain or encrypted memory has no secret index
-  array-oblivious : (x : List ℕ) → context_of f.decls x ≡ Some (Secret, Array) → has_secret_index p x ≡ true
-      → 2 ≤ (home_of f x).bank
-  array-oblivious x declared indexed =
+  -- a secret array with a secret index doesn't show it: it is resident, or in an oblivious bank
+  array-hidden : (x : List ℕ) → context_of f.decls x ≡ Some (Secret, Array) → has_secret_index p x ≡ true
+      → shows_index (home_of f x) ≡ false
+  array-hidden x declared indexed =
       let k = variable_number f.decls x in
       let v = get_or p.decls k no_decl in
       let within = number-inside x (Secret, Array) declared in
       let kind = number-kind x (Secret, Array) declared in
       let name : v.name ≡ x = ap (λ (ds : List Decl). (get_or ds k no_decl).name) (sym decls)
       ∙ name-at_number f.decls x (Secret, Array) no_decl declared in
-      let high = oblivious_bank (2 ^ w) (take k (places_of p w)) v.label v.length (has_secret_index p v.name)
-      (words_of v)
-      (ap (λ (t : Label × Shape). t.0) kind) (ap (λ (t : Label × Shape). t.1) kind)
-      (ap (has_secret_index p) name ∙ indexed) in
-      let here : (get_or (places_of p w) k no_place).bank
-      ≡ (place_behind (2 ^ w) (take k (places_of p w)) (class_of p v) (words_of v)).bank =
-      ap (λ (q : Place). q.bank) (get_or-places p w k no_decl no_place within) in
-      let home : (home_of f x).bank ≡ (get_or (places_of p w) k no_place).bank = home-bank k within in
-      omega arith
+      let secret : v.label ≡ Secret = ap (λ (t : Label × Shape). t.0) kind in
+      let class = oblivious_class v.label v.length (has_secret_index p v.name) secret
+      (ap (λ (t : Label × Shape). t.1) kind) (ap (has_secret_index p) name ∙ indexed) in
+      subst (λ h. shows_index h ≡ false) (sym (number-home k within))
+      (by k secret (sound.hidden k within class) (pin_of_slot plan (get_or plan.slots k 0)) refl (sound.served k within))
+    where
+      by : (k : ℕ) → (get_or p.decls k no_decl).label ≡ Secret
+          → (pin_of_slot plan (get_or plan.slots k 0) ≡ None → 2 ≤ (get_or plan.places k no_place).bank)
+          → (pin : Option Pin) → pin_of_slot plan (get_or plan.slots k 0) ≡ pin
+          → IsSoundByPin w plan (get_or p.decls k no_decl) (get_or plan.places k no_place) (get_or plan.slots k 0) pin
+          → shows_index (home_at plan.pins (get_or plan.places k no_place) (get_or plan.slots k 0)) ≡ false
+      by k secret hidden None is served =
+          let q = get_or plan.places k no_place in
+          ap (λ (b : Option Pin). nat_lt q.bank (if is_some b then 1 else 2)) is ∙ le-ltb q.bank 2 (hidden is)
+      by k secret hidden (Some pin) is served =
+          let q = get_or plan.places k no_place in
+          let bank : q.bank ≡ 1 = served.bank ∙ ap scalar_bank secret in
+          ap (λ (b : Option Pin). nat_lt q.bank (if is_some b then 1 else 2)) is
+          ∙ le-ltb q.bank 1 (omega (arith, bank))
 
   cached-apart : (x : List ℕ) → IsCached f x → (b : Bool) → has_secret_index p x ≡ b → b ≡ false
-  cached-apart x cached true is =
-      let high = array-oblivious x cached.declared is in
-      let low = shown-low (home_of f x) cached.low in
-      absurd (omega arith)
+  cached-apart x cached true is = absurd (false≢true (sym (array-hidden x cached.declared is) ∙ cached.low))
   cached-apart x cached false is = refl
 
   -- each index of an array of plain or encrypted memory is public
@@ -191,6 +189,6 @@ module _ (p : Source) (w : ℕ) (f : Setting) (decls : f.decls ≡ p.decls)
       (cached-apart x cached (has_secret_index p x) refl))
 
 -- so it is for the setting of an object
-pub program-public : (p : Source) (w : ℕ) → IsWithinLimits p → Fits p w → (o : Parts) → HasLayout p w o → (f : Setting)
-    → IsSettingOf p w o f → TypedBlock (context_of p.decls) Public p.body → BlockHasPublicIndexes f p.body
-program-public p w limits room o layout f setting typed = body-public p w f setting.decls setting.homes typed
+pub program-public : (p : Source) (w : ℕ) (plan : Plan) → IsSoundPlan p w plan → (o : Parts) (f : Setting)
+    → IsSettingOf p plan o f → TypedBlock (context_of p.decls) Public p.body → BlockHasPublicIndexes f p.body
+program-public p w plan sound o f setting typed = body-public p w plan sound f setting.decls setting.homes typed

@@ -12,31 +12,33 @@ use Rattle.src_tree.specs.Meaning.{variable_number}
 use Rattle.bank_alloc.specs.declared.places.Place.{Place}
 use Rattle.src_tree.proofs.Contexts.{swapped}
 use Rattle.block_cache_gen.specs.declared.variables.Variable.{Variable}
-use Rattle.block_cache_gen.specs.Homes.{Home, no_home}
+use Rattle.block_cache_gen.specs.Homes.{Home, Pin, no_home}
 use Rattle.block_cache_gen.specs.Settings.{home_at, homes_at}
-use Rattle.block_cache_gen.specs.Variables.{home_in, variable_of}
+use Rattle.block_cache_gen.specs.Variables.{home_in, variable_at, variable_of}
 
 -- one more declaration in front, from place k on
-pub one_more : (ds : List Decl) (places : List Place) (slots : List ℕ) (k : ℕ) (d : Decl) (no_place : Place)
-    (no_slot : ℕ) (name : List ℕ) (before after : List ℕ → Option Variable)
+pub one_more : (pins : List (Option Pin)) (ds : List Decl) (places : List Place) (slots : List ℕ) (k : ℕ) (d : Decl)
+    (no_place : Place) (no_slot : ℕ) (new : Variable) (name : List ℕ) (before after : List ℕ → Option Variable)
     → k < length ds → length places ≡ length ds → length slots ≡ length ds → d ≡ get_or ds k d → name ≡ d.name
-    → ((x : List ℕ) → before x ≡ variable_of (drop (k + 1) ds) (drop (k + 1) places) (drop (k + 1) slots) x)
-    → ((x : List ℕ) → after x ≡ cond (bytes_eq name x)
-    (Some (record { label = d.label; place = get_or places k no_place; slot = get_or slots k no_slot })) (before x))
-    → (x : List ℕ) → after x ≡ variable_of (drop k ds) (drop k places) (drop k slots) x
-one_more ds places slots k d no_place no_slot name before after below same_places same_slots is_d is_name rest added x =
+    → new ≡ variable_at pins d (get_or places k no_place) (get_or slots k no_slot)
+    → ((x : List ℕ) → before x ≡ variable_of pins (drop (k + 1) ds) (drop (k + 1) places) (drop (k + 1) slots) x)
+    → ((x : List ℕ) → after x ≡ cond (bytes_eq name x) (Some new) (before x))
+    → (x : List ℕ) → after x ≡ variable_of pins (drop k ds) (drop k places) (drop k slots) x
+one_more pins ds places slots k d no_place no_slot new name before after below same_places same_slots is_d is_name is_new
+  rest added x =
     let in_places : k < length places = omega arith in
     let in_slots : k < length slots = omega arith in
-    let v : Variable = record { label = d.label; place = get_or places k no_place; slot = get_or slots k no_slot } in
+    let v : Variable = variable_at pins d (get_or places k no_place) (get_or slots k no_slot) in
     added x
+    ∙ ap (λ u. cond (bytes_eq name x) (Some u) (before x)) is_new
     ∙ ap (λ b. cond b (Some v) (before x)) (ap (λ n. bytes_eq n x) is_name ∙ swapped d.name x)
     ∙ ap (cond (bytes_eq x d.name) (Some v))
-    (rest x ∙ ap (λ n. variable_of (drop n ds) (drop n places) (drop n slots) x) (add-one k))
+    (rest x ∙ ap (λ n. variable_of pins (drop n ds) (drop n places) (drop n slots) x) (add-one k))
     ∙ sym
-    (ap (λ ys. variable_of ys (drop k places) (drop k slots) x)
+    (ap (λ ys. variable_of pins ys (drop k places) (drop k slots) x)
     (drop-cons ds k d below ∙ ap (λ y. y ∷ drop (suc k) ds) (sym is_d))
-    ∙ ap (λ ys. variable_of (d ∷ drop (suc k) ds) ys (drop k slots) x) (drop-cons places k no_place in_places)
-    ∙ ap (λ ys. variable_of (d ∷ drop (suc k) ds) (get_or places k no_place ∷ drop (suc k) places) ys x)
+    ∙ ap (λ ys. variable_of pins (d ∷ drop (suc k) ds) ys (drop k slots) x) (drop-cons places k no_place in_places)
+    ∙ ap (λ ys. variable_of pins (d ∷ drop (suc k) ds) (get_or places k no_place ∷ drop (suc k) places) ys x)
     (drop-cons slots k no_slot in_slots))
 
 behind : (h : Home) (homes : List Home) (n : ℕ)
@@ -50,15 +52,15 @@ home_by true new v rest h homes n is_h e more = let i : new ≡ v = cc in sym (a
 home_by false new v rest h homes n is_h e more = more e ∙ behind h homes n
 
 -- the variable of a name that is declared has the name's home
-pub found_home : (ds : List Decl) (places : List Place) (slots : List ℕ) (x : List ℕ) (v : Variable)
-    → variable_of ds places slots x ≡ Some v
-    → home_in v ≡ slice_index_or (homes_at places slots) (variable_number ds x) no_home
-found_home [] places slots x v e = absurd (cc)
-found_home (d ∷ ds) [] slots x v e = absurd (cc)
-found_home (d ∷ ds) (q ∷ places) [] x v e = absurd (cc)
-found_home (d ∷ ds) (q ∷ places) (slot ∷ slots) x v e =
-    home_by (bytes_eq x d.name) (record { label = d.label; place = q; slot = slot }) v (variable_of ds places slots x)
-    (home_at q slot) (homes_at places slots) (variable_number ds x) refl e (found_home ds places slots x v)
+pub found_home : (pins : List (Option Pin)) (ds : List Decl) (places : List Place) (slots : List ℕ) (x : List ℕ) (v : Variable)
+    → variable_of pins ds places slots x ≡ Some v
+    → home_in v ≡ slice_index_or (homes_at pins places slots) (variable_number ds x) no_home
+found_home pins [] places slots x v e = absurd (cc)
+found_home pins (d ∷ ds) [] slots x v e = absurd (cc)
+found_home pins (d ∷ ds) (q ∷ places) [] x v e = absurd (cc)
+found_home pins (d ∷ ds) (q ∷ places) (slot ∷ slots) x v e =
+    home_by (bytes_eq x d.name) (variable_at pins d q slot) v (variable_of pins ds places slots x)
+    (home_at pins q slot) (homes_at pins places slots) (variable_number ds x) refl e (found_home pins ds places slots x v)
 
 label_by : (b : Bool) (new v : Variable) (rest : Option Variable) (k : Label × Shape) (kinds : Option (Label × Shape))
     → new.label ≡ k.0 → cond b (Some new) rest ≡ Some v → (rest ≡ Some v → v.label ≡ label_or_public kinds)
@@ -67,14 +69,14 @@ label_by true new v rest k kinds is_k e more = let i : new ≡ v = cc in sym (ap
 label_by false new v rest k kinds is_k e more = more e
 
 -- and its label
-pub found_label : (ds : List Decl) (places : List Place) (slots : List ℕ) (x : List ℕ) (v : Variable)
-    → variable_of ds places slots x ≡ Some v → v.label ≡ label_at (context_of ds) x
-found_label [] places slots x v e = absurd (cc)
-found_label (d ∷ ds) [] slots x v e = absurd (cc)
-found_label (d ∷ ds) (q ∷ places) [] x v e = absurd (cc)
-found_label (d ∷ ds) (q ∷ places) (slot ∷ slots) x v e =
-    label_by (bytes_eq x d.name) (record { label = d.label; place = q; slot = slot }) v (variable_of ds places slots x)
-    (label_and_shape d) (context_of ds x) refl e (found_label ds places slots x v)
+pub found_label : (pins : List (Option Pin)) (ds : List Decl) (places : List Place) (slots : List ℕ) (x : List ℕ) (v : Variable)
+    → variable_of pins ds places slots x ≡ Some v → v.label ≡ label_at (context_of ds) x
+found_label pins [] places slots x v e = absurd (cc)
+found_label pins (d ∷ ds) [] slots x v e = absurd (cc)
+found_label pins (d ∷ ds) (q ∷ places) [] x v e = absurd (cc)
+found_label pins (d ∷ ds) (q ∷ places) (slot ∷ slots) x v e =
+    label_by (bytes_eq x d.name) (variable_at pins d q slot) v (variable_of pins ds places slots x)
+    (label_and_shape d) (context_of ds x) refl e (found_label pins ds places slots x v)
 
 length_by : (b : Bool) (new v : Variable) (rest : Option Variable) → 1 ≤ new.place.length
     → cond b (Some new) rest ≡ Some v → (rest ≡ Some v → 1 ≤ v.place.length) → 1 ≤ v.place.length
@@ -83,14 +85,14 @@ length_by true new v rest fits e more =
 length_by false new v rest fits e more = more e
 
 -- and one word at least
-pub found_length : (ds : List Decl) (places : List Place) (slots : List ℕ) (x : List ℕ) (v : Variable)
-    → AllByRecursion (λ q. 1 ≤ q.length) places → variable_of ds places slots x ≡ Some v → 1 ≤ v.place.length
-found_length [] places slots x v fits e = absurd (cc)
-found_length (d ∷ ds) [] slots x v fits e = absurd (cc)
-found_length (d ∷ ds) (q ∷ places) [] x v fits e = absurd (cc)
-found_length (d ∷ ds) (q ∷ places) (slot ∷ slots) x v fits e =
-    length_by (bytes_eq x d.name) (record { label = d.label; place = q; slot = slot }) v (variable_of ds places slots x)
-    fits.0 e (found_length ds places slots x v fits.1)
+pub found_length : (pins : List (Option Pin)) (ds : List Decl) (places : List Place) (slots : List ℕ) (x : List ℕ) (v : Variable)
+    → AllByRecursion (λ q. 1 ≤ q.length) places → variable_of pins ds places slots x ≡ Some v → 1 ≤ v.place.length
+found_length pins [] places slots x v fits e = absurd (cc)
+found_length pins (d ∷ ds) [] slots x v fits e = absurd (cc)
+found_length pins (d ∷ ds) (q ∷ places) [] x v fits e = absurd (cc)
+found_length pins (d ∷ ds) (q ∷ places) (slot ∷ slots) x v fits e =
+    length_by (bytes_eq x d.name) (variable_at pins d q slot) v (variable_of pins ds places slots x)
+    fits.0 e (found_length pins ds places slots x v fits.1)
 
 declared_by : (b : Bool) (new : Variable) (rest : Option Variable) (k : Label × Shape) (kinds : Option (Label × Shape))
     → is_some (cond b (Some k) kinds) ≡ true → cond b (Some new) rest ≡ None
@@ -99,16 +101,16 @@ declared_by true new rest k kinds declared e more = cc
 declared_by false new rest k kinds declared e more = more declared e
 
 -- a name that is declared is found
-pub declared_found : (ds : List Decl) (places : List Place) (slots : List ℕ) (x : List ℕ)
+pub declared_found : (pins : List (Option Pin)) (ds : List Decl) (places : List Place) (slots : List ℕ) (x : List ℕ)
     → length places ≡ length ds → length slots ≡ length ds → is_some (context_of ds x) ≡ true
-    → variable_of ds places slots x ≡ None → ⊥
-declared_found [] places slots x same_places same_slots declared e = cc
-declared_found (d ∷ ds) [] slots x same_places same_slots declared e = absurd (omega arith)
-declared_found (d ∷ ds) (q ∷ places) [] x same_places same_slots declared e = absurd (omega arith)
-declared_found (d ∷ ds) (q ∷ places) (slot ∷ slots) x same_places same_slots declared e =
-    declared_by (bytes_eq x d.name) (record { label = d.label; place = q; slot = slot }) (variable_of ds places slots x)
+    → variable_of pins ds places slots x ≡ None → ⊥
+declared_found pins [] places slots x same_places same_slots declared e = cc
+declared_found pins (d ∷ ds) [] slots x same_places same_slots declared e = absurd (omega arith)
+declared_found pins (d ∷ ds) (q ∷ places) [] x same_places same_slots declared e = absurd (omega arith)
+declared_found pins (d ∷ ds) (q ∷ places) (slot ∷ slots) x same_places same_slots declared e =
+    declared_by (bytes_eq x d.name) (variable_at pins d q slot) (variable_of pins ds places slots x)
     (label_and_shape d) (context_of ds x) declared e
-    (declared_found ds places slots x (omega arith) (omega arith))
+    (declared_found pins ds places slots x (omega arith) (omega arith))
 
 public_by : (b : Bool) (new : Variable) (rest : Option Variable) (k : Label × Shape) (kinds : Option (Label × Shape))
     → cond b (Some new) rest ≡ None → (rest ≡ None → label_or_public kinds ≡ Public)
@@ -117,21 +119,21 @@ public_by true new rest k kinds e more = absurd (cc)
 public_by false new rest k kinds e more = more e
 
 -- a name that isn't found is public
-pub lost_label : (ds : List Decl) (places : List Place) (slots : List ℕ) (x : List ℕ)
-    → length places ≡ length ds → length slots ≡ length ds → variable_of ds places slots x ≡ None
+pub lost_label : (pins : List (Option Pin)) (ds : List Decl) (places : List Place) (slots : List ℕ) (x : List ℕ)
+    → length places ≡ length ds → length slots ≡ length ds → variable_of pins ds places slots x ≡ None
     → Public ≡ label_at (context_of ds) x
-lost_label [] places slots x same_places same_slots e = refl
-lost_label (d ∷ ds) [] slots x same_places same_slots e = absurd (omega arith)
-lost_label (d ∷ ds) (q ∷ places) [] x same_places same_slots e = absurd (omega arith)
-lost_label (d ∷ ds) (q ∷ places) (slot ∷ slots) x same_places same_slots e =
-    sym (public_by (bytes_eq x d.name) (record { label = d.label; place = q; slot = slot })
-    (variable_of ds places slots x) (label_and_shape d) (context_of ds x) e
-    (λ r. sym (lost_label ds places slots x (omega arith) (omega arith) r)))
+lost_label pins [] places slots x same_places same_slots e = refl
+lost_label pins (d ∷ ds) [] slots x same_places same_slots e = absurd (omega arith)
+lost_label pins (d ∷ ds) (q ∷ places) [] x same_places same_slots e = absurd (omega arith)
+lost_label pins (d ∷ ds) (q ∷ places) (slot ∷ slots) x same_places same_slots e =
+    sym (public_by (bytes_eq x d.name) (variable_at pins d q slot)
+    (variable_of pins ds places slots x) (label_and_shape d) (context_of ds x) e
+    (λ r. sym (lost_label pins ds places slots x (omega arith) (omega arith) r)))
 
 -- the slots of homes are the slots
-pub slots_used : (places : List Place) (slots : List ℕ) (slot : ℕ) → length places ≡ length slots
-    → list_any (λ s. s == slot) slots ≡ list_any (λ h. h.slot == slot) (homes_at places slots)
-slots_used [] [] slot same = refl
-slots_used [] (s ∷ slots) slot same = absurd (omega arith)
-slots_used (q ∷ places) [] slot same = absurd (omega arith)
-slots_used (q ∷ places) (s ∷ slots) slot same = ap (λ b. (s == slot) || b) (slots_used places slots slot (omega arith))
+pub slots_used : (pins : List (Option Pin)) (places : List Place) (slots : List ℕ) (slot : ℕ) → length places ≡ length slots
+    → list_any (λ s. s == slot) slots ≡ list_any (λ h. h.slot == slot) (homes_at pins places slots)
+slots_used pins [] [] slot same = refl
+slots_used pins [] (s ∷ slots) slot same = absurd (omega arith)
+slots_used pins (q ∷ places) [] slot same = absurd (omega arith)
+slots_used pins (q ∷ places) (s ∷ slots) slot same = ap (λ b. (s == slot) || b) (slots_used pins places slots slot (omega arith))

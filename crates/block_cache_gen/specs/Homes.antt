@@ -13,7 +13,8 @@ use Rattle.src_tree.specs.Contexts.{context_of}
 use Rattle.src_tree.specs.Limits.{max_length}
 use Rattle.src_tree.specs.Meaning.{variable_number}
 use Rattle.bank_alloc.specs.Apart.{scalar_bank}
-pub use Rattle.block_cache_gen.specs.declared.frames.Pin.{Pin}
+pub use Rattle.scratch_alloc.specs.declared.plans.Pin.{Pin}
+pub use Rattle.scratch_alloc.specs.Plans.{Serves, PlainSlot, EncryptedSlot, ObliviousSlot}
 
 -- a bank, a block of it and a word of that block, a number of words, a slot, and whether that slot holds the block for
 -- the whole run
@@ -81,19 +82,14 @@ pub record IsScalarHome (h : Home) : Type 0 where
   pub resident : h.resident ≡ true
   pub length : h.length ≡ 1
 
--- slots 2 and 3 serve arrays of plain memory, 4 and 5 those of encrypted memory, and 6 those of oblivious banks
-pub data Serves : (bank slot : ℕ) → Type 0 where
-  PlainSlot : (slot : ℕ) → Within 2 3 slot → Serves 0 slot
-  EncryptedSlot : (slot : ℕ) → Within 4 5 slot → Serves 1 slot
-  ObliviousSlot : (bank : ℕ) → 2 ≤ bank → Serves bank 6
-
--- any other array has whole blocks of its own, which come after the pinned ones of their bank
+-- any other array has whole blocks of its own, none of which is pinned to a slot
 pub record IsArrayHome (o : Parts) (f : Setting) (label : Label) (h : Home) : Type 0 where
   pub bank : h.bank < length o.banks
   pub plain : (h.bank ≡ 0) ↔ (label ≡ Public)
   pub slot : Serves h.bank h.slot
   pub unpinned : pin_at f h.slot ≡ None
-  pub behind : (slot : ℕ) (p : Pin) → pin_at f slot ≡ Some p → p.bank ≡ h.bank → p.block < h.block
+  pub apart : (slot : ℕ) (p : Pin) → pin_at f slot ≡ Some p → p.bank ≡ h.bank
+      → (p.block < h.block) ⊎ (h.block * block_words o + h.length ≤ p.block * block_words o)
   pub word : h.word ≡ 0
   pub length : Within 1 max_length h.length
   pub inside : h.block * block_words o + h.length ≤ blocks_of o h.bank * block_words o

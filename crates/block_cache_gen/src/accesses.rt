@@ -179,7 +179,7 @@ pub(crate) fn put_fixed(
 pub(crate) fn is_resident(variable: Variable) -> bool
     ensures { result ≡ (home_in variable).resident }
 {
-    variable.slot < 2
+    variable.resident
 }
 
 // The number of a resident array's word in its block, where the index is a number.

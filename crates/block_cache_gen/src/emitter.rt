@@ -1,17 +1,18 @@
-ghost use Rattle.std.specs.Prelude.{◌≡◌, ◌≤◌, ◌^◌, ◌==◌, true, None, IfOk, find, is_some, if◌then◌else◌, length, position, slice_index_or};
-ghost use Rattle.std.specs.List.{list_any};
+ghost use Rattle.std.specs.Prelude.{◌≡◌, ◌≤◌, ◌^◌, ◌==◌, true, List, Option, IfOk, find, is_some, length, position};
 ghost use Rattle.std.specs.Option.{option_map};
 ghost use Rattle.src_tree.specs.Contexts.{context_of};
 ghost use Rattle.src_tree.specs.Labels.{label_at, label_of};
 ghost use Rattle.src_tree.specs.Trees.{expr_tree};
-ghost use Rattle.block_cache_gen.specs.ServedBlocks.{pin_in, pin_or};
+ghost use Rattle.block_cache_gen.specs.Homes.{Pin};
 ghost use Rattle.block_cache_gen.specs.Settings.{IsFrame, homes_at, setting_of};
 
-use crate::frames::{Frame, Pin};
+use crate::frames::Frame;
+use crate::pins::{claims_in, pin_at, pin_in, pin_or};
 use crate::variables::{Variable, Variables, gather, variable_at};
 use bank_alloc::Place;
 use gr_base::Memory;
 use gr_word::Label;
+use scratch_alloc::Pin;
 use src_tree::{Expr, higher};
 use std::alloc::Global;
 use std::marker::Model;
@@ -39,21 +40,8 @@ impl<'a> Model for Emitter<'a> {
 
     ghost invariant = { λ e. IsFrame e.frame
         × ((e.claims ≡ slot_claims (setting_of e.frame)) × ((x : List ℕ) → found_under e.variables x ≡ variable_of
-        e.frame.program.now.decls.items e.frame.places.now.of_var.items e.frame.slots.now.of_var.items x)) };
-}
-
-// Whether a slot is among some.
-fn is_used(slots: &[u8], slot: u8) -> bool
-    ensures { result ≡ list_any (λ s. s == slot) slots.now }
-{
-    slots.iter().any(|used| *used == slot)
-}
-
-// The claim for a slot: the bank that it serves where a variable uses it, and none else.
-fn claim(slots: &[u8], slot: u8, bank: u8) -> u8
-    ensures { result ≡ (if list_any (λ s. s == slot) slots.now then bank else 255) }
-{
-    if is_used(slots, slot) { bank } else { 255 }
+        e.frame.slots.now.pins e.frame.program.now.decls.items e.frame.places.now.of_var.items
+        e.frame.slots.now.of_var.items x)) };
 }
 
 // The number of the first variable that a slot serves.
@@ -66,41 +54,12 @@ fn first_served(slots: &[u8], slot: u8) -> Option<usize>
 // The first block of that variable.
 fn block_of_first(places: &[Place], slots: &[u8], slot: u8) -> Option<u32>
     requires { length places.now ≡ length slots.now }
-    ensures { result ≡ option_map (λ h. h.block) (find (λ h. h.slot == slot) (homes_at places.now slots.now)) }
+    ensures { (pins : List (Option Pin))
+        → result ≡ option_map (λ h. h.block) (find (λ h. h.slot == slot) (homes_at pins places.now slots.now)) }
 {
     match first_served(slots, slot) {
         Some(number) => Some(places[number].block),
         None => None,
-    }
-}
-
-// The block that a slot is pinned to, `None` if it isn't pinned.
-fn pin_at(pins: &[Option<Pin>], slot: usize) -> Option<Pin>
-    ensures { result ≡ slice_index_or pins.now slot None }
-{
-    match pins.get(slot) {
-        Some(pin) => *pin,
-        None => None,
-    }
-}
-
-// A block of a bank, if there is one.
-fn pin_in(bank: u8, block: Option<u32>) -> Option<Pin>
-    ensures { result ≡ pin_in bank block }
-{
-    match block {
-        Some(block) => Some(Pin { bank, block }),
-        None => None,
-    }
-}
-
-// The block that a slot is pinned to, or another if it isn't pinned.
-fn pin_or(pin: Option<Pin>, other: Option<Pin>) -> Option<Pin>
-    ensures { result ≡ pin_or pin other }
-{
-    match pin {
-        Some(pin) => Some(pin),
-        None => other,
     }
 }
 
@@ -121,17 +80,9 @@ impl<'a> Emitter<'a> {
             f.program.decls.as_slice(),
             f.places.of_var.as_slice(),
             slots,
+            &f.slots.pins,
         )?;
-        let claims = [
-            0,
-            1,
-            claim(slots, 2, 0),
-            claim(slots, 3, 0),
-            claim(slots, 4, 1),
-            claim(slots, 5, 1),
-            255,
-            255,
-        ];
+        let claims = claims_in(&f.slots.pins, slots);
         Ok(Emitter {
             frame: *f,
             variables,
@@ -170,7 +121,7 @@ impl<'a> Emitter<'a> {
     }
 
     /// The block that each slot holds for the whole run. It serves `code_gen`, which stores these blocks at the end.
-    pub fn pins(&self) -> [Option<Pin>; 2]
+    pub fn pins(&self) -> [Option<Pin>; 8]
         ensures { result ≡ self.now.pins }
     {
         self.frame.pins()

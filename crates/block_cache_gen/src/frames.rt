@@ -8,39 +8,30 @@ use bank_alloc::Places;
 use gr_base::Memory;
 use gr_word::Cmp;
 use lt_isa::{Instr, Note, Profile};
-use scratch_alloc::SlotPlan;
+use scratch_alloc::{Pin, SlotPlan};
 use src_tree::Program;
 use std::alloc::Global;
 
-/// What code is made for: a program, the places and the slots of its variables, and the machine's profile.
+/// What code is made for: a program, a plan of its memory, and the machine's profile.
 #[derive(Clone, Copy, Debug)]
 pub struct Frame<'a> {
     pub program: &'a Program,
-    /// Where its variables lie: what `bank_alloc::banks` answers for the program and the profile's block size.
+    /// Where its variables are stored, as `bank_alloc::banks` returns it for the program and the profile's block size.
     pub places: &'a Places,
-    /// Which slot serves each variable: what `scratch_alloc::slots` answers for these places.
+    /// Which slot serves each variable, and which blocks slots hold for the whole run, as `scratch_alloc::slots` returns
+    /// it for these places.
     pub slots: &'a SlotPlan,
     pub profile: &'a Profile,
-}
-
-/// A block of a bank, which a slot of the scratchpad holds.
-#[derive(Clone, Copy, Debug, PartialEq, Eq)]
-pub struct Pin {
-    pub bank: u8,
-    pub block: u32,
 }
 
 impl<'a> Frame<'a> {
     ghost use Rattle.block_cache_gen.specs.Settings.{setting_of};
 
-    /// The block that each slot holds for the whole run, from slot 0 on: those of the scalars. Every other slot holds
-    /// several blocks in turn.
-    pub fn pins(&self) -> [Option<Pin>; 2]
+    /// The block that each slot holds for the whole run, from slot 0 on. Every other slot holds several blocks in turn.
+    pub fn pins(&self) -> [Option<Pin>; 8]
         ensures { result ≡ (setting_of self.now).pins }
     {
-        let plain = Pin { bank: 0, block: 0 };
-        let encrypted = Pin { bank: 1, block: 0 };
-        [Some(plain), Some(encrypted)]
+        self.slots.pins
     }
 }
 

@@ -5,7 +5,7 @@ ghost use Rattle.lt_isa.specs.declared.instructions.Instr.{Instr};
 ghost use Rattle.src_tree.specs.Contexts.{context_of};
 ghost use Rattle.src_tree.specs.Trees.{Block, Statement, Tree, source_of};
 ghost use Rattle.src_tree.specs.Typing.{TypedStatement, TypedTree};
-ghost use Rattle.bank_alloc.specs.Layout.{HasLayout};
+ghost use Rattle.bank_alloc.specs.Layout.{IsLaidOut};
 ghost use Rattle.block_cache_gen.specs.declared.frames.Frame.{Frame};
 ghost use Rattle.block_cache_gen.specs.Alike.{Alike, IsPairCount, Pair, pair_count};
 ghost use Rattle.block_cache_gen.specs.Homes.{HasHomes, Setting};
@@ -14,13 +14,13 @@ ghost use Rattle.block_cache_gen.specs.PatternsOf.{pattern_of_expr, pattern_of_s
 ghost use Rattle.block_cache_gen.specs.Settings.{IsFrame, setting_of};
 ghost use Rattle.block_cache_gen.specs.StoredWords.{DifferInLastStored, registers_aside, stored_words};
 
-/// Does nothing; its clause says of which objects the calls' clauses speak: each that has the profile and the layout of
-/// a frame has the homes of its variables.
+/// Does nothing; its clause says of which objects the calls' clauses speak: each that has the profile of a frame, and its
+/// variables at the frame's places, has the homes of its variables.
 pub fn home_laws()
     ensures homes { (f : Frame) (o : Parts)
         → IsFrame f
         → o.profile ≡ f.profile.now
-        → HasLayout (source_of f.program.now) f.profile.now.block_log o
+        → IsLaidOut (source_of f.program.now) f.profile.now.block_log f.places.now.of_var.items f.places.now.blocks.items o
         → HasHomes o (setting_of f) }
 {}
 

@@ -2,19 +2,23 @@ ghost use Rattle.std.specs.Prelude.{◌≡◌, ℕ, List, Some, IfOk, OnOk, byte
 ghost use Rattle.gr_base.specs.NameMaps.{found_under};
 ghost use Rattle.block_cache_gen.specs.Variables.{variable_of};
 
+use crate::pins::is_pinned;
 use bank_alloc::Place;
 use gr_base::Memory;
 use gr_word::Label;
+use scratch_alloc::Pin;
 use src_tree::Decl;
 use std::alloc::Global;
 use std::collections::BTreeMap;
 
-/// What a name of a program stands for: a label, where the variable lies, and the slot that serves it.
+/// What a name of a program stands for: a label, where the variable is stored, the slot that serves it, and whether that
+/// slot holds one block for the whole run.
 #[derive(Clone, Copy, Debug, PartialEq, Eq)]
 pub(crate) struct Variable {
     pub label: Label,
     pub place: Place,
     pub slot: u8,
+    pub resident: bool,
 }
 
 /// The variable of each name that is declared.
@@ -49,11 +53,12 @@ pub(crate) fn gather<'a>(
     decls: &'a [Decl],
     places: &[Place],
     slots: &[u8],
+    pins: &[Option<Pin>],
 ) -> Result<Variables<'a>, Memory>
     requires places { length places.now ≡ length decls.now }
     requires slots { length slots.now ≡ length decls.now }
     ensures { IfOk result
-        (λ variables. (x : List ℕ) → found_under variables x ≡ variable_of decls.now places.now slots.now x) }
+        (λ variables. (x : List ℕ) → found_under variables x ≡ variable_of pins.now decls.now places.now slots.now x) }
 {
     let mut variables = BTreeMap::new(alloc);
     // from the last, so that the first of a name stays
@@ -65,6 +70,7 @@ pub(crate) fn gather<'a>(
             label: decl.label,
             place: places[left],
             slot: slots[left],
+            resident: is_pinned(pins, slots[left]),
         };
         add_variable(&mut variables, decl.name.bytes(), variable)?;
     }

@@ -1,5 +1,5 @@
 -- What holds of the cores of a bus stays where one is run, and where one enters.
-use Rattle.std.proofs.Common.{◌≡◌, ℕ, zero, suc, ◌<◌, List, [], ◌∷◌, ◌++◌, length, get_or, Some, None, ◌⊎◌, inl, inr, refl, sym, ap, ◌∙◌, subst, ⊎_elim, arith, length-append}
+use Rattle.std.proofs.Common.{◌≡◌, ℕ, zero, suc, ◌<◌, ◌≤◌, List, [], ◌∷◌, ◌++◌, length, get_or, Some, None, ◌⊎◌, inl, inr, refl, sym, ap, ◌∙◌, subst, ⊎_elim, arith, length-append}
 use Rattle.std.specs.Prelude.{slice_get, slice_set, is_none}
 use Rattle.std.proofs.lemmas.Option.{none-some, same_Some, slice_get_within, slice_get-get_or}
 use Rattle.std.proofs.lemmas.Bool.{cases_eq}
@@ -10,7 +10,7 @@ use Rattle.processor.specs.declared.ends.End.TheVariants as end
 use Rattle.processor.specs.Ends.{EndsAs}
 use Rattle.processor.specs.Machines.{Running}
 use Rattle.bus_arbiter.specs.declared.shares.Share.{Share}
-use Rattle.bus_arbiter.specs.Cores.{AllStand, AreLive, Core, LeftAt, LeftIf, NoneHalted, Stands, trace_to}
+use Rattle.bus_arbiter.specs.Cores.{AllStand, AreLive, Core, LeftAt, LeftIf, NoneHalted, OnItsWay, OnItsWayIf, Stands, trace_to}
 use Rattle.bus_arbiter.specs.Shares.{share_at, share_of}
 use Rattle.bus_arbiter.proofs.Plays.{get-set_other, get-set_same, length-put}
 
@@ -98,6 +98,21 @@ pub left-halted : {B : Type 0} (before : Core B) (n at : ℕ) (machine : Running
 left-halted before n at machine live object state ends =
     subst (λ h. LeftIf h before n (record { machine = machine; halted = Some at })) (sym live)
     (record { object = object; state = state; ends = ends })
+
+-- a core was stopped on its way
+pub left-stopped : {B : Type 0} (before : Core B) (n cut : ℕ) (machine : Running B) → before.halted ≡ None → cut ≤ n
+    → machine.object ≡ before.machine.object
+    → machine.state ≡ final_from before.machine.object before.machine.state cut
+    → OnItsWay before n (record { machine = machine; halted = before.halted })
+left-stopped before n cut machine live within object state =
+    subst (λ h. OnItsWayIf h before n (record { machine = machine; halted = before.halted })) (sym live)
+    (record {
+      object = object;
+      at = cut;
+      within = within;
+      state = state;
+      halts = λ stamp is. absurd (none-some stamp (sym live ∙ is));
+    })
 
 -- the cores that a bus had are in range and shaped
 pub all-stood : {B : Type 0} (plan : List Share) (items cores : List (Core B)) → AllStand plan items → items ≡ cores

@@ -1,20 +1,21 @@
 -- One core's runs, one behind the other.
 use Rattle.std.proofs.Common.{◌≡◌, ℕ, ◌≤◌, max, List, [], ◌++◌, Option, Some, None, refl, sym, ap, ◌∙◌, subst, ⊎_elim, arith}
 use Rattle.std.proofs.lemmas.List.{append-nil}
+use Rattle.std.proofs.lemmas.List.Elements.{Contains-append_right}
 use Rattle.std.proofs.lemmas.Bool.{cases_lt}
 use Rattle.lt_isa.specs.Object.{Parts}
 use Rattle.lt_isa.specs.Ranges.{IsInRange}
-use Rattle.lt_isa.specs.Machine.{State}
+use Rattle.lt_isa.specs.Machine.{State, Halted}
 use Rattle.lt_isa.specs.Shape.{IsShaped}
 use Rattle.lt_isa.specs.Step.{Faults, step}
-use Rattle.lt_isa.specs.Trace.{trace_from, final_from, HaltsAt}
+use Rattle.lt_isa.specs.Trace.{trace_from, final_from, seen_at, HaltsAt}
 use Rattle.lt_isa.proofs.Runs.{trace_from-past, trace_from-faults, final_from-past, final_from-faults}
 use Rattle.lt_isa.proofs.Ends.{spent-from_no_halt, trace_halted, final_halted, final_shaped}
 use Rattle.processor.specs.declared.ends.End.TheVariants as end
 use Rattle.processor.specs.Ends.{EndsAs}
 use Rattle.processor.specs.Joining.{RunsJoin}
 use Rattle.processor.proofs.Joining.{runs_join}
-use Rattle.bus_arbiter.specs.Cores.{Core, LeftAt, LeftIf, RanTo, end_as, shown_if, shows_to, trace_to}
+use Rattle.bus_arbiter.specs.Cores.{Core, LeftAt, LeftIf, OnItsWay, OnItsWayIf, RanTo, StoppedBy, end_as, shown_if, shows_to, trace_to}
 use Rattle.bus_arbiter.specs.Transfers.{Transfer, transfers_of}
 use Rattle.bus_arbiter.proofs.TransferLists.{in-none, transfers_of-append}
 
@@ -220,3 +221,85 @@ module _ {B : Type 0} (k : ℕ) (c d : Core B) (m n : ℕ) (range : IsInRange c.
             (λ less. subst (λ x. RanTo c x e) (omega (arith, is, less)) (left-later on (omega (arith, less)) one two))
             (λ past. subst (λ x. RanTo c x e) (omega (arith, is, past)) (left-earlier on past one two))
             (cases_lt m n))
+
+-- ---- where a watcher stops it
+
+-- a core that has run up to a cycle is on its way to a later one
+pub left-way : {B : Type 0} (c d : Core B) (m to : ℕ) → m ≤ to → LeftAt c m d → OnItsWay c to d
+left-way {B = B} c d m to le left = by c.halted refl
+  where
+    by : (h : Option ℕ) → c.halted ≡ h → OnItsWayIf h c to d
+    by None is =
+        let ran : RanTo c m d = subst (λ h. LeftIf h c m d) is left in
+        record {
+          object = ran.object;
+          at = m;
+          within = le;
+          state = ran.state;
+          halts = λ stamp halted. (subst (λ h. EndsAs (trace_to c m) (end_as h)) halted ran.ends).0;
+        }
+    by (Some at) is = subst (λ h. LeftIf h c m d) is left
+
+-- A run up to cycle m, and then one that is stopped on its way to cycle n: both are stopped on the way to a later one.
+module _ {B : Type 0} (c d e : Core B) (m n to : ℕ) (range : IsInRange c.machine.object)
+    (shaped : IsShaped c.machine.object c.machine.state) (m_by : m ≤ to) (n_by : n ≤ to) where
+  way-halted : (at : ℕ) → d.halted ≡ Some at → RanTo c m d → e ≡ d → StoppedBy c to e
+  way-halted at is first last = record {
+    object = ap (λ (x : Core B). x.machine.object) last ∙ first.object;
+    at = m;
+    within = m_by;
+    state = ap (λ (x : Core B). x.machine.state) last ∙ first.state;
+    halts = λ stamp halted.
+        first-halts 0 c d m n range shaped stamp (sym (ap (λ (x : Core B). x.halted) last) ∙ halted) first;
+  }
+
+  -- the second run goes on from where the first was spent
+  way-on : d.halted ≡ None → RanTo c m d → StoppedBy d n e → StoppedBy c to e
+  way-on on first second =
+      ⊎_elim
+      (λ less.
+      let joins : RunsJoin c.machine.object c.machine.state m second.at =
+      runs_join c.machine.object range c.machine.state shaped m second.at (omega (arith, less)) spent in
+      record {
+        object = second.object ∙ first.object;
+        at = second.at;
+        within = omega (arith, second.within, n_by);
+        state = second.state ∙ second-state 0 c d m second.at range shaped first ∙ sym joins.state;
+        halts = λ stamp halted.
+            subst (λ events. HaltsAt events stamp) (sym joins.events)
+            (Contains-append_right (trace_to c m)
+            (trace_from c.machine.object (final_from c.machine.object c.machine.state m) second.at)
+            (seen_at stamp Halted)
+            (subst (λ events. HaltsAt events stamp) (second-trace 0 c d m second.at range shaped first)
+            (second.halts stamp halted)));
+      })
+      (λ past. record {
+        object = second.object ∙ first.object;
+        at = m;
+        within = m_by;
+        state =
+            second.state ∙ second-state 0 c d m second.at range shaped first
+            ∙ rests-state c.machine.object range c.machine.state shaped m second.at past spent;
+        halts = λ stamp halted.
+            absurd (in-none _ (subst (λ events. HaltsAt events stamp)
+            (second-trace 0 c d m second.at range shaped first
+            ∙ rests-trace c.machine.object range c.machine.state shaped m second.at past spent)
+            (second.halts stamp halted)));
+      })
+      (cases_lt m second.at)
+    where
+      spent : EndsAs (trace_to c m) end.Spent
+      spent = first-spent 0 c d m second.at range shaped on first
+
+  pub both-way : LeftAt c m d → OnItsWay d n e → OnItsWay c to e
+  both-way first second = by c.halted d.halted refl refl
+    where
+      by : (h g : Option ℕ) → c.halted ≡ h → d.halted ≡ g → OnItsWayIf h c to e
+      by (Some at) g live on =
+          let same : d ≡ c = subst (λ h. LeftIf h c m d) live first in
+          let still : OnItsWay c n e = subst (λ (x : Core B). OnItsWay x n e) same second in
+          subst (λ h. OnItsWayIf h c n e) live still
+      by None (Some at) live on =
+          way-halted at on (subst (λ h. LeftIf h c m d) live first) (subst (λ h. OnItsWayIf h d n e) on second)
+      by None None live on =
+          way-on on (subst (λ h. LeftIf h c m d) live first) (subst (λ h. OnItsWayIf h d n e) on second)

@@ -1,5 +1,5 @@
 -- All cores of a bus, run window by window: what is told is the joined list.
-use Rattle.std.proofs.Common.{◌≡◌, ◌≢◌, ℕ, zero, suc, ◌<◌, ◌≤◌, List, [], ◌∷◌, ◌++◌, length, Contains, Option, Some, None, refl, sym, ap, ◌∙◌, subst, ⊎_elim, arith, append_assoc}
+use Rattle.std.proofs.Common.{◌≡◌, ◌≢◌, ℕ, zero, suc, ◌<◌, ◌≤◌, max, List, [], ◌∷◌, ◌++◌, length, Contains, Option, Some, None, refl, sym, ap, ◌∙◌, subst, ⊎_elim, arith, append_assoc}
 use Rattle.std.specs.Prelude.{slice_get, slice_set, slice_index_or}
 use Rattle.std.proofs.lemmas.List.{append-nil, length-map, get_or-map}
 use Rattle.std.proofs.lemmas.List.Elements.{Contains-append_cases, Contains-append_left}
@@ -17,7 +17,7 @@ use Rattle.bus_arbiter.specs.Cores.{Core, LeftAt, LeftIf, NoneHalted, RanTo, end
 use Rattle.bus_arbiter.specs.Rounds.{JoinedSoFar, Onward}
 use Rattle.bus_arbiter.specs.Transfers.{IsJoined, IsTransferIn, Rise, Transfer, of_core, transfers_of}
 use Rattle.bus_arbiter.proofs.TransferLists.{has-shown, in-none, of_core-append, of_core-has, of_core-in, rise-append, shown-as}
-use Rattle.bus_arbiter.proofs.CoreRuns.{both-leave, both-show}
+use Rattle.bus_arbiter.proofs.CoreRuns.{both-leave, both-show, stays-at}
 use Rattle.bus_arbiter.proofs.CoreTransfers.{moves-below, run-moves, run-rises}
 use Rattle.bus_arbiter.proofs.Plays.{get-set_other, get-set_same, length-put, other-shows, own-shows}
 
@@ -66,11 +66,19 @@ left-later {B = B} k c d m n range shaped left t found = by c.halted refl
 
 -- ---- all cores
 
-pub joins-first : {B : Type 0} (cores : List (Core B)) (n : ℕ) → JoinedSoFar cores cores [] 0 n
-joins-first {B = B} cores n = record {
+pub joins-first : {B : Type 0} (cores : List (Core B)) (n : ℕ)
+    → ((k : ℕ) (c : Core B) → slice_get cores k ≡ Some c
+    → IsInRange c.machine.object × IsShaped c.machine.object c.machine.state)
+    → JoinedSoFar cores cores [] 0 n
+joins-first {B = B} cores n stand = record {
   count = refl;
   onward = λ k c d there here. let same : c ≡ d = same_Some c d (sym there ∙ here) in
       record {
+        in_range = (stand k c there).0;
+        shaped = (stand k c there).1;
+        reached = 0;
+        within = omega arith;
+        ran = subst (λ (x : Core B). LeftAt c 0 x) same (stays-at c);
         shows = ap (λ (x : Core B). shows_to k x n) same;
         left = λ e left. subst (λ (x : Core B). LeftAt x n e) (sym same) left;
       };
@@ -133,6 +141,13 @@ module _ {B : Type 0} (before between after : List (Core B)) (told : List Transf
       let on = so_far.onward core c was first there in
       let same = after-same d here in
       record {
+        in_range = on.in_range;
+        shaped = on.shaped;
+        reached = max on.reached m;
+        within = omega (arith, on.within, m_by);
+        ran =
+            subst (λ (x : Core B). LeftAt c (max on.reached m) x) same
+            (both-leave core c was on.reached m on.in_range on.shaped now (max on.reached m) refl on.ran left);
         shows =
             on.shows ∙ ap (λ l. of_core core told ++ l) parts
             ∙ sym (append_assoc (of_core core told) new (shows_to core now n))
@@ -147,6 +162,11 @@ module _ {B : Type 0} (before between after : List (Core B)) (told : List Transf
   onward-other k c d other first here =
       let on = so_far.onward k c d first (after-other k d other here) in
       record {
+        in_range = on.in_range;
+        shaped = on.shaped;
+        reached = on.reached;
+        within = on.within;
+        ran = on.ran;
         shows =
             on.shows ∙ ap (λ l. l ++ shows_to k d n)
             (sym (of_core-append k told new ∙ ap (λ l. of_core k told ++ l) (other-shows k core was m other)

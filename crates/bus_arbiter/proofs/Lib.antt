@@ -12,6 +12,7 @@ pub mod Windows
 pub mod Joining
 pub mod Finishing
 pub mod Rounding
+pub mod Stopping
 pub mod Alone
 pub mod JoinedLaws
 pub mod CoresJoined

@@ -7,14 +7,14 @@ use Rattle.std.proofs.lemmas.Bool.{cases_eq, eq-eqb, ne_eqb}
 use Rattle.lt_isa.specs.Ranges.{IsInRange}
 use Rattle.lt_isa.specs.Shape.{IsShaped}
 use Rattle.bus_arbiter.specs.declared.turns.Turn.{Turn}
-use Rattle.bus_arbiter.specs.Cores.{Core, LeftAt, shown_if, shows_to, trace_to}
+use Rattle.bus_arbiter.specs.Cores.{Core, LeftAt, OnItsWay, shown_if, shows_to, trace_to}
 use Rattle.bus_arbiter.specs.Telling.{FailedAt, TellsOn}
 use Rattle.bus_arbiter.specs.Transfers.{Transfer, of_core, transfers_of}
-use Rattle.bus_arbiter.specs.Turns.{Played, PlayFailed, Turned, until}
+use Rattle.bus_arbiter.specs.Turns.{AllOnTheirWay, Played, PlayFailed, TurnStopped, Turned, until}
 use Rattle.std.proofs.lemmas.List.Elements.{Contains-append_left}
 use Rattle.lt_isa.proofs.Ends.{trace_front}
 use Rattle.bus_arbiter.proofs.TransferLists.{in-none, of_core-all, of_core-append, of_core-none, shown-as, transfers_of-append}
-use Rattle.bus_arbiter.proofs.CoreRuns.{both-leave, both-show, nothing-shown, stays-at}
+use Rattle.bus_arbiter.proofs.CoreRuns.{both-leave, both-show, both-way, left-way, nothing-shown, stays-at}
 
 -- ---- a list with another item
 
@@ -338,6 +338,47 @@ plays-fail {B = B} before between all left turn was is_told tells_now torn stand
               ∙ append-nil (of_core k so_far.told) ∙ so_far.played.shown k c first)),
         )
 
+-- the watcher fails in a turn, and each core is on its way
+pub plays-stop : {B : Type 0} (before between after : List (Core B)) (all left : List Turn) (turn : Turn)
+    (was is_told : List Transfer → Type 0)
+    → ((k : ℕ) (c : Core B) → slice_get before k ≡ Some c
+    → IsInRange c.machine.object × IsShaped c.machine.object c.machine.state)
+    → PlayedSoFar before between all (turn ∷ left) was is_told → TurnStopped between after turn.core turn.to
+    → AllOnTheirWay before (until all) after
+plays-stop {B = B} before between after all left turn was is_told stand so_far stopped = record {
+  count = ap length stopped.put ∙ length-put between turn.core stopped.now ∙ so_far.played.count;
+  each = λ k c d first here.
+      ⊎_elim
+      (λ (is : k ≡ turn.core).
+      subst (λ j. slice_get before j ≡ Some c → slice_get after j ≡ Some d → OnItsWay c (until all j) d) (sym is)
+      (own c d) first here)
+      (λ other.
+      left-way c d (so_far.to k) (until all k) (omega (arith, so_far.rest k))
+      (so_far.played.left k c d first
+      (sym (get-set_other between turn.core k stopped.now other) ∙ ap (λ l. slice_get l k) (sym stopped.put) ∙ here)))
+      (cases_eq k turn.core);
+}
+  where
+    reach : turn.to ≤ until all turn.core
+    reach =
+        let now : max (so_far.to turn.core) (max turn.to (until left turn.core)) ≡ until all turn.core =
+        ap (λ b. max (so_far.to turn.core) (cond b (max turn.to (until left turn.core)) (until left turn.core)))
+        (sym (eq-eqb turn.core turn.core refl)) ∙ so_far.rest turn.core in
+        omega (arith, now)
+
+    own : (c d : Core B) → slice_get before turn.core ≡ Some c → slice_get after turn.core ≡ Some d
+        → OnItsWay c (until all turn.core) d
+    own c d first here =
+        let within = slice_get_within between turn.core stopped.was stopped.there in
+        let same : stopped.now ≡ d =
+        same_Some stopped.now d
+        (sym (get-set_same between turn.core stopped.now within) ∙ ap (λ l. slice_get l turn.core) (sym stopped.put)
+        ∙ here) in
+        subst (λ (x : Core B). OnItsWay c (until all turn.core) x) same
+        (both-way c stopped.was stopped.now (so_far.to turn.core) turn.to (until all turn.core)
+        (stand turn.core c first).0 (stand turn.core c first).1 (omega (arith, so_far.rest turn.core)) reach
+        (so_far.played.left turn.core c stopped.was first stopped.there) stopped.way)
+
 -- ---- turns by their number
 
 drop-at : {X : Type 0} (xs : List X) (i : ℕ) (d : X) → i < length xs → drop i xs ≡ get_or xs i d ∷ drop (suc i) xs
@@ -373,6 +414,17 @@ plays-fail_at before between turns i d was is_told tells_now torn stand within s
     plays-fail before between turns (drop (i + 1) turns) (get_or turns i d) was is_told tells_now torn stand
     (subst (λ left. PlayedSoFar before between turns left was is_told) (next-left turns i d within) so_far)
     failed.0 failed.1 failed.2
+
+pub plays-stop_at : {B : Type 0} (before between after : List (Core B)) (turns : List Turn) (i : ℕ) (d : Turn)
+    (was is_told : List Transfer → Type 0)
+    → ((k : ℕ) (c : Core B) → slice_get before k ≡ Some c
+    → IsInRange c.machine.object × IsShaped c.machine.object c.machine.state) → i < length turns
+    → PlayedSoFar before between turns (drop i turns) was is_told
+    → TurnStopped between after (get_or turns i d).core (get_or turns i d).to
+    → AllOnTheirWay before (until turns) after
+plays-stop_at before between after turns i d was is_told stand within so_far stopped =
+    plays-stop before between after turns (drop (i + 1) turns) (get_or turns i d) was is_told stand
+    (subst (λ left. PlayedSoFar before between turns left was is_told) (next-left turns i d within) so_far) stopped
 
 pub plays-all_at : {B : Type 0} (before now : List (Core B)) (turns : List Turn) (i : ℕ) → length turns ≤ i
     → (was is_told : List Transfer → Type 0) → PlayedSoFar before now turns (drop i turns) was is_told

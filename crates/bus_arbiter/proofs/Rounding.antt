@@ -479,10 +479,12 @@ join-failed before n was is_told torn live failed joined is =
 
 -- nothing was told yet, and more is told
 pub joined-first : {B : Type 0} (cores : List (Core B)) (n : ℕ) (tells : List Transfer → Type 0)
+    → ((k : ℕ) (c : Core B) → slice_get cores k ≡ Some c
+    → IsInRange c.machine.object × IsShaped c.machine.object c.machine.state)
     → JoinedOn cores cores [] 0 n (TellsOn tells tells)
-joined-first cores n tells = record {
+joined-first cores n tells stand = record {
   more = [];
-  joined = joins-first cores n;
+  joined = joins-first cores n stand;
   tells = λ l holds. subst tells (sym (append-nil l)) holds;
 }
 

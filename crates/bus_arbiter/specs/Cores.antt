@@ -2,7 +2,7 @@
 use Rattle.std.specs.Prelude.{◌≡◌, ℕ, Bool, List, [], map, length, ◌≤◌, Option, Some, None, is_none, slice_get}
 use Rattle.lt_isa.specs.Ranges.{IsInRange}
 use Rattle.lt_isa.specs.Shape.{IsShaped}
-use Rattle.lt_isa.specs.Trace.{Stamped, trace_from, final_from}
+use Rattle.lt_isa.specs.Trace.{HaltsAt, Stamped, trace_from, final_from}
 use Rattle.processor.specs.Machines.{Running}
 use Rattle.processor.specs.Ends.{EndsAs}
 use Rattle.processor.specs.declared.ends.End.{End}
@@ -55,6 +55,23 @@ LeftIf (Some at) before n after = after ≡ before
 
 abbrev pub LeftAt : {B : Type 0} → Core B → ℕ → Core B → Type 0
 LeftAt before n after = LeftIf before.halted before n after
+
+-- A core was run on and stopped on its way to cycle n. It has the same object, and is in the state that its run up to
+-- some cycle leaves. If it has halted, that run has.
+pub record StoppedBy {B : Type 0} (before : Core B) (n : ℕ) (after : Core B) : Type 0 where
+  pub object : after.machine.object ≡ before.machine.object
+  pub at : ℕ
+  pub within : at ≤ n
+  pub state : after.machine.state ≡ final_from before.machine.object before.machine.state at
+  pub halts : (stamp : ℕ) → after.halted ≡ Some stamp → HaltsAt (trace_to before at) stamp
+
+-- the same of any core: one that had halted stays as it was
+abbrev pub OnItsWayIf : {B : Type 0} → Option ℕ → Core B → ℕ → Core B → Type 0
+OnItsWayIf None before n after = StoppedBy before n after
+OnItsWayIf (Some at) before n after = after ≡ before
+
+abbrev pub OnItsWay : {B : Type 0} → Core B → ℕ → Core B → Type 0
+OnItsWay before n after = OnItsWayIf before.halted before n after
 
 -- a core stands on the bus with its share
 pub record Stands {B : Type 0} (c : Core B) (s : Share) : Type 0 where

@@ -1,7 +1,7 @@
 -- Turns of cores on a bus. (This project's profile.)
 use Rattle.std.specs.Prelude.{◌≡◌, ℕ, ◌≤◌, ◌==◌, if◌then◌else◌, max, List, [], ◌∷◌, ◌++◌, length, Some, slice_get, slice_set}
 use Rattle.bus_arbiter.specs.declared.turns.Turn.{Turn}
-use Rattle.bus_arbiter.specs.Cores.{Core, LeftAt, shows_to}
+use Rattle.bus_arbiter.specs.Cores.{Core, LeftAt, OnItsWay, shows_to}
 use Rattle.bus_arbiter.specs.Telling.{TellsOn}
 use Rattle.bus_arbiter.specs.Transfers.{Transfer, of_core}
 
@@ -47,3 +47,17 @@ pub record PlayFailed {B : Type 0} (was is_told : List Transfer → Type 0) (tor
 pub record AllLeft {B : Type 0} (before : List (Core B)) (n : ℕ) (after : List (Core B)) : Type 0 where
   pub count : length after ≡ length before
   pub each : (k : ℕ) (c d : Core B) → slice_get before k ≡ Some c → slice_get after k ≡ Some d → LeftAt c n d
+
+-- A watcher failed while cores were run, each up to its own cycle. There are as many cores as before, and each is on its
+-- way.
+pub record AllOnTheirWay {B : Type 0} (before : List (Core B)) (to : ℕ → ℕ) (after : List (Core B)) : Type 0 where
+  pub count : length after ≡ length before
+  pub each : (k : ℕ) (c d : Core B) → slice_get before k ≡ Some c → slice_get after k ≡ Some d → OnItsWay c (to k) d
+
+-- A watcher failed while one core was run up to a cycle. For the contracts of private functions, and for proofs.
+pub record TurnStopped {B : Type 0} (before after : List (Core B)) (core to : ℕ) : Type 0 where
+  pub was : Core B
+  pub now : Core B
+  pub there : slice_get before core ≡ Some was
+  pub put : after ≡ slice_set before core now
+  pub way : OnItsWay was to now

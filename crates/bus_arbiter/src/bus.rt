@@ -5,7 +5,7 @@ ghost use Rattle.bus_arbiter.specs.Cores.{AllStand, Core, NoneHalted, shows_to};
 ghost use Rattle.bus_arbiter.specs.Shares.{IsPlan, share_at, share_of};
 ghost use Rattle.bus_arbiter.specs.Telling.{FailedAt, TellsOn};
 ghost use Rattle.bus_arbiter.specs.Transfers.{Transfer};
-ghost use Rattle.bus_arbiter.specs.Turns.{Played, PlayFailed, Turned, until};
+ghost use Rattle.bus_arbiter.specs.Turns.{AllOnTheirWay, Played, PlayFailed, TurnStopped, Turned, until};
 
 use crate::plans::Plan;
 use crate::seats::Seat;
@@ -65,6 +65,16 @@ impl<'a, B: Bank + Drop> Bus<'a, B> {
         self.seats.len() as u8
     }
 
+    /// How many machines the plan wants: as many must enter before any core is run.
+    pub fn planned(&self) -> u8
+        ensures count { result ≡ length self.now.plan }
+        ensures plan { IsPlan self.now.plan }
+        ensures entered { length self.now.cores ≤ result }
+    {
+        let _ = self.entered();
+        self.plan.len()
+    }
+
     /// Whether no watcher has failed.
     pub fn sound(&self) -> bool
         ensures { result ≡ self.now.sound }
@@ -119,7 +129,7 @@ impl<'a, B: Bank + Drop> Bus<'a, B> {
     }
 
     /// Runs cores on turn by turn, each up to the cycle of its turn. The watcher is told of each core's transfers in
-    /// order. Takes no memory.
+    /// order. If it fails, each core keeps its object and is in a state of its own run. Allocates no memory.
     pub fn play<W: BusWatch>(&mut self, turns: &[Turn], watch: &mut W) -> Result<(), WatchFailed>
         requires all { length self.old.cores ≡ length self.old.plan }
         requires sound { IsTrue self.old.sound }
@@ -133,6 +143,7 @@ impl<'a, B: Bank + Drop> Bus<'a, B> {
             × TellsOn (W.tells watch.old) (W.tells watch.new) told) }
         ensures broke { OnErr result
             (PlayFailed (W.tells watch.old) (W.tells watch.new) (W.torn watch.new) self.old.cores (until turns.now)) }
+        ensures stopped { OnErr result (AllOnTheirWay self.old.cores (until turns.now) self.new.cores) }
         ensures failed { OnErr result (Rose (W.faults watch.old) (W.faults watch.new)) }
         ensures whole { W.whole watch.new ≡ is_ok result }
         ensures count { W.faults watch.old ≤ W.faults watch.new }
@@ -170,6 +181,7 @@ impl<'a, B: Bank + Drop> Bus<'a, B> {
         ensures broke { OnErr result ((c : Core B)
             × (slice_get self.old.cores core ≡ Some c)
             × FailedAt (W.tells watch.old) (W.tells watch.new) (W.torn watch.new) (shows_to core c to)) }
+        ensures stopped { OnErr result (TurnStopped self.old.cores self.new.cores core to) }
         ensures failed { OnErr result (Rose (W.faults watch.old) (W.faults watch.new)) }
         ensures whole { W.whole watch.new ≡ is_ok result }
         ensures count { W.faults watch.old ≤ W.faults watch.new }

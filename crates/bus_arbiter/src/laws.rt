@@ -53,8 +53,8 @@ pub fn bus_laws()
 {}
 
 /// Does nothing; its clauses are the laws of a plan. No share is a plan. A plan of at most seven shares that takes one
-/// more is a plan with it. The share of an object in range fits. And if objects have a plan, the transfers of their
-/// runs, each on inputs that fit it, never overlap on the bus.
+/// more is a plan with it. The share of an object in range fits. If objects have a plan, their runs, each on inputs that
+/// fit it, are on the bus, so the laws of a bus apply to them. In particular their transfers never overlap.
 pub fn plan_laws()
     ensures none { IsPlan [] }
     ensures one_more { (plan : List Share) (s : Share)
@@ -64,6 +64,12 @@ pub fn plan_laws()
         → PlanTakes plan s
         → IsPlan (plan ++ s ∷ []) }
     ensures own_share { (o : Parts) → IsInRange o → ShareFits (share_of o) }
+    ensures on_bus { (os : List Parts) (ds : List (List (List ℤ)))
+        → AllFit os ds
+        → IsPlan (map share_of os)
+        → AreOnBus (runs_of os ds) }
+    ensures traces { (os : List Parts) (ds : List (List (List ℤ))) (n : ℕ)
+        → map (shown_to n) (runs_of os ds) ≡ traces_on os ds n }
     ensures apart { (os : List Parts) (ds : List (List (List ℤ)))
         → AllFit os ds
         → IsPlan (map share_of os)

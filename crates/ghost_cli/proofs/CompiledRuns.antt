@@ -6,10 +6,10 @@ use Rattle.src_tree.specs.Trees.{Source}
 use Rattle.src_tree.specs.Limits.{IsWithinLimits}
 use Rattle.src_tree.specs.Typing.{IsTyped}
 use Rattle.lt_checker.proofs.Soundness.{accepted_is_oblivious}
-use Rattle.code_gen.proofs.AgreeingStores.{inputs-agree}
-use Rattle.ghost_cli.specs.Compiled.{IsCompiledTo}
+use Rattle.code_gen.proofs.AgreeingStores.{planned-inputs_agree}
+use Rattle.ghost_cli.specs.Compiled.{IsCompiledTo, plan_for}
 use Rattle.ghost_cli.specs.CompiledRuns.{CompiledRuns, RunsAsMeant}
-use Rattle.ghost_cli.proofs.OnTarget.{layout-for, room-for}
+use Rattle.ghost_cli.proofs.OnTarget.{target-sound}
 
 -- the object that was compiled
 own-runs : (p : Source) (target : Target) (bytes : List ℕ) → IsTyped p → IsWithinLimits p
@@ -18,9 +18,8 @@ own-runs p target bytes typed limits compiled = record {
   symbols = compiled.implements.symbols;
   shows_public = λ one other n first second agree.
       (accepted_is_oblivious compiled.o compiled.spells.in_range compiled.accepted).same_traces _ _
-      (inputs-agree p target.profile.block_log typed.once limits
-      (room-for target.fast p target.profile.block_log compiled.room) compiled.o
-      (layout-for target.fast p target.profile.block_log compiled.o compiled.layout) one other first second agree) n;
+      (planned-inputs_agree p target.profile.block_log (plan_for target.fast p target.profile.block_log) typed.once limits
+      (target-sound p target bytes limits compiled) compiled.o compiled.layout one other first second agree) n;
   leaves = compiled.implements.done;
   halts = compiled.implements.halts;
 }

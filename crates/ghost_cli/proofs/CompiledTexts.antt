@@ -30,12 +30,12 @@ use Rattle.flow_types.specs.Wants.{declared_want, declared_wants}
 use Rattle.flow_types.proofs.Distinct.{wants_are_variables}
 use Rattle.stretches.specs.Standing.{greatest_costs}
 use Rattle.code_gen.specs.Implements.{by_name}
-use Rattle.code_gen.proofs.WantedInputs.{inputs-wanted}
-use Rattle.code_gen.proofs.WantsInOrder.{wants-permuted, wants-differ, words_named, store-named}
-use Rattle.ghost_cli.specs.Compiled.{IsCompiledTo}
+use Rattle.code_gen.proofs.WantedInputs.{planned-inputs_wanted}
+use Rattle.code_gen.proofs.WantsInOrder.{planned-wants_permuted, wants-differ, words_named, store-named}
+use Rattle.ghost_cli.specs.Compiled.{IsCompiledTo, plan_for}
 use Rattle.ghost_cli.specs.CompiledRuns.{IsStoreOf}
 use Rattle.ghost_cli.specs.CompiledTexts.{TextsAsMeant, CompiledTexts}
-use Rattle.ghost_cli.proofs.OnTarget.{layout-for, room-for}
+use Rattle.ghost_cli.proofs.OnTarget.{target-sound}
 
 ok-same : {X E : Type 0} (x y : X) → ◌≡◌ {A = Result X E} (Ok x) (Ok y) → x ≡ y
 ok-same x y e = cc
@@ -48,15 +48,13 @@ module _ (p : Source) (target : Target) (bytes : List ℕ) (typed : IsTyped p) (
 
   arranges : (words : Want → List ℤ) → by_name p o (map words (declared_wants p.decls)) ≡ map words (wants_of o)
   arranges words =
-      inputs-wanted p target.profile.block_log typed.once limits
-      (room-for target.fast p target.profile.block_log compiled.room) o
-      (layout-for target.fast p target.profile.block_log o compiled.layout) words
+      planned-inputs_wanted p target.profile.block_log (plan_for target.fast p target.profile.block_log) typed.once limits
+      (target-sound p target bytes limits compiled) o compiled.layout words
 
   permuted : IsPermutation (declared_wants p.decls) (wants_of o)
   permuted =
-      wants-permuted p target.profile.block_log typed.once limits
-      (room-for target.fast p target.profile.block_log compiled.room) o
-      (layout-for target.fast p target.profile.block_log o compiled.layout)
+      planned-wants_permuted p target.profile.block_log (plan_for target.fast p target.profile.block_log) typed.once
+      limits (target-sound p target bytes limits compiled) o compiled.layout
 
   text-given : (text : List ℕ)
       → inputs_of (wants_of o) (json_of text)

@@ -1,15 +1,22 @@
--- What is known of a program's layout on a target.
-use Rattle.std.proofs.Common.{ℕ, Bool, true, false}
-use Rattle.lt_isa.specs.Object.{Parts}
+-- The plan of a program's memory on a target is sound.
+use Rattle.std.proofs.Common.{ℕ, Bool, true, false, List, subst}
+use Rattle.gr_base.specs.Lists.{Within}
+use Rattle.src_tree.specs.Limits.{IsWithinLimits}
 use Rattle.src_tree.specs.Trees.{Source}
-use Rattle.bank_alloc.specs.Fits.{Fits}
-use Rattle.bank_alloc.specs.Layout.{HasLayout}
-use Rattle.ghost_cli.specs.Compiled.{HasLayoutFor, HasRoom}
+use Rattle.scratch_alloc.specs.Plans.{IsSoundPlan}
+use Rattle.scratch_alloc.proofs.StandardPlan.{standard_sound}
+use Rattle.resident_alloc.proofs.SoundPlan.{resident_sound}
+use Rattle.ghost_cli.specs.declared.targets.Target.{Target}
+use Rattle.ghost_cli.specs.Compiled.{HasRoom, IsCompiledTo, plan_for}
 
-pub room-for : (fast : Bool) (p : Source) (w : ℕ) → HasRoom fast p w → Fits p w
-room-for false p w room = room
-room-for true p w room = room
+plan-sound : (fast : Bool) (p : Source) (w : ℕ) → IsWithinLimits p → Within 3 9 w → HasRoom fast p w
+    → IsSoundPlan p w (plan_for fast p w)
+plan-sound false p w limits log room = standard_sound p w limits log room
+plan-sound true p w limits log room = resident_sound p w limits log room
 
-pub layout-for : (fast : Bool) (p : Source) (w : ℕ) (o : Parts) → HasLayoutFor fast p w o → HasLayout p w o
-layout-for false p w o layout = layout
-layout-for true p w o layout = layout
+pub target-sound : (p : Source) (target : Target) (bytes : List ℕ) → IsWithinLimits p
+    → (compiled : IsCompiledTo p target bytes)
+    → IsSoundPlan p target.profile.block_log (plan_for target.fast p target.profile.block_log)
+target-sound p target bytes limits compiled =
+    plan-sound target.fast p target.profile.block_log limits
+    (subst (Within 3 9) compiled.layout.block_size compiled.spells.in_range.profile.block_log) compiled.room

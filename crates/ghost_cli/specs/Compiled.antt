@@ -1,13 +1,15 @@
 -- What `compile` writes: an object file of a program, for a machine of a profile and the usual latencies.
 use Rattle.std.specs.Prelude.{◌≡◌, ℕ, Bool, true, false, List, Option, Some, None, Result, Ok, Err}
 use Rattle.lt_isa.specs.Object.{Parts, usual_latencies}
-use Rattle.lt_isa.specs.declared.profiles.Profile.{Profile}
 use Rattle.src_tree.specs.Trees.{Source}
 use Rattle.trace_patterns.specs.Accepts.{Accepts}
 use Rattle.bank_alloc.specs.Fits.{Fits}
-use Rattle.bank_alloc.specs.Layout.{HasLayout}
+use Rattle.bank_alloc.specs.Layout.{IsLaidOut}
+use Rattle.scratch_alloc.specs.Plans.{Plan, standard_plan}
+use Rattle.resident_alloc.specs.ResidentFits.{ResidentsFit}
+use Rattle.resident_alloc.specs.ResidentPlan.{resident_plan}
 use Rattle.block_cache_gen.specs.StoredWords.{stored_words}
-use Rattle.code_gen.specs.Compiles.{IsFor, stores_in, ExplainsRoom}
+use Rattle.code_gen.specs.Compiles.{ExplainsResidents, ExplainsRoom, IsFor, stores_by}
 use Rattle.code_gen.specs.Implements.{Implements}
 use Rattle.code_gen.specs.declared.compiling.CompileError.{CompileError}
 use Rattle.code_gen.specs.declared.compiling.CompileError.TheVariants as room
@@ -16,22 +18,22 @@ use Rattle.ghost_cli.specs.declared.source_faults.SourceFault.TheVariants as fau
 use Rattle.ghost_cli.specs.declared.targets.Target.{Target}
 use Rattle.ghost_cli.specs.Objects.{SpellsObject}
 
--- With `--fast` arrays stay in the scratchpad, so the layout, the room and the stores of a word are other ones.
+-- with `--fast` arrays that fit stay in the scratchpad
+abbrev pub plan_for : Bool → Source → ℕ → Plan
+plan_for false p w = standard_plan p w
+plan_for true p w = resident_plan p w
+
 abbrev pub HasRoom : Bool → Source → ℕ → Type 0
 HasRoom false p w = Fits p w
-HasRoom true p w = Fits p w
-
-abbrev pub HasLayoutFor : Bool → Source → ℕ → Parts → Type 0
-HasLayoutFor false p w o = HasLayout p w o
-HasLayoutFor true p w o = HasLayout p w o
-
-abbrev pub stores_for : Bool → Source → Profile → ℕ
-stores_for false p profile = stores_in p profile
-stores_for true p profile = stores_in p profile
+HasRoom true p w = ResidentsFit p w
 
 abbrev pub LacksRoom : Bool → CompileError → Source → ℕ → Type 0
 LacksRoom false e p w = ExplainsRoom e p w
-LacksRoom true e p w = ExplainsRoom e p w
+LacksRoom true e p w = ExplainsResidents e p w
+
+-- the object has the places and the blocks of the program's plan
+abbrev pub HasLayoutFor : Bool → Source → ℕ → Parts → Type 0
+HasLayoutFor fast p w o = IsLaidOut p w (plan_for fast p w).places (plan_for fast p w).blocks o
 
 -- There is room for the program's variables. The bytes spell an object that is accepted, that does what the program
 -- means, and that has the program's layout for the profile's blocks, that profile and the usual latencies, and as many
@@ -44,7 +46,7 @@ pub record IsCompiledTo (p : Source) (target : Target) (bytes : List ℕ) : Type
   pub implements : Implements p o
   pub layout : HasLayoutFor target.fast p target.profile.block_log o
   pub machine : IsFor target.profile usual_latencies o
-  pub stores : stored_words o.code ≡ stores_for target.fast p target.profile
+  pub stores : stored_words o.code ≡ stores_by p (plan_for target.fast p target.profile.block_log) target.profile
 
 -- what lacks room as it is shown; want of memory is no fault
 abbrev pub room_fault : CompileError → Option SourceFault

@@ -157,7 +157,7 @@ fn compiled(alloc: Global, program: &Typed, target: &Target) -> Result<Object, C
 {
     let latencies = Latencies::usual();
     if target.fast {
-        code_gen::compile(alloc, program, &target.profile, &latencies)
+        code_gen::compile_fast(alloc, program, &target.profile, &latencies)
     } else {
         code_gen::compile(alloc, program, &target.profile, &latencies)
     }

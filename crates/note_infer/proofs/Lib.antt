@@ -22,6 +22,11 @@ pub mod Following
 pub mod Turns
 pub mod Looking
 pub mod Passing
+pub mod Meets
+pub mod Uppers
+pub mod Nested
+pub mod RegionWays
+pub mod LeastOutside
 pub mod KeptStates
 pub mod CrossedTables
 pub mod OriginTables

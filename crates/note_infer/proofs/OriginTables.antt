@@ -1,7 +1,9 @@
--- The table of from where jumps and branches lead to each place: one place more, and its end.
-use Rattle.std.proofs.Common.{◌≡◌, ℕ, ◌+◌, ◌<◌, ◌≤◌, false, ℤ, List, [], length, get_or, set, slice_get, ◌⊎◌, inl, inr, Option, Some, None, refl, sym, ap, ◌∙◌, subst, ⊎_elim, arith, get_or-set_same, get_or-set_other, length-set}
+-- The lists of places that lead to each place: one more place, their end, and how they are followed. What is forgotten
+-- of a region, and the places that wait then.
+use Rattle.std.proofs.Common.{◌≡◌, ℕ, ◌+◌, ◌-◌, ◌<◌, ◌≤◌, ℤ, List, [], ◌∷◌, length, get_or, set, slice_get, ◌⊎◌, inl, inr, Option, Some, None, refl, sym, ap, ◌∙◌, subst, ⊎_elim, arith, get_or-set_same, get_or-set_other, length-set}
+use Rattle.std.specs.Prelude.{replicate}
 use Rattle.std.proofs.lemmas.Bool.{cases_lt, cases_eq}
-use Rattle.std.proofs.lemmas.Option.{slice_get_within}
+use Rattle.std.proofs.lemmas.List.{get_or_past, get_or-replicate, length-replicate}
 use Rattle.gr_word.specs.declared.operations.Cmp.{Cmp}
 use Rattle.lt_isa.specs.declared.instructions.Instr.{Instr}
 use Rattle.lt_isa.specs.declared.instructions.Instr.TheVariants.{Halt, Jmp, Br}
@@ -9,60 +11,197 @@ use Rattle.lt_isa.specs.Object.{Parts}
 use Rattle.lt_isa.specs.Step.{target_of}
 use Rattle.trace_patterns.proofs.Carries.{instr-once, offset_once}
 use Rattle.trace_patterns.specs.Known.{Known}
-use Rattle.note_infer.specs.Ways.{is_crossed}
+use Rattle.note_infer.specs.Brings.{Waits}
 use Rattle.note_infer.specs.Noting.{IsTargetOf, ByJump, ByBranch}
-use Rattle.note_infer.specs.Kept.{IsTold, TellsOrigins, OriginsBelow, TellsOne, IsClear, IsWithout, origin_at}
+use Rattle.note_infer.specs.Kept.{IsLinked, LinkedHere, LinkedBefore, LinksFall, OriginsBelow, TellsOrigins, TellsOne, IsFollowed, AwaitsOne, Within, Outside, Awaits, AwaitsBelow, IsWithout, link_at}
+use Rattle.note_infer.proofs.Brought.{waits-last, waits-end, waits-more}
 use Rattle.note_infer.proofs.SameParts.{same_jump}
 
--- the place that an instruction jumps or branches to, if it does
+-- a list of lower places stays as it is when one place more is linked
+linked_still : (before : List ℕ) (p v link x : ℕ) → ((r : ℕ) → link_at before r ≤ r) → link ≤ p
+    → IsLinked before link x → IsLinked (set before p v) link x
+linked_still before p v link x falls le (LinkedHere l y e) = LinkedHere link x e
+linked_still before p v link x falls le (LinkedBefore l head y e rest) =
+    LinkedBefore link head x e
+    (subst (λ (n : ℕ). IsLinked (set before p v) n x)
+    (sym (get_or-set_other before p head v 0 (λ (f : head ≡ p). omega (arith, e, le, f))))
+    (linked_still before p v (get_or before head 0) x falls (omega (arith, falls head, e, le)) rest))
 
-told_lower : (p q : ℕ) (before after : List ℕ) → IsTold before p q → origin_at after q ≤ origin_at before q
-    → IsTold after p q
-told_lower p q before after told le low lt = told low (omega (arith, lt, le))
+-- one more place is listed
+module _ (o : Parts) (p : ℕ) (last before : List ℕ) (h : OriginsBelow o p last before) where
+  target_inside : (r q : ℕ) → IsTargetOf o [] r q → q < length o.code
+  target_inside r q (ByJump r' q' offset at to lt) = lt
+  target_inside r q (ByBranch r' q' cmp ra rb offset at apart to lt) = lt
 
--- one place is told of, where all that it leads to is one place
-pub origins_told : (o : Parts) (p target : ℕ) (before after : List ℕ) → OriginsBelow o p before
-    → TellsOne p target before after → ((q : ℕ) → IsTargetOf o [] p q → q ≡ target) → OriginsBelow o (p + 1) after
-origins_told o p target before after h one only = record {
-  size = one.size ∙ h.size;
-  told = λ r q lt t. by r q lt t (cases_eq r p);
+  -- where it leads nowhere
+  pub origins_none : ((q : ℕ) → IsTargetOf o [] p q → ⊥) → OriginsBelow o (p + 1) last before
+  origins_none none = record {
+    last_size = h.last_size;
+    before_size = h.before_size;
+    inside = λ q. omega (arith, h.inside q);
+    falls = h.falls;
+    told = λ r q lt t. by r q lt t (cases_eq r p);
+  }
+    where
+      by : (r q : ℕ) → r < p + 1 → IsTargetOf o [] r q → (r ≡ p) ⊎ (r ≡ p → ⊥) → IsLinked before (get_or last q 0) r
+      by r q lt t (inr ne) = h.told r q (omega (arith, lt, ne)) t
+      by r q lt t (inl e) = absurd (none q (subst (λ (x : ℕ). IsTargetOf o [] x q) e t))
+
+  -- and where all that it leads to is one place
+  module _ (target : ℕ) (only : (q : ℕ) → IsTargetOf o [] p q → q ≡ target) (here : p < length o.code) where
+    abbrev link : ℕ
+    link = get_or last target 0
+
+    abbrev last_after : List ℕ
+    last_after = set last target (p + 1)
+
+    abbrev before_after : List ℕ
+    before_after = set before p link
+
+    origins_set : target < length last → OriginsBelow o (p + 1) last_after before_after
+    origins_set lt = record {
+      last_size = length-set last target (p + 1) ∙ h.last_size;
+      before_size = length-set before p link ∙ h.before_size;
+      inside = λ q. inside q (cases_eq q target);
+      falls = λ x. falls x (cases_eq x p);
+      told = λ r q less t. told r q less t (cases_eq r p) (cases_eq q target);
+    }
+      where
+        inside : (q : ℕ) → (q ≡ target) ⊎ (q ≡ target → ⊥) → get_or last_after q 0 ≤ p + 1
+        inside q (inl e) =
+            omega (arith, ap (λ (x : ℕ). get_or last_after x 0) e, get_or-set_same last target (p + 1) 0 lt)
+        inside q (inr ne) = omega (arith, get_or-set_other last target q (p + 1) 0 ne, h.inside q)
+
+        own : get_or before_after p 0 ≡ link
+        own = get_or-set_same before p link 0 (omega (arith, here, h.before_size))
+
+        falls : (x : ℕ) → (x ≡ p) ⊎ (x ≡ p → ⊥) → get_or before_after x 0 ≤ x
+        falls x (inl e) = omega (arith, ap (λ (y : ℕ). get_or before_after y 0) e, own, h.inside target, e)
+        falls x (inr ne) = omega (arith, get_or-set_other before p x link 0 ne, h.falls x)
+
+        still : (r l : ℕ) → l ≤ p → IsLinked before l r → IsLinked before_after l r
+        still r l le linked = linked_still before p link l r h.falls le linked
+
+        told : (r q : ℕ) → r < p + 1 → IsTargetOf o [] r q → (r ≡ p) ⊎ (r ≡ p → ⊥) → (q ≡ target) ⊎ (q ≡ target → ⊥)
+            → IsLinked before_after (get_or last_after q 0) r
+        told r q less t (inl e) same =
+            let to = only q (subst (λ (x : ℕ). IsTargetOf o [] x q) e t) in
+            LinkedHere (get_or last_after q 0) r
+            (ap (λ (x : ℕ). get_or last_after x 0) to ∙ get_or-set_same last target (p + 1) 0 lt
+            ∙ ap (λ (x : ℕ). x + 1) (sym e))
+        told r q less t (inr ne) (inl e) =
+            LinkedBefore (get_or last_after q 0) p r
+            (ap (λ (x : ℕ). get_or last_after x 0) e ∙ get_or-set_same last target (p + 1) 0 lt)
+            (subst (λ (n : ℕ). IsLinked before_after n r) (sym own)
+            (still r link (h.inside target)
+            (subst (λ (x : ℕ). IsLinked before (get_or last x 0) r) e (h.told r q (omega (arith, less, ne)) t))))
+        told r q less t (inr ne) (inr other) =
+            subst (λ (n : ℕ). IsLinked before_after n r) (sym (get_or-set_other last target q (p + 1) 0 other))
+            (still r (get_or last q 0) (h.inside q) (h.told r q (omega (arith, less, ne)) t))
+
+    pub origins_told : (last_now before_now : List ℕ) → TellsOne p target last before last_now before_now
+        → OriginsBelow o (p + 1) last_now before_now
+    origins_told last_now before_now one =
+        ⊎_elim
+        (λ (lt : target < length last).
+        let e = one.inside lt in
+        subst (λ (l : List ℕ). OriginsBelow o (p + 1) l before_now) (sym e.0)
+        (subst (OriginsBelow o (p + 1) last_after) (sym e.1) (origins_set lt)))
+        (λ (le : length last ≤ target).
+        let e = one.outside le in
+        subst (λ (l : List ℕ). OriginsBelow o (p + 1) l before_now) (sym e.0)
+        (subst (OriginsBelow o (p + 1) last) (sym e.1)
+        (origins_none (λ q t. omega (arith, le, only q t, target_inside p q t, h.last_size)))))
+        (cases_lt target (length last))
+
+no_link : (n q : ℕ) → ◌≡◌ {A = ℕ} (get_or (replicate n 0) q 0) 0
+no_link n q =
+    ⊎_elim (λ (lt : q < n). get_or-replicate n q 0 0 lt)
+    (λ (le : n ≤ q). get_or_past (replicate n 0) q 0 (omega (arith, le, length-replicate {A = ℕ} n 0)))
+    (cases_lt q n)
+
+pub origins_begun : (o : Parts) (n m : ℕ) → n ≡ length o.code → m ≡ length o.code
+    → OriginsBelow o 0 (replicate n 0) (replicate m 0)
+origins_begun o n m e f = record {
+  last_size = length-replicate {A = ℕ} n 0 ∙ e;
+  before_size = length-replicate {A = ℕ} m 0 ∙ f;
+  inside = λ q. omega (arith, no_link n q);
+  falls = λ q. omega (arith, no_link m q);
+  told = λ p q lt t. absurd (omega (arith, lt));
+}
+
+pub origins_ended : (o : Parts) (bound : ℕ) (last before : List ℕ) → bound ≡ length o.code
+    → OriginsBelow o bound last before → TellsOrigins o last before
+origins_ended o bound last before e h = subst (λ (x : ℕ). OriginsBelow o x last before) e h
+
+pub links_fall : (o : Parts) (last before : List ℕ) → TellsOrigins o last before → LinksFall last before
+links_fall o last before h = record { inside = λ q. omega (arith, h.inside q, h.before_size); falls = h.falls }
+
+-- a list is followed to its end
+pub followed_next : (before : List ℕ) (first link : ℕ) (seen more : ℕ → Type 0) → 0 < link
+    → IsFollowed before first link seen → ((p : ℕ) → seen p → more p) → more (link - 1)
+    → IsFollowed before first (get_or before (link - 1) 0) more
+followed_next before first link seen more some h keeps now p linked = by (h p linked)
+  where
+    by : IsLinked before link p ⊎ seen p → IsLinked before (get_or before (link - 1) 0) p ⊎ more p
+    by (inr s) = inr (keeps p s)
+    by (inl (LinkedHere l x e)) = let same : link - 1 ≡ p = omega (arith, e) in inr (subst more same now)
+    by (inl (LinkedBefore l head x e rest)) =
+        let same : head ≡ link - 1 = omega (arith, e) in
+        inl (subst (λ (n : ℕ). IsLinked before (get_or before n 0) p) same rest)
+
+pub followed_all : (before : List ℕ) (first link : ℕ) (seen : ℕ → Type 0) → link ≡ 0
+    → IsFollowed before first link seen → (p : ℕ) → IsLinked before first p → seen p
+followed_all before first link seen none h p linked = by (h p linked)
+  where
+    by : IsLinked before link p ⊎ seen p → seen p
+    by (inr s) = s
+    by (inl (LinkedHere l x e)) = absurd (omega (arith, e, none))
+    by (inl (LinkedBefore l head x e rest)) = absurd (omega (arith, e, none))
+
+-- one more place waits, if it is outside
+pub awaits_one : (place join origin size : ℕ) (stack between after : List ℕ) → origin < size
+    → AwaitsOne place join origin between after → ((x : ℕ) → Waits stack x → Waits between x)
+    → (((x : ℕ) → Waits stack x → x < size) → (x : ℕ) → Waits between x → x < size)
+    → ((x : ℕ) → Waits stack x → Waits after x)
+    × (((x : ℕ) → Waits stack x → x < size) → (x : ℕ) → Waits after x → x < size)
+    × ((x : ℕ) → Waits between x → Waits after x)
+    × (((place ≤ origin) × (origin < join)) ⊎ Waits after origin)
+awaits_one place join origin size stack between after lt (Within le less) keeps inside =
+    (keeps, inside, λ x w. w, inl (le, less))
+awaits_one place join origin size stack between after lt Outside keeps inside = (
+  λ x w. waits-more between origin x (keeps x w),
+  λ all x w. ⊎_elim (λ (v : Waits between x). inside all x v) (λ (e : x ≡ origin). omega (arith, e, lt))
+      (waits-last between origin x w),
+  λ x w. waits-more between origin x w,
+  inr (waits-end between origin),
+)
+
+-- the places that wait for the places of a region so far
+pub awaits_begun : (last before : List ℕ) (place join : ℕ) → place < length before
+    → AwaitsBelow last before place join (place + 1) (place ∷ [])
+awaits_begun last before place join lt = record {
+  branch = inl refl;
+  inside = λ x w. ⊎_elim (λ (e : place ≡ x). omega (arith, sym e, lt)) (λ (v : ⊥). absurd v) w;
+  waits = λ p q less le linked. absurd (omega (arith, less, le));
+}
+
+pub awaits_more : (last before : List ℕ) (place join inner : ℕ) (stack after : List ℕ)
+    → AwaitsBelow last before place join inner stack
+    → Awaits place join (length before) (IsLinked before (get_or last inner 0)) stack after
+    → AwaitsBelow last before place join (inner + 1) after
+awaits_more last before place join inner stack after h one = record {
+  branch = one.keeps place h.branch;
+  inside = one.inside h.inside;
+  waits = λ p q lt le linked. by p q lt le linked (cases_eq q inner);
 }
   where
-    inside : (r q : ℕ) → IsTargetOf o [] r q → q < length o.code
-    inside r q (ByJump r' q' offset at to lt) = lt
-    inside r q (ByBranch r' q' cmp ra rb offset at apart to lt) = lt
-
-    by : (r q : ℕ) → r < p + 1 → IsTargetOf o [] r q → (r ≡ p) ⊎ (r ≡ p → ⊥) → IsTold after r q
-    by r q lt t (inr ne) = told_lower r q before after (h.told r q (omega (arith, lt, ne)) t) (one.falls q)
-    by r q lt t (inl e) =
-        let here = subst (λ (x : ℕ). IsTargetOf o [] x q) e t in
-        let same = only q here in
-        subst (λ (x : ℕ). IsTold after x q) (sym e)
-        (subst (IsTold after p) (sym same)
-        (one.here (omega (arith, sym same, inside p q here, h.size))))
-
--- and where it leads nowhere
-pub origins_none : (o : Parts) (p : ℕ) (before : List ℕ) → OriginsBelow o p before
-    → ((q : ℕ) → IsTargetOf o [] p q → ⊥) → OriginsBelow o (p + 1) before
-origins_none o p before h none = record {
-  size = h.size;
-  told = λ r q lt t. by r q lt t (cases_eq r p);
-}
-  where
-    by : (r q : ℕ) → r < p + 1 → IsTargetOf o [] r q → (r ≡ p) ⊎ (r ≡ p → ⊥) → IsTold before r q
-    by r q lt t (inr ne) = h.told r q (omega (arith, lt, ne)) t
-    by r q lt t (inl e) = absurd (none q (subst (λ (x : ℕ). IsTargetOf o [] x q) e t))
-
-pub origins_begun : (o : Parts) (origins : List ℕ) → length origins ≡ length o.code → OriginsBelow o 0 origins
-origins_begun o origins e = record { size = e; told = λ p q lt t. absurd (omega (arith, lt)) }
-
-pub origins_ended : (o : Parts) (bound : ℕ) (origins : List ℕ) → length o.code ≤ bound → OriginsBelow o bound origins
-    → TellsOrigins o origins
-origins_ended o bound origins le h p q t = h.told p q (omega (arith, le, within p q t)) t
-  where
-    within : (r q : ℕ) → IsTargetOf o [] r q → r < length o.code
-    within r q (ByJump r' q' offset at to lt) = slice_get_within o.code r (Jmp offset) at
-    within r q (ByBranch r' q' cmp ra rb offset at apart to lt) = slice_get_within o.code r (Br cmp ra rb offset) at
+    by : (p q : ℕ) → place < q → q < inner + 1 → IsLinked before (get_or last q 0) p → (q ≡ inner) ⊎ (q ≡ inner → ⊥)
+        → ((place ≤ p) × (p < join)) ⊎ Waits after p
+    by p q lt le linked (inl e) = one.waits p (subst (λ (x : ℕ). IsLinked before (get_or last x 0) p) e linked)
+    by p q lt le linked (inr ne) =
+        ⊎_elim (λ (w : (place ≤ p) × (p < join)). inl w) (λ (w : Waits stack p). inr (one.keeps p w))
+        (h.waits p q lt (omega (arith, le, ne)) linked)
 
 -- what an instruction leads to
 pub jump_only : (o : Parts) (p : ℕ) (offset : ℤ) → slice_get o.code p ≡ Some (Jmp offset) → (q : ℕ)
@@ -90,63 +229,6 @@ other_none o p i at jumps branches q (ByBranch p' q' d sa sb x c apart to lt) =
 pub halt_none : (o : Parts) (p : ℕ) → slice_get o.code p ≡ Some Halt → (q : ℕ) → IsTargetOf o [] p q → ⊥
 halt_none o p at q t =
     other_none o p Halt at (λ offset e. absurd cc) (λ cmp ra rb offset e. absurd cc) q t
-
--- one origin is told: where a place leads on, one more than it; where it leads back, nothing
-pub told_set : (p target bound : ℕ) (before : List ℕ) → target < length before
-    → (p < target → bound ≡ p + 1) → (target ≤ p → bound ≡ 0) → bound < get_or before target 0
-    → TellsOne p target before (set before target bound)
-told_set p target bound before inside ahead back less = record {
-  size = length-set before target bound;
-  falls = λ q. falls q (cases_eq q target);
-  here = λ lt low le. here low (subst (λ (x : ℕ). low < x) (get_or-set_same before target bound 0 inside) le);
-}
-  where
-    falls : (q : ℕ) → (q ≡ target) ⊎ (q ≡ target → ⊥) → get_or (set before target bound) q 0 ≤ get_or before q 0
-    falls q (inl e) =
-        subst (λ (x : ℕ). get_or (set before target bound) x 0 ≤ get_or before x 0) (sym e)
-        (omega (arith, get_or-set_same before target bound 0 inside, less))
-    falls q (inr ne) = omega (arith, get_or-set_other before target q bound 0 ne)
-
-    here : (low : ℕ) → low < bound → (low ≤ p) × (p < target)
-    here low lt =
-        ⊎_elim (λ (l : p < target). (omega (arith, lt, ahead l), l))
-        (λ (le : target ≤ p). absurd (omega (arith, lt, back le)))
-        (cases_lt p target)
-
-pub told_already : (p target bound : ℕ) (before : List ℕ)
-    → (p < target → bound ≡ p + 1) → (target ≤ p → bound ≡ 0) → (target < length before → get_or before target 0 ≤ bound)
-    → TellsOne p target before before
-told_already p target bound before ahead back le = record {
-  size = refl;
-  falls = λ q. omega arith;
-  here = λ inside low lt. here inside low lt;
-}
-  where
-    here : target < length before → (low : ℕ) → low < get_or before target 0 → (low ≤ p) × (p < target)
-    here inside low lt =
-        ⊎_elim (λ (l : p < target). (omega (arith, lt, le inside, ahead l), l))
-        (λ (more : target ≤ p). absurd (omega (arith, lt, le inside, back more)))
-        (cases_lt p target)
-
--- the region of a branch, as far as it was looked at
-pub clear_begun : (origins crossed : List ℕ) (place : ℕ) → IsClear origins crossed place (place + 1)
-clear_begun origins crossed place = record {
-  told = λ q lt le. absurd (omega (arith, lt, le));
-  alone = λ q lt le. absurd (omega (arith, lt, le));
-}
-
-pub clear_more : (origins crossed : List ℕ) (place inner : ℕ) → IsClear origins crossed place inner
-    → place < origin_at origins inner → is_crossed crossed inner ≡ false → IsClear origins crossed place (inner + 1)
-clear_more origins crossed place inner h told alone = record {
-  told = λ q lt le. ⊎_elim
-      (λ (e : q ≡ inner). subst (λ (x : ℕ). place < origin_at origins x) (sym e) told)
-      (λ (ne : q ≡ inner → ⊥). h.told q lt (omega (arith, le, ne)))
-      (cases_eq q inner);
-  alone = λ q lt le. ⊎_elim
-      (λ (e : q ≡ inner). ap (is_crossed crossed) e ∙ alone)
-      (λ (ne : q ≡ inner → ⊥). h.alone q lt (omega (arith, le, ne)))
-      (cases_eq q inner);
-}
 
 -- what was known in a region, as far as it is forgotten
 pub without_begun : (place : ℕ) (states : List (Option Known)) → IsWithout place (place + 1) states states

@@ -8,7 +8,7 @@ use crate::crossed::Crossed;
 use crate::joiners::Joiners;
 use crate::joining::{Joining, may_join};
 use crate::kept::join_next;
-use crate::origins::origins_of;
+use crate::origins::{Origins, origins_of};
 use gr_word::Memory;
 use lt_isa::Object;
 use region_walk::RegionValues;
@@ -73,20 +73,19 @@ pub fn grown(
     }
 }
 
-// The same, with a table that tells from where jumps and branches lead to each place.
+// The same, with lists that tell from where jumps and branches lead to each place.
 fn grown_by(
     alloc: Global,
     object: &Object,
     shared: &mut RegionValues,
-    origins: &[u32],
+    origins: &Origins,
     begun: Crossed,
     first: Vec<Option<Known>>,
     listed: Joiners,
 ) -> Result<Last, Memory>
     requires range { IsInRange object.now }
     requires bare { object.now.notes ≡ [] }
-    requires origins { TellsOrigins object.now origins.now }
-    requires sizes { length origins.now ≡ length object.now.code }
+    requires origins { TellsOrigins object.now origins.now.last.items origins.now.before.items }
     requires size { begun.size ≡ length object.now.code }
     requires none { begun.list ≡ [] }
     requires first { HasLeast object.now [] first.items }

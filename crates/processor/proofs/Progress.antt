@@ -1,10 +1,10 @@
 -- How far a run has come: what was told so far, and the trace of what is left.
-use Rattle.std.proofs.Common.{◌≡◌, ℕ, ◌-◌, ◌<◌, ◌≤◌, List, [], ◌∷◌, ◌++◌, length, Option, Some, None, refl, sym, ap, ◌∙◌, subst, ⊎_elim, arith, append_assoc}
+use Rattle.std.proofs.Common.{◌≡◌, ℕ, ◌+◌, ◌-◌, ◌<◌, ◌≤◌, List, [], ◌∷◌, ◌++◌, length, Option, Some, None, refl, sym, ap, ◌∙◌, subst, ⊎_elim, arith, append_assoc}
 use Rattle.std.proofs.lemmas.List.{append-nil}
 use Rattle.std.proofs.lemmas.List.Elements.{Contains-append_cases, Contains-append_right}
 use Rattle.lt_isa.specs.Object.{Parts}
 use Rattle.lt_isa.specs.Ranges.{IsInRange}
-use Rattle.lt_isa.specs.Machine.{State, Halted, slot, read_event, write_event}
+use Rattle.lt_isa.specs.Machine.{State, Observed, Halted, slot, read_event, write_event}
 use Rattle.lt_isa.specs.Shape.{IsShaped}
 use Rattle.lt_isa.specs.Step.{StepResult, Goes, Stops, Faults, step, step_start}
 use Rattle.lt_isa.specs.Trace.{Stamped, seen_at, stamped, trace_from, final_from, HaltsAt}
@@ -21,13 +21,20 @@ use Rattle.processor.specs.declared.ends.End.{End}
 use Rattle.processor.specs.declared.ends.End.TheVariants as end
 use Rattle.processor.specs.Ends.{Broke, BrokeOff, EndsAs, NoHalt, oblivious_count, path_count}
 use Rattle.processor.specs.ObliviousBanks.{ComeBy, MayAccess, OfBoth, ShowsOn, oram_of, paths_shown}
-use Rattle.processor.specs.Stepping.{on_slot, outcome_of, told_of_step, went_of, CameTo, StaysOnFault, StaysIfFaulted, StepBroke, StepTold}
+use Rattle.processor.specs.Stepping.{LeavesState, on_slot, outcome_of, told_of_step, went_of, CameTo, StaysOnFault, StaysIfFaulted, StepBroke, StepTold}
 use Rattle.processor.specs.Machines.{Running}
 use Rattle.processor.specs.declared.done.Went.TheVariants as went
 use Rattle.processor.specs.Watching.{WatcherTold, run_shown, with_paths}
 use Rattle.processor.proofs.ComingBy.{access-shows_on, come-on, shows_on-none, shows_on-then}
 use Rattle.processor.proofs.CountedPaths.{counts_on, most_one, none_before, oblivious_count-append, path_count-append, step_counted}
-use Rattle.processor.proofs.TellingPaths.{left_behind, run_shown-step}
+use Rattle.processor.proofs.TellingPaths.{left_behind, run_shown-step, step-last_event}
+
+-- A run up to cycle m shows and accesses these things, and then what a run from a second state on does.
+pub record GoneTo {B : Type 0} (shows : B → List ℕ → List Leaves) (o : Parts) (first : State) (banks : List B)
+    (shown : List WatcherTold) (made : List Access) (now : State) (orams : List B) (m : ℕ) : Type 0 where
+  pub all : run_shown shows o first banks m ≡ shown ++ run_shown shows o now orams m
+  pub accesses : accesses_from o first m ≡ made ++ accesses_from o now m
+  pub final : final_from o first m ≡ final_from o now m
 
 -- A run up to cycle n has come from one state to another, and its oblivious banks with it: the watcher was told a front
 -- of what the run shows, without a halt, and what is left is what the run from there on shows.
@@ -46,6 +53,8 @@ pub record Progress {B W : Type 0} (shows : B → List ℕ → List Leaves) (com
   pub final : final_from o first n ≡ final_from o now n
   pub quiet : NoHalt events
   pub counted : oblivious_count made ≡ path_count shown
+  -- the same holds up to each cycle from the second state's on
+  pub later : (m : ℕ) → now.cycle ≤ m → GoneTo shows o first banks shown made now orams m
 
 -- a run up to cycle n is over
 pub record Ended {B W : Type 0} (shows : B → List ℕ → List Leaves) (comes : B → List ℕ → B → Type 0)
@@ -82,6 +91,7 @@ starts shows comes hears each none o s orams n watch nothing = record {
   final = refl;
   quiet = λ at halts. omega (arith, halts.1);
   counted = refl;
+  later = λ m behind. record { all = refl; accesses = refl; final = refl };
 }
 
 -- how a step went, by what it left to be told
@@ -174,6 +184,28 @@ module _ {B W : Type 0} {shows : B → List ℕ → List Leaves} {comes : B → 
       hears_then before between after so_far.shown (told_of_step (step_start o now) outcome told.leaves) so_far.heard
       (subst (λ came. hears between (told_of_step (step_start o now) came told.leaves) after) is told.heard)
 
+  -- the same up to another cycle
+  gone_before : (m : ℕ) → step_start o now < m → GoneTo shows o first banks so_far.shown so_far.made now orams m
+  gone_before m less = so_far.later m (omega (arith, step_start-least o now, less))
+
+  gone_shown : (m : ℕ) → step_start o now < m → (next : List B) (leaves : Leaves)
+      → MayAccess shows comes orams next (accessed o now) leaves → (outcome : StepResult) → step o now ≡ outcome
+      → run_shown shows o first banks m
+      ≡ (so_far.shown ++ told_of_step (step_start o now) outcome leaves) ++ left_behind shows comes o outcome next m
+  gone_shown m less next leaves made outcome is =
+      (gone_before m less).all ∙ ap (λ l. so_far.shown ++ l)
+      (run_shown-step shows comes o range now shaped m less orams next leaves made outcome is)
+      ∙ sym (append_assoc so_far.shown (told_of_step (step_start o now) outcome leaves)
+      (left_behind shows comes o outcome next m))
+
+  gone_made : (m : ℕ) → step_start o now < m → (outcome : StepResult) → step o now ≡ outcome
+      → accesses_from o first m
+      ≡ (so_far.made ++ at_most_one (accessed o now)) ++ accessed_then outcome (λ t. accesses_from o t m)
+  gone_made m less outcome is =
+      (gone_before m less).accesses ∙ ap (λ l. so_far.made ++ l)
+      (accesses_from-step o range now outcome m shaped is less)
+      ∙ sym (append_assoc so_far.made (at_most_one (accessed o now)) (accessed_then outcome (λ t. accesses_from o t m)))
+
   -- one step further
   pub step_further : {after : W} (next : State) (left : List B)
       → step_start o now < n → CameTo went.On (step o now) next
@@ -201,6 +233,15 @@ module _ {B W : Type 0} {shows : B → List ℕ → List Leaves} {comes : B → 
             (told_of_step (step_start o now) (Goes event next) told.leaves) so_far.counted
             (step_counted (step_start o now) (Goes event next) told.leaves (accessed o now)
             (ap (λ came. told_bank (event_of_outcome came)) (sym went) ∙ step-bank o now));
+        later = λ m behind.
+            let least : step_start o now + 1 ≤ next.cycle = step-later o range now shaped event next went in
+            let below : step_start o now < m = omega (arith, least, behind) in
+            record {
+              all = gone_shown m below left told.leaves told.orams (Goes event next) went;
+              accesses = gone_made m below (Goes event next) went;
+              final =
+                  (gone_before m below).final ∙ final_from-goes o range now event next m shaped went below;
+            };
       }
 
   -- the next step is a cycle later at least
@@ -283,11 +324,41 @@ module _ {B W : Type 0} {shows : B → List ℕ → List Leaves} {comes : B → 
             (show_on left told.leaves told.orams);
       }
 
+  -- behind the next step nothing more is shown or accessed up to the cycle after its start
+  abbrev cut : ℕ
+  cut = step_start o now + 1
+
+  nothing_starts : (event : Option Observed) (t : State) → step o now ≡ Goes event t → cut ≤ step_start o t
+  nothing_starts event t is =
+      let least : step_start o now + 1 ≤ t.cycle = step-later o range now shaped event t is in
+      omega (arith, least, step_start-least o t)
+
+  nothing_behind : (next : List B) (outcome : StepResult) → step o now ≡ outcome
+      → left_behind shows comes o outcome next cut ≡ []
+  nothing_behind next (Goes event t) is =
+      ap (λ events. with_paths events (paths_shown shows next (accesses_from o t cut)))
+      (trace_from-past o t cut (nothing_starts event t is))
+  nothing_behind next (Stops t) is = refl
+  nothing_behind next Faults is = refl
+
+  nothing_made : (outcome : StepResult) → step o now ≡ outcome → accessed_then outcome (λ t. accesses_from o t cut) ≡ []
+  nothing_made (Goes event t) is = accesses_from-past o t cut (nothing_starts event t is)
+  nothing_made (Stops t) is = refl
+  nothing_made Faults is = refl
+
+  left_at_cut : (last : State) (outcome : StepResult) → step o now ≡ outcome → LeavesState outcome last
+      → last ≡ final_from o now cut
+  left_at_cut last (Goes event t) is left =
+      left ∙ sym (final_from-goes o range now event t cut shaped is (omega arith)
+      ∙ final_from-past o t cut (nothing_starts event t is))
+  left_at_cut last (Stops t) is left = left ∙ sym (final_from-stops o range now t cut shaped is (omega arith))
+  left_at_cut last Faults is left = absurd left
+
   -- the watcher fails in the next step
-  pub breaks : {after : W} (left : List B) (torn : WatcherTold → Type 0) → step_start o now < n
-      → StepBroke shows comes hears o now orams left between after torn
-      → BrokeOff shows comes hears o first n banks left before after torn
-  breaks {after = after} left torn less failed =
+  pub breaks : {after : W} (left : List B) (last : State) (torn : WatcherTold → Type 0) → step_start o now < n
+      → StepBroke shows comes hears o now orams left last between after torn
+      → BrokeOff shows comes hears o first n banks left last before after torn
+  breaks {after = after} left last torn less failed =
       let behind = left_behind shows comes o (step o now) left n in
       let broke = failed.broke in
       let none : path_count broke.told ≡ 0 =
@@ -316,4 +387,23 @@ module _ {B W : Type 0} {shows : B → List ℕ → List Leaves} {comes : B → 
         come = come_on left failed.leaves failed.orams;
         least = omega (arith, none, told, made, so_far.counted);
         most = omega (arith, none, told, made, one, so_far.counted);
+        cut = cut;
+        within = omega (arith, less);
+        state =
+            left_at_cut last (step o now) refl failed.left ∙ sym (gone_before cut (omega arith)).final;
+        accesses =
+            sym (gone_made cut (omega arith) (step o now) refl
+            ∙ ap (λ l. (so_far.made ++ at_most_one (accessed o now)) ++ l) (nothing_made (step o now) refl)
+            ∙ append-nil (so_far.made ++ at_most_one (accessed o now)));
+        behind = broke.rest;
+        shown =
+            gone_shown cut (omega arith) left failed.leaves failed.orams (step o now) refl
+            ∙ ap (λ l. (so_far.shown ++ told_of_step (step_start o now) (step o now) failed.leaves) ++ l)
+            (nothing_behind left (step o now) refl)
+            ∙ append-nil (so_far.shown ++ told_of_step (step_start o now) (step o now) failed.leaves)
+            ∙ ap (λ l. so_far.shown ++ l) broke.front
+            ∙ sym (append_assoc so_far.shown broke.told (broke.next ∷ broke.rest));
+        no_event =
+            step-last_event (step_start o now) (step o now) failed.leaves broke.told broke.next broke.rest
+            broke.front;
       }

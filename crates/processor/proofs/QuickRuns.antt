@@ -1,5 +1,5 @@
 -- A step without an access changes nothing of what a run shows, accesses and leaves.
-use Rattle.std.proofs.Common.{◌≡◌, ℕ, ◌+◌, ◌<◌, ℤ, List, ◌++◌, Some, None, false, get_or, length, refl, sym, ap, ◌∙◌, subst, arith}
+use Rattle.std.proofs.Common.{◌≡◌, ℕ, ◌+◌, ◌<◌, ◌≤◌, ◌⊎◌, inl, inr, ℤ, List, ◌++◌, Some, None, false, get_or, length, refl, sym, ap, ◌∙◌, subst, ⊎_elim, arith}
 use Rattle.std.specs.Prelude.{slice_get}
 use Rattle.std.proofs.lemmas.Option.{slice_get-get_or}
 use Rattle.lt_isa.specs.declared.instructions.Instr.{Instr}
@@ -17,7 +17,7 @@ use Rattle.banks.specs.Accesses.{accessed, accessed_by, accesses_from, at_most_o
 use Rattle.banks.specs.declared.bank.Leaves.{Leaves}
 use Rattle.banks.proofs.AccessRuns.{accessed-at, accesses_from-step}
 use Rattle.processor.specs.declared.quick.Point.{Point}
-use Rattle.processor.specs.Quick.{CameAlike, PassesQuickly, RunsAlike, state_at}
+use Rattle.processor.specs.Quick.{CameAlike, PassesQuickly, RunsAlike, RunsAlikeOn, state_at}
 use Rattle.processor.specs.Stores.{Pad}
 use Rattle.processor.specs.ObliviousBanks.{paths_shown}
 use Rattle.processor.specs.Watching.{WatcherTold, with_paths}
@@ -70,7 +70,7 @@ alike-step o range s i t n shaped at goes early =
 -- nothing was done yet, and one instruction more
 pub came-none : (o : Parts) (n : ℕ) (registers : List ℤ) (slots : List Slot) (at : Point)
     → CameAlike o n registers slots at registers slots at
-came-none o n registers slots at banks shaped = (shaped, alike-itself o (state_at registers slots banks at) n)
+came-none o n registers slots at banks shaped = (shaped, λ m on. alike-itself o (state_at registers slots banks at) m)
 
 -- a machine that came on twice came on
 pub came-on : (o : Parts) → IsInRange o
@@ -86,12 +86,18 @@ came-on o range n first slots from registers pad at d after left next came there
     let i : Instr = get_or o.code at.place d in
     let here : slice_get o.code s.place ≡ Some i = slice_get-get_or o.code at.place d there in
     let goes : executed o s i ≡ Goes None t = passes.3 banks in
-    let one : RunsAlike o s t n = alike-step o range s i t n so_far.0 here goes early in (
+    let later : at.cycle < next.cycle = passes.1 in
+    let less : (m : ℕ) → (m ≡ n) ⊎ (next.cycle ≤ m) → at.cycle < m =
+    λ m on. ⊎_elim (λ is. omega (arith, is, early)) (λ behind. omega (arith, behind, later)) on in
+    let before : (m : ℕ) → (m ≡ n) ⊎ (next.cycle ≤ m) → RunsAlike o (state_at first slots banks from) s m =
+    λ m on. so_far.1 m (⊎_elim (λ is. inl is) (λ behind. inr (omega (arith, behind, later))) on) in
+    let one : (m : ℕ) → (m ≡ n) ⊎ (next.cycle ≤ m) → RunsAlike o s t m =
+    λ m on. alike-step o range s i t m so_far.0 here goes (less m on) in (
       step-shaped o range s so_far.0 None t (step-at o s i here ∙ goes),
-      record {
-        trace = so_far.1.trace ∙ one.trace;
-        final = so_far.1.final ∙ one.final;
-        accesses = so_far.1.accesses ∙ one.accesses;
+      λ m on. record {
+        trace = (before m on).trace ∙ (one m on).trace;
+        final = (before m on).final ∙ (one m on).final;
+        accesses = (before m on).accesses ∙ (one m on).accesses;
       },
     )
 
@@ -99,12 +105,14 @@ came-on o range n first slots from registers pad at d after left next came there
 pub progress_on : {B W : Type 0} {shows : B → List ℕ → List Leaves} {comes : B → List ℕ → B → Type 0}
     {hears : W → List WatcherTold → W → Type 0} {o p q : Parts} {first : State} {banks : List B} {now next : State}
     {orams left : List B} {n : ℕ} {before after : W}
-    → p ≡ o → q ≡ p → Progress shows comes hears o first banks now orams n before after → RunsAlike p now next n
+    → p ≡ o → q ≡ p → Progress shows comes hears o first banks now orams n before after → RunsAlikeOn p now next n
+    → now.cycle ≤ next.cycle
     → left ≡ orams → Progress shows comes hears q first banks next left n before after
 progress_on {shows = shows} {comes = comes} {hears = hears} {o = o} {first = first}
     {banks = banks} {now = now} {next = next}
-    {orams = orams} {left = left} {n = n} {before = before} {after = after} same moved so_far alike kept =
-    let here : RunsAlike o now next n = subst (λ x. RunsAlike x now next n) same alike in
+    {orams = orams} {left = left} {n = n} {before = before} {after = after} same moved so_far alike later kept =
+    let on : RunsAlikeOn o now next n = subst (λ x. RunsAlikeOn x now next n) same alike in
+    let here : RunsAlike o now next n = on n (inl refl) in
     let further : Progress shows comes hears o first banks next orams n before after = record {
       events = so_far.events;
       shown = so_far.shown;
@@ -122,6 +130,18 @@ progress_on {shows = shows} {comes = comes} {hears = hears} {o = o} {first = fir
       final = so_far.final ∙ here.final;
       quiet = so_far.quiet;
       counted = so_far.counted;
+      later = λ m behind.
+          let old = so_far.later m (omega (arith, behind, later)) in
+          let same = on m (inr behind) in
+          record {
+            all = old.all
+                ∙ (ap (λ events. so_far.shown ++ with_paths events (paths_shown shows orams (accesses_from o now m)))
+                same.trace
+                ∙ ap (λ accesses. so_far.shown ++ with_paths (trace_from o next m) (paths_shown shows orams accesses))
+                same.accesses);
+            accesses = old.accesses ∙ ap (λ l. so_far.made ++ l) same.accesses;
+            final = old.final ∙ same.final;
+          };
     } in
     subst (λ x. Progress shows comes hears x first banks next left n before after) (sym (moved ∙ same))
     (subst (λ b. Progress shows comes hears o first banks next b n before after) (sym kept) further)

@@ -1,5 +1,5 @@
 -- What is told of a step, and what is left to be told behind it.
-use Rattle.std.proofs.Common.{◌≡◌, ◌≢◌, ℕ, zero, suc, ◌≤◌, ◌<◌, cond, List, [], ◌∷◌, ◌++◌, drop, get_or, Option, Some, None, refl, sym, ap, ◌∙◌, ⊎_elim, arith}
+use Rattle.std.proofs.Common.{◌≡◌, ◌≢◌, ℕ, zero, suc, ◌≤◌, ◌<◌, cond, List, [], ◌∷◌, ◌++◌, drop, length, get_or, Option, Some, None, refl, sym, ap, ◌∙◌, ⊎_elim, arith}
 use Rattle.std.proofs.lemmas.Bool.{cases_eq, eq-eqb, ne_eqb, false≢true}
 use Rattle.std.specs.Prelude.{◌==◌, IsSome}
 use Rattle.lt_isa.specs.Object.{Parts}
@@ -57,6 +57,36 @@ events_in-with_paths (event ∷ events) paths =
     ∙ ap (λ l. l ++ events_in (with_paths events (left_paths bank paths)))
     (path_behind-no_event event.stamp bank (next_of bank paths))
     ∙ events_in-with_paths events (left_paths bank paths))
+
+-- what is told of a step behind what is told first is no event
+behind_first : List WatcherTold → List WatcherTold
+behind_first [] = []
+behind_first (first ∷ told) = told
+
+step-one_event : (start : ℕ) (outcome : StepResult) (leaves : Leaves)
+    → events_in (behind_first (told_of_step start outcome leaves)) ≡ []
+unfolding behind_first
+step-one_event start (Goes None t) leaves = refl
+step-one_event start (Goes (Some event) t) leaves = path_behind-no_event start (oblivious event) leaves
+step-one_event start (Stops t) leaves = refl
+step-one_event start Faults leaves = refl
+
+no_event-behind : (told rest : List WatcherTold) → events_in (told ++ rest) ≡ [] → events_in rest ≡ []
+no_event-behind [] rest none = none
+no_event-behind (AnEvent event ∷ told) rest none = absurd (omega (arith, ap length none))
+no_event-behind (APath stamp bank leaves ∷ told) rest none = no_event-behind told rest none
+
+-- no event of a step is told behind another thing of it
+pub step-last_event : (start : ℕ) (outcome : StepResult) (leaves : Leaves) (told : List WatcherTold)
+    (next : WatcherTold) (rest : List WatcherTold) → told_of_step start outcome leaves ≡ told ++ next ∷ rest
+    → events_in rest ≡ []
+unfolding behind_first
+step-last_event start outcome leaves [] next rest is =
+    sym (ap (λ l. events_in (behind_first l)) is) ∙ step-one_event start outcome leaves
+step-last_event start outcome leaves (first ∷ told) next rest is =
+    no_event-behind (next ∷ []) rest
+    (no_event-behind told (next ∷ rest)
+    (sym (ap (λ l. events_in (behind_first l)) is) ∙ step-one_event start outcome leaves))
 
 module _ {B : Type 0} (shows : B → List ℕ → List Leaves) (comes : B → List ℕ → B → Type 0) where
   -- a bank that wasn't accessed shows what it showed

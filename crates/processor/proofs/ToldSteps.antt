@@ -1,5 +1,5 @@
 -- What is told of a step, by what its instruction left to be told.
-use Rattle.std.proofs.Common.{◌≡◌, ℕ, List, [], Option, None, refl, sym, subst}
+use Rattle.std.proofs.Common.{◌≡◌, ℕ, List, [], ◌∷◌, ◌++◌, length, Option, None, refl, sym, ap, subst, arith, length-append}
 use Rattle.lt_isa.specs.Object.{Parts}
 use Rattle.lt_isa.specs.Machine.{State}
 use Rattle.lt_isa.specs.Step.{Faults, step, step_start}
@@ -7,9 +7,10 @@ use Rattle.banks.specs.declared.bank.Leaves.{Leaves}
 use Rattle.banks.specs.Accesses.{Access, accessed}
 use Rattle.banks.specs.Banks.{no_leaves}
 use Rattle.processor.specs.declared.done.Untold.{Untold}
+use Rattle.processor.specs.declared.done.Untold.TheVariants as done
 use Rattle.processor.specs.Ends.{Broke}
 use Rattle.processor.specs.ObliviousBanks.{MayAccess}
-use Rattle.processor.specs.Stepping.{StepBroke, StepTold, accessed_of, leaves_of, outcome_of, told_of_step}
+use Rattle.processor.specs.Stepping.{LeavesState, StepBroke, StepTold, accessed_of, leaves_of, outcome_of, told_of_step}
 use Rattle.processor.specs.Watching.{WatcherTold}
 
 module _ {B W : Type 0} (shows : B → List ℕ → List Leaves) (comes : B → List ℕ → B → Type 0)
@@ -23,6 +24,16 @@ module _ {B W : Type 0} (shows : B → List ℕ → List Leaves) (comes : B → 
     heard = subst (λ outcome. hears watch (told_of_step (step_start o s) outcome no_leaves) watch) (sym faults)
         nothing;
   }
+
+  -- what was to be told of a step was no fault's
+  left_by : (left : Untold) (t : State) (stamp : ℕ) (told : List WatcherTold) (next : WatcherTold)
+      (rest : List WatcherTold) → told_of_step stamp (outcome_of left t) (leaves_of left) ≡ told ++ next ∷ rest
+      → LeavesState (outcome_of left t) t
+  left_by (done.Read k leaves) t stamp told next rest is = refl
+  left_by (done.Wrote k leaves) t stamp told next rest is = refl
+  left_by done.Stopped t stamp told next rest is = refl
+  left_by done.Fault t stamp told next rest is =
+      absurd (omega (arith, ap length is, length-append told (next ∷ rest)))
 
   -- an instruction
   module _ (now : List B) (was is : W) where
@@ -44,11 +55,13 @@ module _ {B W : Type 0} (shows : B → List ℕ → List Leaves) (comes : B → 
         ≡ outcome_of left t
         → accessed o s ≡ accessed_of left t → MayAccess shows comes before now (accessed_of left t) (leaves_of left)
         → stamp ≡ step_start o s → Broke hears was is torn (told_of_step stamp (outcome_of left t) (leaves_of left))
-        → StepBroke shows comes hears o s before now was is torn
+        → StepBroke shows comes hears o s before now t was is torn
     broke_step torn left t stamp came access made start broke = record {
       leaves = leaves_of left;
       orams = subst (λ (access : Option Access). MayAccess shows comes before now access (leaves_of left))
           (sym access) made;
+      left = subst (λ outcome. LeavesState outcome t) (sym came)
+          (left_by left t stamp broke.told broke.next broke.rest broke.front);
       broke = subst (λ outcome. Broke hears was is torn (told_of_step (step_start o s) outcome (leaves_of left)))
           (sym came)
           (subst (λ at. Broke hears was is torn (told_of_step at (outcome_of left t) (leaves_of left))) start broke);

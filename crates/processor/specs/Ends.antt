@@ -2,14 +2,14 @@
 use Rattle.std.specs.Prelude.{◌≡◌, ℕ, zero, suc, ◌+◌, ◌≤◌, Bool, true, false, List, [], ◌∷◌, ◌++◌, Result, Ok, Err}
 use Rattle.lt_isa.specs.Machine.{State}
 use Rattle.lt_isa.specs.Object.{Parts}
-use Rattle.lt_isa.specs.Trace.{Stamped, HaltsAt}
+use Rattle.lt_isa.specs.Trace.{Stamped, HaltsAt, final_from}
 use Rattle.banks.specs.declared.bank.Leaves.{Leaves}
 use Rattle.banks.specs.Accesses.{Access, accesses_from}
 use Rattle.processor.specs.ObliviousBanks.{ComeBy}
 use Rattle.processor.specs.declared.ends.End.{End}
 use Rattle.processor.specs.declared.ends.End.TheVariants.{Halted, Spent}
 use Rattle.processor.specs.declared.watching.WatchFailed.{WatchFailed}
-use Rattle.processor.specs.Watching.{WatcherTold, AnEvent, APath, run_shown}
+use Rattle.processor.specs.Watching.{WatcherTold, AnEvent, APath, events_in, run_shown}
 
 -- no halt is among the events
 abbrev pub NoHalt : List Stamped → Type 0
@@ -52,11 +52,13 @@ abbrev pub oblivious_count : List Access → ℕ
 oblivious_count [] = 0
 oblivious_count (access ∷ accesses) = one_if_oblivious access.bank + oblivious_count accesses
 
--- A run up to cycle n was broken off by its watcher: of its accesses a front was made, and each oblivious bank comes
--- from the one before by these; and the paths of all of them were told, or of all but the last.
+-- A run up to cycle n was broken off by its watcher: of its accesses a prefix was made, and each oblivious bank comes
+-- from the one before by these; and the paths of all of them were reported, or of all but the last. The machine is in
+-- the state that a run up to an earlier cycle leaves. That run makes these accesses. It shows what the watcher was told
+-- and what it failed at, and no event after that.
 pub record BrokeOff {B W : Type 0} (shows : B → List ℕ → List Leaves) (comes : B → List ℕ → B → Type 0)
-    (hears : W → List WatcherTold → W → Type 0) (o : Parts) (s : State) (n : ℕ) (before now : List B) (was is : W)
-    (torn : WatcherTold → Type 0) : Type 0 where
+    (hears : W → List WatcherTold → W → Type 0) (o : Parts) (s : State) (n : ℕ) (before now : List B) (last : State)
+    (was is : W) (torn : WatcherTold → Type 0) : Type 0 where
   pub broke : Broke hears was is torn (run_shown shows o s before n)
   pub made : List Access
   pub left : List Access
@@ -64,3 +66,10 @@ pub record BrokeOff {B W : Type 0} (shows : B → List ℕ → List Leaves) (com
   pub come : ComeBy comes before made now
   pub least : path_count broke.told ≤ oblivious_count made
   pub most : oblivious_count made ≤ path_count broke.told + 1
+  pub cut : ℕ
+  pub within : cut ≤ n
+  pub state : last ≡ final_from o s cut
+  pub accesses : made ≡ accesses_from o s cut
+  pub behind : List WatcherTold
+  pub shown : run_shown shows o s before cut ≡ broke.told ++ broke.next ∷ behind
+  pub no_event : events_in behind ≡ []

@@ -1,6 +1,6 @@
 -- How a machine goes on between its accesses, over its registers and slots alone. For proofs and for the contracts of
 -- private functions alone.
-use Rattle.std.specs.Prelude.{◌≡◌, ℕ, ◌<◌, ◌^◌, ℤ, List, Option, Some, None, IfSome, slice_get}
+use Rattle.std.specs.Prelude.{◌≡◌, ℕ, ◌<◌, ◌≤◌, ◌^◌, ◌⊎◌, ℤ, List, Option, Some, None, IfSome, slice_get}
 use Rattle.lt_isa.specs.declared.instructions.Instr.{Instr}
 use Rattle.lt_isa.specs.declared.instructions.Instr.TheVariants.{Nop, Halt, Li, Alu, Ldb, Stb, Idb, Ldw, Stw, Jmp, Br}
 use Rattle.lt_isa.specs.Object.{Parts}
@@ -51,9 +51,13 @@ pub record RunsAlike (o : Parts) (s t : State) (n : ℕ) : Type 0 where
   pub final : final_from o s n ≡ final_from o t n
   pub accesses : accesses_from o s n ≡ accesses_from o t n
 
+-- the same of runs up to cycle n, and up to each cycle from the second state's on
+abbrev pub RunsAlikeOn : Parts → State → State → ℕ → Type 0
+RunsAlikeOn o s t n = (m : ℕ) → (m ≡ n) ⊎ (t.cycle ≤ m) → RunsAlike o s t m
+
 -- so does a machine that came from one point to another, over whatever banks of its object
 abbrev pub CameAlike : Parts → ℕ → List ℤ → List Slot → Point → List ℤ → List Slot → Point → Type 0
 CameAlike o n registers slots at registers' slots' next =
     (banks : List (List (List ℤ))) → IsShaped o (state_at registers slots banks at)
     → IsShaped o (state_at registers' slots' banks next)
-    × RunsAlike o (state_at registers slots banks at) (state_at registers' slots' banks next) n
+    × RunsAlikeOn o (state_at registers slots banks at) (state_at registers' slots' banks next) n

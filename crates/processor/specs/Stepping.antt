@@ -121,10 +121,17 @@ pub record StepTold {B W : Type 0} (shows : B → List ℕ → List Leaves) (com
   pub orams : MayAccess shows comes before now (accessed o s) leaves
   pub heard : hears was (told_of_step (step_start o s) (step o s) leaves) is
 
--- a watcher failed at the next step
+-- the state that a step leaves which is no fault
+abbrev pub LeavesState : StepResult → State → Type 0
+LeavesState (Goes event next) t = t ≡ next
+LeavesState (Stops last) t = t ≡ last
+LeavesState Faults t = ⊥
+
+-- a watcher failed at the next step, which left this state
 pub record StepBroke {B W : Type 0} (shows : B → List ℕ → List Leaves) (comes : B → List ℕ → B → Type 0)
-    (hears : W → List WatcherTold → W → Type 0) (o : Parts) (s : State) (before now : List B) (was is : W)
+    (hears : W → List WatcherTold → W → Type 0) (o : Parts) (s : State) (before now : List B) (last : State) (was is : W)
     (torn : WatcherTold → Type 0) : Type 0 where
   pub leaves : Leaves
+  pub left : LeavesState (step o s) last
   pub orams : MayAccess shows comes before now (accessed o s) leaves
   pub broke : Broke hears was is torn (told_of_step (step_start o s) (step o s) leaves)

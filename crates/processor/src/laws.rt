@@ -1,9 +1,11 @@
-ghost use Rattle.std.specs.Prelude.{◌≡◌, ℕ, ◌≤◌, List, ◌++◌, Some};
-ghost use Rattle.lt_isa.specs.Machine.{State};
+ghost use Rattle.std.specs.Prelude.{◌≡◌, ℕ, ◌≤◌, ℤ, List, ◌++◌, Option, Some};
+ghost use Rattle.lt_isa.specs.Machine.{Observed, State};
 ghost use Rattle.lt_isa.specs.Object.{Parts};
 ghost use Rattle.lt_isa.specs.Ranges.{IsInRange};
 ghost use Rattle.lt_isa.specs.Shape.{IsShaped};
-ghost use Rattle.lt_isa.specs.Trace.{Stamped, final_from, trace_from};
+ghost use Rattle.lt_isa.specs.Start.{FitsObject, final, start_state};
+ghost use Rattle.lt_isa.specs.Step.{Goes, Stops, step};
+ghost use Rattle.lt_isa.specs.Trace.{Reaches, Stamped, final_from, trace_from};
 ghost use Rattle.banks.specs.Accesses.{accesses_from, in_bank};
 ghost use Rattle.processor.specs.Ends.{EndsAs};
 ghost use Rattle.processor.specs.Joining.{RunsJoin};
@@ -27,6 +29,42 @@ pub fn runs_join()
         → n ≤ m
         → EndsAs (trace_from o s n) End.Spent
         → RunsJoin o s n m }
+{}
+
+/// Does nothing; its clauses are the laws of the states of a run: each has the sizes of its object, and holds words.
+/// This is true at the start on inputs that fit the object, after every step, and of the state that a run leaves. So
+/// the laws of runs, as [`runs_join`] and those of `lt_isa` and of `banks`, apply to every state of a run from the
+/// start.
+pub fn shaped_laws()
+    ensures starts { (o : Parts) (inputs : List (List ℤ)) → FitsObject o inputs → IsShaped o (start_state o inputs) }
+    ensures goes_on { (o : Parts)
+        → IsInRange o
+        → (s : State)
+        → IsShaped o s
+        → (event : Option Observed) (next : State)
+        → step o s ≡ Goes event next
+        → IsShaped o next }
+    ensures stops { (o : Parts)
+        → IsInRange o
+        → (s : State)
+        → IsShaped o s
+        → (last : State)
+        → step o s ≡ Stops last
+        → IsShaped o last }
+    ensures reached { (o : Parts)
+        → IsInRange o
+        → (s : State)
+        → IsShaped o s
+        → (events : List Stamped) (t : State)
+        → Reaches o s events t
+        → IsShaped o t }
+    ensures left { (o : Parts) → IsInRange o → (s : State) → IsShaped o s → (n : ℕ) → IsShaped o (final_from o s n) }
+    ensures run { (o : Parts)
+        → IsInRange o
+        → (inputs : List (List ℤ))
+        → FitsObject o inputs
+        → (n : ℕ)
+        → IsShaped o (final o inputs n) }
 {}
 
 /// Does nothing; its clause is a law of what [`run`](crate::Machine::run) tells: whatever paths the oblivious banks

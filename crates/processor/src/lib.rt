@@ -27,7 +27,7 @@ pub mod watching;
 pub use banks::{Bank, Leaves, PlainBank, access_laws};
 pub use ends::End;
 pub use images::start_image;
-pub use laws::{events_told, paths_told, runs_join};
+pub use laws::{events_told, paths_told, runs_join, shaped_laws};
 pub use list_watch::{ListWatch, ShownPaths};
 pub use machine::{Machine, load};
 pub use no_watch::NoWatch;

@@ -110,6 +110,13 @@ pub fn load<'a, B: Bank + Drop>(
 }
 
 impl<'a, B: Bank + Drop> Machine<'a, B> {
+    /// The object that the machine runs.
+    pub fn object(&self) -> &'a Object
+        ensures { result.now ≡ self.now.object }
+    {
+        self.object
+    }
+
     /// Whether the machine may be run: it has not halted, and no watcher of it has failed.
     pub fn live(&self) -> bool
         ensures value { result ≡ self.now.live }

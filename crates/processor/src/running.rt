@@ -9,7 +9,7 @@ ghost use Rattle.lt_isa.specs.Trace.{final_from, seen_at, trace_from};
 ghost use Rattle.banks.specs.Accesses.{accesses_from};
 ghost use Rattle.processor.specs.Ends.{Broke, BrokeOff, EndsAs, is_spent};
 ghost use Rattle.processor.specs.ObliviousBanks.{ComeBy, ShowsOn};
-ghost use Rattle.processor.specs.Quick.{RunsAlike, StandsForStep};
+ghost use Rattle.processor.specs.Quick.{RunsAlikeOn, StandsForStep};
 ghost use Rattle.processor.specs.Stepping.{
   CameTo,
   NamesSlot,
@@ -36,8 +36,9 @@ impl<'a, B: Bank + Drop> Machine<'a, B> {
     /// Runs the machine as long as the next instruction starts below this cycle. The watcher is told each event in
     /// order and, behind each access to an oblivious bank, the paths that it showed.
     ///
-    /// Answers Halted with the cycle at which a halt started, and Spent where none did: then the machine can be run on
-    /// with more cycles. Where the watcher fails, the machine is dead. Takes no memory.
+    /// Returns Halted with the cycle at which a halt started, and Spent if none did: then the machine can be run on
+    /// with more cycles. If the watcher fails, the machine is dead, in the state after the access that the watcher
+    /// failed at. Allocates no memory.
     pub fn run<W: Watch>(&mut self, cycles: u32, watch: &mut W) -> Result<End, WatchFailed>
         requires live { IsTrue self.old.live }
         requires whole { IsTrue (W.whole watch.old) }
@@ -77,6 +78,7 @@ impl<'a, B: Bank + Drop> Machine<'a, B> {
             cycles
             self.old.orams
             self.new.orams
+            self.new.state
             watch.old
             watch.new
             (W.torn watch.new)) }
@@ -110,7 +112,7 @@ impl<'a, B: Bank + Drop> Machine<'a, B> {
         ensures object { self.new.object ≡ self.old.object }
         ensures live { self.new.live ≡ self.old.live }
         ensures orams { self.new.orams ≡ self.old.orams }
-        ensures alike { RunsAlike self.old.object self.old.state self.new.state cycles }
+        ensures alike { RunsAlikeOn self.old.object self.old.state self.new.state cycles }
         ensures later { self.old.state.cycle ≤ self.new.state.cycle }
         ensures left { self.new.state.cycle < cycles → StandsForStep self.new.object self.new.state }
         ensures start { result ≡ step_start self.new.object self.new.state }
@@ -126,7 +128,7 @@ impl<'a, B: Bank + Drop> Machine<'a, B> {
         ensures object { self.new.object ≡ self.old.object }
         ensures live { self.new.live ≡ self.old.live }
         ensures orams { self.new.orams ≡ self.old.orams }
-        ensures alike { RunsAlike self.old.object self.old.state self.new.state cycles }
+        ensures alike { RunsAlikeOn self.old.object self.old.state self.new.state cycles }
         ensures later { self.old.state.cycle ≤ self.new.state.cycle }
         ensures left { self.new.state.cycle < cycles → StandsForStep self.new.object self.new.state }
     {
@@ -177,6 +179,7 @@ impl<'a, B: Bank + Drop> Machine<'a, B> {
             self.old.state
             self.old.orams
             self.new.orams
+            self.new.state
             watch.old
             watch.new
             (W.torn watch.new)) }

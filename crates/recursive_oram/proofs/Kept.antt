@@ -115,6 +115,33 @@ whole-above leaves (tree ∷ above) last map zero d less = map.1
 whole-above leaves (tree ∷ above) last map (suc i) d less =
     whole-above tree.places.leaves above last map.2 i d (omega (arith, less))
 
+-- each tree above has four words a block
+pub wide-above : (leaves : List ℕ) (above : List BlockTree) (last : List ℕ) → IsPositionMap leaves above last
+    → (i : ℕ) (d : BlockTree)
+    → i < length above → (get_or above i d).width ≡ 4
+wide-above leaves [] last map i d less = absurd (omega (arith, less))
+wide-above leaves (tree ∷ above) last map zero d less = map.0.width
+wide-above leaves (tree ∷ above) last map (suc i) d less =
+    wide-above tree.places.leaves above last map.2 i d (omega (arith, less))
+
+-- the leaves of the last tree are held plainly
+last-none : (leaves last : List ℕ) → IsPositionMap leaves [] last → leaves ≡ last
+last-none leaves last map = map.0
+
+pub last-first : (leaves : List ℕ) (above : List BlockTree) (last : List ℕ) → IsPositionMap leaves above last
+    → length above ≡ 0 → leaves ≡ last
+last-first leaves [] last map none = last-none leaves last map
+last-first leaves (tree ∷ above) last map none = absurd (omega (arith, none))
+
+pub last-above : (leaves : List ℕ) (above : List BlockTree) (last : List ℕ) → IsPositionMap leaves above last
+    → (i : ℕ) (d : BlockTree)
+    → suc i ≡ length above → (get_or above i d).places.leaves ≡ last
+last-above leaves [] last map i d is = absurd (omega (arith, is))
+last-above leaves (tree ∷ above) last map zero d is =
+    last-first tree.places.leaves above last map.2 (omega (arith, is))
+last-above leaves (tree ∷ above) last map (suc i) d is =
+    last-above tree.places.leaves above last map.2 i d (omega (arith, is))
+
 pub kept-first : (tree : BlockTree) (above : List BlockTree) (last : List ℕ) → IsTree tree
     → IsPositionMap tree.places.leaves above last
     → (next : BlockTree) → slice_get above 0 ≡ Some next → (block : ℕ) → block < length tree.contents

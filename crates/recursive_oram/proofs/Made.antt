@@ -4,6 +4,7 @@ use Rattle.std.proofs.lemmas.Bool.{cases_lt}
 use Rattle.std.proofs.lemmas.List.{append-nil, length-map, map-append}
 use Rattle.std.proofs.Math.Nat.{pow-suc}
 use Rattle.rand_core.specs.Stream.{Stream}
+use Rattle.path_oram.specs.Places.{Places, first_places}
 use Rattle.path_oram.specs.Trees.{BlockTree, IsTree}
 use Rattle.path_oram.specs.Words.{first_words, leaf_of, words_left}
 use Rattle.path_oram.proofs.Ahead.{length-first_words, words_left-more}
@@ -15,11 +16,12 @@ use Rattle.recursive_oram.specs.Making.{IsMaking}
 use Rattle.recursive_oram.proofs.Read.{made-more, start-shown}
 
 pub making-start : (words : Stream) (tree : BlockTree) (last : List ℕ) (left : Stream) (count : ℕ)
-    → length tree.contents ≡ count → count ≤ 4096 → tree.places.leaves ≡ last
+    → length tree.contents ≡ count → count ≤ 4096 → tree.places ≡ first_places tree.places.height last
     → last ≡ map (leaf_of tree.places.height) (first_words count words) → left ≡ words_left count words
     → IsMaking words tree [] last left
-making-start words tree last left count is most leaves made drawn = record {
-  keeps = λ others plain rest. subst (λ l. IsPositionMap l others plain) (sym leaves) rest;
+making-start words tree last left count is most first made drawn = record {
+  keeps = λ others plain rest.
+      subst (λ l. IsPositionMap l others plain) (sym (ap (λ (p : Places). p.leaves) first)) rest;
   few = omega (
     arith,
     ap length made,
@@ -29,7 +31,8 @@ making-start words tree last left count is most leaves made drawn = record {
   );
   most = omega arith;
   made = (
-    leaves ∙ (made ∙ ap (λ n. map (leaf_of tree.places.height) (first_words n words)) (sym is)),
+    first ∙ ap (first_places tree.places.height)
+        (made ∙ ap (λ n. map (leaf_of tree.places.height) (first_words n words)) (sym is)),
     tt,
   );
   drawn = let all : count ≡ length tree.contents + 0 = omega (arith, is) in drawn ∙ ap (λ n. words_left n words) all;
@@ -52,11 +55,12 @@ total-more (first ∷ sizes) size = omega (arith, total-more sizes size)
 pub making-more : (words : Stream) (tree : BlockTree) (above : List BlockTree) (last : List ℕ) (left : Stream)
     (next : BlockTree) (leaves : List ℕ) (after : Stream)
     → IsMaking words tree above last left → 4 < length last
-    → KeepsLeaves last next → IsTree next → next.places.leaves ≡ leaves
+    → KeepsLeaves last next → IsTree next → next.places ≡ first_places next.places.height leaves
     → leaves ≡ map (leaf_of next.places.height) (first_words (count_above (length last)) left)
     → after ≡ words_left (count_above (length last)) left
     → IsMaking words tree (above ++ next ∷ []) leaves after
-making-more words tree above last left next leaves after making more keeps whole same own drawn =
+making-more words tree above last left next leaves after making more keeps whole first own drawn =
+    let same : next.places.leaves ≡ leaves = ap (λ (p : Places). p.leaves) first in
     let count = count_above (length last) in
     let low : length above < 5 = quarter (length last) (length above) more making.few making.most in
     let longer : length (above ++ next ∷ []) ≡ suc (length above) = omega (arith, length-append above (next ∷ [])) in
@@ -87,8 +91,8 @@ making-more words tree above last left next leaves after making more keeps whole
       );
       most = omega (arith, low, longer);
       made = made-more words 0 (tree ∷ above) next making.made (
-        same ∙ (own ∙ ap₂ (λ n stream. map (leaf_of next.places.height) (first_words n stream))
-            (sym keeps.count) begun),
+        first ∙ ap (first_places next.places.height)
+            (own ∙ ap₂ (λ n stream. map (leaf_of next.places.height) (first_words n stream)) (sym keeps.count) begun),
         tt,
       );
       drawn = drawn ∙ (ap (words_left count) making.drawn

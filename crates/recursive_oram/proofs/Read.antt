@@ -7,13 +7,14 @@ use Rattle.std.proofs.Math.Nat.{mul-le-mul_right, suc-mul}
 use Rattle.rand_core.specs.Stream.{Stream}
 use Rattle.banks.specs.declared.bank.Leaves.{Leaves}
 use Rattle.banks.specs.Banks.{listed_leaves}
+use Rattle.path_oram.specs.Places.{Places}
 use Rattle.path_oram.specs.Trees.{BlockTree}
 use Rattle.path_oram.specs.Words.{first_words, leaf_of, word_at, words_left}
 use Rattle.path_oram.specs.WordsRead.{read_word_number}
 use Rattle.path_oram.proofs.Ahead.{HasLeaves, first_words-at, has_first, has_next, number_bound, word_behind, words_left-more}
 use Rattle.recursive_oram.specs.Levels.{Level, block_above, leaves_now, tree_level, levels_after, shown_ahead}
 use Rattle.recursive_oram.specs.RecLeaves.{AreSizes, Size, leaves_read, leaves_read_after, rec_leaves, size_of, number_among_all, words_made}
-use Rattle.recursive_oram.specs.Making.{AreMade}
+use Rattle.recursive_oram.specs.FirstTrees.{AreFirst}
 use Rattle.recursive_oram.specs.PositionMaps.{count_above}
 use Rattle.recursive_oram.proofs.Kept.{block_exists}
 
@@ -161,26 +162,26 @@ module _ (words : Stream) (made levels : ℕ) where
 -- ---- from the start on
 
 -- one tree more
-pub made-more : (words : Stream) (start : ℕ) (trees : List BlockTree) (tree : BlockTree) → AreMade words start trees
-    → AreMade words (start + words_made (map size_of trees)) (tree ∷ []) → AreMade words start (trees ++ tree ∷ [])
+pub made-more : (words : Stream) (start : ℕ) (trees : List BlockTree) (tree : BlockTree) → AreFirst words start trees
+    → AreFirst words (start + words_made (map size_of trees)) (tree ∷ []) → AreFirst words start (trees ++ tree ∷ [])
 made-more words start [] tree are more =
-    let none : start + 0 ≡ start = omega arith in subst (λ n. AreMade words n (tree ∷ [])) none more
+    let none : start + 0 ≡ start = omega arith in subst (λ n. AreFirst words n (tree ∷ [])) none more
 made-more words start (first ∷ trees) tree are more =
     let next : start + (length first.contents + words_made (map size_of trees))
     ≡ start + length first.contents + words_made (map size_of trees) = omega arith in (
       are.0,
       made-more words (start + length first.contents) trees tree are.1
-          (subst (λ n. AreMade words n (tree ∷ [])) next more),
+          (subst (λ n. AreFirst words n (tree ∷ [])) next more),
     )
 
-made-have : (words : Stream) (made levels start : ℕ) (trees : List BlockTree) → AreMade words start trees
+made-have : (words : Stream) (made levels start : ℕ) (trees : List BlockTree) → AreFirst words start trees
     → HaveLeaves words made levels start (map size_of trees) [] (map tree_level trees)
 made-have words made levels start [] are = tt
 made-have words made levels start (tree ∷ above) are =
     let count = length tree.contents in
     let word = word_of words made levels start count (length (map size_of above)) in (
       refl,
-      subst (HasLeaves count tree.places.height word []) (sym are.0)
+      subst (HasLeaves count tree.places.height word []) (sym (ap (λ (p : Places). p.leaves) are.0))
           (has_first count tree.places.height start words word
           (λ k less. ap (word_at words) (made-number made levels start count (length (map size_of above)) k less))),
       made-have words made levels (start + count) above are.1,
@@ -188,7 +189,7 @@ made-have words made levels start (tree ∷ above) are =
 
 -- what a bank shows from its making on
 pub start-shown : (words left : Stream) (count : ℕ) (trees : List BlockTree)
-    → AreMade words 0 trees → AreSizes count (map size_of trees)
+    → AreFirst words 0 trees → AreSizes count (map size_of trees)
     → left ≡ words_left (words_made (map size_of trees)) words
     → (list : List ℕ) → All (λ block. block < count) list
     → shown_ahead (map tree_level trees) left list

@@ -3,6 +3,7 @@ pub mod PositionMaps
 pub mod RecLeaves
 pub mod RecursiveOrams
 pub mod Descending
+pub mod FirstTrees
 pub mod Making
 pub mod ByLevel
 pub mod Showing

@@ -1,18 +1,11 @@
 -- How far the trees of a bank have been made. For the contract of a private function, and for proofs.
-use Rattle.std.specs.Prelude.{◌≡◌, ℕ, ◌+◌, ◌-◌, ◌^◌, ◌≤◌, List, [], ◌∷◌, ◌++◌, length, map}
+use Rattle.std.specs.Prelude.{◌≡◌, ◌-◌, ◌^◌, ◌≤◌, ℕ, List, ◌∷◌, ◌++◌, length, map}
 use Rattle.rand_core.specs.Stream.{Stream}
 use Rattle.path_oram.specs.Trees.{BlockTree}
-use Rattle.path_oram.specs.Words.{first_words, leaf_of, words_left}
+use Rattle.path_oram.specs.Words.{words_left}
+use Rattle.recursive_oram.specs.FirstTrees.{AreFirst}
 use Rattle.recursive_oram.specs.PositionMaps.{IsPositionMap}
 use Rattle.recursive_oram.specs.RecLeaves.{size_of, words_made}
-
--- each tree's leaves are those of the words behind the ones that made the trees below it
-abbrev pub AreMade : Stream → ℕ → List BlockTree → Type 0
-AreMade words start [] = Unit {0}
-AreMade words start (tree ∷ above) =
-    (tree.places.leaves
-    ≡ map (leaf_of tree.places.height) (first_words (length tree.contents) (words_left start words)))
-    × AreMade words (start + length tree.contents) above
 
 -- these trees keep all leaves but the last ones
 pub record IsMaking (words : Stream) (tree : BlockTree) (above : List BlockTree) (last : List ℕ)
@@ -21,5 +14,5 @@ pub record IsMaking (words : Stream) (tree : BlockTree) (above : List BlockTree)
       → IsPositionMap tree.places.leaves (above ++ others) plain
   pub few : length last ≤ 4 ^ (6 - length above)
   pub most : length above ≤ 5
-  pub made : AreMade words 0 (tree ∷ above)
+  pub made : AreFirst words 0 (tree ∷ above)
   pub drawn : left ≡ words_left (words_made (map size_of (tree ∷ above))) words

@@ -1,6 +1,7 @@
 ghost use Rattle.std.specs.Prelude.{◌≡◌, [], ◌+◌, ◌*◌, ◌<◌, ◌≤◌, ◌^◌, pos, IfOk, length, map};
 ghost use Rattle.banks.specs.Blocks.{filled_up};
 ghost use Rattle.rand_core.specs.Stream.{Stream};
+ghost use Rattle.path_oram.specs.Places.{first_places};
 ghost use Rattle.path_oram.specs.Trees.{IsTree};
 ghost use Rattle.path_oram.specs.Words.{first_words, leaf_of, words_left};
 ghost use Rattle.recursive_oram.specs.Making.{IsMaking};
@@ -36,7 +37,7 @@ pub(crate) fn tree_above<R: Rng + Drop>(
     requires most { length leaves.now ≤ 4096 }
     ensures keeps { IfOk result (λ made. KeepsLeaves leaves.now made.0) }
     ensures tree { IfOk result (λ made. IsTree made.0) }
-    ensures leaves { IfOk result (λ made. made.0.places.leaves ≡ made.1.items) }
+    ensures first { IfOk result (λ made. made.0.places ≡ first_places made.0.places.height made.1.items) }
     ensures own { IfOk result (λ made. made.1.items
         ≡ map (leaf_of made.0.places.height) (first_words (count_above (length leaves.now)) (R.stream words.old))) }
     ensures drawn { IfOk result

@@ -6,8 +6,9 @@ ghost use Rattle.banks.specs.Banks.{AreLeaves, block_numbered, listed_leaves};
 ghost use Rattle.banks.specs.Blocks.{in_blocks};
 ghost use Rattle.path_oram.specs.Trees.{IsTree, BlockTree};
 ghost use Rattle.path_oram.specs.Words.{first_words, words_left};
+ghost use Rattle.recursive_oram.specs.FirstTrees.{AreFirst};
 ghost use Rattle.recursive_oram.specs.Levels.{leaves_now, shown_ahead};
-ghost use Rattle.recursive_oram.specs.PositionMaps.{kept_leaf};
+ghost use Rattle.recursive_oram.specs.PositionMaps.{IsPositionMap, kept_leaf};
 ghost use Rattle.recursive_oram.specs.RecLeaves.{AreSizes, rec_leaves, size_of, words_made};
 ghost use Rattle.recursive_oram.specs.RecursiveOrams.{LeadsEach, levels_of, all_trees};
 ghost use Rattle.recursive_oram.specs.Showing.{shown-each};
@@ -49,8 +50,9 @@ impl<R: Rng + Drop> Model for RecursiveOram<R> {
 }
 
 impl<R: Rng + Drop> RecursiveOram<R> {
-    /// A bank of these words, which are its blocks one behind the other. It draws a word for each block of each tree,
-    /// in order, which makes the block's first leaf. All later room is made here.
+    /// A bank of these words, which are its blocks in order. It draws a word for each block of each tree, in order,
+    /// which makes the block's first leaf, and no others. Every block begins in the stash of its tree. All memory is
+    /// allocated here.
     pub fn new(
         alloc: Global,
         words: R,
@@ -66,6 +68,11 @@ impl<R: Rng + Drop> RecursiveOram<R> {
         ensures width { IfOk result (λ oram. oram.tree.width ≡ block_words) }
         ensures sizes { IfOk result
             (λ oram. AreSizes (length blocks.items / block_words) (map size_of (all_trees oram))) }
+        ensures first { IfOk result (λ oram. AreFirst (R.stream words) 0 (all_trees oram)) }
+        ensures words { IfOk result
+            (λ oram. R.stream oram.words
+            ≡ words_left (words_made (map size_of (all_trees oram))) (R.stream words)) }
+        ensures position_map { IfOk result (λ oram. IsPositionMap oram.tree.places.leaves oram.above oram.last) }
         ensures shown { IfOk result
             (λ oram. (list : List ℕ) → All (λ block. block < length blocks.items / block_words) list
             → shown_ahead (levels_of (all_trees oram)) (R.stream oram.words) list
@@ -78,12 +85,17 @@ impl<R: Rng + Drop> RecursiveOram<R> {
     }
 
     /// A bank of these blocks. It draws a word for each block of each tree, in order, which makes the block's first
-    /// leaf. All later room is made here.
+    /// leaf, and no others. Every block begins in the stash of its tree. All memory is allocated here.
     pub fn over(alloc: Global, words: R, blocks: PlainBank) -> Result<RecursiveOram<R>, Memory>
         requires { length blocks.contents ≤ most_blocks 2 }
         ensures contents { IfOk result (λ oram. oram.tree.contents ≡ blocks.contents) }
         ensures width { IfOk result (λ oram. oram.tree.width ≡ blocks.width) }
         ensures sizes { IfOk result (λ oram. AreSizes (length blocks.contents) (map size_of (all_trees oram))) }
+        ensures first { IfOk result (λ oram. AreFirst (R.stream words) 0 (all_trees oram)) }
+        ensures words { IfOk result
+            (λ oram. R.stream oram.words
+            ≡ words_left (words_made (map size_of (all_trees oram))) (R.stream words)) }
+        ensures position_map { IfOk result (λ oram. IsPositionMap oram.tree.places.leaves oram.above oram.last) }
         ensures shown { IfOk result
             (λ oram. (list : List ℕ) → All (λ block. block < length blocks.contents) list
             → shown_ahead (levels_of (all_trees oram)) (R.stream oram.words) list
@@ -115,7 +127,8 @@ impl<R: Rng + Drop> RecursiveOram<R> {
         self.above.len() as u8 + 1
     }
 
-    /// The tree of a level: that of the blocks is number 0, and each other keeps the leaves of the one below it.
+    /// The tree of a level: that of the blocks is number 0, and each other keeps the leaves of the one below it, four a
+    /// block. The leaves of the last tree are kept as a plain list.
     pub fn tree(&self, level: u8) -> &PathTree
         requires { level < length (all_trees self.now) }
         ensures tree { slice_get (all_trees self.now) level ≡ Some result.now }
@@ -123,6 +136,8 @@ impl<R: Rng + Drop> RecursiveOram<R> {
         ensures keeps { (next : BlockTree) → slice_get (all_trees self.now) (level + 1) ≡ Some next
             → (block : ℕ) → block < length result.now.contents
             → kept_leaf next.contents block ≡ pos (slice_index result.now.places.leaves block) }
+        ensures width { 1 ≤ level → result.now.width ≡ 4 }
+        ensures last { level + 1 ≡ length (all_trees self.now) → result.now.places.leaves ≡ self.now.last }
     {
         if level == 0 {
             return &self.tree;

@@ -1,2 +1,3 @@
 pub mod Slots
+pub mod Plans
 pub use Rattle.bank_alloc.specs.Places

@@ -1,6 +1,7 @@
 ghost use Rattle.std.specs.Prelude.{◌≡◌, ◌%◌, ◌+◌, ◌<◌, IfOk, [], length};
 ghost use Rattle.lt_isa.specs.Object.{is_ram};
 ghost use Rattle.bank_alloc.specs.Places.{arrays_in};
+ghost use Rattle.scratch_alloc.specs.Plans.{scalar_pins};
 ghost use Rattle.scratch_alloc.specs.Slots.{array_slot, alternate_slot, scalar_slot, slot_behind, slots_of};
 
 use bank_alloc::placing::{is_array, is_array_in, is_oblivious};
@@ -9,10 +10,20 @@ use gr_base::Memory;
 use lt_isa::{BankKind, bank_kind};
 use std::alloc::Global;
 
-/// The slot of each variable of a program, in order of declaration.
+/// A block of plain or encrypted memory, which a slot of the scratchpad holds for a whole run.
+#[derive(Clone, Copy, Debug, PartialEq, Eq)]
+pub struct Pin {
+    pub bank: u8,
+    pub block: u32,
+}
+
+/// How compiled code uses the eight slots of the scratchpad.
 #[derive(Debug, Drop)]
 pub struct SlotPlan {
+    /// The slot that serves each variable, in order of declaration.
     pub of_var: Vec<u8>,
+    /// The block that each slot holds for the whole run, from slot 0 on. Any other slot holds several blocks in turn.
+    pub pins: [Option<Pin>; 8],
 }
 
 // Whether a bank is plain memory.
@@ -78,12 +89,25 @@ fn slot_behind(before: &[Place], place: Place) -> u8
 /// and slot 1 for the secret ones, slots 2 and 3 in turn for arrays of plain memory, 4 and 5 in turn for those of
 /// encrypted memory, and slot 6 for oblivious arrays. The only error is want of memory.
 pub fn slots(alloc: Global, places: &Places) -> Result<SlotPlan, Memory>
-    ensures { IfOk result (λ plan. plan.of_var.items ≡ slots_of places.now.of_var.items) }
+    ensures slots { IfOk result (λ plan. plan.of_var.items ≡ slots_of places.now.of_var.items) }
+    ensures pins { IfOk result (λ plan. plan.pins ≡ scalar_pins) }
 {
     let places = places.of_var.as_slice();
     let mut of_var = Vec::with_capacity(alloc, places.len())?;
     for (i, place) in places.iter().enumerate() {
         of_var.push(slot_behind(&places[..i], *place))?;
     }
-    Ok(SlotPlan { of_var })
+    let plain = Pin { bank: 0, block: 0 };
+    let encrypted = Pin { bank: 1, block: 0 };
+    let pins = [
+        Some(plain),
+        Some(encrypted),
+        None,
+        None,
+        None,
+        None,
+        None,
+        None,
+    ];
+    Ok(SlotPlan { of_var, pins })
 }

@@ -1,5 +1,6 @@
-use Rattle.std.proofs.Common.{◌≡◌, ◌+◌, ◌-◌, arith}
+use Rattle.std.proofs.Common.{◌≡◌, ◌+◌, ◌-◌, get_or, arith}
 use Rattle.gr_base.specs.NameMaps.{found_under}
+use Rattle.scratch_alloc.specs.Plans.{no_place}
 use Rattle.block_cache_gen.proofs.KnownNames.{one_more}
 use Rattle.block_cache_gen.proofs.variables.gather.Goals as goal
 
@@ -10,10 +11,17 @@ loop-left-preserved c =
     record {
       within = omega arith;
       known =
-          one_more c.args.decls.now c.args.places.now c.args.slots.now
-          (c.loop-left.left - 1) c.index-decls-left.result _ _
+          one_more c.args.pins.now c.args.decls.now c.args.places.now c.args.slots.now
+          (c.loop-left.left - 1) c.index-decls-left.result _ _ _
           c.bytes.result.now (found_under c.loop-left.variables) (found_under c.add_variable.new.variables)
           (omega arith)
-          c.requires.places c.requires.slots c.index-decls-left.is c.bytes.ensures.bytes rest
+          c.requires.places c.requires.slots c.index-decls-left.is c.bytes.ensures.bytes
+          (λ i. record {
+            label = c.index-decls-left.result.label;
+            place = get_or c.args.places.now (c.loop-left.left - 1) no_place;
+            slot = get_or c.args.slots.now (c.loop-left.left - 1) 0;
+            resident = c.is_pinned.ensures i;
+          })
+          rest
           (c.in_ok-add_variable.ensures {u = tt});
     }

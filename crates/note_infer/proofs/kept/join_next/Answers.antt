@@ -1,9 +1,11 @@
--- The states that are kept are under way, and only the branch that joins waits.
-use Rattle.std.proofs.Common.{◌≡◌, ◌∷◌, [], IfOk, sym, subst, arith}
+-- The states that are kept are under way.
+use Rattle.std.proofs.Common.{◌≡◌, ◌∷◌, [], List, Option, IfOk, sym, subst, arith}
+use Rattle.trace_patterns.specs.Known.{Known}
 use Rattle.note_infer.specs.Crossings.{Crossings}
 use Rattle.note_infer.specs.Brings.{LoopHolds}
 use Rattle.note_infer.specs.Kept.{IsApart, ListsJoiners}
-use Rattle.note_infer.proofs.KeptStates.{apart_by, joins_within, kept_begins, kept_listed}
+use Rattle.note_infer.proofs.RegionWays.{joins_within}
+use Rattle.note_infer.proofs.KeptStates.{kept_begins, kept_listed}
 use Rattle.note_infer.proofs.kept.join_next.Goals as goal
 
 -- src/kept.rt:45:9
@@ -17,7 +19,7 @@ pub stands_apart-apart-requires-clause-inside : goal.stands_apart-apart-requires
 stands_apart-apart-requires-clause-inside c =
     let h = joins_within c.args.object.now c.args.crossed.now.list c.args.states.items c.args.found.place
     c.args.found.join c.requires.lowest.to in
-    omega (arith, h.1, c.requires.sizes)
+    omega (arith, h.1)
 
 -- src/kept.rt:51:9
 pub kept_states-requires-clause-before : goal.kept_states-requires-clause-before
@@ -39,12 +41,14 @@ kept_states-requires-clause-begins c =
     let list = c.args.crossed.now.list in
     let place = c.args.found.place in
     let join = c.args.found.join in
-    let apart : IsApart o list place join =
-    apart_by o c.args.origins.now list place join c.requires.origins c.if-apart.ensures in
+    let apart : IsApart o list c.args.states.items place join =
+    subst (λ (x : List (Option Known)). IsApart o list x place join) c.deref.ensures.value
+    (c.stands_apart-apart.ensures c.if-apart.true) in
     let made : c.join.new.self ≡ record { size = c.args.crossed.now.size; list = place ∷ list } = c.in-Ok.ensures.joined in
-    λ after w. subst (λ (x : Crossings). LoopHolds o x.list after (place ∷ [])) (sym made)
+    λ after stack w waiting. subst (λ (x : Crossings). LoopHolds o x.list after stack) (sym made)
     (kept_begins o list c.args.states.items after place join c.requires.least c.requires.lowest.to.may
-    c.requires.lowest.to.joins apart w c.requires.lowest.inside)
+    c.requires.lowest.to.joins apart w c.args.origins.now.last.items c.args.origins.now.before.items
+    c.requires.origins stack waiting)
 
 -- src/kept.rt:51:9
 pub kept_states-requires-clause-listed : goal.kept_states-requires-clause-listed
@@ -53,12 +57,14 @@ kept_states-requires-clause-listed c =
     let list = c.args.crossed.now.list in
     let place = c.args.found.place in
     let join = c.args.found.join in
-    let apart : IsApart o list place join =
-    apart_by o c.args.origins.now list place join c.requires.origins c.if-apart.ensures in
+    let apart : IsApart o list c.args.states.items place join =
+    subst (λ (x : List (Option Known)). IsApart o list x place join) c.deref.ensures.value
+    (c.stands_apart-apart.ensures c.if-apart.true) in
     let made : c.join.new.self ≡ record { size = c.args.crossed.now.size; list = place ∷ list } = c.in-Ok.ensures.joined in
-    λ after w. subst (λ (x : Crossings). ListsJoiners o x.list after (place ∷ []) c.args.joiners.now) (sym made)
+    λ after stack w waiting. subst (λ (x : Crossings). ListsJoiners o x.list after stack c.args.joiners.now) (sym made)
     (kept_listed o list c.args.states.items after place join c.requires.least c.requires.lowest.to.may
-    c.requires.lowest.to.joins apart w c.args.joiners.now c.requires.others)
+    c.requires.lowest.to.joins apart w c.args.origins.now.last.items c.args.origins.now.before.items
+    c.requires.origins stack waiting c.args.joiners.now c.requires.others)
 
 -- src/kept.rt:21:1
 pub returns-then-apart-clause-joiners : goal.returns-then-apart-clause-joiners

@@ -1,5 +1,5 @@
 -- What is carried over the region is brought to its join.
-use Rattle.std.proofs.Common.{ℕ, ℤ, ◌≡◌, subst}
+use Rattle.std.proofs.Common.{ℕ, ℤ, subst}
 use Rattle.std.proofs.lemmas.Result.{on_ok_weaker}
 use Rattle.lt_isa.proofs.Offsets.{handed_on}
 use Rattle.trace_patterns.specs.Known.{Known}

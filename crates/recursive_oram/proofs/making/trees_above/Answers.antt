@@ -23,6 +23,6 @@ making-preserved g c =
           (making-more start c.args.tree.now c.making.above.items last before next own after
           (c.making.invariant.made start begun) more
           (subst (λ l. KeepsLeaves l next) slice c.in_ok-next.ensures.keeps) c.in_ok-next.ensures.tree
-          c.in_ok-next.ensures.leaves made
+          c.in_ok-next.ensures.first made
           (subst (λ l. after ≡ words_left (count_above (length l)) before) slice c.in_ok-next.ensures.drawn));
     }

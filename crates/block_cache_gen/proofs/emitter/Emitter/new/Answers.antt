@@ -17,9 +17,7 @@ pub invariant_of-result : goal.invariant_of-result
 invariant_of-result c = (
   c.requires,
   (
-    frame_claims c.args.f.now c.as_slice-slots.result.now c.claim.result c.claim-2.result c.claim-3.result
-        c.claim-4.result
-        c.requires c.as_slice-slots.ensures.value c.claim.ensures c.claim-2.ensures c.claim-3.ensures c.claim-4.ensures,
+    c.claims_in-claims.ensures ∙ frame_claims c.args.f.now c.as_slice-slots.result.now c.requires c.as_slice-slots.ensures.value,
     frame_names c.args.f.now (found_under c.in_ok-variables.variables) c.as_slice.result.now c.as_slice-2.result.now
         c.as_slice-slots.result.now c.as_slice.ensures.value c.as_slice-2.ensures.value c.as_slice-slots.ensures.value
         (c.in_ok-variables.ensures {u = tt}),

@@ -3,6 +3,7 @@ use Rattle.gr_base.proofs.Counts.{rose_behind}
 use Rattle.bus_arbiter.specs.Cores.{AllStand}
 use Rattle.bus_arbiter.proofs.Plays.{length-put}
 use Rattle.bus_arbiter.proofs.Rounding.{fails-then, goes-then, round-between, round-ends, round-fails, round-slot, round-within}
+use Rattle.bus_arbiter.proofs.Stopping.{stops-then, turn-stops}
 use Rattle.bus_arbiter.proofs.bus.Bus.go_round.Goals as goal
 
 pub slots-preserved : goal.slots-preserved
@@ -72,3 +73,10 @@ pub returns-in-Err-clause-failed : goal.returns-in-Err-clause-failed
 returns-in-Err-clause-failed g c =
     rose_behind (g.W.BusWatch.faults c.args.watch.now) (g.W.BusWatch.faults c.slots.watch)
     (g.W.BusWatch.faults c.turn.new.watch) c.slots.invariant.count c.in-Err.ensures.count c.in-Err.ensures.failed
+
+pub returns-in-Err-clause-stopped : goal.returns-in-Err-clause-stopped
+returns-in-Err-clause-stopped g c =
+    stops-then c.args.self.now.cores c.slots.self.cores c.turn.new.self.cores c.args.base (c.args.base + c.slots.from)
+    c.args.cycles _ c.slots.invariant.on
+    (turn-stops c.slots.self.cores c.turn.new.self.cores (c.args.base + c.slots.from) c.args.cycles c.in-Some.core
+    c.earlier-to.result (omega (arith, c.earlier-to.ensures)) c.in-Err.ensures.stopped)

@@ -8,6 +8,7 @@ use Rattle.bus_arbiter.specs.Telling.{TellsOn}
 use Rattle.bus_arbiter.proofs.Alone.{alone-fails, alone-on}
 use Rattle.bus_arbiter.proofs.BusSteps.{all-stood}
 use Rattle.bus_arbiter.proofs.Rounding.{joined-fails, joined-first, joined-then, period-more, quiet-late}
+use Rattle.bus_arbiter.proofs.Stopping.{joined-stops, turn-stops}
 use Rattle.bus_arbiter.proofs.bus.Bus.go_through.Goals as goal
 
 pub periods-init : goal.periods-init
@@ -26,7 +27,10 @@ periods-init g c = record {
   small = omega (arith, c.from-period.ensures, c.period.ensures.most);
   near = omega arith;
   whole_periods = (0, omega arith);
-  joined = joined-first c.args.self.now.cores c.args.cycles (g.W.BusWatch.tells c.args.watch.now);
+  joined =
+      joined-first c.args.self.now.cores c.args.cycles (g.W.BusWatch.tells c.args.watch.now)
+      (all-stood c.args.self.now.plan c.args.self.now.cores c.args.self.now.cores
+      (subst (λ (b : Shared g.row.B.Denot). AllStand b.plan b.cores) c.self.view_is c.self.invariant.stand) refl);
   count = omega arith;
   count_stays = λ full. full;
   same = g.met.W.BusWatch.same_itself c.args.watch.now;
@@ -123,3 +127,15 @@ returns-in-Err-go_round-clause-failed g c =
     rose_behind (g.W.BusWatch.faults c.args.watch.now) (g.W.BusWatch.faults c.periods.watch)
     (g.W.BusWatch.faults c.go_round.new.watch) c.periods.invariant.count
     c.in-Err-go_round.ensures.count c.in-Err-go_round.ensures.failed
+
+pub returns-in-Err-clause-stopped : goal.returns-in-Err-clause-stopped
+returns-in-Err-clause-stopped g c =
+    joined-stops c.args.self.now.cores c.periods.self.cores c.turn.new.self.cores c.periods.base c.args.cycles _
+    c.periods.invariant.joined
+    (turn-stops c.periods.self.cores c.turn.new.self.cores c.periods.base c.args.cycles c.in-Some.core c.args.cycles
+    (omega arith) c.in-Err.ensures.stopped)
+
+pub returns-in-Err-go_round-clause-stopped : goal.returns-in-Err-go_round-clause-stopped
+returns-in-Err-go_round-clause-stopped g c =
+    joined-stops c.args.self.now.cores c.periods.self.cores c.go_round.new.self.cores c.periods.base c.args.cycles _
+    c.periods.invariant.joined c.in-Err-go_round.ensures.stopped

@@ -1,7 +1,7 @@
 use Rattle.std.proofs.Common.{refl, sym, ap, ◌∙◌, subst, arith}
 use Rattle.gr_base.proofs.Counts.{rose_behind}
 use Rattle.bus_arbiter.proofs.BusSteps.{all-stood}
-use Rattle.bus_arbiter.proofs.Plays.{PlayedSoFar, plays-fail_at, plays-first, plays-next_at}
+use Rattle.bus_arbiter.proofs.Plays.{PlayedSoFar, plays-fail_at, plays-first, plays-next_at, plays-stop_at}
 use Rattle.bus_arbiter.proofs.bus.Bus.play.Goals as goal
 
 pub playing-init : goal.playing-init
@@ -55,3 +55,11 @@ pub returns-in-Err-clause-failed : goal.returns-in-Err-clause-failed
 returns-in-Err-clause-failed g c =
     rose_behind (g.W.BusWatch.faults c.args.watch.now) (g.W.BusWatch.faults c.playing.watch)
     (g.W.BusWatch.faults c.turn.new.watch) c.playing.invariant.count c.in-Err.ensures.count c.in-Err.ensures.failed
+
+pub returns-in-Err-clause-stopped : goal.returns-in-Err-clause-stopped
+returns-in-Err-clause-stopped g c =
+    let stand = all-stood c.self.inside.plan c.self.inside.seats.items c.args.self.now.cores c.self.invariant.stand
+    (ap (λ b. b.cores) c.self.view_is) in
+    plays-stop_at c.args.self.now.cores c.playing.self.cores c.turn.new.self.cores c.args.turns.now
+    c.playing.turn-index _ (g.W.BusWatch.tells c.args.watch.now) (g.W.BusWatch.tells c.playing.watch)
+    stand c.playing-test.true c.playing.invariant.played c.in-Err.ensures.stopped

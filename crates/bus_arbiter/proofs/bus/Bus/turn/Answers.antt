@@ -62,3 +62,16 @@ returns-in-Ok-clause-stand g c = (invariant_of-self g c).stand
 
 pub returns-in-Err-clause-stand : goal.returns-in-Err-clause-stand
 returns-in-Err-clause-stand g c = (invariant_of-self-in-Err g c).stand
+
+pub returns-in-Err-clause-stopped : goal.returns-in-Err-clause-stopped
+returns-in-Err-clause-stopped g c =
+    let same = ap (λ b. b.cores) c.self.view_is in
+    record {
+      was = c.index_mut-seat.result.now;
+      now = c.run.new.self;
+      there =
+          item-there c.self.inside.seats.items c.args.self.now.cores c.args.core _ c.index_mut-seat.result.now same
+          c.index_mut-seat.ensures.value c.requires.exists;
+      put = ap (λ l. slice_set l c.args.core c.run.new.self) same;
+      way = c.in-Err.ensures.way;
+    }

@@ -37,7 +37,7 @@ step-requires-clause-left g c =
 pub running-smaller : goal.running-smaller
 running-smaller g c =
     let far = progress_on c.running.invariant.object c.next_access.ensures.object c.running.invariant.progress
-    c.next_access.ensures.alike c.next_access.ensures.orams in
+    c.next_access.ensures.alike c.next_access.ensures.later c.next_access.ensures.orams in
     let later =
     step_later g.met.B.Bank.shows_each g.met.B.Bank.comes_none g.met.B.Bank.comes_then
     g.met.W.Watch.hears_then c.next_access.ensures.in_range
@@ -48,7 +48,7 @@ running-smaller g c =
 pub running-preserved : goal.running-preserved
 running-preserved g c =
     let far = progress_on c.running.invariant.object c.next_access.ensures.object c.running.invariant.progress
-    c.next_access.ensures.alike c.next_access.ensures.orams in
+    c.next_access.ensures.alike c.next_access.ensures.later c.next_access.ensures.orams in
     let moved = c.next_access.ensures.object ∙ c.running.invariant.object in
     let further =
     step_further g.met.B.Bank.shows_each g.met.B.Bank.comes_none g.met.B.Bank.comes_then
@@ -76,7 +76,7 @@ halted : (g : Over) (c : After-die g)
     c.step.new.watch (Halted c.start-start.result)
 halted g c =
     let far = progress_on c.running.invariant.object c.next_access.ensures.object c.running.invariant.progress
-    c.next_access.ensures.alike c.next_access.ensures.orams in
+    c.next_access.ensures.alike c.next_access.ensures.later c.next_access.ensures.orams in
     let over =
     ends_halted g.met.B.Bank.shows_each g.met.B.Bank.comes_none g.met.B.Bank.comes_then
     g.met.W.Watch.hears_then c.next_access.ensures.in_range
@@ -116,7 +116,7 @@ faulted : (g : Over) (c : In-Ok-Faulted g)
     Spent
 faulted g c =
     let far = progress_on c.running.invariant.object c.next_access.ensures.object c.running.invariant.progress
-    c.next_access.ensures.alike c.next_access.ensures.orams in
+    c.next_access.ensures.alike c.next_access.ensures.later c.next_access.ensures.orams in
     let over =
     ends_faulty g.met.B.Bank.shows_each g.met.B.Bank.comes_none g.met.B.Bank.comes_then
     g.met.W.Watch.hears_then c.next_access.ensures.in_range
@@ -149,7 +149,7 @@ late : (g : Over) (c : After-running g)
     Spent
 late g c =
     let far = progress_on c.running.invariant.object c.next_access.ensures.object c.running.invariant.progress
-    c.next_access.ensures.alike c.next_access.ensures.orams in
+    c.next_access.ensures.alike c.next_access.ensures.later c.next_access.ensures.orams in
     let over =
     ends_late g.met.B.Bank.shows_each g.met.B.Bank.comes_none g.met.B.Bank.comes_then
     g.met.W.Watch.hears_then c.next_access.ensures.in_range
@@ -174,14 +174,15 @@ returns-clause-show_on g c = let over = late g c in over.show
 -- the watcher failed
 broken : (g : Over) (c : After-die-in-Err g)
     → BrokeOff g.B.Bank.shows g.B.Bank.comes g.W.Watch.hears c.args.self.now.object c.args.self.now.state c.args.cycles
-    c.args.self.now.orams c.step.new.self.orams c.args.watch.now c.step.new.watch (g.W.Watch.torn c.step.new.watch)
+    c.args.self.now.orams c.step.new.self.orams c.step.new.self.state c.args.watch.now c.step.new.watch
+    (g.W.Watch.torn c.step.new.watch)
 broken g c =
     let far = progress_on c.running.invariant.object c.next_access.ensures.object c.running.invariant.progress
-    c.next_access.ensures.alike c.next_access.ensures.orams in
+    c.next_access.ensures.alike c.next_access.ensures.later c.next_access.ensures.orams in
     let broke =
     breaks g.met.B.Bank.shows_each g.met.B.Bank.comes_none g.met.B.Bank.comes_then
     g.met.W.Watch.hears_then c.next_access.ensures.in_range c.next_access.ensures.shaped
-    far c.step.new.self.orams (g.W.Watch.torn c.step.new.watch)
+    far c.step.new.self.orams c.step.new.self.state (g.W.Watch.torn c.step.new.watch)
     (omega (arith, c.next_access.ensures.start, c.from.ensures)) c.in-Err.ensures.broke in
     rw (c.next_access.ensures.object ∙ c.running.invariant.object) at broke
 
@@ -190,10 +191,14 @@ returns-in-Err-clause-broke g c = let stopped = broken g c in stopped.broke
 
 pub returns-in-Err-clause-broke_off : goal.returns-in-Err-clause-broke_off
 returns-in-Err-clause-broke_off g c =
-    subst (λ orams. BrokeOff g.B.Bank.shows g.B.Bank.comes g.W.Watch.hears c.args.self.now.object c.args.self.now.state
-    c.args.cycles c.args.self.now.orams orams c.args.watch.now c.step.new.watch
+    subst (λ state. BrokeOff g.B.Bank.shows g.B.Bank.comes g.W.Watch.hears c.args.self.now.object c.args.self.now.state
+    c.args.cycles c.args.self.now.orams c.die-in-Err.new.self.orams state c.args.watch.now c.step.new.watch
     (g.W.Watch.torn c.step.new.watch))
-    (sym (ap (λ m. m.orams) c.die-in-Err.ensures)) (broken g c)
+    (sym (ap (λ m. m.state) c.die-in-Err.ensures))
+    (subst (λ orams. BrokeOff g.B.Bank.shows g.B.Bank.comes g.W.Watch.hears c.args.self.now.object
+    c.args.self.now.state c.args.cycles c.args.self.now.orams orams c.step.new.self.state c.args.watch.now
+    c.step.new.watch (g.W.Watch.torn c.step.new.watch))
+    (sym (ap (λ m. m.orams) c.die-in-Err.ensures)) (broken g c))
 
 pub returns-in-Err-clause-failed : goal.returns-in-Err-clause-failed
 returns-in-Err-clause-failed g c =

@@ -1,5 +1,6 @@
-use Rattle.std.proofs.Common.{◌≡◌, ◌<◌, ◌^◌, ◌∷◌, length, map, refl, sym, ap, ◌∙◌, subst, arith}
+use Rattle.std.proofs.Common.{◌≡◌, ◌<◌, ◌^◌, ◌∷◌, length, map, refl, sym, ap, ap₂, ◌∙◌, subst, arith}
 use Rattle.std.specs.List.{All}
+use Rattle.path_oram.specs.Places.{first_places}
 use Rattle.path_oram.specs.Words.{first_words, leaf_of}
 use Rattle.path_oram.specs.Whole.{IsHeightFor}
 use Rattle.path_oram.proofs.Started.{leaf_count, leaves_below}
@@ -42,13 +43,14 @@ making g c =
     let leaves = c.in_ok-leaves.leaves.items in
     let height : c.height_for-height.result ≡ tree.places.height = sym (ap
     (λ p. p.height) c.in_ok-tree.ensures.first) in
-    let kept : tree.places.leaves ≡ leaves =
-    ap (λ p. p.leaves) c.in_ok-tree.ensures.first
-    ∙ (c.in_ok-own.ensures.items_if_clones_equal (λ x y e. e) ∙ c.as_slice.ensures.value) in
+    let first : tree.places ≡ first_places tree.places.height leaves =
+    c.in_ok-tree.ensures.first
+    ∙ ap₂ first_places height
+    (c.in_ok-own.ensures.items_if_clones_equal (λ x y e. e) ∙ c.as_slice.ensures.value) in
     c.in_ok-above.ensures.made start
     (making-start start tree leaves (g.R.Rng.stream c.first_leaves.new.words) c.blocks-count.result
     (ap length c.in_ok-tree.ensures.contents ∙ sym c.blocks-count.ensures)
-    (omega (arith, c.blocks-count.ensures, c.requires)) kept
+    (omega (arith, c.blocks-count.ensures, c.requires)) first
     (c.in_ok-leaves.ensures.leaves ∙ ap (λ h. map (leaf_of h) (first_words c.blocks-count.result start)) height)
     c.in_ok-leaves.ensures.words)
 
@@ -76,3 +78,14 @@ returns-clause-shown g c list exist =
     making-shown (g.R.Rng.stream c.args.words) c.in_ok-tree.tree c.in_ok-above.above.items c.in_ok-above.last.items
     (g.R.Rng.stream c.trees_above.new.words) (making g c) c.in_ok-above.ensures.few c.in_ok-tree.ensures.tree list
     (subst (λ n. All (λ block. block < n) list) (sym (ap length c.in_ok-tree.ensures.contents)) exist)
+
+pub returns-clause-first : goal.returns-clause-first
+returns-clause-first g c = (making g c).made
+
+pub returns-clause-words : goal.returns-clause-words
+returns-clause-words g c = (making g c).drawn
+
+pub returns-clause-position_map : goal.returns-clause-position_map
+returns-clause-position_map g c =
+    making-done (g.R.Rng.stream c.args.words) c.in_ok-tree.tree c.in_ok-above.above.items c.in_ok-above.last.items
+    (g.R.Rng.stream c.trees_above.new.words) (making g c) c.in_ok-above.ensures.few

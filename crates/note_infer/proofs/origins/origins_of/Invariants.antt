@@ -1,6 +1,0 @@
--- The table tells of the places so far.
-use Rattle.note_infer.specs.Kept.{OriginsBelow}
-use Rattle.note_infer.proofs.origins.origins_of.Given as goal
-
-abbrev pub invariant-loop-place : goal.invariant-loop-place
-invariant-loop-place l = OriginsBelow l.object l.place l.origins.items
