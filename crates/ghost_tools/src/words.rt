@@ -28,7 +28,7 @@ pub const LAYOUT: VerbWords<'static> = VerbWords {
     place: Argument::Word,
     places: &["SRC"],
     options: &["block-log", "window"],
-    flags: &["procs"],
+    flags: &["procs", "fast"],
 };
 
 /// What a tool finds in the words, its name first, or `None` if they don't fit.
