@@ -1,8 +1,12 @@
 -- The block that a slot holds for the whole run: that of the scalars, or that of the array whose own slot it is.
-use Rattle.std.proofs.Common.{◌≡◌, ℕ, zero, suc, ◌<◌, ◌≤◌, Bool, true, false, cond, eqb, List, [], ◌∷◌, length, get_or, Option, Some, None, refl, sym, ap, ◌∙◌, subst, arith}
+use Rattle.std.proofs.Common.{◌≡◌, ℕ, zero, suc, ◌<◌, ◌≤◌, Bool, true, false, eqb, List, length, get_or, Option, Some, None, refl, ⊎_elim, sym, ap, ◌∙◌, subst, arith}
 use Rattle.std.specs.Prelude.{◌&&◌, find}
+use Rattle.std.specs.List.{position_or_len}
 use Rattle.std.specs.Option.{option_map}
-use Rattle.std.proofs.lemmas.Bool.{and_parts, and_from, eqb-true, eq-eqb}
+use Rattle.std.proofs.lemmas.List.Folds.{find_at}
+use Rattle.std.proofs.lemmas.List.Sums.{fails_before_first, passes_at_first}
+use Rattle.std.proofs.lemmas.Option.{get_or_from_slice_get, slice_get-get_or, slice_get_within}
+use Rattle.std.proofs.lemmas.Bool.{cases_lt, and_parts, and_from, eqb-true, eq-eqb}
 use Rattle.scratch_alloc.specs.declared.plans.Pin.{Pin}
 use Rattle.resident_alloc.specs.declared.storages.Storage.{Storage}
 use Rattle.resident_alloc.specs.declared.storages.Storage.TheVariants.{Scalar, Shared, Own, Cached, Oblivious}
@@ -16,27 +20,27 @@ record IsFound {X : Type 0} (test : X → Bool) (xs : List X) (x : X) : Type 0 w
   passes : test x ≡ true
 
 found : {X : Type 0} (test : X → Bool) (xs : List X) (x : X) → find test xs ≡ Some x → IsFound test xs x
-found test [] x is = absurd (let e : ◌≡◌ {A = Option _} None (Some x) = is in cc)
-found test (y ∷ ys) x is = by (test y) refl is (found test ys x) where
-  by : (b : Bool) → test y ≡ b → cond b (Some y) (find test ys) ≡ Some x
-      → (find test ys ≡ Some x → IsFound test ys x) → IsFound test (y ∷ ys) x
-  by true here is later =
-      let same : y ≡ x = cc in
-      record { at = 0; within = omega arith; item = λ d. same; passes = ap test (sym same) ∙ here }
-  by false here is later =
-      let l = later is in
-      record { at = suc l.at; within = omega (arith, l.within); item = λ d. l.item d; passes = l.passes }
+found test xs x is =
+    let first = position_or_len test xs in
+    let reads = sym (find_at test xs) ∙ is in
+    let within = slice_get_within xs first x reads in
+    record {
+      at = first;
+      within = within;
+      item = λ d. get_or_from_slice_get xs first x d reads;
+      passes = ap test (sym (get_or_from_slice_get xs first x x reads)) ∙ passes_at_first test xs x within;
+    }
 
 none_found : {X : Type 0} (test : X → Bool) (xs : List X) (k : ℕ) (d : X) → find test xs ≡ None → k < length xs
     → test (get_or xs k d) ≡ false
-none_found test [] k d is within = absurd (omega (arith, within))
-none_found test (y ∷ ys) k d is within = by (test y) refl is k within (λ m. none_found test ys m d) where
-  by : (b : Bool) → test y ≡ b → cond b (Some y) (find test ys) ≡ None → (k : ℕ) → k < length (y ∷ ys)
-      → ((m : ℕ) → find test ys ≡ None → m < length ys → test (get_or ys m d) ≡ false)
-      → test (get_or (y ∷ ys) k d) ≡ false
-  by true here is k within later = absurd (let e : Some y ≡ None = is in cc)
-  by false here is zero within later = here
-  by false here is (suc m) within later = later m is (omega (arith, within))
+none_found test xs k d is within =
+    let first = position_or_len test xs in
+    ⊎_elim
+    (λ here.
+    let e : Some (get_or xs first d) ≡ None = sym (slice_get-get_or xs first d here) ∙ sym (find_at test xs) ∙ is in
+    absurd (cc))
+    (λ past. fails_before_first test xs k d (omega (arith, past, within)))
+    (cases_lt first (length xs))
 
 own_storage : (s : Storage) → is_own_storage s ≡ true → s ≡ Own
 own_storage Own is = refl

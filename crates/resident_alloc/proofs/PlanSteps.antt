@@ -1,35 +1,17 @@
 -- What variables want and what is planned for them, one more at a time.
-use Rattle.std.proofs.Common.{◌≡◌, ℕ, zero, suc, ◌+◌, ◌-◌, ◌^◌, ◌<◌, ◌≤◌, nat_lt, Bool, true, false, cond, List, [], ◌∷◌, ◌++◌, length, map, take, drop, get_or, Option, Some, None, refl, sym, ap, ◌∙◌, subst, arith, append_assoc}
-use Rattle.std.specs.Prelude.{count_by}
-use Rattle.std.specs.List.{All, range_with_len}
-use Rattle.std.proofs.lemmas.Bool.{ltb-true, ltb-false}
+use Rattle.std.proofs.Common.{◌≡◌, ℕ, ◌+◌, ◌<◌, ◌≤◌, List, [], ◌∷◌, ◌++◌, length, map, take, drop, get_or, sym, ap, ◌∙◌, subst, arith, append_assoc}
 use Rattle.std.proofs.lemmas.List.{append-nil, take_all, take_more, drop_more, drop_all, length-map}
 use Rattle.std.proofs.lemmas.List.Elements.{All-map}
-use Rattle.std.proofs.lemmas.List.Sums.{sum_by-cons}
-use Rattle.std.proofs.lemmas.List.FromFn.{get_or-map-range_with_len, length-map-range_with_len}
-use Rattle.gr_word.specs.declared.variables.Label.{Label}
-use Rattle.gr_word.specs.declared.variables.Label.TheVariants.{Public, Secret}
-use Rattle.lt_isa.specs.Limits.{most_blocks}
 use Rattle.src_tree.specs.declared.trees.Decl.{Decl}
 use Rattle.src_tree.specs.Limits.{IsWithinLimits, words_of}
 use Rattle.src_tree.specs.Trees.{Source}
-use Rattle.bank_alloc.specs.declared.classes.Class.{Class}
-use Rattle.bank_alloc.specs.declared.classes.Class.TheVariants.{PublicScalar, SecretScalar, PublicArray, EncryptedArray, ObliviousArray}
-use Rattle.bank_alloc.specs.declared.places.PlaceError.{PlaceError}
-use Rattle.bank_alloc.specs.declared.places.PlaceError.TheVariants.{TooManyScalars, BankFull}
-use Rattle.bank_alloc.specs.Classes.{class_of, is_scalar}
-use Rattle.bank_alloc.specs.Fits.{ScalarsFit, scalars_of}
-use Rattle.bank_alloc.specs.Indexes.{has_secret_index}
-use Rattle.bank_alloc.specs.Lacks.{first_full}
-use Rattle.bank_alloc.specs.PlaceRules.{is_same}
+use Rattle.bank_alloc.specs.Classes.{class_of}
 use Rattle.bank_alloc.proofs.PlacedBehind.{words_fit}
-use Rattle.bank_alloc.proofs.Refusals.{found_full, is_scalar_class, none_full, scalar_by, some_is}
 use Rattle.resident_alloc.specs.declared.storages.Planned.{Planned}
 use Rattle.resident_alloc.specs.declared.wants.Want.{Want}
-use Rattle.resident_alloc.specs.Ranges.{AreShort, scalars_lack}
-use Rattle.resident_alloc.specs.ResidentFits.{IsFirstOverfull, ResidentsFit, ResidentsRefuse}
-use Rattle.resident_alloc.specs.ResidentPlan.{planned, planned_behind, resident_banks, resident_blocks}
-use Rattle.resident_alloc.specs.Residents.{is_of, wants_of}
+use Rattle.resident_alloc.specs.Ranges.{AreShort}
+use Rattle.resident_alloc.specs.ResidentPlan.{planned, planned_behind}
+use Rattle.resident_alloc.specs.Residents.{wants_of}
 
 -- one variable more
 pub planned_more : (size : ℕ) (all : List Want) (i : ℕ) (d : Want) (of_all more : List Planned) (one : Planned)

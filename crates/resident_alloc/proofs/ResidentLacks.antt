@@ -1,17 +1,13 @@
 -- What lacks room first is what the program is refused for, and nothing lacks it exactly where there is room.
-use Rattle.std.proofs.Common.{◌≡◌, ℕ, zero, suc, ◌+◌, ◌-◌, ◌^◌, ◌<◌, ◌≤◌, nat_lt, Bool, true, false, cond, List, [], ◌∷◌, ◌++◌, length, map, take, drop, get_or, Option, Some, None, refl, sym, ap, ◌∙◌, subst, arith, append_assoc}
+use Rattle.std.proofs.Common.{◌≡◌, ℕ, ◌+◌, ◌^◌, ◌<◌, ◌≤◌, nat_lt, Bool, true, false, cond, List, [], ◌∷◌, length, map, get_or, Option, Some, None, refl, sym, ap, ◌∙◌, subst, arith}
 use Rattle.std.specs.Prelude.{count_by}
-use Rattle.std.specs.List.{All, range_with_len}
+use Rattle.std.specs.List.{range_with_len}
 use Rattle.std.proofs.lemmas.Bool.{ltb-true, ltb-false}
-use Rattle.std.proofs.lemmas.List.{append-nil, take_all, take_more, drop_more, drop_all, length-map}
-use Rattle.std.proofs.lemmas.List.Elements.{All-map}
 use Rattle.std.proofs.lemmas.List.Sums.{sum_by-cons}
 use Rattle.std.proofs.lemmas.List.FromFn.{get_or-map-range_with_len, length-map-range_with_len}
-use Rattle.gr_word.specs.declared.variables.Label.{Label}
 use Rattle.gr_word.specs.declared.variables.Label.TheVariants.{Public, Secret}
 use Rattle.lt_isa.specs.Limits.{most_blocks}
 use Rattle.src_tree.specs.declared.trees.Decl.{Decl}
-use Rattle.src_tree.specs.Limits.{IsWithinLimits, words_of}
 use Rattle.src_tree.specs.Trees.{Source}
 use Rattle.bank_alloc.specs.declared.classes.Class.{Class}
 use Rattle.bank_alloc.specs.declared.classes.Class.TheVariants.{PublicScalar, SecretScalar, PublicArray, EncryptedArray, ObliviousArray}
@@ -22,16 +18,14 @@ use Rattle.bank_alloc.specs.Fits.{ScalarsFit, scalars_of}
 use Rattle.bank_alloc.specs.Indexes.{has_secret_index}
 use Rattle.bank_alloc.specs.Lacks.{first_full}
 use Rattle.bank_alloc.specs.PlaceRules.{is_same}
-use Rattle.bank_alloc.proofs.PlacedBehind.{words_fit}
 use Rattle.bank_alloc.proofs.Refusals.{found_full, is_scalar_class, none_full, scalar_by, some_is}
-use Rattle.resident_alloc.specs.declared.storages.Planned.{Planned}
 use Rattle.resident_alloc.specs.declared.wants.Want.{Want}
 use Rattle.bank_alloc.specs.declared.places.Places.{Places}
 use Rattle.scratch_alloc.specs.Plans.{Plan, plan_from}
 use Rattle.scratch_alloc.specs.declared.plans.SlotPlan.{SlotPlan}
 use Rattle.resident_alloc.specs.Ranges.{plan_of, scalars_lack}
-use Rattle.resident_alloc.specs.ResidentFits.{IsFirstOverfull, ResidentsFit, ResidentsRefuse}
-use Rattle.resident_alloc.specs.ResidentPlan.{planned, planned_behind, resident_banks, resident_blocks}
+use Rattle.resident_alloc.specs.ResidentFits.{ResidentsFit, ResidentsRefuse}
+use Rattle.resident_alloc.specs.ResidentPlan.{planned, resident_banks, resident_blocks}
 use Rattle.resident_alloc.specs.Residents.{is_of, wants_of}
 
 -- there are ten banks at most

@@ -1,6 +1,6 @@
 -- Rooms, and the arrays that find none, one variable more at a time.
-use Rattle.std.proofs.Common.{◌≡◌, ℕ, zero, suc, ◌+◌, ◌-◌, ◌<◌, ◌≤◌, nat_lt, Bool, true, false, cond, List, [], ◌∷◌, ◌++◌, length, take, drop, get_or, refl, sym, ap, ◌∙◌, subst, arith, append_assoc}
-use Rattle.std.specs.Prelude.{nat_le, ◌&&◌, not}
+use Rattle.std.proofs.Common.{◌≡◌, ℕ, zero, suc, ◌+◌, ◌-◌, ◌<◌, ◌≤◌, nat_lt, Bool, true, false, cond, List, [], ◌∷◌, ◌++◌, length, drop, get_or, refl, sym, ap, ◌∙◌, arith, append_assoc}
+use Rattle.std.specs.Prelude.{nat_le, ◌&&◌}
 use Rattle.std.specs.List.{All}
 use Rattle.std.proofs.lemmas.Bool.{ltb-true, ltb-false, le-leb, lt-leb, lt-ltb}
 use Rattle.std.proofs.lemmas.List.{append-nil, at_drop_more, at_drop_all}
@@ -10,6 +10,7 @@ use Rattle.resident_alloc.specs.declared.wants.Want.{Want}
 use Rattle.resident_alloc.specs.Ranges.{AreShort, is_left_out, is_skipped, room_behind}
 use Rattle.resident_alloc.specs.Residents.{is_of, is_short, left_out, room_after}
 use Rattle.resident_alloc.specs.ResidentPlan.{without_short}
+use Rattle.resident_alloc.proofs.Rooms.{none_without}
 
 -- a room behind one variable more
 pub room_more : (c : Class) (room left now : ℕ) (vs : List Want) (i : ℕ) (d : Want) → i < length vs
@@ -144,16 +145,12 @@ kept size n vs i d out more all within is pushed so_far =
     ∙ ap (λ (rest : List Want). out ++ rest) (sym (at_drop_more (without_short size n) vs i d within))
     ∙ so_far
 
-without_none : (size n : ℕ) → without_short size n [] ≡ []
-without_none size zero = refl
-without_none size (suc n) = refl
-
 pub skipped_done : (size n : ℕ) (vs : List Want) (i : ℕ) (out all : List Want) → length vs ≤ i
     → out ++ without_short size n (drop i vs) ≡ all → out ≡ all
 skipped_done size n vs i out all past so_far =
     sym (append-nil out)
     ∙ ap (λ (rest : List Want). out ++ rest)
-    (sym (at_drop_all (without_short size n) vs i past ∙ without_none size n))
+    (sym (at_drop_all (without_short size n) vs i past ∙ none_without size n))
     ∙ so_far
 
 without_fewer : (size n : ℕ) (vs : List Want) → length (without_short size n vs) ≤ length vs

@@ -63,7 +63,7 @@ left_out_push c room vs v of long =
 
 -- arrays without the first short ones
 
-none_without : (size n : ℕ) → without_short size n [] ≡ []
+pub none_without : (size n : ℕ) → without_short size n [] ≡ []
 none_without size zero = refl
 none_without size (suc n) = refl
 

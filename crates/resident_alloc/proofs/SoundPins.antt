@@ -28,11 +28,11 @@ less_blocks size a b less =
     ⊎_elim (λ h. h) (λ h. absurd (let e : size * b ≤ size * a = mul-le-mul_left size h in omega (arith, e, less)))
     (cases_lt a b)
 
--- the slots of arrays with numbers
-numbered-slot : (p : Source) (w k : ℕ) (s : Storage) (slot : ℕ)
+-- the slot of an array with a number is one of 2 to 5 and 7
+slots_of_number : (p : Source) (w k : ℕ) (s : Storage) (slot : ℕ)
     → IsNumbered (2 ^ w) (wants_of p) (wants_to p k) (wanted p k) s slot
     → (2 ≤ slot) × (slot < 8) × (slot ≡ 6 → ⊥)
-numbered-slot p w k s slot h =
+slots_of_number p w k s slot h =
     let facts = numbered_slot _ _ s h.family _ h.number in
     let is = h.slot_is in
     (omega (arith, is, facts.0), omega (arith, is, facts.1), λ six. facts.2 (sym is ∙ six))
@@ -66,7 +66,7 @@ module _ (p : Source) (w : ℕ) (limits : IsWithinLimits p) (room : ResidentsFit
   numbered_pin : (k : ℕ) (s : Storage) → IsNumbered (2 ^ w) (wants_of p) (wants_to p k) (wanted p k) s (item p w k).slot
       → get_or (pins_of (planned_for p w)) (item p w k).slot None ≡ own_pin (planned_for p w) (item p w k).slot
   numbered_pin k s h =
-      let slots = numbered-slot p w k s (item p w k).slot h in
+      let slots = slots_of_number p w k s (item p w k).slot h in
       pin_by_array (planned_for p w) (item p w k).slot slots.0 slots.1 slots.2
 
   -- and that array is the one with the number
@@ -131,7 +131,7 @@ module _ (p : Source) (w : ℕ) (limits : IsWithinLimits p) (room : ResidentsFit
       let within = owner_within slot q o in
       let v = item p w o.at in
       let place = (known p w limits room o.at within).placed in
-      let slots = numbered-slot p w o.at Own v.slot alone.numbered in
+      let slots = slots_of_number p w o.at Own v.slot alone.numbered in
       let slot_same = o.slot_is no_planned in
       let bank = owner_bank slot q o in
       let block = owner_block slot q o in

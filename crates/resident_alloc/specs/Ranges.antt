@@ -1,6 +1,6 @@
 -- For the proofs and for private clauses only: variables that are few and short enough for numbers of a machine, and
 -- steps of the definitions.
-use Rattle.std.specs.Prelude.{ℕ, ◌+◌, ◌-◌, ◌≤◌, nat_le, Bool, true, false, ◌&&◌, not, if◌then◌else◌, List, [], length, map, count_by, nat_lt, All, Option, Some, None}
+use Rattle.std.specs.Prelude.{ℕ, ◌-◌, ◌≤◌, nat_le, Bool, ◌&&◌, if◌then◌else◌, List, [], length, map, count_by, nat_lt, All, Option, Some, None}
 use Rattle.std.specs.List.{range_with_len}
 use Rattle.gr_word.specs.declared.variables.Label.TheVariants.{Public, Secret}
 use Rattle.src_tree.specs.Limits.{max_variables, max_length}
@@ -10,7 +10,6 @@ use Rattle.bank_alloc.specs.declared.places.PlaceError.{PlaceError}
 use Rattle.bank_alloc.specs.declared.places.PlaceError.TheVariants.{TooManyScalars}
 use Rattle.scratch_alloc.specs.Plans.{Plan}
 use Rattle.resident_alloc.specs.declared.wants.Want.{Want}
-use Rattle.resident_alloc.specs.declared.storages.Planned.{Planned}
 use Rattle.resident_alloc.specs.Residents.{is_of, is_short}
 use Rattle.resident_alloc.specs.ResidentPlan.{planned_behind, pins_of, resident_blocks, resident_banks}
 

@@ -2,7 +2,6 @@ use Rattle.std.proofs.Common.{◌≡◌, map, take}
 use Rattle.bank_alloc.specs.Classes.{class_of}
 use Rattle.src_tree.specs.Limits.{words_of}
 use Rattle.src_tree.specs.Trees.{source_of}
-use Rattle.resident_alloc.specs.declared.wants.Want.{Want}
 use Rattle.resident_alloc.proofs.wants.wants_of.Given as goal
 
 abbrev pub invariant-loop-i : goal.invariant-loop-i
