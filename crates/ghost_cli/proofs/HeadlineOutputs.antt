@@ -176,8 +176,8 @@ module _ (P : List ℕ → Type 0) where
     sampled-only n made (Some at) = writes output _ _ is
     sampled-only n made None = ending _ _
 
-    sample-only : (n : ℕ) → Only (sample_work n output)
-    sample-only n = asks _ _ (λ made. asks _ _ (sampled-only n made))
+    sample-only : (fast : Bool) (n : ℕ) → Only (sample_work fast n output)
+    sample-only fast n = asks _ _ (λ made. asks _ _ (sampled-only n made))
 
     inferred-only : (r : Result Parts InferError) → Only (on_inferred output r)
     inferred-only (Ok found) = writes output _ _ is
@@ -275,7 +275,7 @@ module _ (more : List Text) (texts : AreTexts more) (work : Work) (name : Text) 
   of-sample asked =
       let a = (words-ask.sample more work texts).0 asked in
       names-output Sample tt more (a.number ∷ []) a.output name a.parts a.says
-      (by-only (Out a.output) _ a.is (sample-only (Out a.output) a.output refl a.items))
+      (by-only (Out a.output) _ a.is (sample-only (Out a.output) a.output refl _ a.items))
 
   of-bus : OfVerb (codes "bus")
   of-bus asked =

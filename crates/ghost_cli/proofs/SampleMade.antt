@@ -47,7 +47,7 @@ use Rattle.ghost_cli.specs.declared.replies.Verdict.TheVariants.{BadSource}
 use Rattle.ghost_cli.specs.Steps.{on_judged, or_ends}
 use Rattle.ghost_cli.specs.Texts.{Said, no_memory}
 use Rattle.ghost_cli.specs.Work.{Work, Ends, Writes}
-use Rattle.ghost_cli.proofs.SampleProgram.{sample_typed, sample_within, sample_fits, sample_needs}
+use Rattle.ghost_cli.proofs.SampleProgram.{sample_typed, sample_within, sample_fits, sample_needs, resident_needs}
 use Rattle.ghost_cli.proofs.SampleText.{sample_spells}
 
 -- ---- the text
@@ -152,32 +152,40 @@ text-starved n few text is said refuses =
       | inr why ↦ absurd (source-starved n few why.1 why.0 why.2 why.3)
     ]
 
-no-room_fault : (n : ℕ) → n ≤ 65536 → (e : CompileError) (shown : SourceFault) → ExplainsRoom e (sample_program n) 9
-    → room_fault e ≡ Some shown → ⊥
-no-room_fault n few (room.TooManyScalars Public) shown many is =
+no-room_fault : (fast : Bool) (n : ℕ) → n ≤ 65536 → (e : CompileError) (shown : SourceFault)
+    → LacksRoom fast e (sample_program n) 9 → room_fault e ≡ Some shown → ⊥
+no-room_fault false n few (room.TooManyScalars Public) shown many is =
     let fits = (sample_fits n few).scalars.public in omega (arith, many, fits)
-no-room_fault n few (room.TooManyScalars Secret) shown many is =
+no-room_fault false n few (room.TooManyScalars Secret) shown many is =
     let fits = (sample_fits n few).scalars.secret in omega (arith, many.1, fits)
-no-room_fault n few (room.BankFull bank) shown full is =
+no-room_fault false n few (room.BankFull bank) shown full is =
     let needs = sample_needs n bank few in omega (arith, full.1.full, needs)
-no-room_fault n few room.Memory shown none is =
+no-room_fault false n few room.Memory shown none is =
+    absurd (let f : ◌≡◌ {A = Option SourceFault} None (Some shown) = is in cc)
+no-room_fault true n few (room.TooManyScalars Public) shown many is =
+    let fits = (sample_fits n few).scalars.public in omega (arith, many, fits)
+no-room_fault true n few (room.TooManyScalars Secret) shown many is =
+    let fits = (sample_fits n few).scalars.secret in omega (arith, many.1, fits)
+no-room_fault true n few (room.BankFull bank) shown full is =
+    let needs = resident_needs n bank few in omega (arith, full.1.full, needs)
+no-room_fault true n few room.Memory shown none is =
     absurd (let f : ◌≡◌ {A = Option SourceFault} None (Some shown) = is in cc)
 
-object-starved : (n : ℕ) → n ≤ 65536 → (verdict : Verdict) (answer : Result (List ℕ) SourceFault)
-    → IsRight (WhichCompiled (sample_program n) sample_target) answer
+object-starved : (fast : Bool) (n : ℕ) → n ≤ 65536 → (verdict : Verdict) (answer : Result (List ℕ) SourceFault)
+    → IsRight (WhichCompiled (sample_program n) (sample_target fast)) answer
     → on_compiled [] answer ≡ Ends nothing_seen verdict → ⊥
-object-starved n few verdict (Ok bytes) right ends =
+object-starved fast n few verdict (Ok bytes) right ends =
     absurd (let f : ◌≡◌ {A = Work} (Writes [] bytes Compiled) (Ends nothing_seen verdict) = ends in cc)
-object-starved n few verdict (Err shown) why ends = no-room_fault n few why.0 shown why.1 why.2
+object-starved fast n few verdict (Err shown) why ends = no-room_fault fast n few why.0 shown why.1 why.2
 
 -- so is its compilation
-pub compile-starved : (n : ℕ) → n ≤ 65536 → (p : Source) → SpellsTyped false (sample_text n) p → (said : Said)
-    → ((output : List ℕ) → EndsWorkWith (WhichCompiled p sample_target) (on_compiled output) said) → said ≡ no_memory
-compile-starved n few p spells said refuses =
-    elim (subst (λ (q : Source). EndsWorkWith (WhichCompiled q sample_target) (on_compiled []) said)
+pub compile-starved : (fast : Bool) (n : ℕ) → n ≤ 65536 → (p : Source) → SpellsTyped false (sample_text n) p → (said : Said)
+    → ((output : List ℕ) → EndsWorkWith (WhichCompiled p (sample_target fast)) (on_compiled output) said) → said ≡ no_memory
+compile-starved fast n few p spells said refuses =
+    elim (subst (λ (q : Source). EndsWorkWith (WhichCompiled q (sample_target fast)) (on_compiled []) said)
     (is-sample n (omega (arith, few)) p spells) (refuses [])) [
       | inl starved ↦ starved
-      | inr why ↦ absurd (object-starved n few why.1 why.0 why.2 why.3)
+      | inr why ↦ absurd (object-starved fast n few why.1 why.0 why.2 why.3)
     ]
 
 -- the object of a compiled program is the one that is spelled, and so accepted

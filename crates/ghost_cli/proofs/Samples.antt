@@ -1,5 +1,5 @@
 -- From what is made of a sample to what is said.
-use Rattle.std.proofs.Common.{◌≡◌, ℕ, ℤ, ◌<◌, List, [], ◌∷◌, Some, None, Result, IfOk, length, refl, sym, ◌∙◌, subst, arith}
+use Rattle.std.proofs.Common.{◌≡◌, Bool, ℕ, ℤ, ◌<◌, List, [], ◌∷◌, Some, None, Result, IfOk, length, refl, sym, ◌∙◌, subst, arith}
 use Rattle.gr_outside.specs.Shelf.{ShelfSeen}
 use Rattle.gr_outside.specs.Sink.{SinkSeen}
 use Rattle.gr_word.specs.Fitting.{AreWords, FitsWants, words_at}
@@ -10,7 +10,7 @@ use Rattle.object_file.specs.Spelling.{spelling}
 use Rattle.src_tree.specs.Meaning.{Store, meaning}
 use Rattle.src_tree.specs.Trees.{Source}
 use Rattle.flow_types.specs.Wants.{declared_wants}
-use Rattle.bank_alloc.specs.Layout.{HasLayout}
+use Rattle.bank_alloc.specs.Layout.{IsLaidOut}
 use Rattle.code_gen.specs.Implements.{by_name}
 use Rattle.ghost_cli.specs.declared.replies.Done.TheVariants.{Sampled}
 use Rattle.ghost_cli.specs.declared.replies.Figures.{Figures}
@@ -18,8 +18,8 @@ use Rattle.ghost_cli.specs.declared.replies.Reply.{Reply}
 use Rattle.ghost_cli.specs.declared.replies.Verdict.TheVariants.{Spent}
 use Rattle.ghost_cli.specs.declared.sample.CountedRun.{CountedRun}
 use Rattle.ghost_cli.specs.declared.sample.SampleFile.{SampleFile}
-use Rattle.ghost_cli.specs.Compiled.{IsCompiledTo}
-use Rattle.ghost_cli.specs.Histogram.{Made, IsMade, figures_of, sample_target, sample_cycles, sample_inputs, sample_store, sample_trace, sample_words, sum_left}
+use Rattle.ghost_cli.specs.Compiled.{IsCompiledTo, plan_for}
+use Rattle.ghost_cli.specs.Histogram.{Made, IsMade, figures_of, sample_profile, sample_target, sample_cycles, sample_inputs, sample_store, sample_trace, sample_words, sum_left}
 use Rattle.ghost_cli.specs.Outside.{outside, LeftBy, Explains}
 use Rattle.ghost_cli.specs.Progress.{HasLeft, Stops}
 use Rattle.ghost_cli.specs.Questions.{WhatIsMade, WhenItHalts}
@@ -30,10 +30,11 @@ use Rattle.ghost_cli.specs.Texts.{comes_to}
 use Rattle.ghost_cli.specs.Work.{Work, IsWritten}
 use Rattle.ghost_cli.proofs.Answering.{written-said}
 use Rattle.ghost_cli.proofs.CompiledRuns.{compiled-runs}
+use Rattle.ghost_cli.proofs.OnTarget.{target-sound}
 use Rattle.ghost_cli.proofs.Progressing.{ends-at, leads-on}
 use Rattle.ghost_cli.proofs.SampleInputs.{sample-fit}
 use Rattle.ghost_cli.proofs.SampleMade.{compiled-object}
-use Rattle.code_gen.proofs.WantedInputs.{inputs-wanted}
+use Rattle.code_gen.proofs.WantedInputs.{planned-inputs_wanted}
 
 -- ---- what is made
 
@@ -42,44 +43,44 @@ abbrev pub made_of : Source → List ℕ → Parts → Made
 made_of p bytes o = record { program = p; bytes = bytes; object = o }
 
 -- what was made is the sample
-pub ready-made : (n : ℕ) (p : Source) (o : Parts) (bytes : List ℕ)
-    → SampleIsReady n p o → bytes ≡ spelling o → IsMade n (made_of p bytes o)
-ready-made n p o bytes ready is = record {
+pub ready-made : (fast : Bool) (n : ℕ) (p : Source) (o : Parts) (bytes : List ℕ)
+    → SampleIsReady fast n p o → bytes ≡ spelling o → IsMade fast n (made_of p bytes o)
+ready-made fast n p o bytes ready is = record {
   spells = ready.spells;
-  compiled = subst (IsCompiledTo p sample_target) (sym is) ready.compiled;
+  compiled = subst (IsCompiledTo p (sample_target fast)) (sym is) ready.compiled;
   object = record { in_range = ready.in_range; spelled = is };
 }
 
 -- the program is done where the run of its object halts
-pub ready-done : (n : ℕ) (p : Source) (o : Parts) (at : ℕ) → SampleIsReady n p o → HaltsAt (sample_trace o) at
+pub ready-done : (fast : Bool) (n : ℕ) (p : Source) (o : Parts) (at : ℕ) → SampleIsReady fast n p o → HaltsAt (sample_trace o) at
     → (left : Store) × (meaning p (sample_store p) sample_cycles ≡ Some left)
-ready-done n p o at ready halts =
-    let is = compiled-object p sample_target o ready.in_range ready.compiled in
-    let layout : HasLayout p sample_target.profile.block_log o =
-    subst (HasLayout p sample_target.profile.block_log) is ready.compiled.layout in
+ready-done fast n p o at ready halts =
+    let is = compiled-object p (sample_target fast) o ready.in_range ready.compiled in
+    let plan = plan_for fast p sample_profile.block_log in
     let inputs : by_name p o (sample_store p) ≡ sample_inputs (wants_of o) =
-    inputs-wanted p sample_target.profile.block_log ready.spells.typed.once ready.spells.within ready.compiled.room o layout
-    sample_words in
+    planned-inputs_wanted p sample_profile.block_log plan ready.spells.typed.once ready.spells.within
+    (target-sound p (sample_target fast) (spelling o) ready.spells.within ready.compiled) o
+    (subst (IsLaidOut p sample_profile.block_log plan.places plan.blocks) is ready.compiled.layout) sample_words in
     let runs =
-    compiled-runs p sample_target (spelling o) o ready.spells.typed ready.spells.within ready.compiled
+    compiled-runs p (sample_target fast) (spelling o) o ready.spells.typed ready.spells.within ready.compiled
     (record { in_range = ready.in_range; spelled = refl }) in
     let done = runs.leaves (sample_store p) sample_cycles (sample-fit (declared_wants p.decls))
     (at, subst (λ (i : List (List ℤ)). HaltsAt (trace o i sample_cycles) at) (sym inputs) halts) in
     (done.0, done.1)
 
 -- the figures of a run that halted
-pub file-made : (n : ℕ) (p : Source) (o : Parts) (bytes : List ℕ) (run : CountedRun) (file : SampleFile)
-    → SampleIsReady n p o → bytes ≡ spelling o → RanSo o run → file.bytes.items ≡ bytes → file.figures ≡ record {
+pub file-made : (fast : Bool) (n : ℕ) (p : Source) (o : Parts) (bytes : List ℕ) (run : CountedRun) (file : SampleFile)
+    → SampleIsReady fast n p o → bytes ≡ spelling o → RanSo o run → file.bytes.items ≡ bytes → file.figures ≡ record {
       items = n;
       cycles = run.cycles;
       ram = run.counts.ram;
       eram = run.counts.eram;
       oram2 = run.counts.oram2;
       sum = sum_left p (meaning p (sample_store p) sample_cycles);
-    } → IsFileOf n file
-file-made n p o bytes run file ready is ran spelled figured = record {
+    } → IsFileOf fast n file
+file-made fast n p o bytes run file ready is ran spelled figured = record {
   made = made_of p bytes o;
-  is = ready-made n p o bytes ready is;
+  is = ready-made fast n p o bytes ready is;
   spelled = spelled;
   at = run.cycles;
   halts = ran.halts;
@@ -108,33 +109,33 @@ counts-listed n (i ∷ a ∷ c ∷ values) fits = (omega arith, fits.2.2.0, fits
 from-first : (shelf : ShelfSeen) (work : Work) → HasLeft shelf work work
 from-first shelf work now ending comes = comes
 
-leads-run : (shelf : ShelfSeen) (n : ℕ) (output : List ℕ) (made : Made)
-    → IsMade n made → HasLeft shelf (sample_work n output) (samples_on n output made)
-leads-run shelf n output made is =
-    leads-on shelf (sample_work n output) (WhatIsMade n) (samples_on n output) made
-    (from-first shelf (sample_work n output)) is
+leads-run : (fast : Bool) (shelf : ShelfSeen) (n : ℕ) (output : List ℕ) (made : Made)
+    → IsMade fast n made → HasLeft shelf (sample_work fast n output) (samples_on n output made)
+leads-run fast shelf n output made is =
+    leads-on shelf (sample_work fast n output) (WhatIsMade fast n) (samples_on n output) made
+    (from-first shelf (sample_work fast n output)) is
 
 -- what is said of the sample
-pub sampled-said : (shelf now : ShelfSeen) (before after : SinkSeen) (result : Result ℕ Reply) (n : ℕ)
-    (output slice : List ℕ) (file : SampleFile) → IsFileOf n file → slice ≡ file.bytes.items
+pub sampled-said : (fast : Bool) (shelf now : ShelfSeen) (before after : SinkSeen) (result : Result ℕ Reply) (n : ℕ)
+    (output slice : List ℕ) (file : SampleFile) → IsFileOf fast n file → slice ≡ file.bytes.items
     → IfOk result (λ status.
     LeftBy (outside shelf before) (outside now after) status (IsWritten output slice (Sampled file.figures)))
-    → IfOk result (λ status. Explains (outside shelf before) (outside now after) status (Some (sample_work n output)))
-sampled-said shelf now before after result n output slice file came is left =
-    written-said shelf shelf now before after result (sample_work n output) output came.made.bytes slice
+    → IfOk result (λ status. Explains (outside shelf before) (outside now after) status (Some (sample_work fast n output)))
+sampled-said fast shelf now before after result n output slice file came is left =
+    written-said shelf shelf now before after result (sample_work fast n output) output came.made.bytes slice
     (Sampled (figures_of n came.made came.at))
-    (leads-on shelf (sample_work n output)
+    (leads-on shelf (sample_work fast n output)
     (WhenItHalts came.made.object (sample_inputs (wants_of came.made.object)) sample_cycles)
     (on_sampled n output came.made) (Some came.at)
-    (leads-run shelf n output came.made came.is) came.halts) refl (is ∙ came.spelled)
+    (leads-run fast shelf n output came.made came.is) came.halts) refl (is ∙ came.spelled)
     (subst (λ (f : Figures). IfOk result (λ status.
     LeftBy (outside shelf before) (outside now after) status (IsWritten output slice (Sampled f)))) came.figured left)
 
 -- a sample whose run was spent
-pub sample-spent : (shelf : ShelfSeen) (n : ℕ) (output : List ℕ)
-    → SampleIsSpent n → Stops shelf shelf (sample_work n output) (comes_to (Spent sample_cycles))
-sample-spent shelf n output spent =
-    ends-at shelf shelf (sample_work n output) (Spent sample_cycles)
-    (leads-on shelf (sample_work n output) (WhenItHalts spent.0.object
+pub sample-spent : (fast : Bool) (shelf : ShelfSeen) (n : ℕ) (output : List ℕ)
+    → SampleIsSpent fast n → Stops shelf shelf (sample_work fast n output) (comes_to (Spent sample_cycles))
+sample-spent fast shelf n output spent =
+    ends-at shelf shelf (sample_work fast n output) (Spent sample_cycles)
+    (leads-on shelf (sample_work fast n output) (WhenItHalts spent.0.object
     (sample_inputs (wants_of spent.0.object)) sample_cycles) (on_sampled n output spent.0) None
-    (leads-run shelf n output spent.0 spent.1) spent.2) refl
+    (leads-run fast shelf n output spent.0 spent.1) spent.2) refl

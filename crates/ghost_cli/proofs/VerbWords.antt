@@ -445,7 +445,7 @@ compile-words words work texts = (
 
 sample-asks : (words : List Text) (parts : List Part) (t u : Text) → SaysRow sample_row words parts
     → names_in parts ≡ t ∷ u ∷ [] → sample_row.asks (found_by sample_row parts)
-    ≡ option_and_then (λ n. option_map (λ s. sample_work n u) (seed_given (value_in (codes "seed") parts)))
+    ≡ option_and_then (λ n. option_map (λ s. sample_work (has_flag (codes "fast") parts) n u) (seed_given (value_in (codes "seed") parts)))
     (items_given t)
 sample-asks words parts t u says are =
     let rows = found_by sample_row parts in
@@ -453,7 +453,10 @@ sample-asks words parts t u says are =
     let first : first_of (codes "N") rows ≡ Some t = name (codes "N") (inl refl) in
     let second : first_of (codes "OUT") rows ≡ Some u = name (codes "OUT") (inr (inl refl)) in
     let seed = value-of sample_row sample-verb words parts says (codes "seed") (inl refl) in
-    λ k. sample_named (first k) (second k) (seed k)
+    let fast = flag-of sample_row sample-verb words parts says (codes "fast") (inl refl) in
+    (λ k. sample_named (first k) (second k) (seed k) (first_of (codes "fast") rows))
+    ∙ (λ k. option_and_then (λ n. option_map (λ s. sample_work (fast k) n u) (seed_given (value_in (codes "seed") parts)))
+    (items_given t))
 
 sample-words : AskExactly (codes "sample") AsksToSample
 unfolding verb_named asked_for
@@ -462,7 +465,7 @@ sample-words words work texts = (
       let found = asked-row sample_row sample-verb words work texts asked in
       let two = two-names (names_in found.0) (codes "N") (codes "OUT") found.1.names in
       let given =
-      two-given (λ n s. sample_work n two.1) work (items_given two.0) (seed_given (value_in (codes "seed") found.0))
+      two-given (λ n s. sample_work (has_flag (codes "fast") found.0) n two.1) work (items_given two.0) (seed_given (value_in (codes "seed") found.0))
       (sym (sample-asks words found.0 two.0 two.1 found.1 two.2) ∙ found.2) in
       record {
         number = two.0;
@@ -479,7 +482,7 @@ sample-words words work texts = (
       let says = says-all sample_row words (asks.number ∷ asks.output ∷ []) asks.parts asks.says tt in
       row-asked sample_row sample-verb words asks.parts says
       ∙ sample-asks words asks.parts asks.number asks.output says asks.says.are
-      ∙ (λ k. option_and_then (λ n. option_map (λ s. sample_work n asks.output) (asks.seed_is k)) (asks.items_are k))
+      ∙ (λ k. option_and_then (λ n. option_map (λ s. sample_work (has_flag (codes "fast") asks.parts) n asks.output) (asks.seed_is k)) (asks.items_are k))
       ∙ ap Some (sym asks.is)),
 )
 

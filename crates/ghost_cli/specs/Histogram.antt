@@ -1,7 +1,7 @@
 -- What `sample` compiles and runs: the source text of a program that counts how often each remainder by 16 stands among
 -- N numbers, and its input. (The histogram of GhostRider, ASPLOS 2015. The text is this project's profile. So are the
 -- numbers, a linear congruential sequence with the constants of the example of `rand` in ISO C.)
-use Rattle.std.specs.Prelude.{false, ℕ, suc, zero, ◌+◌, ◌*◌, ◌%◌, ◌^◌, ℤ, pos, ◌+ℤ◌, if◌then◌else◌, List, ◌++◌, map, replicate, fold, codes, decimal, bytes_eq, Option, Some, None}
+use Rattle.std.specs.Prelude.{Bool, false, ℕ, suc, zero, ◌+◌, ◌*◌, ◌%◌, ◌^◌, ℤ, pos, ◌+ℤ◌, if◌then◌else◌, List, ◌++◌, map, replicate, fold, codes, decimal, bytes_eq, Option, Some, None}
 use Rattle.std.specs.List.{range_with_len}
 use Rattle.gr_word.specs.declared.variables.Want.{Want}
 use Rattle.lt_isa.specs.declared.profiles.Profile.{Profile}
@@ -29,8 +29,8 @@ sample_text n =
 abbrev pub sample_profile : Profile
 sample_profile = usual_profile 9
 
-abbrev pub sample_target : Target
-sample_target = record { profile = sample_profile; fast = false }
+abbrev pub sample_target : Bool → Target
+sample_target fast = record { profile = sample_profile; fast = fast }
 
 -- the numbers: x(0) is 1, and each makes the next
 abbrev pub next_number : ℕ → ℕ
@@ -71,9 +71,9 @@ pub record Made : Type 0 where
   pub bytes : List ℕ
   pub object : Parts
 
-pub record IsMade (n : ℕ) (made : Made) : Type 0 where
+pub record IsMade (fast : Bool) (n : ℕ) (made : Made) : Type 0 where
   pub spells : SpellsTyped false (sample_text n) made.program
-  pub compiled : IsCompiledTo made.program sample_target made.bytes
+  pub compiled : IsCompiledTo made.program (sample_target fast) made.bytes
   pub object : SpellsObject made.bytes made.object
 
 -- the sum of some words

@@ -226,11 +226,11 @@ pub record CallLaws (asked : Option Work) (before after : Outside) (status : ℕ
       × IsInferredFile files afterwards object output
   -- A sample is done or spent, or a put, a write or memory failed. One that is done leaves the object file of its
   -- program.
-  pub sampled : (items : ℕ) (output : List ℕ) → asked ≡ Some (sample_work items output)
+  pub sampled : (fast : Bool) (items : ℕ) (output : List ℕ) → asked ≡ Some (sample_work fast items output)
       → IsDone status ⊎ (status ≡ 4) ⊎ (status ≡ 5)
-  pub sample : (items : ℕ) (output : List ℕ) → asked ≡ Some (sample_work items output) → status ≡ 0
+  pub sample : (fast : Bool) (items : ℕ) (output : List ℕ) → asked ≡ Some (sample_work fast items output) → status ≡ 0
       → (files : Files) → before.shelf.files ≡ Some files → (afterwards : Files) × (after.shelf.files ≡ Some afterwards)
-      × IsWrittenFor false files afterwards (sample_text items) output sample_target
+      × IsWrittenFor false files afterwards (sample_text items) output (sample_target fast)
 
 -- so it is for all work
 abbrev pub PromisesFollow : Type 0

@@ -45,7 +45,7 @@ pub data Question : Type 0 where
   WhatIsShown : (recursive : Bool) (o : Parts) (inputs : List (List ℤ)) (cycles seed : ℕ) → Question
   WhatIsLeft : (p : Source) (inputs : List (List ℤ)) (turns : ℕ) → Question
   WhichCompiled : (p : Source) (target : Target) → Question
-  WhatIsMade : (items : ℕ) → Question
+  WhatIsMade : (fast : Bool) (items : ℕ) → Question
   WhatIsInferred : (o : Parts) → Question
 
 -- an object, a program or inputs, or the first fault; the first refusal, if there is one; the cycle of the halt, if
@@ -63,7 +63,7 @@ Answer (WhatIsJoined objects inputs cycles) = List Transfer
 Answer (WhatIsShown recursive o inputs cycles seed) = Seen
 Answer (WhatIsLeft p inputs turns) = Option (List (List ℤ))
 Answer (WhichCompiled p target) = Result (List ℕ) SourceFault
-Answer (WhatIsMade items) = Made
+Answer (WhatIsMade fast items) = Made
 Answer (WhatIsInferred o) = Result Parts InferError
 
 -- the fault as it is shown, its name as JSON text
@@ -95,5 +95,5 @@ IsRight (WhatIsShown false o inputs cycles seed) answer = IsShown o inputs cycle
 IsRight (WhatIsShown true o inputs cycles seed) answer = IsShownInTrees o inputs cycles seed answer
 IsRight (WhatIsLeft p inputs turns) answer = meaning p inputs turns ≡ answer
 IsRight (WhichCompiled p target) answer = IsCompiled p target answer
-IsRight (WhatIsMade items) answer = IsMade items answer
+IsRight (WhatIsMade fast items) answer = IsMade fast items answer
 IsRight (WhatIsInferred o) answer = MatchResult answer (GetsNotes o) (GetsNone o)

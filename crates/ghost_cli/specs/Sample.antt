@@ -1,5 +1,5 @@
--- The verb `sample N OUT [--seed s]`.
-use Rattle.std.specs.Prelude.{ℕ, List, [], ◌∷◌, codes, Option, Some, None, option_and_then}
+-- The verb `sample N OUT [--fast] [--seed s]`.
+use Rattle.std.specs.Prelude.{ℕ, Bool, List, [], ◌∷◌, codes, Option, Some, None, option_and_then}
 use Rattle.std.specs.Option.{option_map}
 use Rattle.clap.specs.Words.{first_of}
 use Rattle.lt_isa.specs.Start.{wants_of}
@@ -9,7 +9,7 @@ use Rattle.ghost_cli.specs.Histogram.{Made, sample_cycles, sample_inputs, figure
 use Rattle.ghost_cli.specs.Questions.{WhatIsMade, WhenItHalts}
 use Rattle.ghost_cli.specs.Showing.{nothing_seen}
 use Rattle.ghost_cli.specs.Work.{Work, Ends, Writes, Asks}
-use Rattle.ghost_cli.specs.Options.{items_given, seed_given}
+use Rattle.ghost_cli.specs.Options.{flag_given, items_given, seed_given}
 use Rattle.ghost_cli.specs.declared.verbs.Argument.TheVariants.{Word}
 use Rattle.ghost_cli.specs.VerbRows.{VerbRow}
 
@@ -23,16 +23,16 @@ abbrev pub samples_on : ℕ → List ℕ → Made → Work
 samples_on n output made =
     Asks (WhenItHalts made.object (sample_inputs (wants_of made.object)) sample_cycles) (on_sampled n output made)
 
-abbrev pub sample_work : ℕ → List ℕ → Work
-sample_work n output = Asks (WhatIsMade n) (samples_on n output)
+abbrev pub sample_work : Bool → ℕ → List ℕ → Work
+sample_work fast n output = Asks (WhatIsMade fast n) (samples_on n output)
 
 -- The work for so many items and this name, with the seed that an option gives. Whatever the seed is, the work is the
 -- same.
-abbrev pub sample_named : Option (List ℕ) → Option (List ℕ) → Option (List ℕ) → Option Work
-sample_named items output seed =
+abbrev pub sample_named : (items output seed fast : Option (List ℕ)) → Option Work
+sample_named items output seed fast =
     option_and_then (λ text. option_and_then
-    (λ out. option_and_then (λ n. option_map (λ s. sample_work n out) (seed_given seed)) (items_given text)) output)
-    items
+    (λ out. option_and_then (λ n. option_map (λ s. sample_work (flag_given fast) n out) (seed_given seed))
+    (items_given text)) output) items
 
 abbrev pub sample_row : VerbRow
 sample_row = record {
@@ -40,7 +40,8 @@ sample_row = record {
   place = Word;
   places = codes "N" ∷ codes "OUT" ∷ [];
   options = codes "seed" ∷ [];
-  flags = [];
+  flags = codes "fast" ∷ [];
   asks = λ rows.
-      sample_named (first_of (codes "N") rows) (first_of (codes "OUT") rows) (first_of (codes "seed") rows);
+      sample_named (first_of (codes "N") rows) (first_of (codes "OUT") rows) (first_of (codes "seed") rows)
+      (first_of (codes "fast") rows);
 }

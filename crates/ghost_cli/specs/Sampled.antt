@@ -1,5 +1,5 @@
 -- How far the code has come with a sample. (Only contracts of private functions and proofs say so.)
-use Rattle.std.specs.Prelude.{◌≡◌, false, ℕ, Option, Some, None}
+use Rattle.std.specs.Prelude.{◌≡◌, Bool, false, ℕ, Option, Some, None}
 use Rattle.lt_isa.specs.Object.{Parts}
 use Rattle.lt_isa.specs.Ranges.{IsInRange}
 use Rattle.lt_isa.specs.Trace.{HaltsAt}
@@ -14,10 +14,10 @@ use Rattle.ghost_cli.specs.declared.sample.CountedRun.{CountedRun}
 use Rattle.ghost_cli.specs.declared.sample.SampleFile.{SampleFile}
 
 -- a program and its object, which are ready to be run
-pub record SampleIsReady (n : ℕ) (p : Source) (o : Parts) : Type 0 where
+pub record SampleIsReady (fast : Bool) (n : ℕ) (p : Source) (o : Parts) : Type 0 where
   pub spells : SpellsTyped false (sample_text n) p
   pub in_range : IsInRange o
-  pub compiled : IsCompiledTo p sample_target (spelling o)
+  pub compiled : IsCompiledTo p (sample_target fast) (spelling o)
 
 -- the run halted at a cycle and showed so many accesses
 pub record RanSo (o : Parts) (run : CountedRun) : Type 0 where
@@ -32,18 +32,18 @@ RanCounted o (Some run) = RanSo o run
 RanCounted o None = NoHalt (sample_trace o)
 
 -- the file and the figures of something that was made, whose run halted
-pub record IsFileOf (n : ℕ) (file : SampleFile) : Type 0 where
+pub record IsFileOf (fast : Bool) (n : ℕ) (file : SampleFile) : Type 0 where
   pub made : Made
-  pub is : IsMade n made
+  pub is : IsMade fast n made
   pub spelled : file.bytes.items ≡ made.bytes
   pub at : ℕ
   pub halts : HaltsAt (sample_trace made.object) at
   pub figured : file.figures ≡ figures_of n made at
 
 -- its cycles were spent
-abbrev pub SampleIsSpent : ℕ → Type 0
-SampleIsSpent n = (made : Made) × IsMade n made × NoHalt (sample_trace made.object)
+abbrev pub SampleIsSpent : Bool → ℕ → Type 0
+SampleIsSpent fast n = (made : Made) × IsMade fast n made × NoHalt (sample_trace made.object)
 
-abbrev pub SampleCameTo : ℕ → Option SampleFile → Type 0
-SampleCameTo n (Some file) = IsFileOf n file
-SampleCameTo n None = SampleIsSpent n
+abbrev pub SampleCameTo : Bool → ℕ → Option SampleFile → Type 0
+SampleCameTo fast n (Some file) = IsFileOf fast n file
+SampleCameTo fast n None = SampleIsSpent fast n

@@ -37,7 +37,7 @@ flags_of Assemble = []
 flags_of Disassemble = []
 flags_of Evaluate = codes "procs" ∷ []
 flags_of Compile = codes "procs" ∷ codes "fast" ∷ []
-flags_of Sample = []
+flags_of Sample = codes "fast" ∷ []
 flags_of Bus = []
 flags_of Infer = []
 

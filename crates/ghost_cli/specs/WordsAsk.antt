@@ -84,10 +84,10 @@ pub record AsksToSample (words : List Text) (work : Work) : Type 0 where
   pub parts : List Part
   pub items : ℕ
   pub seed : ℕ
-  pub says : Says (codes "seed" ∷ []) [] words (number ∷ output ∷ []) parts
+  pub says : Says (codes "seed" ∷ []) (codes "fast" ∷ []) words (number ∷ output ∷ []) parts
   pub items_are : items_given number ≡ Some items
   pub seed_is : seed_given (value_in (codes "seed") parts) ≡ Some seed
-  pub is : work ≡ sample_work items output
+  pub is : work ≡ sample_work (has_flag (codes "fast") parts) items output
 
 -- its names stand together, and are one pair or more
 pub record AsksForBus (words : List Text) (work : Work) : Type 0 where

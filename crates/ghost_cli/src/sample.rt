@@ -19,7 +19,7 @@ use crate::histogram::{
     SAMPLE_BLOCK_LOG, SAMPLE_CYCLES, sample_inputs, sample_program, sum_of_counts,
 };
 use crate::oblivious::{SeededOram, load_seeded};
-use crate::options::{items_given, seed_given, value};
+use crate::options::{flag_given, items_given, seed_given, value};
 use crate::reading::checked;
 use crate::replies::{Done, Figures, Reply, Verdict};
 use crate::targets::Target;
@@ -42,18 +42,20 @@ pub const WORDS: VerbWords<'static> = VerbWords {
     place: Argument::Word,
     places: &["N", "OUT"],
     options: &["seed"],
-    flags: &[],
+    flags: &["fast"],
 };
 
-/// The number of items of a sample, the name of the file that is written, and the seed of the run's random words.
+/// The number of items of a sample, the name of the file that is written, the seed of the run's random words, and whether
+/// arrays that fit stay in the scratchpad.
 #[derive(Clone, Copy)]
 pub struct SampleWords<'a> {
     items: u32,
     output: &'a str,
     seed: u64,
+    fast: bool,
 }
 
-/// The verb `sample N OUT [--seed s]`: compiles, checks and runs a program that counts remainders among N numbers,
+/// The verb `sample N OUT [--fast] [--seed s]`: compiles, checks and runs a program that counts remainders among N numbers,
 /// writes its object file, and puts how many accesses the run made. `Err` where nothing was put yet: the reply is to be
 /// said.
 pub fn sample<'a, F: Shelf, O: Sink>(
@@ -72,6 +74,7 @@ pub fn sample<'a, F: Shelf, O: Sink>(
         value(matches, "N"),
         value(matches, "OUT"),
         value(matches, "seed"),
+        value(matches, "fast"),
     ) else {
         return Err(Reply::Usage);
     };
@@ -82,16 +85,18 @@ fn words_in<'a>(
     items: Option<&'a str>,
     output: Option<&'a str>,
     seed: Option<&'a str>,
+    fast: Option<&'a str>,
 ) -> Option<SampleWords<'a>>
-    ensures asked { option_map (λ a. sample_work a.items a.output.now) result
+    ensures asked { option_map (λ a. sample_work a.fast a.items a.output.now) result
         ≡ sample_named (option_map (λ t. t.now) items.entry) (option_map (λ t. t.now) output.entry)
-        (option_map (λ t. t.now) seed.entry) }
+        (option_map (λ t. t.now) seed.entry) (option_map (λ t. t.now) fast.entry) }
     ensures within { IfSome result (λ a. Within 1 65536 a.items) }
 {
     Some(SampleWords {
         items: items_given(items?)?,
         output: output?,
         seed: seed_given(seed)?,
+        fast: flag_given(fast),
     })
 }
 
@@ -104,12 +109,12 @@ fn sample_file<'a, F: Shelf, O: Sink>(
     requires { Within 1 65536 asked.items }
     ensures done { IfOk result (λ status. Explains (outside (F.seen shelf.old) (O.seen out.old))
         (outside (F.seen shelf.new) (O.seen out.new)) status
-        (Some (sample_work asked.entry.items asked.entry.output.now))) }
+        (Some (sample_work asked.entry.fast asked.entry.items asked.entry.output.now))) }
     ensures stopped { IfErr result (λ reply. LeavesToSay (F.seen shelf.old) (F.seen shelf.new)
-        (Some (sample_work asked.entry.items asked.entry.output.now)) (said reply)) }
+        (Some (sample_work asked.entry.fast asked.entry.items asked.entry.output.now)) (said reply)) }
     ensures unput { OnErr result (O.seen out.new ≡ O.seen out.old) }
 {
-    match made(alloc, asked.items, asked.seed)? {
+    match made(alloc, asked.items, asked.seed, asked.fast)? {
         Some(file) => write_and_say(
             alloc,
             asked.output,
@@ -144,28 +149,33 @@ pub struct CountedRun {
 }
 
 /// Makes a sample of so many items, or none where its run is spent. Whatever the seed is, it comes to the same.
-fn made<'a>(alloc: Global, items: u32, seed: u64) -> Result<Option<SampleFile>, Reply<'a>>
+fn made<'a>(
+    alloc: Global,
+    items: u32,
+    seed: u64,
+    fast: bool,
+) -> Result<Option<SampleFile>, Reply<'a>>
     requires { Within 1 65536 items }
-    ensures done { IfOk result (SampleCameTo items) }
+    ensures done { IfOk result (SampleCameTo fast items) }
     ensures starved { IfErr result (λ reply. said reply ≡ no_memory) }
 {
-    let ready = ready(alloc, items)?;
+    let ready = ready(alloc, items, fast)?;
     let Some(run) = counted_run(alloc, &ready.accepted, seed)? else {
         return Ok(None);
     };
-    Ok(Some(sample_of_run(alloc, &ready, items, run)?))
+    Ok(Some(sample_of_run(alloc, &ready, items, fast, run)?))
 }
 
 /// Compiles the sample's program of so many items, and checks its object.
-fn ready<'a>(alloc: Global, items: u32) -> Result<ReadySample, Reply<'a>>
+fn ready<'a>(alloc: Global, items: u32, fast: bool) -> Result<ReadySample, Reply<'a>>
     requires { Within 1 65536 items }
-    ensures ready { IfOk result (λ ready. SampleIsReady items (source_of ready.program) ready.accepted) }
+    ensures ready { IfOk result (λ ready. SampleIsReady fast items (source_of ready.program) ready.accepted) }
     ensures starved { IfErr result (λ reply. said reply ≡ no_memory) }
 {
     let program = sample_program(alloc, items)?;
     let target = Target {
         profile: windowed(SAMPLE_BLOCK_LOG, ALWAYS_OPEN),
-        fast: false,
+        fast,
     };
     let object = object_of(alloc, &program, &target)?;
     let accepted = checked(alloc, object)?;
@@ -193,11 +203,12 @@ fn sample_of_run(
     alloc: Global,
     ready: &ReadySample,
     items: u32,
+    fast: bool,
     run: CountedRun,
 ) -> Result<SampleFile, Memory>
-    requires ready { SampleIsReady items (source_of ready.now.program) ready.now.accepted }
+    requires ready { SampleIsReady fast items (source_of ready.now.program) ready.now.accepted }
     requires halted { RanCounted ready.now.accepted (Some run) }
-    ensures { IfOk result (λ file. SampleCameTo items (Some file)) }
+    ensures { IfOk result (λ file. SampleCameTo fast items (Some file)) }
 {
     let sum = sum_meant(alloc, &ready.program)?;
     let bytes = encode(alloc, ready.accepted.object())?;

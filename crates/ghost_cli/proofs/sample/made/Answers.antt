@@ -11,6 +11,6 @@ returns-in_default-clause-done c =
     let o = c.in_ok-ready.ready.accepted in
     let p = source_of c.in_ok-ready.ready.program in (
       made_of p (spelling o) o,
-      ready-made c.args.items p o (spelling o) c.in_ok-ready.ensures.ready refl,
+      ready-made c.args.fast c.args.items p o (spelling o) c.in_ok-ready.ensures.ready refl,
       subst (λ (run : Option CountedRun). RanCounted o run) c.in_default.is c.in_ok-run.ensures,
     )

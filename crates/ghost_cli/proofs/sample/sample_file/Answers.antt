@@ -7,8 +7,8 @@ use Rattle.ghost_cli.proofs.sample.sample_file.Goals as goal
 
 pub returns-in-Some-clause-done : goal.returns-in-Some-clause-done
 returns-in-Some-clause-done g c =
-    let came = subst (SampleCameTo c.args.asked.items) c.in-Some.is c.in_ok-file.ensures.done in
-    sampled-said (g.F.Shelf.seen c.args.shelf.now) (g.F.Shelf.seen c.write_and_say.new.shelf)
+    let came = subst (SampleCameTo c.args.asked.fast c.args.asked.items) c.in-Some.is c.in_ok-file.ensures.done in
+    sampled-said c.args.asked.fast (g.F.Shelf.seen c.args.shelf.now) (g.F.Shelf.seen c.write_and_say.new.shelf)
     (g.O.Sink.seen c.args.out.now)
     (g.O.Sink.seen c.write_and_say.new.out) c.write_and_say.result c.args.asked.items c.args.asked.output.now _
     c.in-Some.file came c.deref.ensures.value c.write_and_say.ensures.left
@@ -22,5 +22,5 @@ returns-in-Some-clause-stopped g c =
 pub returns-in-None-clause-stopped : goal.returns-in-None-clause-stopped
 returns-in-None-clause-stopped g c =
     WorkStops _ refl
-    (sample-spent (g.F.Shelf.seen c.args.shelf.now) c.args.asked.items c.args.asked.output.now
-    (subst (SampleCameTo c.args.asked.items) c.in-None.is c.in_ok-file.ensures.done))
+    (sample-spent c.args.asked.fast (g.F.Shelf.seen c.args.shelf.now) c.args.asked.items c.args.asked.output.now
+    (subst (SampleCameTo c.args.asked.fast c.args.asked.items) c.in-None.is c.in_ok-file.ensures.done))

@@ -16,14 +16,14 @@ sum_meant-requires-clause-sample c = (
 
 pub sum_meant-requires-clause-done : goal.sum_meant-requires-clause-done
 sum_meant-requires-clause-done c =
-    ready-done c.args.items (source_of c.args.ready.now.program) c.args.ready.now.accepted c.args.run.cycles
+    ready-done c.args.fast c.args.items (source_of c.args.ready.now.program) c.args.ready.now.accepted c.args.run.cycles
     c.requires.ready c.requires.halted.halts
 
 pub returns : goal.returns
 returns c =
     let p = source_of c.args.ready.now.program in
     let kept : to_z w128 (of_z w128 c.in_ok-sum.sum) ≡ c.in_ok-sum.sum = search (rules, to_z-of_z) in
-    file-made c.args.items p c.args.ready.now.accepted c.in_ok-bytes.bytes.items c.args.run _ c.requires.ready
+    file-made c.args.fast c.args.items p c.args.ready.now.accepted c.in_ok-bytes.bytes.items c.args.run _ c.requires.ready
     (c.in_ok-bytes.ensures.spelled ∙ ap spelling c.object.ensures.object) c.requires.halted refl
     (ap (λ (sum : ℤ). record {
       items = c.args.items;
