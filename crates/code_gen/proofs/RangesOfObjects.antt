@@ -1,22 +1,20 @@
 -- An object with a program's layout, and with the program's code and notes, is in its ranges.
-use Rattle.std.proofs.Common.{◌≡◌, ℕ, ◌^◌, ◌≤◌, List, [], ◌∷◌, length, sym, ap, ◌∙◌, subst, arith}
+use Rattle.std.proofs.Common.{◌≡◌, ℕ, ◌^◌, ◌<◌, ◌≤◌, List, [], ◌∷◌, length, map, get_or, sym, ap, ◌∙◌, subst, arith}
 use Rattle.std.specs.Prelude.{All}
-use Rattle.std.proofs.lemmas.List.{length-map}
+use Rattle.std.proofs.lemmas.List.{get_or-map, length-map, length-take-le}
 use Rattle.std.proofs.lemmas.List.Sorted.{length_permutation}
 use Rattle.gr_base.specs.Lists.{Within, EachAfter}
+use Rattle.gr_base.proofs.EachAfter.{EachAfter-from_below}
 use Rattle.lt_isa.specs.declared.instructions.Instr.{Instr}
 use Rattle.lt_isa.specs.declared.profiles.BankSpec.{BankSpec}
 use Rattle.lt_isa.specs.declared.symbols.Note.{Note}
-use Rattle.lt_isa.specs.Limits.{most_latency, most_notes, most_instructions}
+use Rattle.lt_isa.specs.Limits.{most_blocks, most_latency, most_notes, most_instructions}
 use Rattle.lt_isa.specs.Object.{Parts}
-use Rattle.lt_isa.specs.Ranges.{ProfileFits, SymbolFits, InstrFits, NoteFits, next_place, IsInRange}
+use Rattle.lt_isa.specs.Ranges.{BankFits, ProfileFits, SymbolFits, InstrFits, NoteFits, next_place, IsInRange}
 use Rattle.src_tree.specs.declared.trees.Decl.{Decl}
 use Rattle.src_tree.specs.Trees.{source_of}
 use Rattle.bank_alloc.specs.declared.places.Place.{Place}
-use Rattle.bank_alloc.specs.Places.{places_of}
-use Rattle.bank_alloc.specs.Layout.{HasLayout, placed_symbols}
-use Rattle.bank_alloc.proofs.BankSizes.{bank_count-is, banks_fit}
-use Rattle.bank_alloc.proofs.Refusals.{bank_count-le}
+use Rattle.bank_alloc.specs.Layout.{IsLaidOut, placed_symbols}
 use Rattle.block_cache_gen.specs.declared.frames.Frame.{Frame}
 use Rattle.block_cache_gen.specs.Settings.{setting_of, IsFrame}
 use Rattle.block_cache_gen.specs.ProgramWords.{BlockHasWords}
@@ -24,7 +22,7 @@ use Rattle.block_cache_gen.proofs.HomesOfFrames.{homes_fit, first_fits, frame_ba
 use Rattle.block_cache_gen.proofs.RangesOfCode.{HomesFit}
 use Rattle.code_gen.specs.Emitted.{padding_of}
 use Rattle.code_gen.specs.Programs.{program_code, program_notes}
-use Rattle.code_gen.proofs.RangesOfPrograms.{program-size, program-fits, notes-fit, notes-few, notes-inside}
+use Rattle.code_gen.proofs.RangesOfPrograms.{PinsInEight, program-size, program-fits, notes-fit, notes-few, notes-inside}
 
 -- as many symbols as variables
 symbols_short : (ds : List Decl) (places : List Place) → length (placed_symbols ds places) ≤ length ds
@@ -32,10 +30,26 @@ symbols_short [] places = omega arith
 symbols_short (d ∷ ds) [] = omega arith
 symbols_short (d ∷ ds) (q ∷ places) = omega (arith, symbols_short ds places)
 
+-- banks in their ranges, by the number of blocks of each
+banks-fit : (blocks : List ℕ) (banks : List BankSpec)
+    → ((b : ℕ) → b < length blocks → Within 1 (most_blocks b) (get_or blocks b 0))
+    → map (λ b. b.blocks) banks ≡ blocks → All (λ b. Within 1 most_latency b.latency) banks → EachAfter BankFits [] banks
+banks-fit blocks banks fit is latencies = EachAfter-from_below BankFits banks (λ k e within.
+    let there : k < length blocks =
+    omega (arith, within, length-map banks (λ (b : BankSpec). b.blocks), ap length is) in
+    let same : get_or blocks k 0 ≡ (get_or banks k e).blocks =
+    ap (λ (l : List ℕ). get_or l k 0) (sym is) ∙ get_or-map (λ (b : BankSpec). b.blocks) banks k e 0 within in
+    record {
+      blocks = subst (λ n. Within 1 (most_blocks n) (get_or banks k e).blocks)
+          (sym (length-take-le k banks (omega (arith, within))))
+          (subst (Within 1 (most_blocks k)) same (fit k there));
+      latency = latencies k e within;
+    })
+
 -- The frame that the code was made for; symbols and latencies in their ranges; and numbers that are words, as those of
 -- every program are.
 pub frame-in_range : (f : Frame) → IsFrame f → (o : Parts) → o.profile ≡ f.profile.now
-    → HasLayout (source_of f.program.now) f.profile.now.block_log o
+    → IsLaidOut (source_of f.program.now) f.profile.now.block_log f.places.now.of_var.items f.places.now.blocks.items o
     → EachAfter (SymbolFits (2 ^ f.profile.now.block_log) o.banks) [] o.symbols
     → All (λ b. Within 1 most_latency b.latency) o.banks → BlockHasWords (source_of f.program.now).body
     → o.code ≡ program_code (setting_of f) (padding_of (setting_of f)) (source_of f.program.now).body
@@ -46,40 +60,41 @@ frame-in_range f frame o profile layout named latencies words code notes =
     let g = setting_of f in
     let few = frame.profile.taken.1 in
     let light = frame.within.weight in
-    let count = bank_count-is p w o.banks layout.blocks in
+    let eight : PinsInEight g = λ slot pin pinned. (frame.plan.pins slot pin pinned).few in
+    let places = f.places.now.of_var.items in
     let banks : length f.places.now.blocks.items ≡ length o.banks =
-    ap length frame.places.blocks ∙ ap length (sym layout.blocks) ∙ length-map o.banks (λ (b : BankSpec). b.blocks) in
+    ap length (sym layout.blocks) ∙ length-map o.banks (λ (b : BankSpec). b.blocks) in
     let some : 2 ≤ length o.banks = subst (λ (n : ℕ). 2 ≤ n) banks (frame_banks f frame) in
     let homes = subst (λ (n : ℕ). HomesFit n g) banks (homes_fit f frame) in
     let symbols : length o.symbols ≤ length p.decls =
     omega (
       arith,
-      length_permutation (placed_symbols p.decls (places_of p w)) o.symbols layout.symbols.each,
-      symbols_short p.decls (places_of p w),
+      length_permutation (placed_symbols p.decls places) o.symbols layout.symbols.each,
+      symbols_short p.decls places,
     ) in
     let variables = frame.within.variables in
     record {
       profile = subst ProfileFits (sym profile) frame.profile;
-      bank_count = (some, omega (arith, count, bank_count-le (places_of p w)));
-      banks = banks_fit p w o.banks frame.within frame.room layout.blocks latencies;
+      bank_count = (some, omega (arith, banks, frame.plan.banks.1));
+      banks = banks-fit f.places.now.blocks.items o.banks frame.plan.blocks layout.blocks latencies;
       symbol_count = omega arith;
       symbols
           = subst (λ (n : ℕ). EachAfter (SymbolFits (2 ^ n) o.banks) [] o.symbols) (sym layout.block_size)
           named;
       note_count = subst (λ (ns : List Note). length ns ≤ most_notes) (sym notes)
-          (notes-few g p.body few (omega arith) light);
+          (notes-few g p.body few eight light);
       notes
-          = subst (EachAfter (NoteFits (length o.banks)) []) (sym notes) (notes-fit g p.body few (omega arith) light
+          = subst (EachAfter (NoteFits (length o.banks)) []) (sym notes) (notes-fit g p.body few eight light
           (length o.banks) some homes.pins);
       code_size
           = subst (λ (c : List Instr). Within 1 most_instructions (length c)) (sym code)
-          (program-size g p.body few (omega arith) light);
+          (program-size g p.body few eight light);
       behind_notes
           = subst (λ (ns : List Note). next_place ns ≤ length o.code) (sym notes)
           (subst (λ (c : List Instr). next_place (program_notes g (padding_of g) p.body) ≤ length c) (sym code)
-          (notes-inside g p.body few (omega arith) light));
+          (notes-inside g p.body few eight light));
       code
           = subst (All (InstrFits (length o.banks))) (sym code)
-          (program-fits g p.body few (omega arith) light (length o.banks) some homes
+          (program-fits g p.body few eight light (length o.banks) some homes
           (first_fits f frame) frame.typed.body words frame.within.heights);
     }

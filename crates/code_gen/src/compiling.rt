@@ -8,7 +8,8 @@ ghost use Rattle.bank_alloc.specs.Fits.{Fits};
 ghost use Rattle.bank_alloc.specs.Layout.{HasLayout};
 ghost use Rattle.bank_alloc.specs.Places.{IsPlacesOf};
 ghost use Rattle.block_cache_gen.specs.ProgramWords.{BlockHasWords};
-ghost use Rattle.block_cache_gen.specs.Settings.{IsFrame, setting_of};
+ghost use Rattle.scratch_alloc.specs.Plans.{IsSoundPlan, plan_from, standard_plan};
+ghost use Rattle.block_cache_gen.specs.Settings.{IsFrame, plan_of, setting_of};
 ghost use Rattle.block_cache_gen.specs.StoredWords.{stored_words};
 ghost use Rattle.code_gen.specs.Compiles.{ExplainsRoom, IsFor, LatenciesFit, stores_in};
 ghost use Rattle.code_gen.specs.Emitted.{padding_of};
@@ -24,7 +25,7 @@ use flow_types::Typed;
 use gr_base::Memory;
 use gr_word::Label;
 use lt_isa::{Latencies, Object, Profile};
-use scratch_alloc::slots;
+use scratch_alloc::{SlotPlan, slots};
 use src_tree::Program;
 use std::alloc::Global;
 
@@ -63,11 +64,38 @@ fn assembled(alloc: Global, f: &Frame<'_>, l: &Latencies, made: CodeBuf) -> Resu
         ≡ program_code (setting_of f.now) (padding_of (setting_of f.now)) (source_of f.now.program.now).body }
     requires notes { made.notes.items
         ≡ program_notes (setting_of f.now) (padding_of (setting_of f.now)) (source_of f.now.program.now).body }
-    ensures { IfOk result (λ o. IsMadeOf (source_of f.now.program.now) f.now.profile.now l.now o) }
+    ensures { IfOk result (λ o. IsMadeOf (source_of f.now.program.now) (plan_of f.now) f.now.profile.now l.now o) }
 {
     let symbols = symbols(alloc, f.program, f.profile.block_log, f.places)?;
     let banks = bank_specs(alloc, f.places.blocks.as_slice(), l)?;
     Ok(Object::of_parts(*f.profile, banks, symbols, made.notes, made.code))
+}
+
+// The object of a program by a plan of its memory.
+fn planned(
+    alloc: Global,
+    program: &Program,
+    places: &Places,
+    slots: &SlotPlan,
+    p: &Profile,
+    l: &Latencies,
+) -> Result<Object, Memory>
+    requires typed { IsTyped (source_of program.now) }
+    requires within { IsWithinLimits (source_of program.now) }
+    requires plan { IsSoundPlan (source_of program.now) p.now.block_log (plan_from places.now slots.now) }
+    requires profile { ProfileFits p.now }
+    requires latencies { LatenciesFit l.now }
+    ensures { IfOk result (λ o. IsMadeOf (source_of program.now) (plan_from places.now slots.now) p.now l.now o) }
+{
+    let frame = Frame {
+        program,
+        places,
+        slots,
+        profile: p,
+    };
+    let emitter = Emitter::new(alloc, &frame)?;
+    let made = program_code(alloc, &emitter, program.body.as_slice())?;
+    assembled(alloc, &frame, l, made)
 }
 
 // The object of a program whose variables have their places.
@@ -84,18 +112,11 @@ fn compiled(
     requires places { IsPlacesOf (source_of program.now) p.now.block_log places.now }
     requires profile { ProfileFits p.now }
     requires latencies { LatenciesFit l.now }
-    ensures { IfOk result (λ o. IsMadeOf (source_of program.now) p.now l.now o) }
+    ensures { IfOk result (λ o. IsMadeOf (source_of program.now) (standard_plan (source_of program.now) p.now.block_log) p.now
+        l.now o) }
 {
     let slots = slots(alloc, places)?;
-    let frame = Frame {
-        program,
-        places,
-        slots: &slots,
-        profile: p,
-    };
-    let emitter = Emitter::new(alloc, &frame)?;
-    let made = program_code(alloc, &emitter, program.body.as_slice())?;
-    assembled(alloc, &frame, l, made)
+    planned(alloc, program, places, &slots, p, l)
 }
 
 /// Compiles a program for a machine: the object is accepted, does what the program means, has its layout, and has these
