@@ -23,7 +23,7 @@ use Rattle.bank_alloc.specs.Lacks.{first_full, first_lack}
 use Rattle.bank_alloc.specs.Places.{blocks_taken, is_scalar_in, oblivious_arrays, scalars_in, place_behind, places_behind, places_of, bank_count, blocks_needed, blocks_of_banks, IsPlacesOf}
 
 -- whether a class is that of scalars of a label, and their bank
-abbrev is_scalar_class : Label → Class → Bool
+abbrev pub is_scalar_class : Label → Class → Bool
 is_scalar_class Public PublicScalar = true
 is_scalar_class Secret SecretScalar = true
 is_scalar_class label class = false
@@ -32,7 +32,7 @@ abbrev bank_of : Label → ℕ
 bank_of Public = 0
 bank_of Secret = 1
 
-scalar_by : (label of : Label) (length : Option ℕ) (indexed : Bool)
+pub scalar_by : (label of : Label) (length : Option ℕ) (indexed : Bool)
     → is_scalar_class label (class_by of length indexed) ≡ (is_none length && is_labelled label of)
 scalar_by Public Public None indexed = refl
 scalar_by Public Secret None indexed = refl
@@ -93,14 +93,14 @@ scalars_behind p label size before (d ∷ ds) =
     ∙ sym (sum_by-cons (λ x. cond (is_scalar label x) 1 0) d ds)
 
 -- a bank, from a number on, that is the first to need more than it may have
-record IsFull (bank : ℕ) (blocks : List ℕ) (e : PlaceError) : Type 0 where
+pub record IsFull (bank : ℕ) (blocks : List ℕ) (e : PlaceError) : Type 0 where
   pub behind : ℕ
   pub within : behind < length blocks
   pub is : e ≡ BankFull (bank + behind)
   pub full : most_blocks (bank + behind) < get_or blocks behind 0
   pub first : (j : ℕ) → j < behind → get_or blocks j 0 ≤ most_blocks (bank + j)
 
-some_is : (e f : PlaceError) → ◌≡◌ {A = Option PlaceError} (Some e) (Some f) → e ≡ f
+pub some_is : (e f : PlaceError) → ◌≡◌ {A = Option PlaceError} (Some e) (Some f) → e ≡ f
 some_is e f same = cc
 
 -- one bank and those behind it
@@ -113,7 +113,7 @@ earlier bank b rest k this rest_fits (suc j) less =
     let same : bank + 1 + j ≡ bank + suc j = omega arith in
     subst (λ n. get_or rest j 0 ≤ most_blocks n) same (rest_fits j (omega (arith, less)))
 
-found_full : (bank : ℕ) (blocks : List ℕ) (e : PlaceError) → first_full bank blocks ≡ Some e → IsFull bank blocks e
+pub found_full : (bank : ℕ) (blocks : List ℕ) (e : PlaceError) → first_full bank blocks ≡ Some e → IsFull bank blocks e
 found_full bank [] e found = absurd cc
 found_full bank (b ∷ rest) e found = by (nat_lt (most_blocks bank) b) refl found (found_full (bank + 1) rest e) where
   by : (over : Bool)
@@ -139,7 +139,7 @@ found_full bank (b ∷ rest) e found = by (nat_lt (most_blocks bank) b) refl fou
         first = earlier bank b rest l.behind (ltb-false (most_blocks bank) b over) l.first;
       }
 
-none_full : (bank : ℕ) (blocks : List ℕ)
+pub none_full : (bank : ℕ) (blocks : List ℕ)
     → first_full bank blocks ≡ None → (j : ℕ) → j < length blocks → get_or blocks j 0 ≤ most_blocks (bank + j)
 none_full bank [] none j within = absurd (omega (arith, within))
 none_full bank (b ∷ rest) none j within =

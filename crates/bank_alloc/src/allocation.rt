@@ -18,8 +18,8 @@ use lt_isa::limits::most_blocks;
 use src_tree::Program;
 use std::alloc::Global;
 
-// How many words a block has.
-fn block_words(w: u8) -> u32
+/// How many words a block has.
+pub fn block_words(w: u8) -> u32
     requires { Within 3 9 w }
     ensures words { result ≡ 2 ^ w }
     ensures range { Within 8 512 result }
@@ -44,10 +44,10 @@ fn lay_out(alloc: Global, p: &Program, w: u8) -> Result<Places, Memory>
     Ok(Places { of_var, blocks })
 }
 
-// The lowest bank that needs more blocks than it may have.
-fn first_full(blocks: &[u32]) -> Option<PlaceError>
-    requires { length blocks.now ≤ 10 }
-    ensures { result ≡ first_full 0 blocks.now }
+/// Reports the lowest bank that needs more blocks than it may have, where `blocks` has what each bank needs.
+pub fn first_full(blocks: &[u32]) -> Option<PlaceError>
+    requires banks { length blocks.now ≤ 10 }
+    ensures lack { result ≡ first_full 0 blocks.now }
 {
     for (bank, needed) in blocks.iter().enumerate() {
         if most_blocks(bank) < *needed {

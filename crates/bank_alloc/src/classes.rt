@@ -1,9 +1,15 @@
-ghost use Rattle.std.specs.Prelude.{◌≡◌};
+ghost use Rattle.std.specs.Prelude.{◌≡◌, IfOk, map};
+ghost use Rattle.src_tree.specs.Trees.{source_of};
+ghost use Rattle.src_tree.specs.Typing.{IsTyped};
+ghost use Rattle.bank_alloc.specs.Classes.{class_of};
 ghost use Rattle.bank_alloc.specs.Known.{class_in};
 
-use crate::indexes::{Indexed, is_member};
+use crate::indexes::{Indexed, indexed_in, is_member};
+use crate::names::gather;
+use gr_base::Memory;
 use gr_word::Label;
-use src_tree::Decl;
+use src_tree::{Decl, Program};
+use std::alloc::Global;
 
 /// How a variable is placed.
 #[derive(Clone, Copy, Debug, PartialEq, Eq)]
@@ -40,4 +46,31 @@ pub(crate) fn class_in<'a>(indexed: &Indexed<'a>, decl: &'a Decl) -> Class
             }
         },
     }
+}
+
+// The class of each of some variables, where the arrays with a secret index are given.
+fn classes_in<'a>(
+    alloc: Global,
+    indexed: &Indexed<'a>,
+    decls: &'a [Decl],
+) -> Result<Vec<Class>, Memory>
+    ensures { IfOk result (λ classes. classes.items ≡ map (class_in indexed.now) decls.now) }
+{
+    let mut classes = Vec::with_capacity(alloc, decls.len())?;
+    for decl in decls {
+        classes.push(class_in(indexed, decl))?;
+    }
+    Ok(classes)
+}
+
+/// The class of each variable of a well-typed program, in order of declaration. The only error is want of memory.
+pub fn classes_of(alloc: Global, p: &Program) -> Result<Vec<Class>, Memory>
+    requires typed { IsTyped (source_of p.now) }
+    ensures { IfOk result
+        (λ classes. classes.items ≡ map (class_of (source_of p.now)) (source_of p.now).decls) }
+{
+    let decls = p.decls.as_slice();
+    let names = gather(alloc, decls)?;
+    let indexed = indexed_in(alloc, &names, p.body.as_slice())?;
+    classes_in(alloc, &indexed, decls)
 }

@@ -17,7 +17,7 @@ pub mod placing;
 pub mod symbol_lists;
 
 pub use allocation::banks;
-pub use classes::Class;
+pub use classes::{Class, classes_of};
 pub use laws::{place_laws, sample_laws};
 pub use places::{Place, PlaceError, Places};
 pub use symbol_lists::symbols;

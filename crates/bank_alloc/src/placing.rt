@@ -165,10 +165,10 @@ fn place_behind(size: u32, before: &[Place], class: Class, words: u32) -> Place
     }
 }
 
-// The words of a variable.
-fn words_of(decl: &Decl) -> u32
-    requires { words_of decl.now ≤ max_length }
-    ensures { result ≡ words_of decl.now }
+/// The words of a variable.
+pub fn words_of(decl: &Decl) -> u32
+    requires fits { words_of decl.now ≤ max_length }
+    ensures words { result ≡ words_of decl.now }
 {
     match decl.length {
         None => 1,

@@ -12,6 +12,7 @@ use Rattle.scratch_alloc.specs.declared.plans.Pin.{Pin}
 use Rattle.scratch_alloc.specs.Plans.{Plan}
 use Rattle.scratch_alloc.specs.Slots.{alternate_slot}
 use Rattle.resident_alloc.specs.declared.wants.Want.{Want}
+pub use Rattle.resident_alloc.specs.declared.storages.Planned.{Planned}
 use Rattle.resident_alloc.specs.declared.storages.Storage.{Storage}
 use Rattle.resident_alloc.specs.declared.storages.Storage.TheVariants.{Shared, Own}
 use Rattle.resident_alloc.specs.Residents.{is_of, room_after, room_beside, room_for, unshared, is_short, short_among, blocks_of_all, own_most, storage_of, wants_of}
@@ -97,11 +98,6 @@ slot_by size all before ObliviousArray Own = spare_slot (short_among size (unsha
 slot_by size all before ObliviousArray storage = 6
 
 -- what is planned for a variable
-pub record Planned : Type 0 where
-  pub storage : Storage
-  pub place : Place
-  pub slot : ℕ
-
 abbrev pub planned : ℕ → List Want → List Want → Want → Planned
 planned size all before v =
     let storage = storage_of size all before v in

@@ -7,7 +7,6 @@ ghost use Rattle.resident_alloc.specs.ResidentFits.{ResidentsFit};
 ghost use Rattle.resident_alloc.specs.ResidentPlan.{resident_plan};
 
 /// Does nothing; its clause says that the plan is sound for each program with room for its variables.
-#[tactic(auto, using(crate::proofs::SoundPlan::resident_sound))]
 pub fn resident_laws()
     ensures sound { (p : Source) (w : ℕ)
         → IsWithinLimits p

@@ -6,11 +6,16 @@
 #![tactic(auto)]
 
 mod laws;
-mod planning;
+mod owning;
+mod placing;
+pub mod planning;
+mod serving;
+mod sharing;
 pub mod storages;
+mod variables;
 pub mod wants;
 
 pub use laws::resident_laws;
 pub use planning::{ResidentPlan, resident_plan};
-pub use storages::Storage;
+pub use storages::{Planned, Storage};
 pub use wants::Want;

@@ -1,3 +1,5 @@
+use bank_alloc::Place;
+
 /// How a variable is stored while code that was compiled with `--fast` runs.
 #[derive(Clone, Copy, Debug, PartialEq, Eq)]
 pub enum Storage {
@@ -11,4 +13,13 @@ pub enum Storage {
     Cached,
     /// An array of an oblivious bank.
     Oblivious,
+}
+
+/// What is planned for a variable.
+#[derive(Clone, Copy, Debug, PartialEq, Eq)]
+pub struct Planned {
+    pub storage: Storage,
+    pub place: Place,
+    /// The slot that serves the variable.
+    pub slot: u8,
 }

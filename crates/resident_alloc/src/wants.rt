@@ -1,4 +1,15 @@
-use bank_alloc::Class;
+ghost use Rattle.std.specs.Prelude.{◌≡◌, ◌≤◌, IfOk, length, count_by};
+ghost use Rattle.src_tree.specs.Limits.{IsWithinLimits};
+ghost use Rattle.src_tree.specs.Trees.{source_of};
+ghost use Rattle.src_tree.specs.Typing.{IsTyped};
+ghost use Rattle.resident_alloc.specs.Ranges.{AreShort};
+ghost use Rattle.resident_alloc.specs.Residents.{is_of, wants_of};
+
+use bank_alloc::placing::words_of;
+use bank_alloc::{Class, classes_of};
+use gr_base::Memory;
+use src_tree::{Decl, Program};
+use std::alloc::Global;
 
 /// What a variable wants of memory.
 #[derive(Clone, Copy, Debug, PartialEq, Eq)]
@@ -6,4 +17,37 @@ pub struct Want {
     pub class: Class,
     /// In words.
     pub words: u32,
+}
+
+/// Whether a variable is of a class.
+pub(crate) fn is_of(class: Class, v: Want) -> bool
+    ensures { result ≡ is_of class v }
+{
+    class == v.class
+}
+
+/// How many of some variables are of a class.
+pub(crate) fn count_of(class: Class, vs: &[Want]) -> usize
+    ensures count { result ≡ count_by (is_of class) vs.now }
+    ensures few { result ≤ length vs.now }
+{
+    vs.iter().filter(|v| is_of(class, **v)).count()
+}
+
+/// What each variable of a program wants, in order of declaration. The only error is want of memory.
+pub(crate) fn wants_of(alloc: Global, p: &Program) -> Result<Vec<Want>, Memory>
+    requires typed { IsTyped (source_of p.now) }
+    requires within { IsWithinLimits (source_of p.now) }
+    ensures wants { IfOk result (λ wants. wants.items ≡ wants_of (source_of p.now)) }
+    ensures short { IfOk result (λ wants. AreShort wants.items) }
+{
+    let classes = classes_of(alloc, p)?;
+    let decls = p.decls.as_slice();
+    let mut wants = Vec::with_capacity(alloc, decls.len())?;
+    for (i, decl) in decls.iter().enumerate() {
+        let class = classes[i];
+        let words = words_of(decl);
+        wants.push(Want { class, words })?;
+    }
+    Ok(wants)
 }

@@ -16,7 +16,7 @@ loop-decl-preserved c =
     let placed = c.place_behind-place.ensures.place
     ∙ ap (λ qs. place_behind c.args.size qs c.class_in.result c.words_of.result) c.as_slice.ensures.value
     ∙ ap (λ kind. place_behind c.args.size places kind c.words_of.result) c.class_in.ensures
-    ∙ ap (λ words. place_behind c.args.size places (class c.decl-item.result) words) c.words_of.ensures in
+    ∙ ap (λ words. place_behind c.args.size places (class c.decl-item.result) words) c.words_of.ensures.words in
     let one : length c.push.new.self.items ≡ i + 1 = omega (arith, c.in_ok-push.ensures.len, so_far.1) in
     let short =
     subst (λ d. words_of d ≤ max_length) (sym c.decl-item.is)
@@ -26,7 +26,7 @@ loop-decl-preserved c =
           c.in_ok-push.ensures.items so_far.0,
       one,
       few_more ds i places c.push.new.self.items q c.requires.count c.loop-decl-test.true so_far.1
-          (omega (arith, c.place_behind-place.ensures.length, c.words_of.ensures, short))
+          (omega (arith, c.place_behind-place.ensures.length, c.words_of.ensures.words, short))
           c.in_ok-push.ensures.items one so_far.2,
     )
 

@@ -1,0 +1,15 @@
+pub mod Rooms
+pub mod Zones
+pub mod Stored
+pub mod Numbered
+pub mod Served
+pub mod PlannedEach
+pub mod ApartByZones
+pub mod OwnPins
+pub mod BlocksSome
+pub mod PlannedApart
+pub mod SoundPins
+pub mod SoundPlan
+pub mod RoomSteps
+pub mod PlanSteps
+pub mod ResidentLacks

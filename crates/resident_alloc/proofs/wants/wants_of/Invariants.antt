@@ -1,0 +1,10 @@
+use Rattle.std.proofs.Common.{◌≡◌, map, take}
+use Rattle.bank_alloc.specs.Classes.{class_of}
+use Rattle.src_tree.specs.Limits.{words_of}
+use Rattle.src_tree.specs.Trees.{source_of}
+use Rattle.resident_alloc.proofs.wants.wants_of.Given as goal
+
+abbrev pub invariant-loop-i : goal.invariant-loop-i
+invariant-loop-i l =
+    l.wants.items
+    ≡ map (λ d. record { class = class_of (source_of l.p) d; words = words_of d }) (take l.i l.decls)
