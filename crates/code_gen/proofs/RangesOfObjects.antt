@@ -1,19 +1,19 @@
 -- An object with a program's layout, and with the program's code and notes, is in its ranges.
-use Rattle.std.proofs.Common.{◌≡◌, ℕ, ◌^◌, ◌<◌, ◌≤◌, List, [], ◌∷◌, length, map, get_or, sym, ap, ◌∙◌, subst, arith}
+use Rattle.std.proofs.Common.{◌≡◌, ℕ, ◌^◌, ◌≤◌, List, [], ◌∷◌, length, sym, ap, ◌∙◌, subst, arith}
 use Rattle.std.specs.Prelude.{All}
-use Rattle.std.proofs.lemmas.List.{get_or-map, length-map, length-take-le}
+use Rattle.std.proofs.lemmas.List.{length-map}
 use Rattle.std.proofs.lemmas.List.Sorted.{length_permutation}
 use Rattle.gr_base.specs.Lists.{Within, EachAfter}
-use Rattle.gr_base.proofs.EachAfter.{EachAfter-from_below}
 use Rattle.lt_isa.specs.declared.instructions.Instr.{Instr}
 use Rattle.lt_isa.specs.declared.profiles.BankSpec.{BankSpec}
 use Rattle.lt_isa.specs.declared.symbols.Note.{Note}
-use Rattle.lt_isa.specs.Limits.{most_blocks, most_latency, most_notes, most_instructions}
+use Rattle.lt_isa.specs.Limits.{most_latency, most_notes, most_instructions}
 use Rattle.lt_isa.specs.Object.{Parts}
-use Rattle.lt_isa.specs.Ranges.{BankFits, ProfileFits, SymbolFits, InstrFits, NoteFits, next_place, IsInRange}
+use Rattle.lt_isa.specs.Ranges.{ProfileFits, SymbolFits, InstrFits, NoteFits, next_place, IsInRange}
 use Rattle.src_tree.specs.declared.trees.Decl.{Decl}
 use Rattle.src_tree.specs.Trees.{source_of}
 use Rattle.bank_alloc.specs.declared.places.Place.{Place}
+use Rattle.bank_alloc.proofs.BankSizes.{banks_fit}
 use Rattle.bank_alloc.specs.Layout.{IsLaidOut, placed_symbols}
 use Rattle.block_cache_gen.specs.declared.frames.Frame.{Frame}
 use Rattle.block_cache_gen.specs.Settings.{setting_of, IsFrame}
@@ -29,22 +29,6 @@ symbols_short : (ds : List Decl) (places : List Place) → length (placed_symbol
 symbols_short [] places = omega arith
 symbols_short (d ∷ ds) [] = omega arith
 symbols_short (d ∷ ds) (q ∷ places) = omega (arith, symbols_short ds places)
-
--- banks in their ranges, by the number of blocks of each
-banks-fit : (blocks : List ℕ) (banks : List BankSpec)
-    → ((b : ℕ) → b < length blocks → Within 1 (most_blocks b) (get_or blocks b 0))
-    → map (λ b. b.blocks) banks ≡ blocks → All (λ b. Within 1 most_latency b.latency) banks → EachAfter BankFits [] banks
-banks-fit blocks banks fit is latencies = EachAfter-from_below BankFits banks (λ k e within.
-    let there : k < length blocks =
-    omega (arith, within, length-map banks (λ (b : BankSpec). b.blocks), ap length is) in
-    let same : get_or blocks k 0 ≡ (get_or banks k e).blocks =
-    ap (λ (l : List ℕ). get_or l k 0) (sym is) ∙ get_or-map (λ (b : BankSpec). b.blocks) banks k e 0 within in
-    record {
-      blocks = subst (λ n. Within 1 (most_blocks n) (get_or banks k e).blocks)
-          (sym (length-take-le k banks (omega (arith, within))))
-          (subst (Within 1 (most_blocks k)) same (fit k there));
-      latency = latencies k e within;
-    })
 
 -- The frame that the code was made for; symbols and latencies in their ranges; and numbers that are words, as those of
 -- every program are.
@@ -76,7 +60,7 @@ frame-in_range f frame o profile layout named latencies words code notes =
     record {
       profile = subst ProfileFits (sym profile) frame.profile;
       bank_count = (some, omega (arith, banks, frame.plan.banks.1));
-      banks = banks-fit f.places.now.blocks.items o.banks frame.plan.blocks layout.blocks latencies;
+      banks = banks_fit f.places.now.blocks.items o.banks frame.plan.blocks layout.blocks latencies;
       symbol_count = omega arith;
       symbols
           = subst (λ (n : ℕ). EachAfter (SymbolFits (2 ^ n) o.banks) [] o.symbols) (sym layout.block_size)
