@@ -11,6 +11,8 @@ use Rattle.src_tree.specs.Trees.{Source}
 use Rattle.bank_alloc.specs.Fits.{Refuses}
 use Rattle.bank_alloc.specs.declared.places.PlaceError.TheVariants as place
 use Rattle.scratch_alloc.specs.Plans.{Plan, standard_plan}
+use Rattle.resident_alloc.specs.ResidentFits.{ResidentsRefuse}
+use Rattle.resident_alloc.specs.ResidentPlan.{resident_plan}
 use Rattle.block_cache_gen.specs.Settings.{setting_for}
 use Rattle.branch_padding.specs.Stores.{added_up, stores_of_each}
 use Rattle.code_gen.specs.declared.compiling.CompileError.{CompileError}
@@ -39,8 +41,18 @@ stores_by p plan profile = added_up (stores_of_each (setting_for p plan profile)
 abbrev pub stores_in : Source → Profile → ℕ
 stores_in p profile = stores_by p (standard_plan p profile.block_log) profile
 
+-- and with it
+abbrev pub stores_with_residents : Source → Profile → ℕ
+stores_with_residents p profile = stores_by p (resident_plan p profile.block_log) profile
+
 -- A program is refused where its variables lack room, as the first of them does. Want of memory says nothing.
 abbrev pub ExplainsRoom : CompileError → Source → ℕ → Type 0
 ExplainsRoom (TooManyScalars label) p w = Refuses p w (place.TooManyScalars label)
 ExplainsRoom (BankFull bank) p w = Refuses p w (place.BankFull bank)
 ExplainsRoom Memory p w = Unit {0}
+
+-- so it is with --fast
+abbrev pub ExplainsResidents : CompileError → Source → ℕ → Type 0
+ExplainsResidents (TooManyScalars label) p w = ResidentsRefuse p w (place.TooManyScalars label)
+ExplainsResidents (BankFull bank) p w = ResidentsRefuse p w (place.BankFull bank)
+ExplainsResidents Memory p w = Unit {0}

@@ -7,11 +7,13 @@ ghost use Rattle.trace_patterns.specs.Accepts.{Accepts};
 ghost use Rattle.bank_alloc.specs.Fits.{Fits};
 ghost use Rattle.bank_alloc.specs.Layout.{HasLayout};
 ghost use Rattle.bank_alloc.specs.Places.{IsPlacesOf};
+ghost use Rattle.resident_alloc.specs.ResidentFits.{ResidentsFit};
+ghost use Rattle.resident_alloc.specs.ResidentLayout.{HasResidentLayout};
 ghost use Rattle.block_cache_gen.specs.ProgramWords.{BlockHasWords};
 ghost use Rattle.scratch_alloc.specs.Plans.{IsSoundPlan, plan_from, standard_plan};
 ghost use Rattle.block_cache_gen.specs.Settings.{IsFrame, plan_of, setting_of};
 ghost use Rattle.block_cache_gen.specs.StoredWords.{stored_words};
-ghost use Rattle.code_gen.specs.Compiles.{ExplainsRoom, IsFor, LatenciesFit, stores_in};
+ghost use Rattle.code_gen.specs.Compiles.{ExplainsResidents, ExplainsRoom, IsFor, LatenciesFit, stores_in, stores_with_residents};
 ghost use Rattle.code_gen.specs.Emitted.{padding_of};
 ghost use Rattle.code_gen.specs.Implements.{Implements};
 ghost use Rattle.code_gen.specs.Made.{IsMadeOf};
@@ -25,6 +27,7 @@ use flow_types::Typed;
 use gr_base::Memory;
 use gr_word::Label;
 use lt_isa::{Latencies, Object, Profile};
+use resident_alloc::resident_plan;
 use scratch_alloc::{SlotPlan, slots};
 use src_tree::Program;
 use std::alloc::Global;
@@ -141,6 +144,33 @@ pub fn compile(alloc: Global, t: &Typed, p: &Profile, l: &Latencies) -> Result<O
     match banks(alloc, program, p.block_log) {
         Err(lack) => Err(CompileError::from(lack)),
         Ok(places) => match compiled(alloc, program, &places, p, l) {
+            Ok(object) => Ok(object),
+            Err(_) => Err(CompileError::Memory),
+        },
+    }
+}
+
+/// Compiles a program as [`compile`] does, for `--fast`: arrays stay in the scratchpad for the whole run if there is room
+/// for them, so that an access of them shows nothing on the bus. Each variable is at the place that
+/// [`resident_alloc::resident_plan`] gives it. A program is refused exactly where its variables lack room at these
+/// places, with the first that does.
+pub fn compile_fast(alloc: Global, t: &Typed, p: &Profile, l: &Latencies) -> Result<Object, CompileError>
+    requires profile { ProfileFits p.now }
+    requires latencies { LatenciesFit l.now }
+    ensures accepted { IfOk result (λ o. Accepts o) }
+    ensures implements { IfOk result (λ o. Implements (source_of t.now) o) }
+    ensures laid_out { IfOk result (λ o. HasResidentLayout (source_of t.now) p.now.block_log o) }
+    ensures machine { IfOk result (λ o. IsFor p.now l.now o) }
+    ensures size { IfOk result (λ o. length o.code ≤ 120 * weight_of (source_of t.now) + 64) }
+    ensures stores { IfOk result (λ o. stored_words o.code ≡ stores_with_residents (source_of t.now) p.now) }
+    ensures in_range { IfOk result (λ o. IsInRange o) }
+    ensures fits { OnOk result (ResidentsFit (source_of t.now) p.now.block_log) }
+    ensures refused { IfErr result (λ e. ExplainsResidents e (source_of t.now) p.now.block_log) }
+{
+    let program = t.program();
+    match resident_plan(alloc, program, p.block_log) {
+        Err(lack) => Err(CompileError::from(lack)),
+        Ok(plan) => match planned(alloc, program, &plan.places, &plan.slots, p, l) {
             Ok(object) => Ok(object),
             Err(_) => Err(CompileError::Memory),
         },
