@@ -23,6 +23,7 @@ use Rattle.bank_alloc.proofs.Refusals.{length-blocks, get_or-blocks, bank_count-
 use Rattle.bank_alloc.proofs.SoundPlaces.{places_sound}
 use Rattle.scratch_alloc.specs.Plans.{Pin, IsSoundPlan, IsSoundPin, IsSoundPlace, IsSoundResident, IsSoundArray, IsSoundByPin, Serves, PlainSlot, EncryptedSlot, ObliviousSlot, scalar_pins, standard_plan, pin_of_slot, no_decl, no_place}
 use Rattle.scratch_alloc.specs.Slots.{slot_behind, slots_of}
+use Rattle.scratch_alloc.proofs.Serving.{serves-within}
 use Rattle.scratch_alloc.proofs.EachSlot.{length-slots, get_or-slots, scalar_slot-is, array_slot-plain, array_slot-encrypted, array_slot-oblivious}
 
 -- slots 0 and 1 hold block 0 of the banks of their numbers, and no others hold one
@@ -72,12 +73,6 @@ serves-array before q array (suc (suc n)) slot is by =
     let past : 2 ≤ q.bank = omega (arith, is) in
     subst (Serves (suc (suc n))) (sym (array_slot-oblivious before q array past) ∙ by)
     (ObliviousSlot (suc (suc n)) (omega arith))
-
--- the slots of arrays
-pub serves-within : {bank slot : ℕ} → Serves bank slot → Within 2 6 slot
-serves-within (PlainSlot slot within) = (omega (arith, within.0), omega (arith, within.1))
-serves-within (EncryptedSlot slot within) = (omega (arith, within.0), omega (arith, within.1))
-serves-within (ObliviousSlot bank least) = (omega arith, omega arith)
 
 -- an array with a secret index is in an oblivious bank
 oblivious_bank : (size : ℕ) (before : List Place) (class : Class) (words : ℕ) → class ≡ ObliviousArray
