@@ -16,11 +16,9 @@ use Rattle.src_tree.specs.declared.trees.Decl.{Decl}
 use Rattle.src_tree.specs.Limits.{LengthFits, IsWithinLimits}
 use Rattle.src_tree.specs.Trees.{Source}
 use Rattle.bank_alloc.specs.declared.places.Place.{Place}
-use Rattle.bank_alloc.specs.Fits.{Fits}
-use Rattle.bank_alloc.specs.Places.{blocks_for, is_oblivious, first_free_block, places_of, bank_count, blocks_needed, blocks_of_banks}
+use Rattle.bank_alloc.specs.Places.{blocks_for, is_oblivious, first_free_block, places_of, bank_count, blocks_needed}
 use Rattle.bank_alloc.proofs.EachPlace.{any_decl, any_place, length-places, scalar_place_at, array_place_at, blocks_for-some, array_before_free}
 use Rattle.bank_alloc.proofs.Apart.{length_at, scalar_bank-lt}
-use Rattle.bank_alloc.proofs.Refusals.{length-blocks, get_or-blocks}
 
 -- a list comes to each count below the last at an item that counts
 pub record ReachesAt {X : Type 0} (p : X → Bool) (xs : List X) (n : ℕ) : Type 0 where
@@ -96,32 +94,18 @@ bank_some p w (suc (suc m)) limits within =
     (oblivious_bank_some p w m any_decl any_place limits (omega (arith, within))
     (count_reaches is_oblivious (places_of p w) m (omega (arith, within))))
 
--- an object's banks, with the blocks that a program's banks need
-pub bank_count-is : (p : Source) (w : ℕ) (banks : List BankSpec) → map (λ b. b.blocks) banks ≡ blocks_of_banks p w
-    → length banks ≡ bank_count (places_of p w)
-bank_count-is p w banks is =
-    sym (length-map banks (λ (b : BankSpec). b.blocks)) ∙ ap (λ (l : List ℕ). length l) is ∙ length-blocks p w
-
--- each bank has the blocks that are needed
-pub blocks_in-is : (p : Source) (w : ℕ) (banks : List BankSpec) (bank : ℕ) (d : BankSpec)
-    → map (λ b. b.blocks) banks ≡ blocks_of_banks p w
-    → bank < bank_count (places_of p w) → (get_or banks bank d).blocks ≡ blocks_needed p w bank
-blocks_in-is p w banks bank d is within =
-    sym (get_or-map (λ (b : BankSpec). b.blocks) banks bank d 0 (omega (arith, within, bank_count-is p w banks is)))
-    ∙ ap (λ (l : List ℕ). get_or l bank 0) is ∙ get_or-blocks p w bank 0 within
-
--- such banks are in range, where their latencies are
-pub banks_fit : (p : Source) (w : ℕ) (banks : List BankSpec) → IsWithinLimits p → Fits p w
-    → map (λ b. b.blocks) banks ≡ blocks_of_banks p w → All (λ b. Within 1 most_latency b.latency) banks
-    → EachAfter BankFits [] banks
-banks_fit p w banks limits fit is latencies = EachAfter-from_below BankFits banks (λ k e within.
-    let here : k < bank_count (places_of p w) = omega (arith, within, bank_count-is p w banks is) in
-    let blocks = blocks_in-is p w banks k e is here in
+-- banks with these numbers of blocks are in range, where their latencies are
+pub banks_fit : (blocks : List ℕ) (banks : List BankSpec)
+    → ((b : ℕ) → b < length blocks → Within 1 (most_blocks b) (get_or blocks b 0))
+    → map (λ b. b.blocks) banks ≡ blocks → All (λ b. Within 1 most_latency b.latency) banks → EachAfter BankFits [] banks
+banks_fit blocks banks fit is latencies = EachAfter-from_below BankFits banks (λ k e within.
+    let there : k < length blocks =
+    omega (arith, within, length-map banks (λ (b : BankSpec). b.blocks), ap (λ (l : List ℕ). length l) is) in
+    let same : get_or blocks k 0 ≡ (get_or banks k e).blocks =
+    ap (λ (l : List ℕ). get_or l k 0) (sym is) ∙ get_or-map (λ (b : BankSpec). b.blocks) banks k e 0 within in
     record {
-      blocks = (
-        omega (arith, blocks, bank_some p w k limits here),
-        subst (λ n. (get_or banks k e).blocks ≤ most_blocks n) (sym (length-take-le k banks (omega (arith, within))))
-            (omega (arith, blocks, fit.banks k here)),
-      );
+      blocks = subst (λ n. Within 1 (most_blocks n) (get_or banks k e).blocks)
+          (sym (length-take-le k banks (omega (arith, within))))
+          (subst (Within 1 (most_blocks k)) same (fit k there));
       latency = latencies k e within;
     })

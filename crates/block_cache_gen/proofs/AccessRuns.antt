@@ -21,6 +21,7 @@ use Rattle.stretches.proofs.RunningThrough.{runs-cons, runs-one, runs-append, ru
 use Rattle.src_tree.specs.Contexts.{context_of}
 use Rattle.src_tree.specs.Meaning.{Store, evaluated}
 use Rattle.src_tree.specs.Trees.{Tree, Number, Variable, Element, Operation}
+use Rattle.scratch_alloc.proofs.Serving.{serves-within}
 use Rattle.block_cache_gen.specs.declared.frames.Mode.{Mode}
 use Rattle.block_cache_gen.specs.declared.frames.Mode.TheVariants.{Public, Real, Mirrored}
 use Rattle.block_cache_gen.specs.Homes.{Home, Setting, HasHomes, home_of, words_a_block}
@@ -29,7 +30,7 @@ use Rattle.block_cache_gen.specs.StandsFor.{StandsFor, FitsHomes, IsBlockOf}
 use Rattle.block_cache_gen.specs.Accesses.{ArrayAccess, access_of, accesses, word_number, block_in, slots_after, may_skip, is_held, seen_of, seen_of_all}
 use Rattle.block_cache_gen.specs.LeavesWord.{LeavesWord}
 use Rattle.block_cache_gen.proofs.AccessLaws.{slots_after-append, seen_of_all-append, may_skip-is, seen_of-unskipped}
-use Rattle.block_cache_gen.proofs.HomeFacts.{serves-within, serves-cached, block-of, block-exists, block-small, profile-fits}
+use Rattle.block_cache_gen.proofs.HomeFacts.{serves-cached, block-of, block-exists, block-small, profile-fits}
 use Rattle.block_cache_gen.proofs.Stands.{stands-like, stands-loaded}
 use Rattle.block_cache_gen.proofs.IndexRuns.{Locates, Reduces, runs-reduced, runs-block, runs-fixed}
 

@@ -22,6 +22,7 @@ use Rattle.src_tree.specs.Heights.{height_of}
 use Rattle.src_tree.specs.Meaning.{Store, variable_number, words_of_number, evaluated, with_word}
 use Rattle.src_tree.specs.Trees.{Tree, SetVariable, SetElement}
 use Rattle.src_tree.specs.Typing.{TypedTree}
+use Rattle.scratch_alloc.proofs.Serving.{serves-within}
 use Rattle.block_cache_gen.specs.declared.frames.Mode.{Mode}
 use Rattle.block_cache_gen.specs.declared.frames.Mode.TheVariants.{Public, Real, Mirrored}
 use Rattle.block_cache_gen.specs.Homes.{Setting, HasHomes, home_of, words_a_block}
@@ -31,7 +32,7 @@ use Rattle.block_cache_gen.specs.Accesses.{access_of, accessed_by, accesses, wor
 use Rattle.block_cache_gen.specs.Assignments.{Assigns, assigned, by_mode, words_written, write_by, seen_of_set}
 use Rattle.block_cache_gen.specs.LeavesWord.{LeavesWord}
 use Rattle.block_cache_gen.proofs.AccessLaws.{seen_of_all-append}
-use Rattle.block_cache_gen.proofs.HomeFacts.{block_words-is, serves-within}
+use Rattle.block_cache_gen.proofs.HomeFacts.{block_words-is}
 use Rattle.block_cache_gen.proofs.Stands.{stands-like}
 use Rattle.block_cache_gen.proofs.Stores.{fits-with_word, with_word-by_mode}
 use Rattle.block_cache_gen.proofs.ResidentStores.{stands-resident_set}

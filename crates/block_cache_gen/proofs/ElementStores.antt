@@ -12,9 +12,10 @@ use Rattle.lt_isa.specs.Shape.{IsShaped}
 use Rattle.src_tree.specs.Contexts.{context_of}
 use Rattle.src_tree.specs.Meaning.{Store, variable_number, words_of_number, with_word}
 use Rattle.src_tree.proofs.VariableNumbers.{number-below}
+use Rattle.scratch_alloc.proofs.Serving.{serves-within}
 use Rattle.block_cache_gen.specs.Homes.{Home, Setting, HasHomes, HomesApart, no_home, home_of, words_a_block, start_of_home}
 use Rattle.block_cache_gen.specs.StandsFor.{StandsFor, FitsHomes, IsBlockOf}
-use Rattle.block_cache_gen.proofs.HomeFacts.{block_words-is, block_words-least, serves-within, block-exists, word-split, word-block, word-place}
+use Rattle.block_cache_gen.proofs.HomeFacts.{block_words-is, block_words-least, block-exists, word-split, word-block, word-place}
 use Rattle.block_cache_gen.proofs.Stands.{stands-like, stands-bound}
 use Rattle.block_cache_gen.proofs.Stores.{words-other, words-same}
 

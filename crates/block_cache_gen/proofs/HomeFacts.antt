@@ -28,12 +28,6 @@ profile-fits fits homes = subst ProfileFits homes.profile fits.profile
 pub block_words-least : {o : Parts} {f : Setting} → IsInRange o → HasHomes o f → 1 ≤ words_a_block f
 block_words-least {f = f} fits homes = pow_pos f.profile.block_log
 
--- the slots of arrays
-pub serves-within : {bank slot : ℕ} → Serves bank slot → Within 2 6 slot
-serves-within (PlainSlot slot within) = (omega arith, omega arith)
-serves-within (EncryptedSlot slot within) = (omega arith, omega arith)
-serves-within (ObliviousSlot bank least) = (omega arith, omega arith)
-
 -- a slot that serves plain or encrypted memory is one of 2 to 5
 pub serves-cached : {bank slot : ℕ} → Serves bank slot → bank < 2 → Within 2 5 slot
 serves-cached (PlainSlot slot within) few = (omega arith, omega arith)

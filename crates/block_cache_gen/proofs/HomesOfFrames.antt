@@ -9,12 +9,12 @@ use Rattle.src_tree.specs.Meaning.{variable_number}
 use Rattle.src_tree.specs.Trees.{Source, source_of}
 use Rattle.src_tree.proofs.VariableNumbers.{number-below}
 use Rattle.scratch_alloc.specs.Plans.{Plan, IsSoundPlan, IsSoundByPin, pin_of_slot, no_decl, no_place}
+use Rattle.scratch_alloc.proofs.Serving.{serves-within}
 use Rattle.block_cache_gen.specs.declared.frames.Frame.{Frame}
 use Rattle.block_cache_gen.specs.Homes.{Pin, no_home}
 use Rattle.block_cache_gen.specs.ServedBlocks.{block_served, first_blocks}
 use Rattle.block_cache_gen.specs.Settings.{IsFrame, homes_at, plan_of, setting_of}
 use Rattle.block_cache_gen.proofs.FrameParts.{frame_places, frame_slots}
-use Rattle.block_cache_gen.proofs.HomeFacts.{serves-within}
 use Rattle.block_cache_gen.proofs.RangesOfCode.{HomeFits, HomesFit}
 use Rattle.block_cache_gen.proofs.ServedBlocks.{served-home, first-all}
 use Rattle.block_cache_gen.proofs.Settled.{get_or-homes_at, length-homes_at, place-length}

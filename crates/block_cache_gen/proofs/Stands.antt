@@ -11,9 +11,10 @@ use Rattle.lt_isa.specs.Machine.{Unbound, Bound, State, slot, block_at, word_in,
 use Rattle.lt_isa.specs.Outputs.{bank_word_numbered}
 use Rattle.src_tree.specs.Contexts.{context_of}
 use Rattle.src_tree.specs.Meaning.{Store, variable_number, words_of_number}
+use Rattle.scratch_alloc.proofs.Serving.{serves-within}
 use Rattle.block_cache_gen.specs.Homes.{Setting, HasHomes, pin_of, Serves, home_of, words_a_block, start_of_home}
 use Rattle.block_cache_gen.specs.StandsFor.{StandsFor, HoldsBlock, HoldsBank, IsBlockOf}
-use Rattle.block_cache_gen.proofs.HomeFacts.{serves-within, serves-same, pinned-apart}
+use Rattle.block_cache_gen.proofs.HomeFacts.{serves-same, pinned-apart}
 
 -- by its slots and banks
 pub stands-like : (f : Setting) (s t : State) (store : Store) → t.slots ≡ s.slots → t.banks ≡ s.banks

@@ -16,14 +16,12 @@ use Rattle.src_tree.specs.Typing.{IsTyped, DeclaredOnce, TypedBlock}
 use Rattle.trace_patterns.specs.Accepts.{Accepts, has_secret_in_ram, is_secret_label}
 use Rattle.bank_alloc.specs.declared.places.Place.{Place}
 use Rattle.bank_alloc.specs.Apart.{IsBankOf}
-use Rattle.bank_alloc.specs.Places.{places_of}
-use Rattle.bank_alloc.specs.Fits.{Fits}
-use Rattle.bank_alloc.specs.Layout.{HasLayout, placed_symbols}
-use Rattle.bank_alloc.proofs.EachPlace.{bank_of_label}
+use Rattle.bank_alloc.specs.Layout.{IsLaidOut, placed_symbols}
+use Rattle.scratch_alloc.specs.Plans.{Plan, IsSoundPlan, no_decl, no_place}
 use Rattle.block_cache_gen.specs.declared.frames.Mode.TheVariants as modes
 use Rattle.block_cache_gen.specs.Homes.{Setting, HasHomes}
 use Rattle.block_cache_gen.specs.Codes.{guard_code}
-use Rattle.block_cache_gen.proofs.Settled.{IsSettingOf, no_decl, no_place, has-homes}
+use Rattle.block_cache_gen.proofs.Settled.{IsSettingOf, has-homes}
 use Rattle.block_cache_gen.proofs.IndexesOfPrograms.{program-public}
 use Rattle.branch_padding.proofs.NestingWeights.{choice-nesting}
 use Rattle.branch_padding.proofs.PublicRegions.{choice-passes}
@@ -54,11 +52,12 @@ symbols_apart (d ∷ ds) (q ∷ places) banks =
     (plain_symbol d.label q.bank (banks 0 (omega arith)))
     ∙ symbols_apart ds places (λ k lt. banks (suc k) (omega arith))
 
-pub laid-plain : (p : Source) (w : ℕ) (o : Parts) → HasLayout p w o → has_secret_in_ram o ≡ false
-laid-plain p w o layout =
+pub laid-plain : (p : Source) (w : ℕ) (plan : Plan) → IsSoundPlan p w plan → (o : Parts)
+    → IsLaidOut p w plan.places plan.blocks o → has_secret_in_ram o ≡ false
+laid-plain p w plan sound o layout =
     sym (list_any-IsPermutation (λ (s : Symbol). is_ram s.bank && is_secret_label s.label)
-    (placed_symbols p.decls (places_of p w)) o.symbols layout.symbols.each)
-    ∙ symbols_apart p.decls (places_of p w) (λ k lt. bank_of_label p w k no_decl no_place lt)
+    (placed_symbols p.decls plan.places) o.symbols layout.symbols.each)
+    ∙ symbols_apart p.decls plan.places (λ k lt. (sound.place k lt).label)
 
 -- the code of a branch on a secret begins with its guard, and is passed
 pub begins-guarded : (f : Setting) → BeginsGuarded f (padding_of f)
@@ -77,15 +76,16 @@ passes-padded o f homes once some t a b typed public low light secret p k stands
     (record { code_stands = stands; noted = notes.inner; behind = inside }) h.here h.carries in
     record { last = c.last; passes = c.passes; carries = c.carries }
 
--- an object with a program's layout, and with the code and the notes of the program
-pub laid-accepts : (p : Source) (w : ℕ) → IsTyped p → IsWithinLimits p → Fits p w → (o : Parts) → HasLayout p w o
-    → (f : Setting) → IsSettingOf p w o f → 1 ≤ f.profile.taken → o.code ≡ program_code f (padding_of f) p.body
+-- an object with a program's variables at the places of a plan, and with the code and the notes of the program
+pub laid-accepts : (p : Source) (w : ℕ) (plan : Plan) → IsTyped p → IsWithinLimits p → IsSoundPlan p w plan
+    → (o : Parts) → IsLaidOut p w plan.places plan.blocks o
+    → (f : Setting) → IsSettingOf p plan o f → 1 ≤ f.profile.taken → o.code ≡ program_code f (padding_of f) p.body
     → o.notes ≡ program_notes f (padding_of f) p.body → Accepts o
-laid-accepts p w typed limits room o layout f setting some code notes =
-    let homes = has-homes p w limits room o layout f setting in
+laid-accepts p w plan typed limits sound o layout f setting some code notes =
+    let homes = has-homes p w plan limits sound o layout f setting in
     let once : DeclaredOnce f.decls = subst DeclaredOnce (sym setting.decls) typed.once in
     program-accepts o f (padding_of f) p.body homes once (begins-guarded f) (passes-padded o f homes once some)
     (subst (λ ds. TypedBlock (context_of ds) Public p.body) (sym setting.decls) typed.body)
-    (program-public p w limits room o layout f setting typed.body) limits.heights
+    (program-public p w plan sound o f setting typed.body) limits.heights
     (subst (λ ds. block_weight (context_of ds) Public p.body ≤ max_weight) (sym setting.decls) limits.weight) code notes
-    (laid-plain p w o layout)
+    (laid-plain p w plan sound o layout)

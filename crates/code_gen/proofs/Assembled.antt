@@ -1,5 +1,5 @@
 -- What stands of the object that a program is compiled to.
-use Rattle.std.proofs.Common.{◌≡◌, ℕ, suc, zero, ◌+◌, ◌*◌, ◌^◌, ◌<◌, ◌≤◌, Bool, true, false, List, [], ◌∷◌, length, map, get_or, refl, sym, ap, ◌∙◌, subst, arith}
+use Rattle.std.proofs.Common.{◌≡◌, ℕ, suc, zero, ◌+◌, ◌*◌, ◌^◌, ◌<◌, ◌≤◌, Bool, true, false, List, [], ◌∷◌, length, map, get_or, Option, refl, sym, ap, ◌∙◌, subst, arith}
 use Rattle.std.specs.Prelude.{All, if◌then◌else◌}
 use Rattle.std.proofs.Math.Nat.{zero-add}
 use Rattle.std.proofs.lemmas.List.Elements.{All-cons}
@@ -14,18 +14,21 @@ use Rattle.src_tree.specs.Limits.{IsWithinLimits, weight_of}
 use Rattle.src_tree.specs.Trees.{Source, source_of}
 use Rattle.src_tree.specs.Typing.{IsTyped}
 use Rattle.trace_patterns.specs.Accepts.{Accepts}
-use Rattle.bank_alloc.specs.Fits.{Fits}
-use Rattle.bank_alloc.specs.Layout.{AreSymbolsOf, HasLayout}
-use Rattle.bank_alloc.specs.Places.{places_of, blocks_of_banks}
+use Rattle.bank_alloc.specs.Layout.{AreSymbolsAt, IsLaidOut}
+use Rattle.bank_alloc.specs.Places.{IsPlacesOf, places_of, blocks_of_banks}
 use Rattle.bank_alloc.specs.declared.places.Place.{Place}
+use Rattle.bank_alloc.specs.declared.places.Places.{Places}
+use Rattle.scratch_alloc.specs.declared.plans.SlotPlan.{SlotPlan}
+use Rattle.scratch_alloc.specs.declared.plans.Pin.{Pin}
+use Rattle.scratch_alloc.specs.Plans.{Plan, IsSoundPlan, plan_from, scalar_pins, standard_plan}
 use Rattle.scratch_alloc.specs.Slots.{slots_of}
 use Rattle.block_cache_gen.specs.declared.frames.Frame.{Frame}
 use Rattle.block_cache_gen.specs.Homes.{Setting}
 use Rattle.block_cache_gen.specs.ProgramWords.{BlockHasWords}
-use Rattle.block_cache_gen.specs.Settings.{IsFrame, homes_at, scalar_pins, setting_of}
+use Rattle.block_cache_gen.specs.Settings.{IsFrame, plan_of, setting_for, setting_of}
 use Rattle.block_cache_gen.specs.StoredWords.{stored_words}
 use Rattle.block_cache_gen.proofs.Settled.{IsSettingOf}
-use Rattle.code_gen.specs.Compiles.{IsFor, LatenciesFit, latency_for, program_setting, stores_in}
+use Rattle.code_gen.specs.Compiles.{IsFor, LatenciesFit, latency_for, stores_by}
 use Rattle.code_gen.specs.Emitted.{padding_of}
 use Rattle.code_gen.specs.Implements.{Implements}
 use Rattle.code_gen.specs.Made.{banks_from, IsMadeOf}
@@ -63,104 +66,94 @@ latencies-fit l fits bank (n ∷ ns) =
     All-cons (λ b. Within 1 most_latency b.latency) (record { blocks = n; latency = latency_for l bank })
     (banks_from l (bank + 1) ns) (latency-fits l fits (is_ram bank) (is_eram bank)) (latencies-fit l fits (bank + 1) ns)
 
--- a frame's setting is its program's
-abbrev setting_by : Frame → List Place → List ℕ → List ℕ → Setting
-setting_by f places slots blocks = record {
-  decls = f.program.now.decls.items;
-  homes = homes_at places slots;
-  blocks = blocks;
-  pins = scalar_pins;
-  profile = f.profile.now;
-}
-
-pub frame-setting_is : (f : Frame) → IsFrame f
-    → setting_of f ≡ program_setting (source_of f.program.now) f.profile.now
-frame-setting_is f frame =
-    let p = source_of f.program.now in
-    let places = places_of p f.profile.now.block_log in
-    ap (λ places. setting_by f places f.slots.now.of_var.items f.places.now.blocks.items) frame.places.of_var
-    ∙ ap (λ slots. setting_by f places slots f.places.now.blocks.items)
-    (frame.slots ∙ ap slots_of frame.places.of_var)
-    ∙ ap (λ blocks. setting_by f places (slots_of places) blocks) frame.places.blocks
-
 -- what is assembled over a frame
 pub frame-made : (f : Frame) (l : Latencies) (o : Parts) → IsFrame f → LatenciesFit l → o.profile ≡ f.profile.now
     → o.banks ≡ banks_from l 0 f.places.now.blocks.items
-    → AreSymbolsOf (source_of f.program.now) f.profile.now.block_log o.symbols → ((banks : List BankSpec)
-    → map (λ b. b.blocks) banks ≡ blocks_of_banks (source_of f.program.now) f.profile.now.block_log
+    → AreSymbolsAt (source_of f.program.now) f.profile.now.block_log f.places.now.of_var.items o.symbols
+    → ((banks : List BankSpec) → map (λ b. b.blocks) banks ≡ f.places.now.blocks.items
     → EachAfter (SymbolFits (2 ^ f.profile.now.block_log) banks) [] o.symbols)
     → BlockHasWords (source_of f.program.now).body
     → o.code ≡ program_code (setting_of f) (padding_of (setting_of f)) (source_of f.program.now).body
     → o.notes ≡ program_notes (setting_of f) (padding_of (setting_of f)) (source_of f.program.now).body
-    → IsMadeOf (source_of f.program.now) f.profile.now l o
+    → IsMadeOf (source_of f.program.now) (plan_of f) f.profile.now l o
 frame-made f l o frame latencies profile banks symbols named words code notes =
-    let p = source_of f.program.now in
-    let w = f.profile.now.block_log in
-    let made = banks ∙ ap (banks_from l 0) frame.places.blocks in
-    let blocks : map (λ (b : BankSpec). b.blocks) o.banks ≡ blocks_of_banks p w =
-    ap (map (λ (b : BankSpec). b.blocks)) made ∙ blocks-made l 0 (blocks_of_banks p w) in
-    let layout : HasLayout p w o = record {
+    let blocks : map (λ (b : BankSpec). b.blocks) o.banks ≡ f.places.now.blocks.items =
+    ap (map (λ (b : BankSpec). b.blocks)) banks ∙ blocks-made l 0 f.places.now.blocks.items in
+    let layout : IsLaidOut (source_of f.program.now) f.profile.now.block_log f.places.now.of_var.items
+    f.places.now.blocks.items o = record {
       block_size = ap (λ (q : Profile). q.block_log) profile;
       blocks = blocks;
       symbols = symbols;
     } in
-    let is = frame-setting_is f frame in
     record {
       in_range
           = frame-in_range f frame o profile layout (named o.banks blocks)
-          (subst (All (λ b. Within 1 most_latency b.latency)) (sym made)
-          (latencies-fit l latencies 0 (blocks_of_banks p w))) words code notes;
+          (subst (All (λ b. Within 1 most_latency b.latency)) (sym banks)
+          (latencies-fit l latencies 0 f.places.now.blocks.items)) words code notes;
       profile = profile;
       layout = layout;
-      banks = made;
-      code = code ∙ ap (λ g. program_code g (padding_of g) p.body) is;
-      notes = notes ∙ ap (λ g. program_notes g (padding_of g) p.body) is;
+      banks = banks;
+      code = code;
+      notes = notes;
     }
 
+-- the plan of a program's own places and slots
+pub plan-standard : (p : Source) (w : ℕ) (places : Places) (slots : SlotPlan) → IsPlacesOf p w places
+    → slots.of_var.items ≡ slots_of places.of_var.items → slots.pins ≡ scalar_pins
+    → plan_from places slots ≡ standard_plan p w
+plan-standard p w places slots are is pins =
+    let plan : List Place → List ℕ → List ℕ → List (Option Pin) → Plan =
+    λ qs ss bs ps. record { places = qs; slots = ss; blocks = bs; pins = ps } in
+    ap (λ qs. plan qs slots.of_var.items places.blocks.items slots.pins) are.of_var
+    ∙ ap (λ ss. plan (places_of p w) ss places.blocks.items slots.pins) (is ∙ ap slots_of are.of_var)
+    ∙ ap (λ bs. plan (places_of p w) (slots_of (places_of p w)) bs slots.pins) are.blocks
+    ∙ ap (plan (places_of p w) (slots_of (places_of p w)) (blocks_of_banks p w)) pins
+
 -- What is said of the object that a program is compiled to.
-pub record CompilePromises (p : Source) (given : Profile) (l : Latencies) (o : Parts) : Type 0 where
+pub record CompilePromises (p : Source) (plan : Plan) (given : Profile) (l : Latencies) (o : Parts) : Type 0 where
   pub accepted : Accepts o
   pub implements : Implements p o
   pub machine : IsFor given l o
   pub size : length o.code ≤ 120 * weight_of p + 64
-  pub stores : stored_words o.code ≡ stores_in p given
+  pub stores : stored_words o.code ≡ stores_by p plan given
 
-module _ (p : Source) (given : Profile) (l : Latencies) (typed : IsTyped p) (within : IsWithinLimits p)
-    (room : Fits p given.block_log) (profile : ProfileFits given) (o : Parts) (made : IsMadeOf p given l o) where
+module _ (p : Source) (plan : Plan) (given : Profile) (l : Latencies) (typed : IsTyped p) (within : IsWithinLimits p)
+    (sound : IsSoundPlan p given.block_log plan) (profile : ProfileFits given) (o : Parts)
+    (made : IsMadeOf p plan given l o) where
   abbrev setting : Setting
-  setting = program_setting p given
+  setting = setting_for p plan given
 
-  is-setting : IsSettingOf p given.block_log o setting
+  is-setting : IsSettingOf p plan o setting
   is-setting = record { decls = refl; homes = refl; blocks = refl; pins = refl; profile = made.profile }
 
   made-accepted : Accepts o
   made-accepted =
       let taken = profile.taken in
-      laid-accepts p given.block_log typed within room o made.layout setting is-setting taken.0 made.code made.notes
+      laid-accepts p given.block_log plan typed within sound o made.layout setting is-setting taken.0 made.code made.notes
 
   made-implements : Implements p o
   made-implements =
-      laid-code-implements p given.block_log typed within room o made.in_range made.layout setting is-setting made.code
+      laid-code-implements p given.block_log plan typed within sound o made.in_range made.layout setting is-setting made.code
 
   made-for : IsFor given l o
   made-for = record {
     profile = made.profile;
     latencies = λ b exists.
         ap (λ banks. (get_or banks b no_bank).latency) made.banks
-        ∙ latency-made l 0 (blocks_of_banks p given.block_log) b (omega (arith, exists, ap length made.banks))
+        ∙ latency-made l 0 plan.blocks b (omega (arith, exists, ap length made.banks))
         ∙ ap (latency_for l) (zero-add b);
   }
 
   made-short : length o.code ≤ 120 * weight_of p + 64
   made-short =
       let taken = profile.taken in
-      omega (arith, ap length made.code, program-short setting p.body taken.1 (omega arith) within.weight)
+      omega (arith, ap length made.code, program-short setting p.body taken.1 (λ slot pin pinned. (sound.pins slot pin pinned).few) within.weight)
 
-  made-stores : stored_words o.code ≡ stores_in p given
+  made-stores : stored_words o.code ≡ stores_by p plan given
   made-stores = ap stored_words made.code ∙ program-stored setting p.body typed.body
 
   -- all of it holds of what was made
-  pub made-promises : CompilePromises p given l o
+  pub made-promises : CompilePromises p plan given l o
   made-promises = record {
     accepted = made-accepted;
     implements = made-implements;

@@ -20,18 +20,14 @@ use Rattle.src_tree.specs.Meaning.{Store, variable_number, words_of_number}
 use Rattle.src_tree.specs.Typing.{DeclaredOnce}
 use Rattle.flow_types.specs.Wants.{declared_wants}
 use Rattle.bank_alloc.specs.declared.places.Place.{Place}
-use Rattle.bank_alloc.specs.Fits.{Fits}
-use Rattle.bank_alloc.specs.Layout.{HasLayout, placed_symbol, placed_symbols}
-use Rattle.bank_alloc.specs.Places.{places_of}
+use Rattle.bank_alloc.specs.Layout.{IsLaidOut, placed_symbol, placed_symbols}
 use Rattle.src_tree.proofs.VariableNumbers.{number-of_declared, kind-at_number}
-use Rattle.bank_alloc.proofs.EachPlace.{length-places, scalar_place_at, array_place_at}
-use Rattle.bank_alloc.proofs.Apart.{lies_within}
 use Rattle.bank_alloc.proofs.SymbolOrder.{length-symbols_at, get_or-symbols_at}
-use Rattle.scratch_alloc.specs.Slots.{slot_behind}
+use Rattle.scratch_alloc.specs.Plans.{Plan, IsSoundPlan, no_decl, no_place}
 use Rattle.block_cache_gen.specs.Homes.{Home, Setting, home_of, words_a_block, start_of_home, no_home}
-use Rattle.block_cache_gen.specs.Settings.{home_at}
+use Rattle.block_cache_gen.specs.Settings.{home_at, setting_for}
 use Rattle.block_cache_gen.specs.StandsFor.{FitsHomes}
-use Rattle.block_cache_gen.proofs.Settled.{IsSettingOf, no_decl, no_place, width, bank-count, bank-blocks, home-at, named-below, homes-apart}
+use Rattle.block_cache_gen.proofs.Settled.{IsSettingOf, width, bank-count, bank-blocks, home-at, named-below, homes-apart}
 use Rattle.code_gen.specs.Implements.{HasSymbols, by_name}
 use Rattle.code_gen.proofs.Started.{BanksHold}
 use Rattle.code_gen.proofs.Implementing.{NamesWords}
@@ -66,15 +62,9 @@ fits-words decls store fits k =
     (λ past. subst AreWords (sym (get_or_past store k [] (omega (arith, past, fits-count decls store fits)))) no_words)
     (cases_lt k (length decls))
 
--- a variable's place is as long as it is declared
-pub place-length : (p : Source) (w k : ℕ) → k < length p.decls
-    → (get_or (places_of p w) k no_place).length ≡ words_of (get_or p.decls k no_decl)
-place-length p w k below = by (get_or p.decls k no_decl).length refl
-  where
-    by : (l : Option ℕ) → (get_or p.decls k no_decl).length ≡ l
-        → (get_or (places_of p w) k no_place).length ≡ words_of (get_or p.decls k no_decl)
-    by None none = (scalar_place_at p w k no_decl no_place below none).one_word ∙ ap words_of_length (sym none)
-    by (Some n) some = (array_place_at p w k n no_decl no_place below some).all_words ∙ ap words_of_length (sym some)
+-- the setting of a program for an object
+pub setting-of : (p : Source) (plan : Plan) (o : Parts) → IsSettingOf p plan o (setting_for p plan o.profile)
+setting-of p plan o = record { decls = refl; homes = refl; blocks = refl; pins = refl; profile = refl }
 
 -- lists for symbols that have each its length
 symbols-fit : (words : Symbol → List ℤ) (symbols : List Symbol)
@@ -94,13 +84,14 @@ map-alike f g (x ∷ xs) each =
     ap (λ y. y ∷ map f xs) (each 0 x (omega arith))
     ∙ ap (λ ys. g x ∷ ys) (map-alike f g xs (λ k d within. each (suc k) d (omega arith)))
 
-module _ (p : Source) (w : ℕ) (once : DeclaredOnce p.decls) (limits : IsWithinLimits p) (room : Fits p w) (o : Parts)
-    (layout : HasLayout p w o) (f : Setting) (setting : IsSettingOf p w o f) where
+module _ (p : Source) (w : ℕ) (plan : Plan) (once : DeclaredOnce p.decls) (limits : IsWithinLimits p)
+    (sound : IsSoundPlan p w plan) (o : Parts) (layout : IsLaidOut p w plan.places plan.blocks o) (f : Setting)
+    (setting : IsSettingOf p plan o f) where
   abbrev decl : ℕ → Decl
   decl k = get_or p.decls k no_decl
 
   abbrev place : ℕ → Place
-  place k = get_or (places_of p w) k no_place
+  place k = get_or plan.places k no_place
 
   abbrev symbol : ℕ → Symbol
   symbol k = placed_symbol (decl k) (place k)
@@ -111,37 +102,37 @@ module _ (p : Source) (w : ℕ) (once : DeclaredOnce p.decls) (limits : IsWithin
     pub below : number < length p.decls
     pub is : s ≡ symbol number
 
-  each-variable : All IsVariable (placed_symbols p.decls (places_of p w))
+  each-variable : All IsVariable (placed_symbols p.decls plan.places)
   each-variable k d within =
       let below : k < length p.decls =
-      omega (arith, within, length-symbols_at p.decls (places_of p w) (length-places p w)) in
+      omega (arith, within, length-symbols_at p.decls plan.places sound.places) in
       record {
         number = k;
         below = below;
-        is = get_or-symbols_at p.decls (places_of p w) k no_decl no_place d (length-places p w) below;
+        is = get_or-symbols_at p.decls plan.places k no_decl no_place d sound.places below;
       }
 
   -- each symbol of the object is one, and each variable has its symbol there
   pub symbols-variables : All IsVariable o.symbols
   symbols-variables =
-      All-permutation IsVariable (placed_symbols p.decls (places_of p w)) o.symbols layout.symbols.each each-variable
+      All-permutation IsVariable (placed_symbols p.decls plan.places) o.symbols layout.symbols.each each-variable
 
   pub variables-symbols : (k : ℕ) → k < length p.decls → Contains o.symbols (symbol k)
   variables-symbols k below =
-      Contains-permutation (placed_symbols p.decls (places_of p w)) o.symbols (symbol k) layout.symbols.each (
+      Contains-permutation (placed_symbols p.decls plan.places) o.symbols (symbol k) layout.symbols.each (
         k,
-        omega (arith, below, length-symbols_at p.decls (places_of p w) (length-places p w)),
-        get_or-symbols_at p.decls (places_of p w) k no_decl no_place (symbol k) (length-places p w) below,
+        omega (arith, below, length-symbols_at p.decls plan.places sound.places),
+        get_or-symbols_at p.decls plan.places k no_decl no_place (symbol k) sound.places below,
       )
 
   pub has-symbols : HasSymbols p o
   has-symbols k d below =
       let s = placed_symbol (get_or p.decls k d) (place k) in (
         s,
-        Contains-permutation (placed_symbols p.decls (places_of p w)) o.symbols s layout.symbols.each (
+        Contains-permutation (placed_symbols p.decls plan.places) o.symbols s layout.symbols.each (
           k,
-          omega (arith, below, length-symbols_at p.decls (places_of p w) (length-places p w)),
-          get_or-symbols_at p.decls (places_of p w) k d no_place s (length-places p w) below,
+          omega (arith, below, length-symbols_at p.decls plan.places sound.places),
+          get_or-symbols_at p.decls plan.places k d no_place s sound.places below,
         ),
         refl,
         refl,
@@ -169,16 +160,16 @@ module _ (p : Source) (w : ℕ) (once : DeclaredOnce p.decls) (limits : IsWithin
           let k = variable.number in
           let fits = fits-at p.decls store given k variable.below in
           subst (λ s. (length (words_named store s) ≡ s.length) × AreWords (words_named store s)) (sym variable.is) (
-            ap length (symbol-words store k variable.below) ∙ fits.size ∙ sym (place-length p w k variable.below),
+            ap length (symbol-words store k variable.below) ∙ fits.size ∙ sym (sound.place k variable.below).words,
             subst AreWords (sym (symbol-words store k variable.below)) fits.words,
           )
 
   -- the homes by number and by name
   abbrev home : ℕ → Home
-  home k = home_at (place k) (slot_behind (take k (places_of p w)) (place k))
+  home k = home_at plan.pins (place k) (get_or plan.slots k 0)
 
   home-is : (k : ℕ) → k < length p.decls → get_or f.homes k no_home ≡ home k
-  home-is k below = home-at p w limits room o layout f setting k below
+  home-is k below = home-at p w plan limits sound o layout f setting k below
 
   number-in : (k : ℕ) → k < length p.decls → variable_number f.decls (decl k).name ≡ k
   number-in k below = ap (λ ds. variable_number ds (decl k).name) setting.decls ∙ name-number k below
@@ -200,19 +191,19 @@ module _ (p : Source) (w : ℕ) (once : DeclaredOnce p.decls) (limits : IsWithin
   exists k below =
       omega (
         arith,
-        (lies_within p w k no_decl no_place limits room below).bank,
-        bank-count p w limits room o layout f setting,
+        (sound.place k below).bank,
+        bank-count p w plan limits sound o layout f setting,
       )
 
   inside : (k : ℕ) → k < length p.decls
       → end_word (block_words o) (symbol k) ≤ blocks_of o (place k).bank * block_words o
   inside k below =
       let q = place k in
-      let lies = lies_within p w k no_decl no_place limits room below in
+      let lies = sound.place k below in
       subst (λ n. (q.block * n + q.word) + q.length ≤ blocks_of o q.bank * n)
-      (sym (width p w limits room o layout f setting))
+      (sym (width p w plan limits sound o layout f setting))
       (subst (λ n. (q.block * 2 ^ w + q.word) + q.length ≤ n * 2 ^ w)
-      (sym (bank-blocks p w limits room o layout f setting q.bank (exists k below))) lies.inside)
+      (sym (bank-blocks p w plan limits sound o layout f setting q.bank (exists k below))) lies.inside)
 
   -- two variables that take one word are one
   alone : (bank at u v : ℕ) → u < length p.decls → v < length p.decls → Takes (block_words o) (symbol u) bank at
@@ -228,7 +219,7 @@ module _ (p : Source) (w : ℕ) (once : DeclaredOnce p.decls) (limits : IsWithin
       (λ apart.
       let before : end_word (block_words o) (symbol v) ≤ first_word (block_words o) (symbol u) = apart in
       absurd (omega (arith, before, second.before, first.behind)))
-      (homes-apart p w limits room o layout f setting u v one two differ (first.bank_is ∙ sym second.bank_is)))
+      (homes-apart p w plan limits sound o layout f setting u v one two differ (first.bank_is ∙ sym second.bank_is)))
       (cases_eq u v)
 
   -- the words of a variable at the start
@@ -260,7 +251,7 @@ module _ (p : Source) (w : ℕ) (once : DeclaredOnce p.decls) (limits : IsWithin
   banks-start store given = record {
     words = λ x label shape i known within.
         let k = variable_number f.decls x in
-        let below = named-below p w limits room o layout f setting x (label, shape) known in
+        let below = named-below p w plan limits sound o layout f setting x (label, shape) known in
         let s = start_state o (by_name p o store) in
         let short : i < (place k).length = subst (λ h. i < h.length) (home-is k below) within in
         subst (λ h. bank_word_numbered (words_a_block f) s h.bank (start_of_home (words_a_block f) h + i)
@@ -276,8 +267,8 @@ module _ (p : Source) (w : ℕ) (once : DeclaredOnce p.decls) (limits : IsWithin
     count = fits-count p.decls store given ∙ ap length (sym setting.decls);
     lengths = λ x label shape known.
         let k = variable_number f.decls x in
-        let below = named-below p w limits room o layout f setting x (label, shape) known in
-        (fits-at p.decls store given k below).size ∙ sym (place-length p w k below)
+        let below = named-below p w plan limits sound o layout f setting x (label, shape) known in
+        (fits-at p.decls store given k below).size ∙ sym (sound.place k below).words
         ∙ ap (λ h. h.length) (sym (home-is k below));
     all_words = fits-words p.decls store given;
   }

@@ -10,8 +10,8 @@ use Rattle.src_tree.specs.Labels.{label_of_test}
 use Rattle.src_tree.specs.Limits.{IsWithinLimits, LowStatement}
 use Rattle.src_tree.specs.Meaning.{run_of, run_of_block}
 use Rattle.src_tree.specs.Typing.{IsTyped, TypedStatement}
-use Rattle.bank_alloc.specs.Fits.{Fits}
-use Rattle.bank_alloc.specs.Layout.{HasLayout}
+use Rattle.bank_alloc.specs.Layout.{IsLaidOut}
+use Rattle.scratch_alloc.specs.Plans.{Plan, IsSoundPlan}
 use Rattle.block_cache_gen.specs.Homes.{Setting}
 use Rattle.block_cache_gen.proofs.Settled.{IsSettingOf, has-homes}
 use Rattle.code_gen.specs.Implements.{Implements}
@@ -24,13 +24,13 @@ use Rattle.code_gen.proofs.PublicParts.{parts-follow}
 use Rattle.code_gen.proofs.BodyFollowed.{body-follows}
 
 -- by the layout
-pub laid-implements : (p : Source) (w : ℕ) → IsTyped p → IsWithinLimits p → Fits p w → (o : Parts) → IsInRange o
-    → HasLayout p w o
-    → (f : Setting) → IsSettingOf p w o f → (padded : Padding) → o.code ≡ program_code f padded p.body
+pub laid-implements : (p : Source) (w : ℕ) (plan : Plan) → IsTyped p → IsWithinLimits p → IsSoundPlan p w plan
+    → (o : Parts) → IsInRange o → IsLaidOut p w plan.places plan.blocks o
+    → (f : Setting) → IsSettingOf p plan o f → (padded : Padding) → o.code ≡ program_code f padded p.body
     → Follows o f (length (beginning f)) (block_code f padded p.body) (run_of_block p.decls p.body) → Implements p o
-laid-implements p w typed limits room o fits layout f setting padded code follows =
-    implements p o fits f (has-homes p w limits room o layout f setting)
-    (names-words p w typed.once limits room o layout f setting) padded code follows
+laid-implements p w plan typed limits sound o fits layout f setting padded code follows =
+    implements p o fits f (has-homes p w plan limits sound o layout f setting)
+    (names-words p w plan typed.once limits sound o layout f setting) padded code follows
 
 -- The same of both, where the code of each branch on a secret follows it.
 abbrev pub SecretsFollow : Parts → Setting → Padding → Type 0
@@ -40,10 +40,10 @@ SecretsFollow o f padded =
     → Follows o f place (padded t a b) (run_of f.decls (Choice t a b))
 
 -- an object with the program's layout and code implements it, where its branches on secrets are followed
-pub laid-padded-implements : (p : Source) (w : ℕ) → IsTyped p → IsWithinLimits p → Fits p w → (o : Parts) → IsInRange o
-    → HasLayout p w o → (f : Setting) → IsSettingOf p w o f → (padded : Padding)
+pub laid-padded-implements : (p : Source) (w : ℕ) (plan : Plan) → IsTyped p → IsWithinLimits p → IsSoundPlan p w plan
+    → (o : Parts) → IsInRange o → IsLaidOut p w plan.places plan.blocks o → (f : Setting) → IsSettingOf p plan o f → (padded : Padding)
     → o.code ≡ program_code f padded p.body → SecretsFollow o f padded → Implements p o
-laid-padded-implements p w typed limits room o fits layout f setting padded code secrets =
-    laid-implements p w typed limits room o fits layout f setting padded code
+laid-padded-implements p w plan typed limits sound o fits layout f setting padded code secrets =
+    laid-implements p w plan typed limits sound o fits layout f setting padded code
     (body-follows p o fits f padded setting.decls typed limits code
-    (parts-follow o fits f (has-homes p w limits room o layout f setting) padded secrets))
+    (parts-follow o fits f (has-homes p w plan limits sound o layout f setting) padded secrets))

@@ -4,7 +4,7 @@ use Rattle.std.proofs.lemmas.List.{drop_all}
 use Rattle.lt_isa.specs.declared.instructions.Instr.{Instr}
 use Rattle.block_cache_gen.specs.declared.frames.CodeBuf.{CodeBuf}
 use Rattle.block_cache_gen.specs.Emitted.{Appended, no_notes}
-use Rattle.block_cache_gen.specs.declared.frames.Pin.{Pin}
+use Rattle.scratch_alloc.specs.declared.plans.Pin.{Pin}
 use Rattle.block_cache_gen.proofs.Emitting.{silent_behind}
 use Rattle.branch_padding.proofs.EmittedRegions.{appended-none}
 use Rattle.code_gen.specs.Programs.{each_slot}

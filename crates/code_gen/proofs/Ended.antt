@@ -1,5 +1,5 @@
 -- The end of a program's code: each pinned slot's block is stored, and then the banks hold each variable's words.
-use Rattle.std.proofs.Common.{◌≡◌, ◌≢◌, ℕ, suc, ◌+◌, ◌/◌, ◌%◌, ◌<◌, ◌≤◌, Bool, true, false, ℤ, pos, List, [], ◌∷◌, ◌++◌, length, get_or, set, Option, Some, None, refl, sym, ap, ◌∙◌, subst, ⊎_elim, arith}
+use Rattle.std.proofs.Common.{◌≡◌, ◌≢◌, ℕ, suc, ◌+◌, ◌*◌, ◌/◌, ◌%◌, ◌<◌, ◌≤◌, Bool, true, false, ℤ, pos, List, [], ◌∷◌, ◌++◌, length, get_or, set, Option, Some, None, refl, sym, ap, ◌∙◌, subst, ⊎_elim, arith, div-add-mod'}
 use Rattle.std.specs.Prelude.{slice_index_or}
 use Rattle.std.proofs.lemmas.Nat.{le-div, pow_pos}
 use Rattle.std.proofs.lemmas.Bool.{cases_eq, cases_lt, true≢false}
@@ -20,9 +20,10 @@ use Rattle.stretches.specs.Coming.{RunsThrough}
 use Rattle.stretches.proofs.Standing.{standing-head}
 use Rattle.stretches.proofs.Coming.{comes-here, comes-stb, comes-weaker}
 use Rattle.stretches.proofs.RunningThrough.{runs-append, runs-weaker}
-use Rattle.block_cache_gen.specs.declared.frames.Pin.{Pin}
+use Rattle.scratch_alloc.specs.declared.plans.Pin.{Pin}
 use Rattle.block_cache_gen.specs.Homes.{Setting, HasHomes, pin_at, pin_of, home_of, words_a_block, start_of_home}
 use Rattle.block_cache_gen.specs.StandsFor.{StandsFor}
+use Rattle.block_cache_gen.proofs.HomeFacts.{block_words-is}
 use Rattle.code_gen.specs.Programs.{pin_store, each_slot}
 use Rattle.code_gen.proofs.Started.{BanksHold, word-in_block, resident-inside}
 
@@ -189,7 +190,14 @@ module _ (o : Parts) (fits : IsInRange o) (f : Setting) (homes : HasHomes o f) (
       ap (λ words. word_in words (at % w))
       (stored.others h.bank (at / w)
       (λ j p few pinned same_bank same_block.
-      absurd (omega (arith, behind, same_block, home.behind j p pinned (sym same_bank)))))
+      ⊎_elim
+      (λ before. absurd (omega (arith, behind, same_block, before)))
+      (λ after.
+      let past : h.block * w + h.length ≤ p.block * w =
+      subst (λ n. h.block * n + h.length ≤ p.block * n) (block_words-is homes) after in
+      let here : at / w * w ≡ p.block * w = ap (λ n. n * w) same_block in
+      absurd (omega (arith, here, past, home.word, below, div-add-mod' at w)))
+      (home.apart j p pinned (sym same_bank))))
       ∙ stands.arrays x label i known turn below
 
   banks-hold : (u : State) → StoredTo f s (length f.pins) u → BanksHold f u left

@@ -14,7 +14,7 @@ use Rattle.stretches.specs.Coming.{RunsThrough}
 use Rattle.stretches.proofs.RunningThrough.{runs-append}
 use Rattle.stretches.proofs.Standing.{standing-head}
 use Rattle.stretches.proofs.Coming.{comes-here, comes-weaker, comes-ldb, comes-li}
-use Rattle.block_cache_gen.specs.declared.frames.Pin.{Pin}
+use Rattle.scratch_alloc.specs.declared.plans.Pin.{Pin}
 use Rattle.block_cache_gen.specs.Homes.{Setting}
 use Rattle.block_cache_gen.specs.ServedBlocks.{first_blocks}
 use Rattle.code_gen.specs.Programs.{load_code, each_slot, beginning}

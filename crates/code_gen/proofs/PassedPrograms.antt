@@ -18,7 +18,7 @@ use Rattle.stretches.specs.Passing.{AsItComes, Done, HoldsAt, Passes}
 use Rattle.stretches.proofs.Standing.{standing-first, standing-rest, standing-head, standing-whole}
 use Rattle.stretches.proofs.Passed.{passes-then, passes-to, passes-goes, passes-noted, GoesOn, NoMore, One, goes-then, ruled-at, rules-li, rules-ldb, rules-stb, secret-same, bank-same, bank-other, LieBetween, no_note-before, no_note-behind}
 use Rattle.stretches.proofs.PassedCode.{passes-accepted}
-use Rattle.block_cache_gen.specs.declared.frames.Pin.{Pin}
+use Rattle.scratch_alloc.specs.declared.plans.Pin.{Pin}
 use Rattle.block_cache_gen.specs.Homes.{Setting, HasHomes, home_of}
 use Rattle.block_cache_gen.specs.ServedBlocks.{first_blocks}
 use Rattle.block_cache_gen.specs.Carries.{Carries}

@@ -13,10 +13,8 @@ use Rattle.lt_isa.specs.Ranges.{ProfileFits, SymbolFits, InstrFits, NoteFits, ne
 use Rattle.src_tree.specs.declared.trees.Decl.{Decl}
 use Rattle.src_tree.specs.Trees.{source_of}
 use Rattle.bank_alloc.specs.declared.places.Place.{Place}
-use Rattle.bank_alloc.specs.Places.{places_of}
-use Rattle.bank_alloc.specs.Layout.{HasLayout, placed_symbols}
-use Rattle.bank_alloc.proofs.BankSizes.{bank_count-is, banks_fit}
-use Rattle.bank_alloc.proofs.Refusals.{bank_count-le}
+use Rattle.bank_alloc.proofs.BankSizes.{banks_fit}
+use Rattle.bank_alloc.specs.Layout.{IsLaidOut, placed_symbols}
 use Rattle.block_cache_gen.specs.declared.frames.Frame.{Frame}
 use Rattle.block_cache_gen.specs.Settings.{setting_of, IsFrame}
 use Rattle.block_cache_gen.specs.ProgramWords.{BlockHasWords}
@@ -24,7 +22,7 @@ use Rattle.block_cache_gen.proofs.HomesOfFrames.{homes_fit, first_fits, frame_ba
 use Rattle.block_cache_gen.proofs.RangesOfCode.{HomesFit}
 use Rattle.code_gen.specs.Emitted.{padding_of}
 use Rattle.code_gen.specs.Programs.{program_code, program_notes}
-use Rattle.code_gen.proofs.RangesOfPrograms.{program-size, program-fits, notes-fit, notes-few, notes-inside}
+use Rattle.code_gen.proofs.RangesOfPrograms.{PinsInEight, program-size, program-fits, notes-fit, notes-few, notes-inside}
 
 -- as many symbols as variables
 symbols_short : (ds : List Decl) (places : List Place) → length (placed_symbols ds places) ≤ length ds
@@ -35,7 +33,7 @@ symbols_short (d ∷ ds) (q ∷ places) = omega (arith, symbols_short ds places)
 -- The frame that the code was made for; symbols and latencies in their ranges; and numbers that are words, as those of
 -- every program are.
 pub frame-in_range : (f : Frame) → IsFrame f → (o : Parts) → o.profile ≡ f.profile.now
-    → HasLayout (source_of f.program.now) f.profile.now.block_log o
+    → IsLaidOut (source_of f.program.now) f.profile.now.block_log f.places.now.of_var.items f.places.now.blocks.items o
     → EachAfter (SymbolFits (2 ^ f.profile.now.block_log) o.banks) [] o.symbols
     → All (λ b. Within 1 most_latency b.latency) o.banks → BlockHasWords (source_of f.program.now).body
     → o.code ≡ program_code (setting_of f) (padding_of (setting_of f)) (source_of f.program.now).body
@@ -46,40 +44,41 @@ frame-in_range f frame o profile layout named latencies words code notes =
     let g = setting_of f in
     let few = frame.profile.taken.1 in
     let light = frame.within.weight in
-    let count = bank_count-is p w o.banks layout.blocks in
+    let eight : PinsInEight g = λ slot pin pinned. (frame.plan.pins slot pin pinned).few in
+    let places = f.places.now.of_var.items in
     let banks : length f.places.now.blocks.items ≡ length o.banks =
-    ap length frame.places.blocks ∙ ap length (sym layout.blocks) ∙ length-map o.banks (λ (b : BankSpec). b.blocks) in
+    ap length (sym layout.blocks) ∙ length-map o.banks (λ (b : BankSpec). b.blocks) in
     let some : 2 ≤ length o.banks = subst (λ (n : ℕ). 2 ≤ n) banks (frame_banks f frame) in
     let homes = subst (λ (n : ℕ). HomesFit n g) banks (homes_fit f frame) in
     let symbols : length o.symbols ≤ length p.decls =
     omega (
       arith,
-      length_permutation (placed_symbols p.decls (places_of p w)) o.symbols layout.symbols.each,
-      symbols_short p.decls (places_of p w),
+      length_permutation (placed_symbols p.decls places) o.symbols layout.symbols.each,
+      symbols_short p.decls places,
     ) in
     let variables = frame.within.variables in
     record {
       profile = subst ProfileFits (sym profile) frame.profile;
-      bank_count = (some, omega (arith, count, bank_count-le (places_of p w)));
-      banks = banks_fit p w o.banks frame.within frame.room layout.blocks latencies;
+      bank_count = (some, omega (arith, banks, frame.plan.banks.1));
+      banks = banks_fit f.places.now.blocks.items o.banks frame.plan.blocks layout.blocks latencies;
       symbol_count = omega arith;
       symbols
           = subst (λ (n : ℕ). EachAfter (SymbolFits (2 ^ n) o.banks) [] o.symbols) (sym layout.block_size)
           named;
       note_count = subst (λ (ns : List Note). length ns ≤ most_notes) (sym notes)
-          (notes-few g p.body few (omega arith) light);
+          (notes-few g p.body few eight light);
       notes
-          = subst (EachAfter (NoteFits (length o.banks)) []) (sym notes) (notes-fit g p.body few (omega arith) light
+          = subst (EachAfter (NoteFits (length o.banks)) []) (sym notes) (notes-fit g p.body few eight light
           (length o.banks) some homes.pins);
       code_size
           = subst (λ (c : List Instr). Within 1 most_instructions (length c)) (sym code)
-          (program-size g p.body few (omega arith) light);
+          (program-size g p.body few eight light);
       behind_notes
           = subst (λ (ns : List Note). next_place ns ≤ length o.code) (sym notes)
           (subst (λ (c : List Instr). next_place (program_notes g (padding_of g) p.body) ≤ length c) (sym code)
-          (notes-inside g p.body few (omega arith) light));
+          (notes-inside g p.body few eight light));
       code
           = subst (All (InstrFits (length o.banks))) (sym code)
-          (program-fits g p.body few (omega arith) light (length o.banks) some homes
+          (program-fits g p.body few eight light (length o.banks) some homes
           (first_fits f frame) frame.typed.body words frame.within.heights);
     }

@@ -1,5 +1,5 @@
 -- The code and the notes of a whole program are in their ranges, and so is an object that is made of them.
-use Rattle.std.proofs.Common.{◌≡◌, ℕ, suc, ◌+◌, ◌*◌, ◌<◌, ◌≤◌, pos, List, [], ◌∷◌, ◌++◌, length, length-append, get_or, Option, Some, None, refl, ap, ◌∙◌, arith}
+use Rattle.std.proofs.Common.{◌≡◌, ℕ, suc, ◌+◌, ◌-◌, ◌*◌, ◌<◌, ◌≤◌, pos, List, [], ◌∷◌, ◌++◌, length, length-append, get_or, Option, Some, None, refl, ap, ◌∙◌, arith}
 use Rattle.std.specs.Prelude.{All}
 use Rattle.gr_base.specs.Lists.{Within, EachAfter}
 use Rattle.gr_word.specs.declared.variables.Label.TheVariants as label
@@ -12,8 +12,8 @@ use Rattle.src_tree.specs.Contexts.{context_of}
 use Rattle.src_tree.specs.Limits.{max_weight, LowBlock, block_weight}
 use Rattle.src_tree.specs.Trees.{Block}
 use Rattle.src_tree.specs.Typing.{TypedBlock}
-use Rattle.block_cache_gen.specs.declared.frames.Pin.{Pin}
-use Rattle.block_cache_gen.specs.Homes.{Setting}
+use Rattle.scratch_alloc.specs.declared.plans.Pin.{Pin}
+use Rattle.block_cache_gen.specs.Homes.{Setting, pin_at}
 use Rattle.block_cache_gen.specs.ServedBlocks.{first_blocks}
 use Rattle.block_cache_gen.specs.ProgramWords.{BlockHasWords}
 use Rattle.block_cache_gen.proofs.RangesOfCode.{HomesFit, CodeFits, NoCode, Before, code-all, code-both, small-word}
@@ -31,20 +31,36 @@ loads_short slot [] = omega arith
 loads_short slot (None ∷ blocks) = omega (arith, loads_short (slot + 1) blocks)
 loads_short slot (Some p ∷ blocks) = omega (arith, loads_short (slot + 1) blocks)
 
-stores_short : (slot : ℕ) (pins : List (Option Pin)) → length (each_slot pin_store slot pins) ≤ length pins
-stores_short slot [] = omega arith
-stores_short slot (None ∷ pins) = omega (arith, stores_short (slot + 1) pins)
-stores_short slot (Some p ∷ pins) = omega (arith, stores_short (slot + 1) pins)
+-- the slots that are pinned, from one on, are among the eight
+abbrev AreInEight : (slot : ℕ) → List (Option Pin) → Type 0
+AreInEight slot pins = (i : ℕ) (p : Pin) → get_or pins i None ≡ Some p → slot + i < 8
+
+in_eight-rest : (slot : ℕ) (pin : Option Pin) (pins : List (Option Pin))
+    → AreInEight slot (pin ∷ pins) → AreInEight (slot + 1) pins
+in_eight-rest slot pin pins few i p is = let h = few (suc i) p is in omega (arith, h)
+
+stores_short : (slot : ℕ) (pins : List (Option Pin))
+    → AreInEight slot pins → length (each_slot pin_store slot pins) ≤ 8 - slot
+stores_short slot [] few = omega arith
+stores_short slot (None ∷ pins) few = omega (arith, stores_short (slot + 1) pins (in_eight-rest slot None pins few))
+stores_short slot (Some p ∷ pins) few =
+    omega (arith, stores_short (slot + 1) pins (in_eight-rest slot (Some p) pins few), few 0 p refl)
+
+-- the pinned slots of a setting are among the eight
+abbrev pub PinsInEight : Setting → Type 0
+PinsInEight f = (slot : ℕ) (p : Pin) → pin_at f slot ≡ Some p → slot < 8
+
+all_in_eight : (f : Setting) → PinsInEight f → AreInEight 0 f.pins
+all_in_eight f few i p is = omega (arith, few i p is)
 
 pub beginning_short : (f : Setting) → length (beginning f) ≤ 16
 beginning_short f = loads_short 0 (first_blocks f)
 
-ending_short : (f : Setting) → length f.pins ≤ 8 → length (ending f) ≤ 9
+ending_short : (f : Setting) → PinsInEight f → length (ending f) ≤ 9
 ending_short f few =
     omega (
       arith,
-      few,
-      stores_short 0 f.pins,
+      stores_short 0 f.pins (all_in_eight f few),
       length-append (each_slot pin_store 0 f.pins) (Halt ∷ []),
     )
 
@@ -66,17 +82,17 @@ loads_fit banks some slot (Some p ∷ blocks) few fits =
     (omega (arith, few), omega (arith, first.0, some), omega arith)
     (loads_fit banks some (slot + 1) blocks (omega (arith, few)) (λ i p is. fits (suc i) p is)))
 
-stores_fit : (banks slot : ℕ) (pins : List (Option Pin)) → slot + length pins ≤ 8
+stores_fit : (banks slot : ℕ) (pins : List (Option Pin)) → AreInEight slot pins
     → CodeFits banks (each_slot pin_store slot pins)
 stores_fit banks slot [] few = NoCode
-stores_fit banks slot (None ∷ pins) few = stores_fit banks (slot + 1) pins (omega (arith, few))
+stores_fit banks slot (None ∷ pins) few = stores_fit banks (slot + 1) pins (in_eight-rest slot None pins few)
 stores_fit banks slot (Some p ∷ pins) few =
-    Before (Stb slot) (each_slot pin_store (slot + 1) pins) (omega (arith, few))
-    (stores_fit banks (slot + 1) pins (omega (arith, few)))
+    Before (Stb slot) (each_slot pin_store (slot + 1) pins) (omega (arith, few 0 p refl))
+    (stores_fit banks (slot + 1) pins (in_eight-rest slot (Some p) pins few))
 
-ending_fits : (banks : ℕ) (f : Setting) → length f.pins ≤ 8 → CodeFits banks (ending f)
+ending_fits : (banks : ℕ) (f : Setting) → PinsInEight f → CodeFits banks (ending f)
 ending_fits banks f few =
-    code-both banks (each_slot pin_store 0 f.pins) (Halt ∷ []) (stores_fit banks 0 f.pins (omega (arith, few)))
+    code-both banks (each_slot pin_store 0 f.pins) (Halt ∷ []) (stores_fit banks 0 f.pins (all_in_eight f few))
     (Before Halt [] tt NoCode)
 
 -- the last of notes that rise stands before their end
@@ -85,7 +101,7 @@ rise_ends f low high [] rise = omega arith
 rise_ends f low high (n ∷ []) rise = let at = rise.0 in omega (arith, at.1)
 rise_ends f low high (n ∷ m ∷ notes) rise = rise_ends f (n.pc + 1) high (m ∷ notes) rise.2
 
-module _ (f : Setting) (body : Block) (few : f.profile.taken ≤ 32) (pins : length f.pins ≤ 8)
+module _ (f : Setting) (body : Block) (few : f.profile.taken ≤ 32) (pins : PinsInEight f)
     (light : block_weight (context_of f.decls) label.Public body ≤ max_weight) where
   abbrev whole : List Instr
   whole = program_code f (padding_of f) body

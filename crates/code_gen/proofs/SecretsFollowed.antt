@@ -6,8 +6,8 @@ use Rattle.src_tree.specs.Trees.{Source, Choice}
 use Rattle.src_tree.specs.Limits.{IsWithinLimits}
 use Rattle.src_tree.specs.Meaning.{Store, run_of}
 use Rattle.src_tree.specs.Typing.{IsTyped}
-use Rattle.bank_alloc.specs.Fits.{Fits}
-use Rattle.bank_alloc.specs.Layout.{HasLayout}
+use Rattle.bank_alloc.specs.Layout.{IsLaidOut}
+use Rattle.scratch_alloc.specs.Plans.{Plan, IsSoundPlan}
 use Rattle.block_cache_gen.specs.Homes.{Setting, HasHomes}
 use Rattle.block_cache_gen.proofs.Settled.{IsSettingOf, has-homes}
 use Rattle.branch_padding.specs.Effects.{effect_of}
@@ -30,9 +30,9 @@ secrets-follow o fits f homes t a b place typed low secret at =
     (secret_choice-means f.decls t a b typed secret) changes
 
 -- by the layout
-pub laid-code-implements : (p : Source) (w : ℕ) → IsTyped p → IsWithinLimits p → Fits p w → (o : Parts) → IsInRange o
-    → HasLayout p w o → (f : Setting) → IsSettingOf p w o f → o.code ≡ program_code f (padding_of f) p.body
+pub laid-code-implements : (p : Source) (w : ℕ) (plan : Plan) → IsTyped p → IsWithinLimits p → IsSoundPlan p w plan
+    → (o : Parts) → IsInRange o → IsLaidOut p w plan.places plan.blocks o → (f : Setting) → IsSettingOf p plan o f → o.code ≡ program_code f (padding_of f) p.body
     → Implements p o
-laid-code-implements p w typed limits room o fits layout f setting code =
-    laid-padded-implements p w typed limits room o fits layout f setting (padding_of f) code
-    (secrets-follow o fits f (has-homes p w limits room o layout f setting))
+laid-code-implements p w plan typed limits sound o fits layout f setting code =
+    laid-padded-implements p w plan typed limits sound o fits layout f setting (padding_of f) code
+    (secrets-follow o fits f (has-homes p w plan limits sound o layout f setting))

@@ -12,7 +12,7 @@ use Rattle.lt_isa.specs.Machine.{State, Unbound, Bound, slot, block_at, word_in,
 use Rattle.lt_isa.specs.Outputs.{bank_word_numbered}
 use Rattle.src_tree.specs.Contexts.{context_of}
 use Rattle.src_tree.specs.Meaning.{Store, variable_number, words_of_number}
-use Rattle.block_cache_gen.specs.declared.frames.Pin.{Pin}
+use Rattle.scratch_alloc.specs.declared.plans.Pin.{Pin}
 use Rattle.block_cache_gen.specs.Homes.{Home, Setting, HasHomes, Serves, PlainSlot, EncryptedSlot, ObliviousSlot, home_of, pin_at, pin_of, words_a_block, start_of_home}
 use Rattle.block_cache_gen.specs.ServedBlocks.{first_blocks}
 use Rattle.block_cache_gen.specs.StandsFor.{StandsFor}

@@ -10,7 +10,7 @@ use Rattle.src_tree.specs.Labels.{label_of_test}
 use Rattle.src_tree.specs.Trees.{Test, Statement, SetVariable, SetElement, Choice, Loop, Block, Nothing, Then}
 use Rattle.src_tree.specs.Typing.{TypedStatement, TypedBlock}
 use Rattle.block_cache_gen.specs.declared.frames.Mode.TheVariants.{Public}
-use Rattle.block_cache_gen.specs.declared.frames.Pin.{Pin}
+use Rattle.scratch_alloc.specs.declared.plans.Pin.{Pin}
 use Rattle.block_cache_gen.specs.Homes.{Setting}
 use Rattle.block_cache_gen.specs.Codes.{guard_code}
 use Rattle.block_cache_gen.specs.ServedBlocks.{first_blocks}

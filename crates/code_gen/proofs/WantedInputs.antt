@@ -15,14 +15,12 @@ use Rattle.src_tree.proofs.VariableNumbers.{number-of_declared}
 use Rattle.flow_types.specs.Wants.{declared_want, declared_wants}
 use Rattle.bank_alloc.specs.declared.places.Place.{Place}
 use Rattle.bank_alloc.specs.Fits.{Fits}
-use Rattle.bank_alloc.specs.Layout.{HasLayout, placed_symbol}
-use Rattle.bank_alloc.specs.Places.{places_of, blocks_of_banks}
-use Rattle.scratch_alloc.specs.Slots.{slots_of}
-use Rattle.block_cache_gen.specs.Settings.{homes_at}
-use Rattle.block_cache_gen.proofs.Settled.{IsSettingOf, no_decl, no_place}
-use Rattle.code_gen.specs.Compiles.{program_setting}
+use Rattle.bank_alloc.specs.Layout.{HasLayout, IsLaidOut, placed_symbol}
+use Rattle.scratch_alloc.specs.Plans.{Plan, IsSoundPlan, no_decl, no_place, standard_plan}
+use Rattle.scratch_alloc.proofs.StandardPlan.{standard_sound_at}
+use Rattle.block_cache_gen.specs.Settings.{setting_for}
 use Rattle.code_gen.specs.Implements.{by_name}
-use Rattle.code_gen.proofs.ByName.{IsVariable, place-length, symbols-variables}
+use Rattle.code_gen.proofs.ByName.{IsVariable, setting-of, symbols-variables}
 
 -- what is made of each symbol's want
 each-want : (named : Symbol → List ℤ) (words : Want → List ℤ) (symbols : List Symbol) → ((k : ℕ) (d : Symbol)
@@ -33,36 +31,27 @@ each-want named words (s ∷ symbols) each =
     ap₂ (λ (x : List ℤ) (xs : List (List ℤ)). x ∷ xs) (each 0 s (omega arith))
     (each-want named words symbols (λ k d within. each (suc k) d (omega arith)))
 
-module _ (p : Source) (w : ℕ) (once : DeclaredOnce p.decls) (limits : IsWithinLimits p) (room : Fits p w) (o : Parts)
-    (layout : HasLayout p w o) where
+module _ (p : Source) (w : ℕ) (plan : Plan) (once : DeclaredOnce p.decls) (limits : IsWithinLimits p)
+    (sound : IsSoundPlan p w plan) (o : Parts) (layout : IsLaidOut p w plan.places plan.blocks o) where
   abbrev decl : ℕ → Decl
   decl k = get_or p.decls k no_decl
 
   abbrev place : ℕ → Place
-  place k = get_or (places_of p w) k no_place
-
-  setting : IsSettingOf p w o (program_setting p o.profile)
-  setting = record {
-    decls = refl;
-    homes = ap (λ n. homes_at (places_of p n) (slots_of (places_of p n))) layout.block_size;
-    blocks = ap (blocks_of_banks p) layout.block_size;
-    pins = refl;
-    profile = refl;
-  }
+  place k = get_or plan.places k no_place
 
   -- what is wanted of it is what its symbol wants
-  pub want-is : (k : ℕ) → k < length p.decls → declared_want (decl k) ≡ want_of (placed_symbol (decl k) (place k))
-  want-is k below =
+  pub planned-want_is : (k : ℕ) → k < length p.decls → declared_want (decl k) ≡ want_of (placed_symbol (decl k) (place k))
+  planned-want_is k below =
       let d = decl k in
       ap (λ n. record { name = d.name; label = d.label; shape = shape_of d.length; length = n })
-      (sym (place-length p w k below))
+      (sym (sound.place k below).words)
 
   -- inputs in the order of the symbols
-  pub inputs-wanted : (words : Want → List ℤ)
+  pub planned-inputs_wanted : (words : Want → List ℤ)
       → by_name p o (map words (declared_wants p.decls)) ≡ map words (wants_of o)
-  inputs-wanted words =
+  planned-inputs_wanted words =
       each-want named words o.symbols (λ k d within. of_variable (get_or o.symbols k d)
-      (symbols-variables p w once limits room o layout (program_setting p o.profile) setting k d within))
+      (symbols-variables p w plan once limits sound o layout (setting_for p plan o.profile) (setting-of p plan o) k d within))
     where
       store : Store
       store = map words (declared_wants p.decls)
@@ -70,7 +59,7 @@ module _ (p : Source) (w : ℕ) (once : DeclaredOnce p.decls) (limits : IsWithin
       named : Symbol → List ℤ
       named s = words_of_number store (variable_number p.decls s.name)
 
-      of_variable : (s : Symbol) → IsVariable p w once limits room o layout (program_setting p o.profile) setting s
+      of_variable : (s : Symbol) → IsVariable p w plan once limits sound o layout (setting_for p plan o.profile) (setting-of p plan o) s
           → named s ≡ words (want_of s)
       of_variable s variable =
           let k = variable.number in
@@ -81,5 +70,11 @@ module _ (p : Source) (w : ℕ) (once : DeclaredOnce p.decls) (limits : IsWithin
           ∙ get_or-map words (declared_wants p.decls) k (declared_want no_decl) []
           (omega (arith, variable.below, length-map p.decls declared_want))
           ∙ ap words (get_or-map declared_want p.decls k no_decl (declared_want no_decl) variable.below
-          ∙ want-is k variable.below
+          ∙ planned-want_is k variable.below
           ∙ ap want_of (sym variable.is))
+
+-- the same without --fast
+pub inputs-wanted : (p : Source) (w : ℕ) → DeclaredOnce p.decls → IsWithinLimits p → Fits p w → (o : Parts)
+    → HasLayout p w o → (words : Want → List ℤ) → by_name p o (map words (declared_wants p.decls)) ≡ map words (wants_of o)
+inputs-wanted p w once limits room o layout words =
+    planned-inputs_wanted p w (standard_plan p w) once limits (standard_sound_at p w limits room) o layout words

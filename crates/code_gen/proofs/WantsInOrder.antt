@@ -19,11 +19,10 @@ use Rattle.src_tree.proofs.VariableNumbers.{number-of_declared}
 use Rattle.flow_types.specs.Wants.{declared_want, declared_wants}
 use Rattle.bank_alloc.specs.declared.places.Place.{Place}
 use Rattle.bank_alloc.specs.Fits.{Fits}
-use Rattle.bank_alloc.specs.Layout.{HasLayout, placed_symbol, placed_symbols}
-use Rattle.bank_alloc.specs.Places.{places_of}
-use Rattle.bank_alloc.proofs.EachPlace.{length-places}
-use Rattle.block_cache_gen.proofs.Settled.{no_decl, no_place}
-use Rattle.code_gen.proofs.WantedInputs.{want-is}
+use Rattle.bank_alloc.specs.Layout.{HasLayout, IsLaidOut, placed_symbol, placed_symbols}
+use Rattle.scratch_alloc.specs.Plans.{Plan, IsSoundPlan, no_decl, no_place, standard_plan}
+use Rattle.scratch_alloc.proofs.StandardPlan.{standard_sound_at}
+use Rattle.code_gen.proofs.WantedInputs.{planned-want_is}
 
 -- what variables want is what their symbols want
 wants-of_symbols : (ds : List Decl) (places : List Place) → length places ≡ length ds
@@ -36,13 +35,19 @@ wants-of_symbols (d ∷ ds) (q ∷ places) same each =
     ap₂ (λ (want : Want) (wants : List Want). want ∷ wants) (each 0 (omega arith))
     (wants-of_symbols ds places (omega (arith, same)) (λ k below. each (suc k) (omega (arith, below))))
 
-module _ (p : Source) (w : ℕ) (once : DeclaredOnce p.decls) (limits : IsWithinLimits p) (room : Fits p w) (o : Parts)
-    (layout : HasLayout p w o) where
-  pub wants-permuted : IsPermutation (declared_wants p.decls) (wants_of o)
-  wants-permuted =
-      subst (λ wants. IsPermutation wants (wants_of o))
-      (sym (wants-of_symbols p.decls (places_of p w) (length-places p w) (want-is p w once limits room o layout)))
-      (IsPermutation-map want_of (placed_symbols p.decls (places_of p w)) o.symbols layout.symbols.each)
+pub planned-wants_permuted : (p : Source) (w : ℕ) (plan : Plan) → DeclaredOnce p.decls → IsWithinLimits p
+    → IsSoundPlan p w plan → (o : Parts) → IsLaidOut p w plan.places plan.blocks o
+    → IsPermutation (declared_wants p.decls) (wants_of o)
+planned-wants_permuted p w plan once limits sound o layout =
+    subst (λ wants. IsPermutation wants (wants_of o))
+    (sym (wants-of_symbols p.decls plan.places sound.places (planned-want_is p w plan once limits sound o layout)))
+    (IsPermutation-map want_of (placed_symbols p.decls plan.places) o.symbols layout.symbols.each)
+
+-- the same without --fast
+pub wants-permuted : (p : Source) (w : ℕ) → DeclaredOnce p.decls → IsWithinLimits p → Fits p w → (o : Parts)
+    → HasLayout p w o → IsPermutation (declared_wants p.decls) (wants_of o)
+wants-permuted p w once limits room o layout =
+    planned-wants_permuted p w (standard_plan p w) once limits (standard_sound_at p w limits room) o layout
 
 module _ (p : Source) (once : DeclaredOnce p.decls) where
   wanted : (k : ℕ) (d : Want) → k < length (declared_wants p.decls)

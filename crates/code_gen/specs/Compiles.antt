@@ -8,12 +8,12 @@ use Rattle.lt_isa.specs.declared.profiles.Latencies.{Latencies}
 use Rattle.lt_isa.specs.Limits.{most_latency}
 use Rattle.lt_isa.specs.Object.{Parts, is_ram, is_eram, latency_of}
 use Rattle.src_tree.specs.Trees.{Source}
-use Rattle.bank_alloc.specs.Places.{places_of, blocks_of_banks}
 use Rattle.bank_alloc.specs.Fits.{Refuses}
 use Rattle.bank_alloc.specs.declared.places.PlaceError.TheVariants as place
-use Rattle.scratch_alloc.specs.Slots.{slots_of}
-use Rattle.block_cache_gen.specs.Homes.{Setting}
-use Rattle.block_cache_gen.specs.Settings.{homes_at, scalar_pins}
+use Rattle.scratch_alloc.specs.Plans.{Plan, standard_plan}
+use Rattle.resident_alloc.specs.ResidentFits.{ResidentsRefuse}
+use Rattle.resident_alloc.specs.ResidentPlan.{resident_plan}
+use Rattle.block_cache_gen.specs.Settings.{setting_for}
 use Rattle.branch_padding.specs.Stores.{added_up, stores_of_each}
 use Rattle.code_gen.specs.declared.compiling.CompileError.{CompileError}
 use Rattle.code_gen.specs.declared.compiling.CompileError.TheVariants.{TooManyScalars, BankFull, Memory}
@@ -33,22 +33,26 @@ pub record IsFor (given : Profile) (l : Latencies) (o : Parts) : Type 0 where
   pub profile : o.profile ≡ given
   pub latencies : (b : ℕ) → b < length o.banks → latency_of o b ≡ latency_for l b
 
--- what the code of a program is made for
-abbrev pub program_setting : Source → Profile → Setting
-program_setting p profile = record {
-  decls = p.decls;
-  homes = homes_at (places_of p profile.block_log) (slots_of (places_of p profile.block_log));
-  blocks = blocks_of_banks p profile.block_log;
-  pins = scalar_pins;
-  profile = profile;
-}
+-- the stores of a word that the code of a program has, by a plan of its memory
+abbrev pub stores_by : Source → Plan → Profile → ℕ
+stores_by p plan profile = added_up (stores_of_each (setting_for p plan profile) Public p.body)
 
--- the stores of a word that a program's code has
+-- the same without --fast
 abbrev pub stores_in : Source → Profile → ℕ
-stores_in p profile = added_up (stores_of_each (program_setting p profile) Public p.body)
+stores_in p profile = stores_by p (standard_plan p profile.block_log) profile
+
+-- and with it
+abbrev pub stores_with_residents : Source → Profile → ℕ
+stores_with_residents p profile = stores_by p (resident_plan p profile.block_log) profile
 
 -- A program is refused where its variables lack room, as the first of them does. Want of memory says nothing.
 abbrev pub ExplainsRoom : CompileError → Source → ℕ → Type 0
 ExplainsRoom (TooManyScalars label) p w = Refuses p w (place.TooManyScalars label)
 ExplainsRoom (BankFull bank) p w = Refuses p w (place.BankFull bank)
 ExplainsRoom Memory p w = Unit {0}
+
+-- so it is with --fast
+abbrev pub ExplainsResidents : CompileError → Source → ℕ → Type 0
+ExplainsResidents (TooManyScalars label) p w = ResidentsRefuse p w (place.TooManyScalars label)
+ExplainsResidents (BankFull bank) p w = ResidentsRefuse p w (place.BankFull bank)
+ExplainsResidents Memory p w = Unit {0}

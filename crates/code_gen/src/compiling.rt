@@ -7,10 +7,13 @@ ghost use Rattle.trace_patterns.specs.Accepts.{Accepts};
 ghost use Rattle.bank_alloc.specs.Fits.{Fits};
 ghost use Rattle.bank_alloc.specs.Layout.{HasLayout};
 ghost use Rattle.bank_alloc.specs.Places.{IsPlacesOf};
+ghost use Rattle.resident_alloc.specs.ResidentFits.{ResidentsFit};
+ghost use Rattle.resident_alloc.specs.ResidentLayout.{HasResidentLayout};
 ghost use Rattle.block_cache_gen.specs.ProgramWords.{BlockHasWords};
-ghost use Rattle.block_cache_gen.specs.Settings.{IsFrame, setting_of};
+ghost use Rattle.scratch_alloc.specs.Plans.{IsSoundPlan, plan_from, standard_plan};
+ghost use Rattle.block_cache_gen.specs.Settings.{IsFrame, plan_of, setting_of};
 ghost use Rattle.block_cache_gen.specs.StoredWords.{stored_words};
-ghost use Rattle.code_gen.specs.Compiles.{ExplainsRoom, IsFor, LatenciesFit, stores_in};
+ghost use Rattle.code_gen.specs.Compiles.{ExplainsResidents, ExplainsRoom, IsFor, LatenciesFit, stores_in, stores_with_residents};
 ghost use Rattle.code_gen.specs.Emitted.{padding_of};
 ghost use Rattle.code_gen.specs.Implements.{Implements};
 ghost use Rattle.code_gen.specs.Made.{IsMadeOf};
@@ -24,7 +27,8 @@ use flow_types::Typed;
 use gr_base::Memory;
 use gr_word::Label;
 use lt_isa::{Latencies, Object, Profile};
-use scratch_alloc::slots;
+use resident_alloc::resident_plan;
+use scratch_alloc::{SlotPlan, slots};
 use src_tree::Program;
 use std::alloc::Global;
 
@@ -63,11 +67,38 @@ fn assembled(alloc: Global, f: &Frame<'_>, l: &Latencies, made: CodeBuf) -> Resu
         ≡ program_code (setting_of f.now) (padding_of (setting_of f.now)) (source_of f.now.program.now).body }
     requires notes { made.notes.items
         ≡ program_notes (setting_of f.now) (padding_of (setting_of f.now)) (source_of f.now.program.now).body }
-    ensures { IfOk result (λ o. IsMadeOf (source_of f.now.program.now) f.now.profile.now l.now o) }
+    ensures { IfOk result (λ o. IsMadeOf (source_of f.now.program.now) (plan_of f.now) f.now.profile.now l.now o) }
 {
     let symbols = symbols(alloc, f.program, f.profile.block_log, f.places)?;
     let banks = bank_specs(alloc, f.places.blocks.as_slice(), l)?;
     Ok(Object::of_parts(*f.profile, banks, symbols, made.notes, made.code))
+}
+
+// The object of a program by a plan of its memory.
+fn planned(
+    alloc: Global,
+    program: &Program,
+    places: &Places,
+    slots: &SlotPlan,
+    p: &Profile,
+    l: &Latencies,
+) -> Result<Object, Memory>
+    requires typed { IsTyped (source_of program.now) }
+    requires within { IsWithinLimits (source_of program.now) }
+    requires plan { IsSoundPlan (source_of program.now) p.now.block_log (plan_from places.now slots.now) }
+    requires profile { ProfileFits p.now }
+    requires latencies { LatenciesFit l.now }
+    ensures { IfOk result (λ o. IsMadeOf (source_of program.now) (plan_from places.now slots.now) p.now l.now o) }
+{
+    let frame = Frame {
+        program,
+        places,
+        slots,
+        profile: p,
+    };
+    let emitter = Emitter::new(alloc, &frame)?;
+    let made = program_code(alloc, &emitter, program.body.as_slice())?;
+    assembled(alloc, &frame, l, made)
 }
 
 // The object of a program whose variables have their places.
@@ -84,18 +115,11 @@ fn compiled(
     requires places { IsPlacesOf (source_of program.now) p.now.block_log places.now }
     requires profile { ProfileFits p.now }
     requires latencies { LatenciesFit l.now }
-    ensures { IfOk result (λ o. IsMadeOf (source_of program.now) p.now l.now o) }
+    ensures { IfOk result (λ o. IsMadeOf (source_of program.now) (standard_plan (source_of program.now) p.now.block_log) p.now
+        l.now o) }
 {
     let slots = slots(alloc, places)?;
-    let frame = Frame {
-        program,
-        places,
-        slots: &slots,
-        profile: p,
-    };
-    let emitter = Emitter::new(alloc, &frame)?;
-    let made = program_code(alloc, &emitter, program.body.as_slice())?;
-    assembled(alloc, &frame, l, made)
+    planned(alloc, program, places, &slots, p, l)
 }
 
 /// Compiles a program for a machine: the object is accepted, does what the program means, has its layout, and has these
@@ -120,6 +144,38 @@ pub fn compile(alloc: Global, t: &Typed, p: &Profile, l: &Latencies) -> Result<O
     match banks(alloc, program, p.block_log) {
         Err(lack) => Err(CompileError::from(lack)),
         Ok(places) => match compiled(alloc, program, &places, p, l) {
+            Ok(object) => Ok(object),
+            Err(_) => Err(CompileError::Memory),
+        },
+    }
+}
+
+/// Compiles a program as [`compile`] does, for `--fast`: arrays stay in the scratchpad for the whole run if there is room
+/// for them, so that an access of them shows nothing on the bus. Each variable is at the place that
+/// [`resident_alloc::resident_plan`] gives it. A program is refused exactly where its variables lack room at these
+/// places, with the first that does.
+pub fn compile_fast(
+    alloc: Global,
+    t: &Typed,
+    p: &Profile,
+    l: &Latencies,
+) -> Result<Object, CompileError>
+    requires profile { ProfileFits p.now }
+    requires latencies { LatenciesFit l.now }
+    ensures accepted { IfOk result (λ o. Accepts o) }
+    ensures implements { IfOk result (λ o. Implements (source_of t.now) o) }
+    ensures laid_out { IfOk result (λ o. HasResidentLayout (source_of t.now) p.now.block_log o) }
+    ensures machine { IfOk result (λ o. IsFor p.now l.now o) }
+    ensures size { IfOk result (λ o. length o.code ≤ 120 * weight_of (source_of t.now) + 64) }
+    ensures stores { IfOk result (λ o. stored_words o.code ≡ stores_with_residents (source_of t.now) p.now) }
+    ensures in_range { IfOk result (λ o. IsInRange o) }
+    ensures fits { OnOk result (ResidentsFit (source_of t.now) p.now.block_log) }
+    ensures refused { IfErr result (λ e. ExplainsResidents e (source_of t.now) p.now.block_log) }
+{
+    let program = t.program();
+    match resident_plan(alloc, program, p.block_log) {
+        Err(lack) => Err(CompileError::from(lack)),
+        Ok(plan) => match planned(alloc, program, &plan.places, &plan.slots, p, l) {
             Ok(object) => Ok(object),
             Err(_) => Err(CompileError::Memory),
         },

@@ -12,5 +12,5 @@ mod laws;
 mod programs;
 mod statements;
 
-pub use compiling::{CompileError, compile};
+pub use compiling::{CompileError, compile, compile_fast};
 pub use laws::passing_laws;

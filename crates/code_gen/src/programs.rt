@@ -10,9 +10,10 @@ ghost use Rattle.code_gen.specs.Emitted.{padding_of};
 ghost use Rattle.code_gen.specs.Programs.{beginning, each_slot, ending, load_code, pin_store, program_code, program_notes};
 
 use crate::statements::put_block;
-use block_cache_gen::{CodeBuf, Emitter, Pin};
+use block_cache_gen::{CodeBuf, Emitter};
 use gr_base::Memory;
 use lt_isa::Instr;
+use scratch_alloc::Pin;
 use src_tree::Stmt;
 use std::alloc::Global;
 

@@ -1,5 +1,5 @@
 -- What a sample that is done leaves, and how else it ends.
-use Rattle.std.proofs.Common.{◌≡◌, ◌≢◌, ◌⊎◌, inl, inr, false, ℕ, ◌<◌, List, Option, Some, None, refl, sym, ap, ◌∙◌, subst, arith}
+use Rattle.std.proofs.Common.{◌≡◌, ◌≢◌, ◌⊎◌, inl, inr, Bool, false, ℕ, ◌<◌, List, Option, Some, None, refl, sym, ap, ◌∙◌, subst, arith}
 use Rattle.gr_outside.specs.Shelf.{Files}
 use Rattle.ghost_cli.specs.Histogram.{Made, IsMade, sample_target, sample_text}
 use Rattle.ghost_cli.specs.Outside.{Outside, Gives, Explains, NoWork, NoRoom, Worked, Unread, Long, Judged, Written, NotWritten, Starved}

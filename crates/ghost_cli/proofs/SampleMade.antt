@@ -1,6 +1,6 @@
 -- The sample's text is always a program that is compiled and accepted: what is said in place of it is that memory ran
 -- out.
-use Rattle.std.proofs.Common.{◌≡◌, inl, inr, false, ℕ, ◌^◌, ◌<◌, ◌≤◌, List, [], Option, Some, None, Result, Ok, Err, length, sym, ◌∙◌, subst, arith, length-append}
+use Rattle.std.proofs.Common.{◌≡◌, inl, inr, Bool, true, false, ℕ, ◌^◌, ◌<◌, ◌≤◌, List, [], Option, Some, None, Result, Ok, Err, length, sym, ◌∙◌, subst, arith, length-append}
 use Rattle.std.specs.Prelude.{codes, decimal, ◌++◌}
 use Rattle.std.proofs.lemmas.Fmt.{length-decimal-le}
 use Rattle.gr_base.specs.Lists.{Within}
@@ -29,14 +29,13 @@ use Rattle.src_tree.specs.declared.faults.TypeError.TheVariants as program
 use Rattle.src_tree.proofs.Faultless.{faultless}
 use Rattle.src_tree.proofs.FirstFaults.{caused}
 use Rattle.flow_types.specs.Refusals.{ExplainsProgram}
-use Rattle.code_gen.specs.Compiles.{ExplainsRoom}
 use Rattle.code_gen.specs.declared.compiling.CompileError.{CompileError}
 use Rattle.code_gen.specs.declared.compiling.CompileError.TheVariants as room
 use Rattle.ghost_cli.specs.declared.replies.Done.TheVariants.{Compiled}
 use Rattle.ghost_cli.specs.declared.replies.Verdict.{Verdict}
 use Rattle.ghost_cli.specs.declared.source_faults.SourceFault.{SourceFault}
 use Rattle.ghost_cli.specs.Compile.{on_compiled}
-use Rattle.ghost_cli.specs.Compiled.{IsCompiledTo, room_fault}
+use Rattle.ghost_cli.specs.Compiled.{IsCompiledTo, LacksRoom, room_fault}
 use Rattle.ghost_cli.specs.Histogram.{sample_text, sample_target}
 use Rattle.ghost_cli.specs.Progress.{EndsWorkWith}
 use Rattle.ghost_cli.specs.Questions.{IsRight, WhichSource, WhichCompiled, WhetherAccepted}

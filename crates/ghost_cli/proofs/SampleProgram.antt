@@ -1,5 +1,5 @@
 -- The sample's program is well typed, is within the limits, and has room in blocks of 512 words.
-use Rattle.std.proofs.Common.{◌≡◌, ℕ, zero, suc, ◌+◌, ◌<◌, ◌≤◌, ◌==◌, Bool, true, false, cond, ◌&&◌, nat_le, nat_lt, List, [], ◌∷◌, refl, sym, ap, ap₂, ◌∙◌, subst, arith}
+use Rattle.std.proofs.Common.{◌≡◌, ℕ, zero, suc, ◌+◌, ◌-◌, ◌<◌, ◌≤◌, ◌==◌, min, Bool, true, false, cond, ◌&&◌, nat_le, nat_lt, List, [], ◌∷◌, refl, sym, ap, ap₂, ◌∙◌, subst, arith}
 use Rattle.std.specs.Prelude.{sum_by}
 use Rattle.std.specs.List.{AllByRecursion}
 use Rattle.std.proofs.lemmas.Bool.{ne_eqb}
@@ -11,7 +11,12 @@ use Rattle.src_tree.specs.Limits.{IsWithinLimits}
 use Rattle.src_tree.specs.Typing.{IsTyped}
 use Rattle.bank_alloc.specs.Fits.{Fits}
 use Rattle.bank_alloc.specs.Places.{is_array, blocks_for, blocks_needed, blocks_taken, first_block, places_behind, places_of}
+use Rattle.bank_alloc.specs.declared.classes.Class.{Class}
+use Rattle.bank_alloc.specs.declared.classes.Class.TheVariants.{EncryptedArray, ObliviousArray}
 use Rattle.bank_alloc.specs.declared.places.Place.{Place}
+use Rattle.resident_alloc.specs.declared.wants.Want.{Want}
+use Rattle.resident_alloc.specs.Residents.{blocks_of_all, is_of, left_out, own_most, room_for, wants_of}
+use Rattle.resident_alloc.specs.ResidentPlan.{blocks_in_turn, own_secret, resident_blocks, without_short}
 use Rattle.ghost_cli.specs.SampleTree.{sample_program}
 
 -- the sample's program is well typed
@@ -100,3 +105,46 @@ sample_fits n few = record {
   scalars = record { public = omega arith; secret = omega arith };
   banks = λ b within. sample_needs n b few;
 }
+
+-- ---- the banks with `--fast`
+
+-- arrays that found no room take no more blocks than all of their class
+blocks-left : (size : ℕ) (c : Class) (room : ℕ) (vs : List Want)
+    → blocks_of_all size (left_out c room vs) ≤ sum_by (λ v. cond (is_of c v) (blocks_for size v.words) 0) vs
+blocks-left size c room [] = omega arith
+blocks-left size c room (v ∷ vs) =
+    by (is_of c v) (nat_le v.words room) (blocks-left size c (room - v.words) vs) (blocks-left size c room vs)
+  where
+    by : (is shared : Bool)
+        → blocks_of_all size (left_out c (room - v.words) vs)
+        ≤ sum_by (λ v. cond (is_of c v) (blocks_for size v.words) 0) vs
+        → blocks_of_all size (left_out c room vs)
+        ≤ sum_by (λ v. cond (is_of c v) (blocks_for size v.words) 0) vs
+        → blocks_of_all size (cond is (cond shared (left_out c (room - v.words) vs) (v ∷ left_out c room vs))
+        (left_out c room vs))
+        ≤ cond is (blocks_for size v.words) 0 + sum_by (λ v. cond (is_of c v) (blocks_for size v.words) 0) vs
+    by true true taken left = omega (arith, taken)
+    by true false taken left = omega (arith, left)
+    by false shared taken left = omega (arith, left)
+
+none-without : (size n : ℕ) → without_short size n [] ≡ []
+none-without size zero = refl
+none-without size (suc n) = refl
+
+none-least : (n : ℕ) → min n 0 ≡ 0
+none-least zero = refl
+none-least (suc n) = refl
+
+-- The counts share the block of the secret scalars, so no array needs an oblivious bank or a slot of its own.
+pub resident_needs : (n b : ℕ) → n ≤ 65536
+    → resident_blocks 512 (wants_of (sample_program n)) b ≤ most_blocks b
+resident_needs n zero few = omega arith
+resident_needs n (suc zero) few =
+    let all = wants_of (sample_program n) in
+    let own : own_secret 512 all ≡ 0 = none-least (own_most 512 all ObliviousArray) in
+    let left = blocks-left 512 EncryptedArray (room_for 512 all EncryptedArray) all in
+    omega (arith, few, own, left)
+resident_needs n (suc (suc b)) few =
+    let all = wants_of (sample_program n) in
+    subst (λ vs. blocks_in_turn 512 (suc (suc b) - 2) 0 vs ≤ most_blocks (suc (suc b)))
+    (sym (none-without 512 (own_most 512 all ObliviousArray))) (omega arith)

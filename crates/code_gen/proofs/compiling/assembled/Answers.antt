@@ -1,6 +1,8 @@
 use Rattle.std.proofs.Common.{refl, sym, subst, ap, ◌∙◌}
 use Rattle.lt_isa.specs.Object.{Parts}
 use Rattle.src_tree.specs.Trees.{source_of}
+use Rattle.scratch_alloc.proofs.PlanPlaces.{plan_places}
+use Rattle.block_cache_gen.specs.Settings.{plan_of}
 use Rattle.code_gen.specs.Made.{banks_from, IsMadeOf}
 use Rattle.code_gen.proofs.Assembled.{frame-made}
 use Rattle.code_gen.proofs.compiling.assembled.Goals as goal
@@ -16,8 +18,13 @@ object_of c = record {
   code = c.args.made.code.items;
 }
 
+pub symbols-requires-clause-places : goal.symbols-requires-clause-places
+symbols-requires-clause-places c =
+    plan_places (source_of c.args.f.now.program.now) c.args.f.now.profile.now.block_log (plan_of c.args.f.now)
+    c.requires.frame.plan
+
 made : (c : In_ok-banks)
-    → IsMadeOf (source_of c.args.f.now.program.now) c.args.f.now.profile.now c.args.l.now (object_of c)
+    → IsMadeOf (source_of c.args.f.now.program.now) (plan_of c.args.f.now) c.args.f.now.profile.now c.args.l.now (object_of c)
 made c =
     frame-made c.args.f.now c.args.l.now (object_of c) c.requires.frame c.requires.latencies refl
     (c.in_ok-banks.ensures ∙ ap (banks_from c.args.l.now 0) c.as_slice.ensures.value)
@@ -29,5 +36,5 @@ of_parts-requires c = let h = made (goal.at.of_parts-requires c).In_ok-banks in 
 
 pub returns : goal.returns
 returns c =
-    subst (IsMadeOf (source_of c.args.f.now.program.now) c.args.f.now.profile.now c.args.l.now) (sym c.of_parts.ensures)
+    subst (IsMadeOf (source_of c.args.f.now.program.now) (plan_of c.args.f.now) c.args.f.now.profile.now c.args.l.now) (sym c.of_parts.ensures)
     (made (goal.at.returns c).In_ok-banks)

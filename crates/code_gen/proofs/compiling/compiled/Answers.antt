@@ -1,0 +1,16 @@
+use Rattle.std.proofs.Common.{subst, sym}
+use Rattle.src_tree.specs.Trees.{source_of}
+use Rattle.scratch_alloc.specs.Plans.{IsSoundPlan, plan_from}
+use Rattle.scratch_alloc.proofs.StandardPlan.{standard_sound_at}
+use Rattle.code_gen.specs.Made.{IsMadeOf}
+use Rattle.code_gen.proofs.Assembled.{plan-standard}
+use Rattle.code_gen.proofs.compiling.compiled.Goals as goal
+
+pub planned-requires-clause-plan : goal.planned-requires-clause-plan
+planned-requires-clause-plan c =
+    let p = source_of c.args.program.now in
+    let w = c.args.p.now.block_log in
+    subst (IsSoundPlan p w)
+    (sym (plan-standard p w c.args.places.now c.in_ok-slots.slots c.requires.places c.in_ok-slots.ensures.slots
+    c.in_ok-slots.ensures.pins))
+    (standard_sound_at p w c.requires.within c.requires.fits)
