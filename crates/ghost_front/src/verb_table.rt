@@ -48,9 +48,9 @@ pub(crate) const VERBS: [VerbHelp; 13] = [
             of each period of P cycles. With --procs the program may have procedures and calls.\n",
     },
     VerbHelp {
-        usage: "sample ITEMS OUT [--seed S]",
+        usage: "sample ITEMS OUT [--fast] [--seed S]",
         text: "    Compiles and runs a histogram of 1 to 65536 items, writes its object file to OUT, and\n    \
-            prints how often it accesses memory.\n",
+            prints how often it accesses memory. --fast is as in `compile`.\n",
     },
     VerbHelp {
         usage: "bus OBJ INPUT .. [--cycles N] [--seed S]",
