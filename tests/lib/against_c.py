@@ -255,7 +255,7 @@ def example_objects():
     found = []
     examples = os.path.join(ROOT, 'examples')
     for path in sorted(glob.glob(os.path.join(examples, '*.asm')) + glob.glob(os.path.join(examples, 'by_hand', '*.asm'))):
-        folder = os.path.join(examples, 'programs') if 'by_hand' in path else examples
+        folder = os.path.join(examples, '*') if 'by_hand' in path else examples
         inputs = sorted(glob.glob(os.path.join(folder, os.path.basename(path)[:-4] + '-*.json')))
         found.append((made_of(C_PROGRAMS['asm'], ['asm', path]), [contents(name) for name in inputs], contents(path)))
     for path in sorted(glob.glob(os.path.join(examples, 'programs', '*.gr'))):
