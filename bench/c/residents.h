@@ -1,4 +1,4 @@
-/* The layout of `compile --fast`, which keeps short arrays in the scratchpad (docs/FORMATS.md, "The layout of --fast"). */
+/* The layout of `compile --fast`, which keeps short arrays in the scratchpad (docs/FORMATS.md, "The layout with --fast"). */
 #ifndef RESIDENTS_H
 #define RESIDENTS_H
 
