@@ -1,7 +1,7 @@
 /*
- * compile SRC OUT [--block-log W]: writes the object file of the program that a source text spells, as `ghostrider compile`
- * does: the same bytes, or the line and the status of the text's first fault, by the rules of docs/FORMATS.md and
- * docs/REFUSALS.md. The measure of bench/compile.
+ * compile SRC OUT [--block-log W] [--fast]: writes the object file of the program that a source text spells, as
+ * `ghostrider compile` does: the same bytes, or the line and the status of the text's first fault, by the rules of
+ * docs/FORMATS.md and docs/REFUSALS.md. The measure of bench/compile.
  */
 #include "emitting.h"
 #include "files.h"
@@ -18,6 +18,7 @@ enum { USUAL_BLOCK_LOG = 9 };
 struct asked {
     const char *source, *output;
     uint8_t block_log;
+    bool is_fast;
 };
 
 static struct asked read_words(int count, char **words)
@@ -32,6 +33,8 @@ static struct asked read_words(int count, char **words)
         const char *value;
         if ((value = option("--block-log", words, count, &i)) != NULL)
             asked.block_log = (uint8_t)number_within(3, 9, value);
+        else if (strcmp(words[i], "--fast") == 0)
+            asked.is_fast = true;
         else if (words[i][0] != '-' && given < files)
             *names[given++] = words[i];
         else
@@ -47,7 +50,7 @@ int main(int count, char **words)
     struct asked asked = read_words(count, words);
     struct source source = read_source(asked.source);
     struct object object;
-    lay_out(&source, asked.block_log, &object);
+    lay_out(&source, asked.block_log, asked.is_fast, &object);
     emit(&source, &object);
     size_t byte_count;
     uint8_t *bytes = encode(&object, &byte_count);

@@ -1,7 +1,8 @@
 /*
  * Making the code of programs in one pass over their trees. See emitting.h.
  *
- * An expression leaves its value in a register, and uses those above. In public code a load of a block of plain or encrypted
+ * An expression leaves its value in a register, and uses those above. A resident variable is in the block that its slot holds
+ * for the whole run, and needs no load and no store of a block. In public code a load of another block of plain or encrypted
  * memory is skipped where the slot holds the block, and a note stands behind it. A branch on a secret becomes two arms that
  * show the same: each does its own statements, and those of the other without effect, by storing the old words; statements
  * of the two that show the same stand side by side instead. Arms have no notes.
@@ -13,7 +14,7 @@
 
 #include <stdlib.h>
 
-enum { ALL_SECRET = -1, SCALAR_REGISTER = 0, FIRST_CODE = 1024, FIRST_NOTES = 256, FIRST_OBLIVIOUS = 2 };
+enum { ALL_SECRET = -1, SCALAR_REGISTER = 0, FIRST_CODE = 1024, FIRST_NOTES = 256 };
 
 /* How code is made: in public code; in an arm with its effect; in an arm without it. */
 enum mode { IN_PUBLIC, WITH_EFFECT, WITHOUT_EFFECT };
@@ -118,26 +119,58 @@ static bool is_oblivious(const struct variable *variable)
 
 static void put_expr(struct emitter *emitter, const struct expr *expr, unsigned to, enum mode mode, uint32_t mask);
 
+static bool is_fixed(const struct variable *array, const struct expr *index)
+{
+    return !is_oblivious(array) && index->kind == CONSTANT;
+}
+
+static bool is_masked(const struct variable *array)
+{
+    const uint32_t length = array->symbol.length;
+    return !is_oblivious(array) && (length & (length - 1)) == 0;
+}
+
+/* Leaves the number of the word of an array that an index names in a register. */
+static void put_word(struct emitter *emitter, const struct variable *array, const struct expr *index, unsigned to,
+                     enum mode mode, uint32_t mask)
+{
+    const uint32_t length = array->symbol.length;
+    put_expr(emitter, index, to, mode, mask);
+    put_constant(emitter, to + 1, is_masked(array) ? length - 1 : length);
+    put_plain(emitter, is_masked(array) ? AND : REMU, to, to, to + 1);
+}
+
 /* Leaves the number of the word that an index names in a register, and that of its block in the next. */
 static void put_place(struct emitter *emitter, const struct variable *array, const struct expr *index, unsigned to,
                       enum mode mode, uint32_t mask)
 {
     const struct symbol *symbol = &array->symbol;
     const uint8_t block_log = emitter->object->profile.block_log;
-    if (!is_oblivious(array) && index->kind == CONSTANT) {
+    if (is_fixed(array, index)) {
         const uint64_t word = (uint64_t)index->number % symbol->length;
         put_constant(emitter, to, (int64_t)word);
         put_constant(emitter, to + 1, (int64_t)(symbol->block + (word >> block_log)));
         return;
     }
-    put_expr(emitter, index, to, mode, mask);
-    const bool is_masked = !is_oblivious(array) && (symbol->length & (symbol->length - 1)) == 0;
-    put_constant(emitter, to + 1, is_masked ? symbol->length - 1 : symbol->length);
-    put_plain(emitter, is_masked ? AND : REMU, to, to, to + 1);
+    put_word(emitter, array, index, to, mode, mask);
     put_constant(emitter, to + 1, block_log);
     put_plain(emitter, SHR, to + 1, to, to + 1);
     put_constant(emitter, to + 2, symbol->block);
     put_plain(emitter, ADD, to + 1, to + 1, to + 2);
+}
+
+/* Leaves the number of the word that an index of a resident array names, in its block, in a register. */
+static void put_resident_place(struct emitter *emitter, const struct variable *array, const struct expr *index, unsigned to,
+                               enum mode mode, uint32_t mask)
+{
+    const struct symbol *symbol = &array->symbol;
+    if (is_fixed(array, index)) {
+        put_constant(emitter, to, (int64_t)(symbol->word + (uint64_t)index->number % symbol->length));
+        return;
+    }
+    put_word(emitter, array, index, to, mode, mask);
+    put_constant(emitter, to + 1, symbol->word);
+    put_plain(emitter, ADD, to, to, to + 1);
 }
 
 /* Leaves the number of the word that an index names in a register, and its block in the array's slot. */
@@ -145,6 +178,10 @@ static void put_access(struct emitter *emitter, const struct variable *array, co
                        enum mode mode, uint32_t mask)
 {
     const bool may_skip = mode == IN_PUBLIC && !is_oblivious(array);
+    if (array->is_resident) {
+        put_resident_place(emitter, array, index, to, mode, mask);
+        return;
+    }
     put_place(emitter, array, index, to, mode, mask);
     if (may_skip) {
         put_plain(emitter, IDB, to + 2, array->slot, 0);
@@ -202,7 +239,7 @@ static void put_assignment(struct emitter *emitter, const struct statement *made
     if (mode != IN_PUBLIC)
         put_plain(emitter, LDW, 2, target->slot, 1);
     put_plain(emitter, STW, mode == WITHOUT_EFFECT ? 2 : 0, target->slot, 1);
-    if (made->kind == PUT)
+    if (made->kind == PUT && !target->is_resident)
         put_plain(emitter, STB, target->slot, 0, 0);
 }
 
@@ -227,14 +264,23 @@ static bool is_product(uint8_t opcode)
 
 static bool is_alike(const struct emitter *emitter, const struct expr *one, const struct expr *other);
 
-/* Whether accesses of two arrays show the same: of one oblivious bank, or of the same element elsewhere. */
+/* Whether accesses of two arrays show the same for any indexes that do: of one oblivious bank, or of resident arrays whose
+ * indexes are reduced by the same operation. */
+static bool is_like(const struct variable *one, const struct variable *other)
+{
+    if (is_oblivious(one))
+        return one->symbol.bank == other->symbol.bank;
+    return one->is_resident && other->is_resident && is_masked(one) == is_masked(other);
+}
+
+/* Whether accesses of two arrays show the same. */
 static bool shows_same(const struct emitter *emitter, int32_t array, const struct expr *index, int32_t other_array,
                        const struct expr *other_index)
 {
     const struct variable *one = variable_of(emitter, array), *other = variable_of(emitter, other_array);
-    if (is_oblivious(one))
-        return one->symbol.bank == other->symbol.bank && is_alike(emitter, index, other_index);
-    return array == other_array && is_same(index, other_index);
+    if (is_like(one, other) && is_alike(emitter, index, other_index))
+        return true;
+    return !is_oblivious(one) && array == other_array && is_same(index, other_index);
 }
 
 /* Whether two expressions show the same in secret code. */
@@ -384,6 +430,15 @@ static bool put_block(struct emitter *emitter, const struct block *block)
     return is_noted;
 }
 
+/* The first variable that a slot serves; NULL if it serves none. */
+static const struct variable *first_served(const struct source *source, unsigned slot)
+{
+    for (size_t i = 0; i < source->count; i++)
+        if (source->variables[i].slot == slot)
+            return &source->variables[i];
+    return NULL;
+}
+
 static void put_load(struct emitter *emitter, unsigned slot, unsigned bank, uint32_t block)
 {
     put_constant(emitter, 0, block);
@@ -400,14 +455,26 @@ static void put_beginning(struct emitter *emitter)
     emitter->claims[SECRET_SLOT] = 1;
     put_load(emitter, PUBLIC_SLOT, 0, 0);
     put_load(emitter, SECRET_SLOT, 1, 0);
-    for (unsigned slot = PLAIN_SLOT; slot < OBLIVIOUS_SLOT; slot++) {
-        const unsigned bank = slot >= ENCRYPTED_SLOT;
-        for (size_t i = 0; i < emitter->source->count && emitter->claims[slot] == ANY_BANK; i++)
-            if (emitter->source->variables[i].slot == slot) {
-                put_load(emitter, slot, bank, emitter->source->variables[i].symbol.block);
-                emitter->claims[slot] = (uint8_t)bank;
-            }
+    for (unsigned slot = PLAIN_SLOT; slot < SLOTS; slot++) {
+        const struct variable *first = slot == OBLIVIOUS_SLOT ? NULL : first_served(emitter->source, slot);
+        if (first == NULL)
+            continue;
+        put_load(emitter, slot, first->symbol.bank, first->symbol.block);
+        emitter->claims[slot] = first->symbol.bank;
     }
+}
+
+/* Puts the stores of the blocks that slots hold for the whole run. */
+static void put_end(struct emitter *emitter)
+{
+    put_plain(emitter, STB, PUBLIC_SLOT, 0, 0);
+    put_plain(emitter, STB, SECRET_SLOT, 0, 0);
+    for (unsigned slot = PLAIN_SLOT; slot < SLOTS; slot++) {
+        const struct variable *first = first_served(emitter->source, slot);
+        if (first != NULL && first->is_resident)
+            put_plain(emitter, STB, slot, 0, 0);
+    }
+    put_plain(emitter, HALT, 0, 0, 0);
 }
 
 void emit(const struct source *source, struct object *object)
@@ -417,7 +484,5 @@ void emit(const struct source *source, struct object *object)
     object->notes = room_for(FIRST_NOTES, sizeof object->notes[0]);
     put_beginning(&emitter);
     put_block(&emitter, &source->body);
-    put_plain(&emitter, STB, PUBLIC_SLOT, 0, 0);
-    put_plain(&emitter, STB, SECRET_SLOT, 0, 0);
-    put_plain(&emitter, HALT, 0, 0, 0);
+    put_end(&emitter);
 }

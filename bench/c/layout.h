@@ -1,17 +1,28 @@
-/* Where the variables of a compiled program lie (docs/FORMATS.md, "The layout of compiled programs"). */
+/* Where the variables of a compiled program are stored (docs/FORMATS.md, "The layout of compiled programs"). */
 #ifndef LAYOUT_H
 #define LAYOUT_H
 
 #include "source.h"
 
-/* The slots of the scratchpad: those of the scalars, the first of two for arrays of plain and of encrypted memory, and that
- * of all oblivious arrays. */
-enum { PUBLIC_SLOT, SECRET_SLOT, PLAIN_SLOT, ENCRYPTED_SLOT = 4, OBLIVIOUS_SLOT = 6 };
+/* The slots of the scratchpad: those of the scalars, the first of two for arrays of plain and of encrypted memory, that of
+ * the oblivious banks, and one that only `--fast` uses. */
+enum { PUBLIC_SLOT, SECRET_SLOT, PLAIN_SLOT, ENCRYPTED_SLOT = 4, OBLIVIOUS_SLOT = 6, SPARE_SLOT };
+
+enum { FIRST_OBLIVIOUS = 2, OBLIVIOUS_BANKS = 8 };
 
 /*
- * Gives each variable its place and its slot, and an object of a block size its profile, its banks and its symbols. Ends
- * the program with the line and the status of the first lack of room, where there is one.
+ * Gives each variable its place and its slot, as with `--fast` or without it, and an object of a block size its profile,
+ * its banks and its symbols. Ends the program with the line and the status of the first lack of room, if there is one.
  */
-void lay_out(struct source *source, uint8_t block_log, struct object *object);
+void lay_out(struct source *source, uint8_t block_log, bool is_fast, struct object *object);
+
+/* The blocks that an array takes. */
+uint32_t blocks_for(const struct symbol *array, const struct object *object);
+
+/* Gives an array the next free blocks of a bank. */
+void place_on_blocks(struct variable *array, unsigned bank, struct object *object);
+
+/* The scalars of a label. */
+uint32_t scalars_of(const struct source *source, bool is_secret);
 
 #endif

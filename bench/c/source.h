@@ -10,11 +10,11 @@
 enum { SOURCE_BYTES = 1048576, UNDECLARED = -1 };
 
 /* A variable: its symbol, whose place is that of its layout once there is one; its words; whether an array has a secret
- * index somewhere in the program; and the slot of its layout. */
+ * index somewhere in the program; the slot of its layout, and whether that holds the variable for the whole run. */
 struct variable {
     struct symbol symbol;
     uint64_t words;
-    bool has_secret_index;
+    bool has_secret_index, is_resident;
     uint8_t slot;
 };
 

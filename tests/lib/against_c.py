@@ -2,7 +2,7 @@
 
 Objects are damaged by bytes, by cuts and by whole instructions in the place of others, which come deeper into the
 check; others are made of branches on secrets with arms that are mostly alike. Texts are damaged by words, lines and
-bytes, and inputs by bytes. Sources are made well typed or with slips, and damaged.
+bytes, and inputs by bytes. Sources are made well typed or with slips, also for `--fast`, and damaged.
 """
 import glob
 import os
@@ -18,6 +18,7 @@ import many  # noqa: E402
 from beside import OPCODES, c_programs, contents, instruction as do, object_bytes  # noqa: E402
 from many import place, write  # noqa: E402
 from programs import any_program, damaged_source, odd_sources  # noqa: E402
+from resident_programs import resident_program  # noqa: E402
 
 PROGRAM = os.environ['PROGRAM']
 COUNT, SEED = int(sys.argv[1]), int(sys.argv[2])
@@ -49,7 +50,9 @@ ODD_WORDS = [line.split() for line in (
     'eval none in out', 'eval source none out', 'eval source in none/out', 'eval in in out', 'eval source source out',
     'compile', 'compile source', 'compile source out more', 'compile source out --block-log', 'compile source out --block-log 2',
     'compile source out --block-log 10', 'compile source out --block-log=3', 'compile --block-log 9 source out',
-    'compile source out --block-log 03', 'compile none out', 'compile source none/out', 'compile in out')]
+    'compile source out --block-log 03', 'compile source out --fast', 'compile --fast source out --block-log 5',
+    'compile source out --fast=1', 'compile source --fast', 'eval source in out --fast',
+    'compile none out', 'compile source none/out', 'compile in out')]
 
 
 class Differs(Exception):
@@ -87,10 +90,11 @@ class Case:
         self.same('trace', 'object', 'in', '--paths', '--seed', '7', '--cycles', cycles)
 
     def reads(self, text, inputs, block_log):
-        """Compiles a source and evaluates it on inputs; answers whether it was compiled."""
+        """Compiles a source, with `--fast` too, and evaluates it on inputs; returns whether it was compiled."""
         write('source', text)
         write('in', inputs)
         status = self.same('compile', 'source', 'out', '--block-log', str(block_log))
+        self.same('compile', 'source', 'out', '--block-log', str(block_log), '--fast')
         self.same('eval', 'source', 'in', 'out', '--turns', TURNS)
         return status == 0
 
@@ -251,18 +255,20 @@ def example_objects():
     found = []
     examples = os.path.join(ROOT, 'examples')
     for path in sorted(glob.glob(os.path.join(examples, '*.asm')) + glob.glob(os.path.join(examples, 'by_hand', '*.asm'))):
-        folder = os.path.join(examples, 'programs') if 'by_hand' in path else examples
+        folder = os.path.join(examples, '*') if 'by_hand' in path else examples
         inputs = sorted(glob.glob(os.path.join(folder, os.path.basename(path)[:-4] + '-*.json')))
         found.append((made_of(C_PROGRAMS['asm'], ['asm', path]), [contents(name) for name in inputs], contents(path)))
     for path in sorted(glob.glob(os.path.join(examples, 'programs', '*.gr'))):
         inputs = [contents(name) for name in sorted(glob.glob(path[:-3] + '-*.json'))]
         found.append((made_of(PROGRAM, ['compile', path], '--block-log', '4'), inputs, None))
+        found.append((made_of(PROGRAM, ['compile', path], '--block-log', '7', '--fast'), inputs, None))
     return found
 
 
 def example_sources():
     """The programs of the examples, each with its inputs."""
     paths = sorted(glob.glob(os.path.join(ROOT, 'examples', 'programs', '*.gr')))
+    paths += sorted(glob.glob(os.path.join(ROOT, 'examples', 'suite', '*.gr')))
     return [(contents(path), [contents(name) for name in sorted(glob.glob(path[:-3] + '-*.json'))]) for path in paths]
 
 
@@ -282,7 +288,7 @@ def attempt_source(case, rng, kind, number):
     block_log = rng.randrange(3, 10)
     if kind == 'example source':
         text, inputs = SOURCES[number]
-        return all([case.reads(text, given, log) for given in inputs for log in range(3, 10)])
+        return all([case.reads(text, inputs[0], log) for log in range(3, 10)] + [case.reads(text, given, 9) for given in inputs[1:]])
     if kind == 'odd source':
         return all([case.reads(ODD_SOURCES[number], b'{}', log) for log in (3, 9)])
     if kind == 'words':
@@ -290,6 +296,9 @@ def attempt_source(case, rng, kind, number):
         write('in', SOURCES[0][1][0])
         case.same(*ODD_WORDS[number])
         return False
+    if kind == 'resident':
+        text, block_log, inputs = resident_program(rng)
+        return case.reads(text, inputs[0], block_log)
     text, inputs = any_program(rng, 0.05 if kind == 'slips' else 0)
     if kind == 'source':
         if rng.random() < 0.3:
@@ -342,7 +351,7 @@ def attempt(named):
 def main():
     counts = {'example': len(EXAMPLES), 'bytes': COUNT, 'code': COUNT, 'regions': COUNT, 'text': COUNT,
               'odd': len(ODD_INPUTS), 'input': COUNT // 2, 'example source': len(SOURCES), 'odd source': len(ODD_SOURCES),
-              'words': len(ODD_WORDS), 'program': COUNT, 'slips': COUNT, 'source': COUNT}
+              'words': len(ODD_WORDS), 'program': COUNT, 'resident': COUNT, 'slips': COUNT, 'source': COUNT}
     cases = [(kind, number) for kind in counts for number in range(counts[kind])]
     passed, met = 0, dict.fromkeys(counts, 0)
     for kind, answers, accepted, difference in many.tried(attempt, cases):
@@ -353,7 +362,7 @@ def main():
             return many.closes(passed, 1)
     print(f'accepted and run: {met["bytes"]} of {COUNT} objects with damaged bytes, {met["code"]} of {COUNT} with damaged code, '
           f'{met["regions"]} of {COUNT} with branches on secrets')
-    print(f'compiled: {met["program"]} of {COUNT} programs, {met["slips"]} of {COUNT} with slips, {met["source"]} of {COUNT} damaged '
+    print(f'compiled: {met["program"]} and {met["resident"]} of {COUNT} programs each, {met["slips"]} of {COUNT} with slips, {met["source"]} of {COUNT} damaged '
           f'sources')
     return many.closes(passed, 0)
 

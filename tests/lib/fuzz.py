@@ -97,7 +97,8 @@ class Case:
         write('file', data)
         write('input', b'{}')
         file, given, out, again = (place(name) for name in ('file', 'input', 'out', 'again'))
-        compiled, said = self.call(['compile', file, out, '--block-log', str(self.chance.randrange(3, 10))], data, out)
+        options = ['--block-log', str(self.chance.randrange(3, 10)), *self.chance.choice(([], ['--fast']))]
+        compiled, said = self.call(['compile', file, out, *options], data, out)
         evaluated, refused = self.call(['eval', file, given, again, '--turns', '1000'], data, again)
         if (compiled == 8 or evaluated == 8) and said != refused and b' scalars ' not in said and b' bank ' not in said:
             self.complain(['compile, eval'], data, f'{said!r}, {refused!r}')

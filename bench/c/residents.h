@@ -1,0 +1,11 @@
+/* The layout of `compile --fast`, which keeps short arrays in the scratchpad (docs/FORMATS.md, "The layout with --fast"). */
+#ifndef RESIDENTS_H
+#define RESIDENTS_H
+
+#include "source.h"
+
+/* Gives each variable its place and its slot, and each bank of the object its blocks. Each block of scalars has room for
+ * its scalars. */
+void place_residents(struct source *source, struct object *object);
+
+#endif
