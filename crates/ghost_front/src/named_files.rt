@@ -2,11 +2,10 @@
 
 use crate::streams::DASH;
 use crate::tools::Tool;
-use clap::error::ErrorKind;
-use clap::{ArgMatches, Command};
+use clap::ArgMatches;
 use explain_words::Kind;
-use ghost_cli::verbs::{Argument, VerbWords, matches_of, verb_named, with_all};
-use ghost_tools::words::{COUNT, DIFF, LAYOUT};
+use ghost_cli::verbs::{matches_of, verb_named};
+use ghost_tools::words::{self, COUNT, DIFF, LAYOUT};
 use gr_base::Memory;
 use std::alloc::Global;
 
@@ -73,7 +72,7 @@ impl<'a> NamedFiles<'a> {
             Tool::Count => COUNT,
             Tool::Layout => LAYOUT,
         };
-        if let Some(matches) = tool_matches(alloc, row, words)? {
+        if let Some(matches) = words::matches_of(alloc, row, words)? {
             files.add(&matches)?;
         }
         Ok(files)
@@ -137,28 +136,4 @@ impl<'a> NamedFiles<'a> {
             None => false,
         }
     }
-}
-
-// What a tool finds in the words, the tool first, or none if they don't fit.
-fn tool_matches<'a>(
-    alloc: Global,
-    tool: VerbWords<'static>,
-    words: &'a [&'a str],
-) -> Result<Option<ArgMatches<'a>>, Memory> {
-    match command_of(alloc, tool)?.try_get_matches_from(words) {
-        Ok(matches) => Ok(Some(matches)),
-        Err(error) => {
-            if error.kind() == ErrorKind::OutOfMemory {
-                return Err(Memory);
-            }
-            Ok(None)
-        }
-    }
-}
-
-fn command_of<'a>(alloc: Global, tool: VerbWords<'static>) -> Result<Command<'a>, Memory> {
-    let empty = Command::new(alloc, tool.name);
-    let placed = with_all(alloc, empty, tool.place, tool.places)?;
-    let optional = with_all(alloc, placed, Argument::Valued, tool.options)?;
-    with_all(alloc, optional, Argument::Flag, tool.flags)
 }

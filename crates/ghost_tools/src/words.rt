@@ -32,7 +32,7 @@ pub const LAYOUT: VerbWords<'static> = VerbWords {
 };
 
 /// What a tool finds in the words, its name first, or `None` if they don't fit.
-pub(crate) fn matches_of<'a>(
+pub fn matches_of<'a>(
     alloc: Global,
     tool: VerbWords<'static>,
     words: &'a [&'a str],
