@@ -25,7 +25,7 @@ pub one_more : (pins : List (Option Pin)) (ds : List Decl) (places : List Place)
     → ((x : List ℕ) → after x ≡ cond (bytes_eq name x) (Some new) (before x))
     → (x : List ℕ) → after x ≡ variable_of pins (drop k ds) (drop k places) (drop k slots) x
 one_more pins ds places slots k d no_place no_slot new name before after below same_places same_slots is_d is_name is_new
-  rest added x =
+    rest added x =
     let in_places : k < length places = omega arith in
     let in_slots : k < length slots = omega arith in
     let v : Variable = variable_at pins d (get_or places k no_place) (get_or slots k no_slot) in

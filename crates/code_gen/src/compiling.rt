@@ -154,7 +154,12 @@ pub fn compile(alloc: Global, t: &Typed, p: &Profile, l: &Latencies) -> Result<O
 /// for them, so that an access of them shows nothing on the bus. Each variable is at the place that
 /// [`resident_alloc::resident_plan`] gives it. A program is refused exactly where its variables lack room at these
 /// places, with the first that does.
-pub fn compile_fast(alloc: Global, t: &Typed, p: &Profile, l: &Latencies) -> Result<Object, CompileError>
+pub fn compile_fast(
+    alloc: Global,
+    t: &Typed,
+    p: &Profile,
+    l: &Latencies,
+) -> Result<Object, CompileError>
     requires profile { ProfileFits p.now }
     requires latencies { LatenciesFit l.now }
     ensures accepted { IfOk result (λ o. Accepts o) }
