@@ -9,10 +9,14 @@ import sys
 import tempfile
 
 import many
+import wide_calls
 from many import place, read, write
 
 PROGRAM, EXAMPLES = sys.argv[1:3]
 COUNT, SEED = int(sys.argv[3]), int(sys.argv[4])
+
+# Each source of wide_calls takes less than a second on a machine with nothing else to do.
+WIDE_SECONDS = 15
 
 STATUSES = {
     'check': (0, 6, 7), 'trace': (0, 6, 7, 9, 10), 'run': (0, 6, 7, 9, 10), 'asm': (0, 12), 'dis': (0, 6),
@@ -47,15 +51,15 @@ class Case:
             file.write(data)
         self.wrong.append(f'FAILED: {" ".join(words)}: {why}; the file is kept as {kept}')
 
-    def call(self, words, data, writes=None):
+    def call(self, words, data, writes=None, seconds=60):
         """Calls the program on a damaged file, and judges its answer; returns the status and the text."""
         if writes and os.path.exists(writes):
             os.remove(writes)
         try:
             ran = subprocess.run([PROGRAM, *words], stdin=subprocess.DEVNULL, stdout=subprocess.PIPE, stderr=subprocess.PIPE,
-                                 timeout=60)
+                                 timeout=seconds)
         except subprocess.TimeoutExpired:
-            self.complain(words, data, 'no end within a minute')
+            self.complain(words, data, f'no end within {seconds} seconds')
             return None, b''
         verb, status, text = words[0], ran.returncode, ran.stdout
         self.seen[verb, status] += 1
@@ -125,6 +129,13 @@ class Case:
         left.append(read(out) if os.path.exists(out) else None)
         if left != [read(wanted)] * 2:
             self.complain([f'eval, run of {name}'], data, f'other values than the noted ones: {left}')
+
+    def try_wide(self, shape):
+        """A source whose calls pass many arrays is compiled, or rejected, within some seconds."""
+        data = shape()
+        write('file', data)
+        out = place('out')
+        self.call(['compile', place('file'), out, '--procs'], data, out, WIDE_SECONDS)
 
     def try_input(self, data):
         write('input', data)
@@ -198,6 +209,9 @@ def attempt(named):
     if kind == 'whole':
         case.try_whole(NOTED[number])
         return kind, case.seen, case.wrong
+    if kind == 'wide':
+        case.try_wide(wide_calls.SHAPES[number])
+        return kind, case.seen, case.wrong
     chance = case.chance
     write('input', chance.choice(WHOLE['input']) if chance.randrange(2) else b'{}')
     getattr(case, f'try_{kind}')(damaged(chance, chance.choice(WHOLE[kind]), PIECES[kind]))
@@ -207,7 +221,8 @@ def attempt(named):
 def main():
     seen, passed, failed = collections.Counter(), 0, 0
     kinds = ('object', 'text', 'source', 'input')
-    cases = [('whole', number) for number in range(len(NOTED))] + [(kind, number) for kind in kinds for number in range(COUNT)]
+    cases = [(kind, number) for kind, some in (('whole', NOTED), ('wide', wide_calls.SHAPES)) for number in range(len(some))]
+    cases += [(kind, number) for kind in kinds for number in range(COUNT)]
     for _, answers, wrong in many.tried(attempt, cases):
         seen.update(answers)
         failed += bool(wrong)

@@ -1,6 +1,13 @@
 -- A call's names, its assignments and its labels, made one by one.
-use Rattle.std.proofs.Common.{◌≡◌, ℕ, ◌+◌, pos, cond, List, [], ◌∷◌, ◌++◌, length, refl, sym, ap, ◌∙◌, subst, append_assoc}
-use Rattle.std.specs.Prelude.{bytes_eq}
+use Rattle.std.proofs.Common.{◌≡◌, ℕ, ◌+◌, pos, Bool, true, false, Option, Some, None, cond, List, [], ◌∷◌, ◌++◌, length, refl, sym, ap, ◌∙◌, subst, append_assoc}
+use Rattle.std.specs.Prelude.{bytes_eq, unwrap_or, is_some}
+use Rattle.std.specs.Option.{option_or}
+use Rattle.std.specs.Borrow.{Bor}
+use Rattle.std.specs.BTreeMap.{BTreeMap, get, is_at}
+use Rattle.std.proofs.lemmas.Slice.Eq.{bytes_eq-Decides}
+use Rattle.gr_base.proofs.NameMaps.{key_cmp, name_added}
+use Rattle.gr_base.specs.NameMaps.{found_under}
+use Rattle.src_procs.proofs.NumbersAdded.{flipped}
 use Rattle.std.proofs.lemmas.List.{append-nil, length_push}
 use Rattle.gr_word.specs.declared.variables.Label.{Label}
 use Rattle.src_tree.specs.declared.trees.Decl.{Decl}
@@ -10,22 +17,22 @@ use Rattle.std.proofs.Math.Path.{fun_ext}
 use Rattle.src_procs.specs.Trees.{Parameter, OfValue, OfVariable, Procedure}
 use Rattle.src_procs.specs.Frames.{naming_locals, naming_all, named_by, new_values, new_labels}
 use Rattle.src_procs.specs.Inlined.{Renaming, renamed, assigned, new_name, no_name}
-use Rattle.src_procs.specs.Expanding.{Binding, with_new, with_alias, with_locals, with_parameters, looked_up, statements_of, put, Scope, Held, begun, with_scope}
+use Rattle.src_procs.specs.Expanding.{Binding, Bound, bound_after, nothing_bound, with_new, with_alias, with_locals, with_parameters, looked_up, statements_of, put, Scope, begun}
 use Rattle.src_procs.proofs.OneStep.{put_nothing, put_both, held, held_same}
 
 -- names before others
-abbrev onto : List (List ℕ × List ℕ) → Renaming → Renaming
-onto [] rest y = rest y
-onto (b ∷ bs) rest y = cond (bytes_eq y b.0) b.1 (onto bs rest y)
+abbrev onto : Bound → Renaming → Renaming
+onto bound rest y = unwrap_or (bound y) (rest y)
 
-onto_push : (bs : List (List ℕ × List ℕ)) (name to : List ℕ) (rest : Renaming) (y : List ℕ)
-    → onto (bs ++ (name, to) ∷ []) rest y ≡ onto bs (λ z. cond (bytes_eq z name) to (rest z)) y
-onto_push [] name to rest y = refl
-onto_push (b ∷ bs) name to rest y = ap (λ z. cond (bytes_eq y b.0) b.1 z) (onto_push bs name to rest y)
+first_of : (o : Option (List ℕ)) (b : Bool) (to other : List ℕ)
+    → unwrap_or (option_or o (cond b (Some to) None)) other ≡ unwrap_or o (cond b to other)
+first_of None true to other = refl
+first_of None false to other = refl
+first_of (Some x) b to other = refl
 
-onto_nothing : (bs : List (List ℕ × List ℕ)) (y : List ℕ) → onto bs (λ z. no_name) y ≡ looked_up bs y
-onto_nothing [] y = refl
-onto_nothing (b ∷ bs) y = ap (λ z. cond (bytes_eq y b.0) b.1 z) (onto_nothing bs y)
+onto_push : (bound : Bound) (name to : List ℕ) (rest : Renaming) (y : List ℕ)
+    → onto (bound_after bound name to) rest y ≡ onto bound (λ z. cond (bytes_eq z name) to (rest z)) y
+onto_push bound name to rest y = first_of (bound y) (bytes_eq y name) to (rest y)
 
 -- what comes of a binding: names, statements and labels
 pub record Binds (b : Binding) (names : Renaming) (blocks : List (List plain.Statement)) (labels : List Label)
@@ -54,7 +61,7 @@ locals_bind : (b : Binding) (locals : List Decl)
     (put (statements_of (assigned no_name_of (length b.labels) (new_values [] [] locals))) b.open_blocks)
     (b.labels ++ new_labels [] [] locals)
 locals_bind b [] = record {
-  names_are = λ y. sym (onto_nothing b.bound y);
+  names_are = λ y. refl;
   blocks_are = sym (put_nothing b.open_blocks);
   labels_are = sym (append-nil b.labels);
 }
@@ -151,17 +158,17 @@ parameters_bind caller b (OfVariable name ∷ ps) (e ∷ es) locals =
 -- the start of a call, once its names are bound
 pub begun_made : (p : Procedure) (earlier : List Procedure) (caller : Renaming) (arguments : List Tree)
     (scopes : List Scope) (blocks : List (List plain.Statement)) (labels : List Label) (made : Binding)
-    → made ≡ with_locals (with_parameters caller (record { bound = []; open_blocks = blocks; labels = labels })
+    → made ≡ with_locals (with_parameters caller (record { bound = nothing_bound; open_blocks = blocks; labels = labels })
     p.parameters arguments) p.locals
     → held (record { callable = earlier; names = looked_up made.bound } ∷ scopes) made.open_blocks made.labels
     ≡ begun p earlier caller arguments (held scopes blocks labels)
 begun_made p earlier caller arguments scopes blocks labels made is =
-    let start : Binding = record { bound = []; open_blocks = blocks; labels = labels } in
-    let h : Binds made (onto [] (naming_all new_name no_name caller (length labels) p.parameters arguments p.locals))
+    let start : Binding = record { bound = nothing_bound; open_blocks = blocks; labels = labels } in
+    let h : Binds made (onto nothing_bound (naming_all new_name no_name caller (length labels) p.parameters arguments p.locals))
     (put (statements_of (assigned caller (length labels) (new_values p.parameters arguments p.locals))) blocks)
     (labels ++ new_labels p.parameters arguments p.locals) =
     subst (λ b. Binds b
-    (onto [] (naming_all new_name no_name caller (length labels) p.parameters arguments p.locals))
+    (onto nothing_bound (naming_all new_name no_name caller (length labels) p.parameters arguments p.locals))
     (put (statements_of (assigned caller (length labels) (new_values p.parameters arguments p.locals))) blocks)
     (labels ++ new_labels p.parameters arguments p.locals)) (sym is)
     (parameters_bind caller start p.parameters arguments p.locals) in
@@ -172,17 +179,33 @@ begun_made p earlier caller arguments scopes blocks labels made is =
       names = naming_all new_name no_name caller (length labels) p.parameters arguments p.locals;
     } ∷ scopes) _ _ _ _ h.blocks_are h.labels_are
 
--- the scopes, blocks and labels with which a call begins
-pub begun_so : (p q : Procedure) (earlier : List Procedure) (caller : Renaming) (arguments : List Tree) (scope : Scope)
-    (scopes : List Scope) (blocks : List (List plain.Statement)) (labels : List Label) (made : Binding)
-    (first second : Held) → q ≡ p
-    → made ≡ with_locals (with_parameters caller (record { bound = []; open_blocks = blocks; labels = labels })
-    p.parameters arguments) p.locals
-    → first ≡ held (scope ∷ scopes) made.open_blocks made.labels
-    → second ≡ with_scope (record { callable = earlier; names = looked_up made.bound }) first
-    → second ≡ begun q earlier caller arguments (held (scope ∷ scopes) blocks labels)
-begun_so p q earlier caller arguments scope scopes blocks labels made first second same is one two =
-    two
-    ∙ (ap (with_scope (record { callable = earlier; names = looked_up made.bound })) one
-    ∙ (begun_made p earlier caller arguments (scope ∷ scopes) blocks labels made is
-    ∙ ap (λ (r : Procedure). begun r earlier caller arguments (held (scope ∷ scopes) blocks labels)) (sym same)))
+bound_once : (o : Option (List ℕ)) (b : Bool) (to : List ℕ) → (b ≡ true → is_some o ≡ true)
+    → o ≡ option_or o (cond b (Some to) None)
+bound_once (Some x) b to h = refl
+bound_once None false to h = refl
+bound_once None true to h = let e = h refl in absurd (cc)
+
+-- a name that is bound already
+pub bound_before : (bound : Bound) (name to : List ℕ) → is_some (bound name) ≡ true
+    → bound ≡ bound_after bound name to
+bound_before bound name to is =
+    fun_ext (λ y. bound_once (bound y) (bytes_eq y name) to
+    (λ e. ap (λ z. is_some (bound z)) ((bytes_eq-Decides y name).0 e) ∙ is))
+
+added_once : (o : Option (List ℕ)) (b : Bool) (to : List ℕ) → (b ≡ true → is_some o ≡ false)
+    → cond b (Some to) o ≡ option_or o (cond b (Some to) None)
+added_once None true to h = refl
+added_once None false to h = refl
+added_once (Some x) false to h = refl
+added_once (Some x) true to h = let e = h refl in absurd (cc)
+
+-- a name that was added to the map
+pub bound_added : (m n : BTreeMap (Bor (List ℕ)) (List ℕ)) (k : Bor (List ℕ)) (to : List ℕ)
+    → is_some (found_under m k.now) ≡ false
+    → ((q : Bor (List ℕ)) → get key_cmp n q ≡ cond (is_at (key_cmp k) q) (Some to) (get key_cmp m q))
+    → found_under n ≡ bound_after (found_under m) k.now to
+bound_added m n k to new h =
+    fun_ext (λ y. name_added m n k to h y
+    ∙ (ap (λ b. cond b (Some to) (found_under m y)) (flipped k.now y)
+    ∙ added_once (found_under m y) (bytes_eq y k.now) to
+    (λ e. ap (λ z. is_some (found_under m z)) ((bytes_eq-Decides y k.now).0 e) ∙ new)))

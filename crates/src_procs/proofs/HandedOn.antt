@@ -34,13 +34,13 @@ pub data Alike (one other : Renaming) : List Tree → List Tree → Type 0 where
       → named_by no_name one d ≡ named_by no_name other z → Alike one other ds zs
       → Alike one other (d ∷ ds) (z ∷ zs)
 
-zeros_alike : (one other : Renaming) (n : ℕ) (ls : List Decl)
+pub zeros_alike : (one other : Renaming) (n : ℕ) (ls : List Decl)
     → assigned one n (new_values [] [] ls) ≡ assigned other n (new_values [] [] ls)
 zeros_alike one other n [] = refl
 zeros_alike one other n (l ∷ ls) =
     ap (plain.Then (plain.SetVariable (new_name n) (Number (pos 0)))) (zeros_alike one other (n + 1) ls)
 
-locals_alike : (one other : Renaming) (n : ℕ) (ds zs : List Tree) (ls : List Decl)
+pub locals_alike : (one other : Renaming) (n : ℕ) (ds zs : List Tree) (ls : List Decl)
     → assigned one n (new_values [] ds ls) ≡ assigned other n (new_values [] zs ls)
 locals_alike one other n ds zs [] = refl
 locals_alike one other n ds zs (l ∷ ls) =

@@ -17,3 +17,5 @@ pub mod RoomForInputs
 pub mod NumbersAdded
 pub mod Pruning
 pub mod HandedOn
+pub mod NeededNames
+pub mod NeededBindings

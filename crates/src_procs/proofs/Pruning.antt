@@ -7,23 +7,22 @@ use Rattle.src_tree.specs.FirstFault.{shown_number}
 use Rattle.src_tree.specs.Trees as plain
 use Rattle.src_tree.specs.Trees.{Tree, Test}
 use Rattle.src_procs.specs.CallMeaning.{Names}
-use Rattle.src_procs.specs.Expanding.{Scope, Held, Found, found, begun, expanded, expanded_one, finished, held_start, returned, with_made, with_scope, Pending, Rest, Return}
-use Rattle.src_procs.specs.Frames.{naming_all}
-use Rattle.src_procs.specs.Inlined.{Renaming, Inlines, Inlined, both, choice_of, loop_of, inlined, inlined_all, inlines_of, kept_name, new_name, no_name, renamed_test}
+use Rattle.src_procs.specs.Expanding.{Held, expanded, held_start, with_made}
+use Rattle.src_procs.specs.Inlined.{Renaming, Inlines, Inlined, both, choice_of, loop_of, inlined, inlined_all, inlines_of, kept_name, renamed_test}
 use Rattle.src_procs.specs.Measured.{HasSizes, sizes_by}
 use Rattle.src_procs.specs.Numbered.{AreNumbered, by_number}
-use Rattle.src_procs.specs.Pruned.{ArePruned, SameCode, behind, pruned, unless_none, with_first}
+use Rattle.src_procs.specs.Pruned.{ArePruned, IsPruned, SameCode, behind, pruned, unless_none, with_first}
 use Rattle.src_procs.specs.Seen.{block_of, block_of_all, procedure_of}
-use Rattle.std.specs.Global.{Vec}
 use Rattle.src_procs.specs.declared.live.Live.{Live}
+use Rattle.src_procs.specs.declared.needed.Body.{Body}
+use Rattle.src_procs.specs.Needed.{LiveBody, no_body}
 use Rattle.src_procs.specs.declared.trees.Proc.{Proc}
 use Rattle.src_procs.specs.declared.trees.PStmt.{PStmt}
 use Rattle.src_procs.specs.Sizes.{CallSizes, sizes_of, HasSize}
 use Rattle.src_procs.specs.Trees.{Statement, SetVariable, SetElement, Choice, Loop, Call, Block, Nothing, Then, Procedure}
-use Rattle.src_procs.specs.Views.{bodies_of, live_block, live_of, no_procedure}
+use Rattle.src_procs.specs.Views.{bodies_of, body_of, live_of, no_procedure}
 use Rattle.src_procs.proofs.Counted.{calls_have_size, nothing_of_size}
 use Rattle.src_procs.proofs.Measured.{all_measured, same_call}
-use Rattle.src_procs.proofs.OneStep.{some_expanded}
 
 pub behind_nothing : (ss : List Statement) → behind ss Nothing ≡ block_of ss
 behind_nothing [] = refl
@@ -140,21 +139,21 @@ left_same ps sizes callable h numbers known less b e names next =
     (counted_dead ps sizes callable h numbers known) b names next
 
 -- one more body
-pub one_body_more : (ps : List Procedure) (bodies : List Block) (b : Block) → ArePruned ps bodies
-    → SameCode (reverse (take (length bodies) ps)) b (get_or ps (length bodies) no_procedure).body
+pub one_body_more : (ps : List Procedure) (bodies : List LiveBody) (b : LiveBody) → ArePruned ps bodies
+    → IsPruned (reverse (take (length bodies) ps)) (get_or ps (length bodies) no_procedure) b
     → ArePruned ps (bodies ++ b ∷ [])
 one_body_more ps bodies b known same =
     let long = length_push bodies b in
     record {
       each = λ k lt. elim (cases_lt k (length bodies)) [
-        | inl below ↦ subst (λ (z : Block). SameCode (reverse (take k ps)) z (get_or ps k no_procedure).body)
-            (sym (get_or_append_left bodies (b ∷ []) Nothing k below)) (known.each k below)
+        | inl below ↦ subst (λ (z : LiveBody). IsPruned (reverse (take k ps)) (get_or ps k no_procedure) z)
+            (sym (get_or_append_left bodies (b ∷ []) no_body k below)) (known.each k below)
         | inr from ↦ (let last : k ≡ length bodies = omega (long, lt, from, arith) in
-            subst (λ n. SameCode (reverse (take n ps)) (get_or (bodies ++ b ∷ []) n Nothing)
-            (get_or ps n no_procedure).body) (sym last)
-            (subst (λ (z : Block). SameCode (reverse (take (length bodies) ps)) z
-            (get_or ps (length bodies) no_procedure).body) (sym (get_or_push bodies b Nothing (length bodies) refl))
-            same))
+            subst (λ n. IsPruned (reverse (take n ps)) (get_or ps n no_procedure)
+            (get_or (bodies ++ b ∷ []) n no_body)) (sym last)
+            (subst (λ (z : LiveBody). IsPruned (reverse (take (length bodies) ps))
+            (get_or ps (length bodies) no_procedure) z)
+            (sym (get_or_push bodies b no_body (length bodies) refl)) same))
       ];
     }
 
@@ -167,39 +166,21 @@ whole_live ps n less b le same h is =
     subst (λ (qs : List Procedure). SameCode (reverse qs) less b) (take_all n ps le) same in
     is ∙ ap (with_made (held_start ps)) (all kept_name 0)
 
-bodies_push : (bodies : List (Vec Live)) (body : Vec Live)
-    → bodies_of (bodies ++ body ∷ []) ≡ bodies_of bodies ++ live_block body.items ∷ []
+bodies_push : (bodies : List Body) (body : Body) → bodies_of (bodies ++ body ∷ []) ≡ bodies_of bodies ++ body_of body ∷ []
 bodies_push [] body = refl
-bodies_push (b ∷ bs) body = ap (λ (rest : List Block). live_block b.items ∷ rest) (bodies_push bs body)
+bodies_push (b ∷ bs) body = ap (λ (rest : List LiveBody). body_of b ∷ rest) (bodies_push bs body)
 
-pub one_live_more : (procs : List Proc) (bodies : List (Vec Live)) (p : Proc) (ss : List PStmt) (i : ℕ) (body : Vec Live)
-    → length bodies ≡ i → i < length procs → p ≡ get_or procs i p → ss ≡ p.body.items
+pub one_live_more : (procs : List Proc) (bodies : List Body) (p : Proc) (i : ℕ) (body : Body)
+    → length bodies ≡ i → i < length procs → p ≡ get_or procs i p
     → ArePruned (map procedure_of procs) (bodies_of bodies)
-    → SameCode (reverse (take i (map procedure_of procs))) (live_block body.items) (block_of_all ss)
+    → IsPruned (reverse (take i (map procedure_of procs))) (procedure_of p) (body_of body)
     → ArePruned (map procedure_of procs) (bodies_of (bodies ++ body ∷ []))
-one_live_more procs bodies p ss i body long lt is seen known same =
+one_live_more procs bodies p i body long lt is known left =
     let ps = map procedure_of procs in
-    let all = length-map bodies (λ (v : Vec Live). live_block v.items) in
+    let all = length-map bodies body_of in
     let count : i ≡ length (bodies_of bodies) = omega (all, long, arith) in
     subst (ArePruned ps) (sym (bodies_push bodies body))
-    (one_body_more ps (bodies_of bodies) (live_block body.items) known
-    (subst (λ n. SameCode (reverse (take n ps)) (live_block body.items) (get_or ps n no_procedure).body) count
-    (subst (λ (b : Block). SameCode (reverse (take i ps)) (live_block body.items) b)
-    (ap block_of_all seen
-    ∙ ap (λ (q : Procedure). q.body)
-    (sym (get_or-map procedure_of procs i p no_procedure lt ∙ ap procedure_of (sym is)))) same)))
-
--- a call, by what waits and what is held when it begins
-pub called_so : (name : List ℕ) (arguments : List Tree) (scope : Scope) (x : Held) (f : Found) (waiting next : List Pending)
-    (body : Block) (y : Held) → found scope.callable name ≡ Some f → SameCode f.earlier body f.procedure.body
-    → next ≡ Rest body ∷ Return ∷ waiting
-    → y ≡ begun f.procedure f.earlier scope.names arguments (with_scope scope x)
-    → finished next y ≡ finished waiting (expanded_one (Call name arguments) (with_scope scope x))
-called_so name arguments scope x f waiting next body y is same waits begins =
-    let b = begun f.procedure f.earlier scope.names arguments (with_scope scope x) in
-    let own = naming_all new_name no_name scope.names (length x.labels) f.procedure.parameters arguments
-    f.procedure.locals in
-    ap (λ ps. finished ps y) waits
-    ∙ (ap (λ h. finished waiting (returned (expanded body h))) begins
-    ∙ (ap (λ (i : Inlined). finished waiting (returned (with_made b i))) (same own (length b.labels))
-    ∙ ap (finished waiting) (some_expanded name arguments scope x f is)))
+    (one_body_more ps (bodies_of bodies) (body_of body) known
+    (subst (λ n. IsPruned (reverse (take n ps)) (get_or ps n no_procedure) (body_of body)) count
+    (subst (λ (q : Procedure). IsPruned (reverse (take i ps)) q (body_of body))
+    (sym (get_or-map procedure_of procs i p no_procedure lt ∙ ap procedure_of (sym is))) left)))

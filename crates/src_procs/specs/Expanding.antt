@@ -1,6 +1,7 @@
 -- For the proofs and for private clauses only: a file's program made step by step, with what is still to be done on a
 -- stack.
-use Rattle.std.specs.Prelude.{ℕ, pos, List, [], ◌∷◌, ◌++◌, length, reverse, Option, Some, None, if◌then◌else◌, bytes_eq}
+use Rattle.std.specs.Prelude.{ℕ, pos, List, [], ◌∷◌, ◌++◌, length, reverse, Option, Some, None, if◌then◌else◌, bytes_eq, unwrap_or}
+use Rattle.std.specs.Option.{option_or}
 use Rattle.gr_word.specs.declared.variables.Label.{Label}
 use Rattle.src_tree.specs.declared.trees.Decl.{Decl}
 use Rattle.src_tree.specs.Trees as plain
@@ -136,16 +137,27 @@ abbrev pub begun_where : Option Found → Renaming → List Tree → Held → He
 begun_where None caller arguments x = x
 begun_where (Some f) caller arguments x = begun f.procedure f.earlier caller arguments x
 
--- what a call's names are so far, and what was put: the names, the first first, the open blocks and the labels
+-- what names are bound to
+abbrev pub Bound : Type 0
+Bound = List ℕ → Option (List ℕ)
+
+abbrev pub nothing_bound : Bound
+nothing_bound y = None
+
+-- one more name, unless it is bound already
+abbrev pub bound_after : Bound → List ℕ → List ℕ → Bound
+bound_after bound name stands y = option_or (bound y) (if bytes_eq y name then Some stands else None)
+
+-- what a call's names are so far, and what was put: the names, the open blocks and the labels
 pub record Binding : Type 0 where
-  pub bound : List (List ℕ × List ℕ)
+  pub bound : Bound
   pub open_blocks : List (List plain.Statement)
   pub labels : List Label
 
 -- a new variable that a name stands for, with a statement that assigns to it
 abbrev pub with_variable : Binding → Label → List ℕ → List ℕ → plain.Statement → Binding
 with_variable b label name stands s = record {
-  bound = b.bound ++ (name, stands) ∷ [];
+  bound = bound_after b.bound name stands;
   open_blocks = put (s ∷ []) b.open_blocks;
   labels = b.labels ++ label ∷ [];
 }
@@ -156,7 +168,7 @@ with_new b label name value =
     with_variable b label name (new_name (length b.labels)) (plain.SetVariable (new_name (length b.labels)) value)
 
 abbrev pub with_alias : Binding → List ℕ → List ℕ → Binding
-with_alias b name other = record b { bound = b.bound ++ (name, other) ∷ [] }
+with_alias b name other = record b { bound = bound_after b.bound name other }
 
 abbrev pub with_locals : Binding → List Decl → Binding
 with_locals b [] = b
@@ -171,9 +183,8 @@ with_parameters caller b [] es = b
 with_parameters caller b (p ∷ ps) [] = b
 with_parameters caller b (p ∷ ps) (e ∷ es) = with_parameters caller (with_parameter caller b p e) ps es
 
-abbrev pub looked_up : List (List ℕ × List ℕ) → Renaming
-looked_up [] y = no_name
-looked_up (b ∷ bs) y = if bytes_eq y b.0 then b.1 else looked_up bs y
+abbrev pub looked_up : Bound → Renaming
+looked_up bound y = unwrap_or (bound y) no_name
 
 -- before the first statement of a file with these procedures
 abbrev pub held_start : List Procedure → Held

@@ -12,3 +12,4 @@ pub mod Measured
 pub mod Numbered
 pub mod Pruned
 pub mod Handed
+pub mod Needed

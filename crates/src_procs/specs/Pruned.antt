@@ -4,6 +4,7 @@ use Rattle.src_tree.specs.FirstFault.{shown_number}
 use Rattle.src_procs.specs.Trees.{Statement, SetVariable, SetElement, Choice, Loop, Call, Block, Nothing, Then, Procedure}
 use Rattle.src_procs.specs.Inlined.{Renaming, inlines_of, inlined_all}
 use Rattle.src_procs.specs.Sizes.{CallSizes}
+use Rattle.src_procs.specs.Needed.{DependsOn, LiveBody, kept_from, no_body}
 use Rattle.src_procs.specs.Views.{no_procedure}
 
 -- a statement, unless it is replaced by none
@@ -37,7 +38,13 @@ abbrev pub SameCode : List Procedure → Block → Block → Type 0
 SameCode ps a b = (names : Renaming) (next : ℕ)
     → inlined_all (inlines_of ps) names a next ≡ inlined_all (inlines_of ps) names b next
 
+-- what is left of a procedure: it has its code, and needs no other names
+pub record IsPruned (earlier : List Procedure) (p : Procedure) (body : LiveBody) : Type 0 where
+  pub same : SameCode earlier body.statements p.body
+  pub needs : DependsOn (inlines_of earlier) body.needed body.statements
+  pub kept : body.kept ≡ kept_from body.needed 0 p.parameters
+
 -- the first procedures' bodies
-pub record ArePruned (ps : List Procedure) (bodies : List Block) : Type 0 where
+pub record ArePruned (ps : List Procedure) (bodies : List LiveBody) : Type 0 where
   pub each : (k : ℕ) → k < length bodies
-      → SameCode (reverse (take k ps)) (slice_index_or bodies k Nothing) (slice_index_or ps k no_procedure).body
+      → IsPruned (reverse (take k ps)) (slice_index_or ps k no_procedure) (slice_index_or bodies k no_body)

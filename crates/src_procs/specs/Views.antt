@@ -8,7 +8,8 @@ use Rattle.src_tree.specs.declared.trees.Stmt.{Stmt}
 use Rattle.std.specs.Global.{Vec}
 use Rattle.src_procs.specs.declared.trees.PStmt.{PStmt}
 use Rattle.src_procs.specs.declared.trees.Proc.{Proc}
-use Rattle.src_procs.specs.declared.scopes.Bound as bounds
+use Rattle.std.specs.BTreeMap.{BTreeMap}
+use Rattle.gr_base.specs.NameMaps.{found_under}
 use Rattle.src_procs.specs.declared.scopes.Naming as namings
 use Rattle.src_procs.specs.declared.scopes.Naming.TheVariants as naming
 use Rattle.src_procs.specs.declared.scopes.Scope as scopes
@@ -17,23 +18,20 @@ use Rattle.src_procs.specs.declared.expanding.Pending.TheVariants as pending
 use Rattle.src_procs.specs.declared.expanding.Held as helds
 use Rattle.src_procs.specs.declared.expanding.Made as mades
 use Rattle.src_procs.specs.declared.live.Live.{Live}
+use Rattle.src_procs.specs.declared.needed.Kept as lives
+use Rattle.src_procs.specs.declared.needed.Body as lives_of
+use Rattle.src_procs.specs.Needed.{LiveBody, Placed}
 use Rattle.src_procs.specs.declared.live.Live.TheOpen.{Live-F}
 use Rattle.src_procs.specs.declared.live.Live.TheOpen as open_live
 use Rattle.src_procs.specs.declared.live.Live.TheFolds.{fold-Live}
 use Rattle.src_procs.specs.Inlined.{Renaming, kept_name}
-use Rattle.src_procs.specs.Seen.{block_of, block_of_all, procedure_of}
+use Rattle.src_procs.specs.Seen.{block_of, block_of_all, parameter_of, procedure_of}
 use Rattle.src_procs.specs.Trees.{Statement, SetVariable, SetElement, Choice, Loop, Call, Block, Nothing, Procedure, File}
-use Rattle.src_procs.specs.Expanding.{Binding, Found, looked_up, Pending, Rest, Return, Open, EndChoice, EndLoop, Scope, Held}
-
-abbrev pub bound_pair : bounds.Bound → List ℕ × List ℕ
-bound_pair b = (b.name.now, b.stands)
-
-abbrev pub names_bound : List bounds.Bound → Renaming
-names_bound bs y = looked_up (map bound_pair bs) y
+use Rattle.src_procs.specs.Expanding.{Binding, Found, looked_up, nothing_bound, Pending, Rest, Return, Open, EndChoice, EndLoop, Scope, Held}
 
 abbrev pub names_of : namings.Naming → Renaming
 names_of naming.Own = kept_name
-names_of (naming.Bound bs) = names_bound bs.items
+names_of (naming.Bound bounds) = looked_up (found_under bounds)
 
 abbrev pub scope_of : List Proc → scopes.Scope → Scope
 scope_of procs s = record {
@@ -76,8 +74,18 @@ live_of = fold-Live Statement live_step
 abbrev pub live_block : List Live → Block
 live_block statements = block_of (map live_of statements)
 
-abbrev pub bodies_of : List (Vec Live) → List Block
-bodies_of bodies = map (λ (v : Vec Live). live_block v.items) bodies
+abbrev pub placed_of : lives.Kept → Placed
+placed_of k = (k.at, parameter_of k.param.now)
+
+abbrev pub body_of : lives_of.Body → LiveBody
+body_of b = record {
+  statements = live_block b.statements.items;
+  needed = found_under b.needed;
+  kept = map placed_of b.kept.items;
+}
+
+abbrev pub bodies_of : List lives_of.Body → List LiveBody
+bodies_of bodies = map body_of bodies
 
 abbrev pub pending_of : pendings.Pending → Pending
 pending_of (pending.Rest left) = Rest (live_block left.statements.now)
@@ -90,9 +98,17 @@ pending_of (pending.EndLoop guard) = EndLoop (test_of guard)
 abbrev pub pending_all : List pendings.Pending → List Pending
 pending_all waiting = reverse (map pending_of waiting)
 
-abbrev pub binding_of : List bounds.Bound → mades.Made → Binding
-binding_of bs m = record {
-  bound = map bound_pair bs;
+abbrev pub binding_of : BTreeMap (Bor (List ℕ)) (List ℕ) → mades.Made → Binding
+binding_of bounds m = record {
+  bound = found_under bounds;
+  open_blocks = blocks_of m.open_blocks.items;
+  labels = m.labels.items;
+}
+
+-- before the first name of a call is bound
+abbrev pub unbound : mades.Made → Binding
+unbound m = record {
+  bound = nothing_bound;
   open_blocks = blocks_of m.open_blocks.items;
   labels = m.labels.items;
 }

@@ -1,20 +1,26 @@
-ghost use Rattle.std.specs.Prelude.{◌≡◌, ◌++◌, ◌∷◌, [], IfOk, OnOk, pos, map};
+ghost use Rattle.std.specs.Prelude.{◌≡◌, IfOk, OnOk, is_some, pos, map};
+ghost use Rattle.gr_base.specs.NameMaps.{found_under};
 ghost use Rattle.src_tree.specs.Trees.{expr_tree, statement_of, Number, SetVariable};
 ghost use Rattle.src_procs.specs.Expanding as spec;
 ghost use Rattle.src_procs.specs.Frames.{named_by};
 ghost use Rattle.src_procs.specs.Inlined as inlined;
 ghost use Rattle.src_procs.specs.Inlined.{no_name, renamed};
-ghost use Rattle.src_procs.specs.Seen.{parameter_of, procedure_of};
-ghost use Rattle.src_procs.specs.Views.{binding_of, bound_pair, names_of, trees_seen};
+ghost use Rattle.std.specs.Option.{option_map};
+ghost use Rattle.src_procs.specs.Handed.{argument_seen};
+ghost use Rattle.src_procs.specs.Needed as needed;
+ghost use Rattle.src_procs.specs.Seen.{parameter_of};
+ghost use Rattle.src_procs.specs.Views.{binding_of, names_of, placed_of, trees_seen, unbound};
 
 use crate::expanding::{Made, put_statement};
-use crate::scopes::{Bound, Naming, new_name_of, no_name, renamed};
-use crate::trees::{Param, Proc};
+use crate::needed::{Kept, argument_at};
+use crate::scopes::{Bounds, Naming, new_name_of, no_name, renamed};
+use crate::trees::Param;
 use gr_base::Memory;
 use gr_word::{Label, Name};
 use itoa::Buffer;
 use src_tree::{Decl, Expr, Stmt};
 use std::alloc::Global;
+use std::collections::BTreeMap;
 
 // The bytes of the name of new variable number `n`.
 fn new_bytes(alloc: Global, n: u64) -> Result<Vec<u8>, Memory>
@@ -36,33 +42,48 @@ pub(crate) fn new_name(alloc: Global, n: u64) -> Result<Name, Memory>
     Name::new(alloc, bytes.as_slice())
 }
 
+fn is_bound<'a>(bounds: &Bounds<'a>, name: &'a [u8]) -> bool
+    ensures { result ≡ is_some (found_under bounds.now name.now) }
+{
+    bounds.get(&name).is_some()
+}
+
+// One more name, unless it is bound already.
+fn bind<'a>(bounds: &mut Bounds<'a>, name: &'a [u8], stands: Name) -> Result<(), Memory>
+    ensures { OnOk result (found_under bounds.new ≡ spec.bound_after (found_under bounds.old) name.now stands) }
+{
+    if is_bound(bounds, name) {
+        return Ok(());
+    }
+    match bounds.insert(name, stands) {
+        Ok(_) => Ok(()),
+        Err(_) => Err(Memory),
+    }
+}
+
 // A new variable, with the name that it stands for and the assignment of its value.
 fn with_new<'a>(
     made: &mut Made,
-    bounds: &mut Vec<Bound<'a>>,
+    bounds: &mut Bounds<'a>,
     label: Label,
     name: &'a Name,
     stands: Name,
     assigned: Stmt,
 ) -> Result<(), Memory>
-    ensures { OnOk result (binding_of bounds.new.items made.new
-        ≡ spec.with_variable (binding_of bounds.old.items made.old) label name.now stands (statement_of assigned)) }
+    ensures { OnOk result (binding_of bounds.new made.new
+        ≡ spec.with_variable (binding_of bounds.old made.old) label name.now stands (statement_of assigned)) }
 {
     put_statement(&mut made.open_blocks, assigned)?;
     made.labels.push(label)?;
-    bounds.push(Bound {
-        name: name.bytes(),
-        stands,
-    })?;
-    Ok(())
+    bind(bounds, name.bytes(), stands)
 }
 
 // The assignment of an argument to a new variable.
-fn new_assignment(
+fn new_assignment<'a>(
     alloc: Global,
-    caller: &Naming<'_>,
+    caller: &Naming<'a>,
     stands: &Name,
-    argument: &Expr,
+    argument: &'a Expr,
 ) -> Result<Stmt, Memory>
     ensures { IfOk result (λ s. statement_of s
         ≡ SetVariable stands.now (renamed (names_of caller.now) (expr_tree argument.now))) }
@@ -73,7 +94,7 @@ fn new_assignment(
 }
 
 // What an argument names for the caller.
-fn alias(alloc: Global, caller: &Naming<'_>, e: &Expr) -> Result<Name, Memory>
+fn alias<'a>(alloc: Global, caller: &Naming<'a>, e: &'a Expr) -> Result<Name, Memory>
     ensures { IfOk result (λ name. name ≡ named_by no_name (names_of caller.now) (expr_tree e.now)) }
 {
     match e {
@@ -85,28 +106,23 @@ fn alias(alloc: Global, caller: &Naming<'_>, e: &Expr) -> Result<Name, Memory>
 }
 
 // A name that stands for another of the caller.
-fn with_alias<'a>(bounds: &mut Vec<Bound<'a>>, name: &'a Name, other: Name) -> Result<(), Memory>
-    ensures { OnOk result (map bound_pair bounds.new.items
-        ≡ map bound_pair bounds.old.items ++ (name.now, other) ∷ []) }
+fn with_alias<'a>(bounds: &mut Bounds<'a>, name: &'a Name, other: Name) -> Result<(), Memory>
+    ensures { OnOk result (found_under bounds.new ≡ spec.bound_after (found_under bounds.old) name.now other) }
 {
-    bounds.push(Bound {
-        name: name.bytes(),
-        stands: other,
-    })?;
-    Ok(())
+    bind(bounds, name.bytes(), other)
 }
 
 // A parameter with its argument.
 fn with_parameter<'a>(
     alloc: Global,
-    caller: &Naming<'_>,
+    caller: &Naming<'a>,
     made: &mut Made,
-    bounds: &mut Vec<Bound<'a>>,
+    bounds: &mut Bounds<'a>,
     param: &'a Param,
-    argument: &Expr,
+    argument: &'a Expr,
 ) -> Result<(), Memory>
-    ensures { OnOk result (binding_of bounds.new.items made.new
-        ≡ spec.with_parameter (names_of caller.now) (binding_of bounds.old.items made.old) (parameter_of param.now)
+    ensures { OnOk result (binding_of bounds.new made.new
+        ≡ spec.with_parameter (names_of caller.now) (binding_of bounds.old made.old) (parameter_of param.now)
         (expr_tree argument.now)) }
 {
     match param {
@@ -122,23 +138,40 @@ fn with_parameter<'a>(
     }
 }
 
-fn with_parameters<'a>(
+// A parameter with its argument, if there is one.
+fn with_argument<'a>(
     alloc: Global,
-    caller: &Naming<'_>,
+    caller: &Naming<'a>,
     made: &mut Made,
-    bounds: &mut Vec<Bound<'a>>,
-    params: &'a [Param],
-    arguments: &[&Expr],
+    bounds: &mut Bounds<'a>,
+    param: &'a Param,
+    argument: Option<&'a Expr>,
 ) -> Result<(), Memory>
-    ensures { OnOk result (binding_of bounds.new.items made.new
-        ≡ spec.with_parameters (names_of caller.now) (binding_of bounds.old.items made.old) (map parameter_of params.now)
+    ensures { OnOk result (binding_of bounds.new made.new
+        ≡ needed.with_argument (names_of caller.now) (binding_of bounds.old made.old) (parameter_of param.now)
+        (option_map argument_seen argument.entry)) }
+{
+    match argument {
+        None => Ok(()),
+        Some(e) => with_parameter(alloc, caller, made, bounds, param, e),
+    }
+}
+
+fn with_kept<'a>(
+    alloc: Global,
+    caller: &Naming<'a>,
+    made: &mut Made,
+    bounds: &mut Bounds<'a>,
+    kept: &[Kept<'a>],
+    arguments: &[&'a Expr],
+) -> Result<(), Memory>
+    ensures { OnOk result (binding_of bounds.new made.new
+        ≡ needed.with_kept (names_of caller.now) (binding_of bounds.old made.old) (map placed_of kept.now)
         (trees_seen arguments.now)) }
 {
-    for (i, param) in params.iter().enumerate() {
-        if i >= arguments.len() {
-            return Ok(());
-        }
-        with_parameter(alloc, caller, made, bounds, param, arguments[i])?;
+    for k in kept {
+        let argument = argument_at(arguments, k.at);
+        with_argument(alloc, caller, made, bounds, k.param, argument)?;
     }
     Ok(())
 }
@@ -146,11 +179,11 @@ fn with_parameters<'a>(
 fn with_locals<'a>(
     alloc: Global,
     made: &mut Made,
-    bounds: &mut Vec<Bound<'a>>,
+    bounds: &mut Bounds<'a>,
     locals: &'a [Decl],
 ) -> Result<(), Memory>
-    ensures { OnOk result (binding_of bounds.new.items made.new
-        ≡ spec.with_locals (binding_of bounds.old.items made.old) locals.now) }
+    ensures { OnOk result (binding_of bounds.new made.new
+        ≡ spec.with_locals (binding_of bounds.old made.old) locals.now) }
 {
     for local in locals {
         let stands = new_name(alloc, made.labels.len() as u64)?;
@@ -160,27 +193,21 @@ fn with_locals<'a>(
     Ok(())
 }
 
-// The names of a procedure for a call of it, with the assignments to its new variables.
+// The names that a procedure needs for a call of it, with the assignments to its new variables.
 pub(crate) fn bound_names<'a>(
     alloc: Global,
-    caller: &Naming<'_>,
+    caller: &Naming<'a>,
     made: &mut Made,
-    p: &'a Proc,
-    arguments: &[&Expr],
-) -> Result<Vec<Bound<'a>>, Memory>
-    ensures { IfOk result (λ bounds. binding_of bounds.items made.new
-        ≡ spec.with_locals (spec.with_parameters (names_of caller.now) (binding_of [] made.old)
-        (procedure_of p.now).parameters (trees_seen arguments.now)) (procedure_of p.now).locals) }
+    kept: &[Kept<'a>],
+    locals: &'a [Decl],
+    arguments: &[&'a Expr],
+) -> Result<Bounds<'a>, Memory>
+    ensures { IfOk result (λ bounds. binding_of bounds made.new
+        ≡ spec.with_locals (needed.with_kept (names_of caller.now) (unbound made.old) (map placed_of kept.now)
+        (trees_seen arguments.now)) locals.now) }
 {
-    let mut bounds = Vec::new(alloc);
-    with_parameters(
-        alloc,
-        caller,
-        made,
-        &mut bounds,
-        p.params.as_slice(),
-        arguments,
-    )?;
-    with_locals(alloc, made, &mut bounds, p.locals.as_slice())?;
+    let mut bounds: Bounds<'a> = BTreeMap::new(alloc);
+    with_kept(alloc, caller, made, &mut bounds, kept, arguments)?;
+    with_locals(alloc, made, &mut bounds, locals)?;
     Ok(bounds)
 }

@@ -111,10 +111,10 @@ pub(crate) fn open_block(alloc: Global, open_blocks: &mut Vec<Vec<Stmt>>) -> Res
 }
 
 // The statement of the program for an assignment.
-pub(crate) fn assignment(
+pub(crate) fn assignment<'a>(
     alloc: Global,
-    names: &Naming<'_>,
-    s: &Live<'_>,
+    names: &Naming<'a>,
+    s: &Live<'a>,
 ) -> Result<Option<Stmt>, Memory>
     ensures { IfOk result (λ made. option_map statement_of made ≡ plain_statement (names_of names.now) (live_of s.now)) }
 {

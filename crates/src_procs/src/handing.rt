@@ -11,6 +11,7 @@ ghost use Rattle.src_procs.specs.Views.{bodies_of, live_block, live_of, trees_se
 
 use crate::finding::called;
 use crate::live::Live;
+use crate::needed::Body;
 use crate::own_names::{Numbers, parameter_name};
 use crate::sizes::scalars;
 use crate::trees::{Param, Proc};
@@ -162,7 +163,7 @@ fn passed_on<'a>(
     alloc: Global,
     procs: &'a [Proc],
     numbers: &Numbers<'a>,
-    bodies: &[Vec<Live<'a>>],
+    bodies: &[Body<'a>],
     callable: usize,
     name: &'a Name,
     arguments: &[&'a Expr],
@@ -179,7 +180,7 @@ fn passed_on<'a>(
     if k >= bodies.len() {
         return Ok(None);
     }
-    let next = match one_call(bodies[k].as_slice()) {
+    let next = match one_call(bodies[k].statements.as_slice()) {
         None => return Ok(None),
         Some(next) => next,
     };
@@ -197,7 +198,7 @@ pub(crate) fn come_down<'a>(
     alloc: Global,
     procs: &'a [Proc],
     numbers: &Numbers<'a>,
-    bodies: &[Vec<Live<'a>>],
+    bodies: &[Body<'a>],
     callable: usize,
     statements: Vec<Live<'a>>,
 ) -> Result<Vec<Live<'a>>, Memory>

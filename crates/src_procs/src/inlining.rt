@@ -17,6 +17,7 @@ use crate::errors::InlineError;
 use crate::expanding::{Held, Left, Made, Pending, Work};
 use crate::finding::numbers_of;
 use crate::live::{Live, live_bodies, live_statements};
+use crate::needed::Body;
 use crate::own_names::{Numbers, procedures_fault};
 use crate::scopes::{Naming, Scope};
 use crate::sizes::{block_size, body_sizes};
@@ -136,7 +137,7 @@ fn expanded_live<'b, 'a>(
     alloc: Global,
     procs: &'a [Proc],
     numbers: &Numbers<'a>,
-    bodies: &'b [Vec<Live<'a>>],
+    bodies: &'b [Body<'a>],
     body: &'b [Live<'a>],
 ) -> Result<Held<'a>, Memory>
     requires numbers { AreNumbered (map procedure_of procs.now) (found_under numbers.now) }

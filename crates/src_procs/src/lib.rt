@@ -15,6 +15,7 @@ mod handing;
 pub mod inlining;
 pub mod laws;
 mod live;
+mod needed;
 mod own_names;
 pub mod scopes;
 mod sizes;

@@ -8,6 +8,7 @@ ghost use Rattle.src_procs.specs.Trees.{Block};
 ghost use Rattle.src_procs.specs.Views.{bodies_of, live_block, live_of, trees_seen};
 
 use crate::handing::come_down;
+use crate::needed::{Body, left_of};
 use crate::own_names::Numbers;
 use crate::sizes::call_size;
 use crate::trees::{PStmt, Proc};
@@ -128,14 +129,14 @@ pub(crate) fn live_statements<'a>(
     Ok(all)
 }
 
-// The body of each procedure, without the calls that add nothing. One that is one call comes down to what that comes down
+// What is left of each procedure, without the calls that add nothing. One that is one call comes down to what that comes down
 // to, so that a chain of such procedures is one call.
 pub(crate) fn live_bodies<'a>(
     alloc: Global,
     procs: &'a [Proc],
     numbers: &Numbers<'a>,
     sizes: &[u64],
-) -> Result<Vec<Vec<Live<'a>>>, Memory>
+) -> Result<Vec<Body<'a>>, Memory>
     requires numbers { AreNumbered (map procedure_of procs.now) (found_under numbers.now) }
     requires sizes { HasSizes (map procedure_of procs.now) sizes.now }
     ensures pruned { IfOk result (λ b. ArePruned (map procedure_of procs.now) (bodies_of b.items)) }
@@ -145,7 +146,8 @@ pub(crate) fn live_bodies<'a>(
     for (i, p) in procs.iter().enumerate() {
         let body = live_statements(alloc, procs, numbers, sizes, i, p.body.as_slice())?;
         let less = come_down(alloc, procs, numbers, bodies.as_slice(), i, body)?;
-        bodies.push(less)?;
+        let left = left_of(alloc, procs, numbers, bodies.as_slice(), i, p, less)?;
+        bodies.push(left)?;
     }
     Ok(bodies)
 }

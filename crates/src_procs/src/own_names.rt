@@ -18,7 +18,7 @@ use std::collections::BTreeMap;
 // The numbers of names, by their bytes.
 pub(crate) type Numbers<'a> = BTreeMap<&'a [u8], usize>;
 
-fn has_bytes<'a>(names: &Numbers<'a>, name: &'a [u8]) -> bool
+pub(crate) fn has_bytes<'a>(names: &Numbers<'a>, name: &'a [u8]) -> bool
     ensures { result ≡ is_some (found_under names.now name.now) }
 {
     names.get(&name).copied().is_some()

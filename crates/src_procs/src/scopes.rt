@@ -1,25 +1,24 @@
 ghost use Rattle.std.specs.Prelude.{◌≡◌, IfOk, slice_index};
+ghost use Rattle.gr_base.specs.NameMaps.{found_under};
 ghost use Rattle.src_tree.specs.Trees.{expr_tree, test_of};
 ghost use Rattle.src_procs.specs.Inlined.{is_hidden, kept_name, no_name, renamed, renamed_test};
-ghost use Rattle.src_procs.specs.Views.{names_bound, names_of};
+ghost use Rattle.src_procs.specs.Expanding.{looked_up};
+ghost use Rattle.src_procs.specs.Views.{names_of};
 
 use gr_base::Memory;
 use gr_word::Name;
 use src_tree::{Expr, Guard};
 use std::alloc::Global;
+use std::collections::BTreeMap;
 
-// A name of a procedure, and what it is in the program.
-#[derive(Drop)]
-pub(crate) struct Bound<'a> {
-    pub name: &'a [u8],
-    pub stands: Name,
-}
+// The names of a procedure, and what each is in the program.
+pub(crate) type Bounds<'a> = BTreeMap<&'a [u8], Name>;
 
 // What names are in the program: the file's own stay, those of a procedure are bound.
 #[derive(Drop)]
 pub(crate) enum Naming<'a> {
     Own,
-    Bound(Vec<Bound<'a>>),
+    Bound(Bounds<'a>),
 }
 
 // Where statements stand: how many procedures stand before them, and what their names are.
@@ -57,27 +56,29 @@ fn kept_name(alloc: Global, name: &Name) -> Result<Name, Memory>
     name.copy(alloc)
 }
 
-fn bound_name(alloc: Global, bounds: &[Bound<'_>], name: &Name) -> Result<Name, Memory>
-    ensures { IfOk result (λ stands. stands ≡ names_bound bounds.now name.now) }
+fn bound_name<'a>(alloc: Global, bounds: &Bounds<'a>, name: &'a Name) -> Result<Name, Memory>
+    ensures { IfOk result (λ stands. stands ≡ looked_up (found_under bounds.now) name.now) }
 {
-    for bound in bounds {
-        if name.bytes() == bound.name {
-            return bound.stands.copy(alloc);
-        }
+    match bounds.get(&name.bytes()) {
+        None => no_name(alloc),
+        Some(stands) => stands.copy(alloc),
     }
-    no_name(alloc)
 }
 
-pub(crate) fn new_name_of(alloc: Global, names: &Naming<'_>, name: &Name) -> Result<Name, Memory>
+pub(crate) fn new_name_of<'a>(
+    alloc: Global,
+    names: &Naming<'a>,
+    name: &'a Name,
+) -> Result<Name, Memory>
     ensures { IfOk result (λ stands. stands ≡ names_of names.now name.now) }
 {
     match names {
         Naming::Own => kept_name(alloc, name),
-        Naming::Bound(bounds) => bound_name(alloc, bounds.as_slice(), name),
+        Naming::Bound(bounds) => bound_name(alloc, bounds, name),
     }
 }
 
-pub(crate) fn renamed(alloc: Global, names: &Naming<'_>, e: &Expr) -> Result<Expr, Memory>
+pub(crate) fn renamed<'a>(alloc: Global, names: &Naming<'a>, e: &'a Expr) -> Result<Expr, Memory>
     ensures { IfOk result (λ r. expr_tree r ≡ renamed (names_of names.now) (expr_tree e.now)) }
 {
     match e {
@@ -96,10 +97,10 @@ pub(crate) fn renamed(alloc: Global, names: &Naming<'_>, e: &Expr) -> Result<Exp
     }
 }
 
-pub(crate) fn renamed_guard(
+pub(crate) fn renamed_guard<'a>(
     alloc: Global,
-    names: &Naming<'_>,
-    guard: &Guard,
+    names: &Naming<'a>,
+    guard: &'a Guard,
 ) -> Result<Guard, Memory>
     ensures { IfOk result (λ g. test_of g ≡ renamed_test (names_of names.now) (test_of guard.now)) }
 {

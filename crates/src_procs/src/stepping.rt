@@ -1,12 +1,13 @@
-ghost use Rattle.std.specs.Prelude.{◌≡◌, ◌<◌, ◌≤◌, ◌∷◌, [], IfNone, IfSome, OnOk, length, map, reverse, slice_index_or, take};
+ghost use Rattle.std.specs.Prelude.{◌≡◌, ◌≤◌, ◌∷◌, [], IfNone, IfSome, OnOk, length, map, reverse, take};
 ghost use Rattle.gr_base.specs.NameMaps.{found_under};
 ghost use Rattle.src_tree.specs.Trees.{test_of};
-ghost use Rattle.src_procs.specs.Expanding.{Rest, Return, assigned_one, begun, expanded, expanded_one, finished, found, with_scope};
+ghost use Rattle.src_procs.specs.Expanding.{Rest, Return, assigned_one, expanded, expanded_one, finished, with_locals, with_scope};
+ghost use Rattle.src_procs.specs.Needed.{begun_by, with_kept};
 ghost use Rattle.src_procs.specs.Numbered.{AreNumbered};
 ghost use Rattle.src_procs.specs.Pruned.{ArePruned};
 ghost use Rattle.src_procs.specs.Seen.{procedure_of};
 ghost use Rattle.src_procs.specs.Trees.{Block, Call, Choice, Loop, Then};
-ghost use Rattle.src_procs.specs.Views.{bodies_of, found_at, held_of, live_block, live_of, names_of, no_procedure, pending_all, pending_of, scope_of, trees_seen};
+ghost use Rattle.src_procs.specs.Views.{bodies_of, found_at, held_of, live_block, live_of, names_of, pending_all, pending_of, placed_of, scope_of, trees_seen, unbound};
 
 use crate::binding::bound_names;
 use crate::expanding::{
@@ -15,12 +16,13 @@ use crate::expanding::{
 };
 use crate::finding::called;
 use crate::live::Live;
+use crate::needed::{Body, Kept};
 use crate::own_names::Numbers;
 use crate::scopes::{Naming, Scope, renamed_guard};
 use crate::trees::Proc;
 use gr_base::Memory;
 use gr_word::Name;
-use src_tree::{Expr, Guard};
+use src_tree::{Decl, Expr, Guard};
 use std::alloc::Global;
 
 // What is held, with one more scope.
@@ -37,17 +39,18 @@ fn begin_call<'a>(
     alloc: Global,
     procs: &'a [Proc],
     k: usize,
-    arguments: &[&Expr],
+    kept: &[Kept<'a>],
+    locals: &'a [Decl],
+    arguments: &[&'a Expr],
     scope: Scope<'a>,
     held: &mut Held<'a>,
 ) -> Result<(), Memory>
-    requires { k < length procs.now }
     ensures { OnOk result (held_of procs.now held.new
-        ≡ begun (slice_index_or (map procedure_of procs.now) k no_procedure)
-        (reverse (take k (map procedure_of procs.now))) (names_of scope.entry.names) (trees_seen arguments.now)
+        ≡ begun_by (with_locals (with_kept (names_of scope.entry.names) (unbound held.old.made) (map placed_of kept.now)
+        (trees_seen arguments.now)) locals.now) (reverse (take k (map procedure_of procs.now)))
         (with_scope (scope_of procs.now scope.entry) (held_of procs.now held.old))) }
 {
-    let bounds = bound_names(alloc, &scope.names, &mut held.made, &procs[k], arguments)?;
+    let bounds = bound_names(alloc, &scope.names, &mut held.made, kept, locals, arguments)?;
     let own = Scope {
         callable: k,
         names: Naming::Bound(bounds),
@@ -61,10 +64,10 @@ fn call<'b, 'a>(
     alloc: Global,
     procs: &'a [Proc],
     numbers: &Numbers<'a>,
-    bodies: &'b [Vec<Live<'a>>],
+    bodies: &'b [Body<'a>],
     waiting: &mut Vec<Pending<'b, 'a>>,
     name: &'a Name,
-    arguments: &[&Expr],
+    arguments: &[&'a Expr],
     callable: usize,
     scope: Scope<'a>,
     held: &mut Held<'a>,
@@ -80,8 +83,19 @@ fn call<'b, 'a>(
     match called(procs, numbers, callable, name.bytes()) {
         None => scoped(procs, held, scope),
         Some(k) => {
-            begin_call(alloc, procs, k, arguments, scope, held)?;
-            waits_for_call(waiting, bodies[k].as_slice())
+            let body = &bodies[k];
+            let locals = procs[k].locals.as_slice();
+            begin_call(
+                alloc,
+                procs,
+                k,
+                body.kept.as_slice(),
+                locals,
+                arguments,
+                scope,
+                held,
+            )?;
+            waits_for_call(waiting, body.statements.as_slice())
         }
     }
 }
@@ -154,7 +168,7 @@ fn statement<'b, 'a>(
     alloc: Global,
     procs: &'a [Proc],
     numbers: &Numbers<'a>,
-    bodies: &'b [Vec<Live<'a>>],
+    bodies: &'b [Body<'a>],
     waiting: &mut Vec<Pending<'b, 'a>>,
     s: &'b Live<'a>,
     scope: Scope<'a>,
@@ -208,7 +222,7 @@ fn first_of<'b, 'a>(
     alloc: Global,
     procs: &'a [Proc],
     numbers: &Numbers<'a>,
-    bodies: &'b [Vec<Live<'a>>],
+    bodies: &'b [Body<'a>],
     waiting: &mut Vec<Pending<'b, 'a>>,
     s: &'b Live<'a>,
     others: &'b [Live<'a>],
@@ -240,7 +254,7 @@ fn rest<'b, 'a>(
     alloc: Global,
     procs: &'a [Proc],
     numbers: &Numbers<'a>,
-    bodies: &'b [Vec<Live<'a>>],
+    bodies: &'b [Body<'a>],
     waiting: &mut Vec<Pending<'b, 'a>>,
     statements: &'b [Live<'a>],
     held: &mut Held<'a>,
@@ -279,7 +293,7 @@ fn step<'b, 'a>(
     alloc: Global,
     procs: &'a [Proc],
     numbers: &Numbers<'a>,
-    bodies: &'b [Vec<Live<'a>>],
+    bodies: &'b [Body<'a>],
     waiting: &mut Vec<Pending<'b, 'a>>,
     next: Pending<'b, 'a>,
     held: &mut Held<'a>,
@@ -315,7 +329,7 @@ pub(crate) fn expand<'b, 'a>(
     alloc: Global,
     procs: &'a [Proc],
     numbers: &Numbers<'a>,
-    bodies: &'b [Vec<Live<'a>>],
+    bodies: &'b [Body<'a>],
     waiting: &mut Vec<Pending<'b, 'a>>,
     held: &mut Held<'a>,
 ) -> Result<(), Memory>

@@ -3,15 +3,14 @@ use Rattle.std.specs.Prelude.{IfSome}
 use Rattle.std.proofs.lemmas.List.{get_or-map, length-map}
 use Rattle.std.proofs.lemmas.Option.{IfSome_then}
 use Rattle.std.proofs.lemmas.Result.{IfOk-weaker}
-use Rattle.std.specs.Global.{Vec}
 use Rattle.gr_base.specs.NameMaps.{found_under}
-use Rattle.src_procs.specs.declared.live.Live.{Live}
+use Rattle.src_procs.specs.Needed.{LiveBody, no_body}
 use Rattle.src_procs.specs.Expanding.{Found, found}
 use Rattle.src_procs.specs.Handed.{HandsOn, SameStatement}
 use Rattle.src_procs.specs.Pruned.{SameCode}
 use Rattle.src_procs.specs.Seen.{procedure_of}
 use Rattle.src_procs.specs.Trees.{Block, Call, Nothing, Then, Procedure}
-use Rattle.src_procs.specs.Views.{live_block, live_of, no_procedure, trees_seen}
+use Rattle.src_procs.specs.Views.{body_of, live_block, live_of, no_procedure, trees_seen}
 use Rattle.src_procs.proofs.HandedOn.{comes_down}
 use Rattle.src_procs.proofs.NumbersAdded.{found_so, still_found}
 use Rattle.src_procs.proofs.handing.passed_on.Goals as goal
@@ -31,7 +30,7 @@ returns-in-Some-called c =
     let before = c.in-Some.ensures.before in
     let within = c.in-Some.ensures.within in
     let inside = c.if-k-bodies.false in
-    let long = length-map c.args.bodies.now (λ (v : Vec Live). live_block v.items) in
+    let long = length-map c.args.bodies.now body_of in
     let one : found (reverse (take c.args.callable ps)) c.args.name.now ≡ Some first =
     found_so ps numbers c.requires.numbers c.args.callable c.args.callable c.bytes.result.now c.args.name.now
     (Some first) refl c.bytes.ensures.bytes c.in-Some.ensures.found in
@@ -44,11 +43,10 @@ returns-in-Some-called c =
     (sym (c.requires.numbers k next.name.now) ∙ two) in
     let same : SameCode (reverse (take k ps)) (Then (Call next.name.now ds) Nothing) p.body =
     subst (λ (b : Block). SameCode (reverse (take k ps)) b p.body)
-    (get_or-map (λ (v : Vec Live). live_block v.items) c.args.bodies.now k c.index-bodies-k.result Nothing
-    (omega (arith, inside))
-    ∙ (ap (λ (v : Vec Live). live_block v.items) (sym c.index-bodies-k.is)
-    ∙ (ap live_block (sym c.as_slice.ensures.value) ∙ c.in-Some-one_call.ensures)))
-    (c.requires.bodies.each k (omega (arith, inside, long))) in
+    (ap (λ (b : LiveBody). b.statements) (get_or-map body_of c.args.bodies.now k c.index-bodies-k.result no_body
+    (omega (arith, inside)))
+    ∙ (ap live_block (sym c.as_slice.ensures.value) ∙ c.in-Some-one_call.ensures))
+    (c.requires.bodies.each k (omega (arith, inside, long))).same in
     let is : procedure_of c.index-procs-k.result ≡ p =
     sym (get_or-map procedure_of c.args.procs.now k c.index-procs-k.result no_procedure within
     ∙ ap procedure_of (sym c.index-procs-k.is)) in

@@ -1,6 +1,5 @@
-use Rattle.std.proofs.Common.{List, map, sym, ◌∙◌, subst, arith}
-use Rattle.std.specs.Global.{Vec}
-use Rattle.src_procs.specs.declared.live.Live.{Live}
+use Rattle.std.proofs.Common.{List, map, sym, subst, arith}
+use Rattle.src_procs.specs.declared.needed.Body.{Body}
 use Rattle.src_procs.specs.Pruned.{ArePruned}
 use Rattle.src_procs.specs.Seen.{procedure_of}
 use Rattle.src_procs.specs.Views.{bodies_of}
@@ -12,9 +11,8 @@ loop-i-preserved c =
     let long = c.loop-i.invariant.0 in
     let more = c.in_ok-push.ensures.len in (
       omega (long, more, arith),
-      subst (λ (bs : List (Vec Live)). ArePruned (map procedure_of c.args.procs.now) (bodies_of bs))
+      subst (λ (bs : List Body). ArePruned (map procedure_of c.args.procs.now) (bodies_of bs))
           (sym c.in_ok-push.ensures.items)
-          (one_live_more c.args.procs.now c.loop-i.bodies.items c.index-procs-i.result c.as_slice.result.now c.loop-i.i
-          c.in_ok-less.less long c.loop-i-test.true c.index-procs-i.is c.as_slice.ensures.value c.loop-i.invariant.1
-          (λ names next. c.in_ok-less.ensures names next ∙ c.in_ok-body.ensures names next)),
+          (one_live_more c.args.procs.now c.loop-i.bodies.items c.index-procs-i.result c.loop-i.i c.in_ok-left.left long
+          c.loop-i-test.true c.index-procs-i.is c.loop-i.invariant.1 c.in_ok-left.ensures),
     )

@@ -1,0 +1,14 @@
+use Rattle.std.proofs.Common.{◌≡◌, drop, map}
+use Rattle.gr_base.specs.NameMaps.{found_under}
+use Rattle.src_procs.specs.Needed.{kept_by, marked_all}
+use Rattle.src_procs.specs.Numbered.{by_number}
+use Rattle.src_procs.specs.Seen.{procedure_of}
+use Rattle.src_procs.specs.Views.{bodies_of, live_block}
+use Rattle.src_procs.proofs.needed.+needed.Given as goal
+
+abbrev pub invariant-mark_all-loop-statement : goal.invariant-mark_all-loop-statement
+invariant-mark_all-loop-statement l =
+    marked_all (kept_by (bodies_of l.bodies) (by_number (map procedure_of l.procs) l.callable (found_under l.numbers)))
+    (found_under l.needed) (live_block (drop l.statement-index l.statements))
+    ≡ marked_all (kept_by (bodies_of l.bodies) (by_number (map procedure_of l.procs) l.callable (found_under l.numbers)))
+    (found_under l.fn.needed) (live_block l.statements)

@@ -1,0 +1,14 @@
+use Rattle.std.proofs.Common.{map, ap, ◌∙◌}
+use Rattle.gr_base.specs.NameMaps.{found_under}
+use Rattle.src_procs.specs.Numbered.{by_number}
+use Rattle.src_procs.specs.Seen.{procedure_of}
+use Rattle.src_procs.specs.Views.{trees_seen}
+use Rattle.src_procs.proofs.NeededNames.{none_marked}
+use Rattle.src_procs.proofs.needed.mark_call.Goals as goal
+
+pub returns-in-None : goal.returns-in-None
+returns-in-None c =
+    none_marked c.args.procs.now c.args.bodies.now (found_under c.args.needed.now) (trees_seen c.args.arguments.now) _
+    (c.in-None.ensures.found
+    ∙ ap (by_number (map procedure_of c.args.procs.now) c.args.callable (found_under c.args.numbers.now))
+    c.bytes.ensures.bytes)

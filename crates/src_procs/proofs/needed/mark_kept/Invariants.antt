@@ -1,0 +1,10 @@
+use Rattle.std.proofs.Common.{◌≡◌, drop, map}
+use Rattle.gr_base.specs.NameMaps.{found_under}
+use Rattle.src_procs.specs.Needed.{marked_kept}
+use Rattle.src_procs.specs.Views.{placed_of, trees_seen}
+use Rattle.src_procs.proofs.needed.mark_kept.Given as goal
+
+abbrev pub invariant-loop-k : goal.invariant-loop-k
+invariant-loop-k l =
+    marked_kept (found_under l.needed) (map placed_of (drop l.k-index l.kept)) (trees_seen l.arguments)
+    ≡ marked_kept (found_under l.fn.needed) (map placed_of l.kept) (trees_seen l.arguments)
