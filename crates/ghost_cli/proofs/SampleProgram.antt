@@ -1,7 +1,8 @@
 -- The sample's program is well typed, is within the limits, and has room in blocks of 512 words.
-use Rattle.std.proofs.Common.{◌≡◌, ℕ, zero, suc, ◌+◌, ◌-◌, ◌<◌, ◌≤◌, ◌==◌, min, Bool, true, false, cond, ◌&&◌, nat_le, nat_lt, List, [], ◌∷◌, refl, sym, ap, ap₂, ◌∙◌, subst, arith}
+use Rattle.std.proofs.Common.{◌≡◌, ℕ, zero, suc, ◌+◌, ◌-◌, ◌<◌, ◌≤◌, ◌==◌, Bool, true, false, cond, ◌&&◌, nat_le, nat_lt, List, [], ◌∷◌, refl, sym, ap, ap₂, ◌∙◌, subst, arith}
 use Rattle.std.specs.Prelude.{sum_by}
 use Rattle.std.specs.List.{AllByRecursion}
+use Rattle.std.proofs.Math.Nat.{min-zero}
 use Rattle.std.proofs.lemmas.Bool.{ne_eqb}
 use Rattle.std.proofs.lemmas.List.Sums.{sum_by-cons}
 use Rattle.gr_base.specs.Lists.{Within}
@@ -113,7 +114,9 @@ blocks-left : (size : ℕ) (c : Class) (room : ℕ) (vs : List Want)
     → blocks_of_all size (left_out c room vs) ≤ sum_by (λ v. cond (is_of c v) (blocks_for size v.words) 0) vs
 blocks-left size c room [] = omega arith
 blocks-left size c room (v ∷ vs) =
-    by (is_of c v) (nat_le v.words room) (blocks-left size c (room - v.words) vs) (blocks-left size c room vs)
+    subst (λ n. blocks_of_all size (left_out c room (v ∷ vs)) ≤ n)
+    (sym (sum_by-cons (λ (w : Want). cond (is_of c w) (blocks_for size w.words) 0) v vs))
+    (by (is_of c v) (nat_le v.words room) (blocks-left size c (room - v.words) vs) (blocks-left size c room vs))
   where
     by : (is shared : Bool)
         → blocks_of_all size (left_out c (room - v.words) vs)
@@ -124,16 +127,14 @@ blocks-left size c room (v ∷ vs) =
         (left_out c room vs))
         ≤ cond is (blocks_for size v.words) 0 + sum_by (λ v. cond (is_of c v) (blocks_for size v.words) 0) vs
     by true true taken left = omega (arith, taken)
-    by true false taken left = omega (arith, left)
+    by true false taken left =
+        let first = sum_by-cons (λ (w : Want). blocks_for size w.words) v (left_out c room vs) in
+        omega (arith, left, first)
     by false shared taken left = omega (arith, left)
 
 none-without : (size n : ℕ) → without_short size n [] ≡ []
 none-without size zero = refl
 none-without size (suc n) = refl
-
-none-least : (n : ℕ) → min n 0 ≡ 0
-none-least zero = refl
-none-least (suc n) = refl
 
 -- The counts share the block of the secret scalars, so no array needs an oblivious bank or a slot of its own.
 pub resident_needs : (n b : ℕ) → n ≤ 65536
@@ -141,7 +142,7 @@ pub resident_needs : (n b : ℕ) → n ≤ 65536
 resident_needs n zero few = omega arith
 resident_needs n (suc zero) few =
     let all = wants_of (sample_program n) in
-    let own : own_secret 512 all ≡ 0 = none-least (own_most 512 all ObliviousArray) in
+    let own : own_secret 512 all ≡ 0 = min-zero (own_most 512 all ObliviousArray) in
     let left = blocks-left 512 EncryptedArray (room_for 512 all EncryptedArray) all in
     omega (arith, few, own, left)
 resident_needs n (suc (suc b)) few =
