@@ -51,7 +51,9 @@ fn is_hidden(letter: char) -> bool
         (119155, 119162),
         (917504, 921599),
     ];
-    ranges.iter().any(|range| range.0 <= code && code <= range.1)
+    ranges
+        .iter()
+        .any(|range| range.0 <= code && code <= range.1)
 }
 
 // Adds the JSON escape of a character: one unit of UTF-16, or two.
