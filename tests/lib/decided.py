@@ -107,10 +107,14 @@ def calls(tool):
     yield 'Levels are printed after the last line', (lines[-2], lines[-1][:9]), ('end halted', 'levels 2 ')
     lines = tool.call('trace', 'made.obj', 'made.json', '--paths', '--recursive').split('\n')
     yield 'prints no levels of recursive banks', lines[-1], 'end halted'
-    for name, told in ('\x7f', '\\u007f'), ('\x9f', '\\u009f'), ('\xa0', '\xa0'):
+    for name, told in (('\x7f', '\\u007f'), ('\x9f', '\\u009f'), ('\xa0', '\xa0'), ('\u200b', '\\u200b'),
+                       ('a\u202eb', 'a\\u202eb'), ('\U000e0041', '\\udb40\\udc41'), ('\u00e9', '\u00e9')):
         tool.write('made.json', json.dumps({name: 1}, ensure_ascii=False))
         said = tool.call('run', 'made.obj', 'made.json', 'made.out')
-        yield 'the characters 127 to 159 are escaped', said, f'fault 9 input unknown "{told}"'
+        yield 'In names hidden characters are escaped', said, f'fault 9 input unknown "{told}"'
+        yield 'In names hidden characters are escaped', tool.call('check', f'no/{name}'), f'fault 3 read no/{told}'
+    yield ('In names hidden characters are escaped', tool.call('check', 'no/a\nb\x1b'),
+           'fault 3 read no/a\\u000ab\\u001b')
     for words, asked, line in (
             ('`--paths=true` is a usage error', ['trace', 'x', 'y', '--paths=true'], 'fault 2 usage'),
             ('is a flag without a value** too', ['run', 'x', 'y', 'z', '--recursive=true'], 'fault 2 usage'),
