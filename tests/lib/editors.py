@@ -83,7 +83,8 @@ GRAMMARS = {'gr': loaded('syntaxes/ghostrider.tmLanguage.json'),
 
 
 def painted(text, kind):
-    return [scopes_of(line, GRAMMARS[kind]['patterns']) for line in text.split('\n')]
+    """The scopes of each line, which VS Code reads with a line feed."""
+    return [scopes_of(line + '\n', GRAMMARS[kind]['patterns'])[:-1] for line in text.split('\n')]
 
 
 def is_wrong(scope):
@@ -101,7 +102,7 @@ def first_wrong(text, kind):
 def made():
     ran = subprocess.run([f'{ROOT}/editors/make', 'check'], capture_output=True, text=True, check=False)
     wrong = [line for line in (ran.stdout + ran.stderr).splitlines() if not line.startswith('ok: ')]
-    says(ran.returncode == 0, f'the files of editors/ are made of the tables of the code', wrong[:3])
+    says(ran.returncode == 0, 'the files of editors/ are made of the tables of the code', wrong[:3])
 
 
 def examples():
@@ -113,6 +114,11 @@ def nothing_wrong():
     files = list(examples())
     bad = [os.path.relpath(file, ROOT) for file in files if first_wrong(read(file), file.rsplit('.', 1)[1]) is not None]
     says(files and not bad, f'nothing in {len(files)} examples is painted as wrong', bad[:3])
+    for name in 'findmax', 'permutation':
+        call('compile', f'{ROOT}/examples/programs/{name}.gr', 'made.obj')
+        call('dis', 'made.obj', 'made.asm')
+        text = read(f'{WORK}/made.asm')
+        says('.note' in text and first_wrong(text, 'asm') is None, f'nor in what dis writes of {name}')
 
 
 def wrong_bytes():
