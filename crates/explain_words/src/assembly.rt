@@ -1,7 +1,9 @@
 //! Why an assembly text spells no object.
 
+use crate::nearest::Nearest;
 use crate::texts::{Source, is_word_of, length_up_to, line_of, line_start, piece, spot_at};
 use crate::words::Words;
+use gr_base::Memory;
 use lt_assembler::{AsmError, assemble};
 use std::alloc::Global;
 
@@ -14,11 +16,11 @@ pub(crate) fn explain_assembly(alloc: Global, name: &str, text: &[u8], out: &mut
         return;
     }
     if let Some(fault) = assemble(alloc, text).err() {
-        explain_fault(Source { name, text }, fault, out);
+        explain_fault(alloc, Source { name, text }, fault, out);
     }
 }
 
-fn explain_fault(source: Source<'_>, fault: AsmError, out: &mut Words) {
+fn explain_fault(alloc: Global, source: Source<'_>, fault: AsmError, out: &mut Words) {
     let (number, what, hint) = match fault {
         AsmError::BadLine(number) => (
             number,
@@ -52,7 +54,8 @@ fn explain_fault(source: Source<'_>, fault: AsmError, out: &mut Words) {
         ),
         AsmError::Memory => return out.starve(),
     };
-    explain_line(source, number as usize, what, hint, out)
+    explain_line(source, number as usize, what, hint, out);
+    suggest_word(alloc, source, number as usize, out)
 }
 
 fn explain_line(
@@ -68,11 +71,8 @@ fn explain_line(
         let (what, hint) = of_foreign(piece(line, ahead, 3));
         return source.put(start.saturating_add(ahead), what, hint, out);
     }
-    let indent = line
-        .iter()
-        .take_while(|byte| matches!(**byte, b' ' | b'\t'))
-        .count();
-    let words = piece(line, indent, line.len());
+    let words = past_blanks(line);
+    let indent = line.len().saturating_sub(words.len());
     let hint = hint.unwrap_or(form_of(first_word(words), start < source.text.len()));
     source.put(start.saturating_add(indent), what, hint, out)
 }
@@ -93,6 +93,36 @@ fn of_foreign(bytes: &[u8]) -> (&'static str, &'static str) {
             "A text is ASCII, in comments too.",
         ),
     }
+}
+
+// Suggests the word that a line may begin with, if its first word is near one and isn't one.
+fn suggest_word(alloc: Global, source: Source<'_>, number: usize, out: &mut Words) {
+    let start = line_start(source.text, number);
+    let word = first_word(past_blanks(line_of(source.text, spot_at(source.text, start))));
+    match nearest_word(alloc, word) {
+        Ok(Some(known)) => if known != word {
+            out.suggest(known)
+        },
+        Ok(None) => {}
+        Err(_) => out.starve(),
+    }
+}
+
+fn nearest_word(alloc: Global, word: &[u8]) -> Result<Option<&'static [u8]>, Memory> {
+    let mut nearest = Nearest::to(alloc, word)?;
+    for (words, _) in FORMS {
+        nearest.compare_each(alloc, words)?;
+    }
+    Ok(nearest.found())
+}
+
+// A line without the spaces and tabs that it begins with.
+fn past_blanks(line: &[u8]) -> &[u8] {
+    let indent = line
+        .iter()
+        .take_while(|byte| matches!(**byte, b' ' | b'\t'))
+        .count();
+    piece(line, indent, line.len())
 }
 
 fn first_word(words: &[u8]) -> &[u8] {

@@ -7,6 +7,7 @@ ghost use Rattle.explain_words.specs.Plain.{IsPlain};
 use crate::assembly::explain_assembly;
 use crate::buses::{Core, explain_bus};
 use crate::inputs::{explain_inputs, variables_of_object, variables_of_source};
+use crate::looks::put_other_kind;
 use crate::objects::{explain_file, object_in};
 use crate::refusals::{explain_inference, explain_refusal};
 use crate::sources::{Room, explain_source};
@@ -174,8 +175,12 @@ impl<'a, 'b> Call<'a, 'b> {
             } else {
                 explain_refusal(alloc, name, bytes, out)
             },
-            8 => explain_source(alloc, name, bytes, self.has_procs(), self.room(), out),
-            12 => explain_assembly(alloc, name, bytes, out),
+            8 => if !put_other_kind(name, file.kind, bytes, out) {
+                explain_source(alloc, name, bytes, self.has_procs(), self.room(), out)
+            },
+            12 => if !put_other_kind(name, file.kind, bytes, out) {
+                explain_assembly(alloc, name, bytes, out)
+            },
             _ => if bytes.len() > file.kind.most_bytes() {
                 out.name(name);
                 out.fill(

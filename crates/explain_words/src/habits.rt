@@ -9,13 +9,53 @@ use crate::wanted::Wanted;
 /// what the habit would say is said here.
 type Habit = [&'static str; 6];
 
+/// Words of other languages for output.
+pub(crate) const PRINTING: &str = "print printf println puts putchar echo write output";
+
+/// Where the output of a program is.
+pub(crate) const OUTPUT: &str =
+    "A program prints nothing: the final values of its variables are its output, which `eval` and `run` write.";
+
 const HABITS: &[Habit] = &[
+    [PRINTING, "", "(", "", "", OUTPUT],
+    [
+        "scanf input read gets getchar",
+        "",
+        "(",
+        "",
+        "",
+        "A program reads nothing: the inputs give variables their first values.",
+    ],
+    [
+        "",
+        "",
+        "int",
+        "main",
+        "",
+        "There is no `main`: a file has declarations and then statements, which no function surrounds.",
+    ],
+    [
+        "let var auto val",
+        "",
+        "",
+        "",
+        "=",
+        "Declare the variable at the head of the file, `public int x;` or `secret int x;`, and assign below: `x = 1;`.",
+    ],
+    [
+        "elif elseif elsif",
+        "",
+        "",
+        "",
+        "",
+        "There is no `else if`: write `else { if (..) { .. } }`.",
+    ],
     [
         "for",
         "",
         "",
         "",
-        "=",
+        "",
         "There is no `for`: write `i = 0; while (i < n) { .. i = i + 1; }`.",
     ],
     [
@@ -65,7 +105,7 @@ const HABITS: &[Habit] = &[
         "int public secret",
         "",
         "if",
-        "Declarations stand at the head of the file, before all statements: move this one up.",
+        "Declarations are at the head of the file, before all procedures and statements: move this one up.",
     ],
     [
         "",
@@ -81,7 +121,7 @@ const HABITS: &[Habit] = &[
         "|",
         "",
         "",
-        "There is no `||`: write the block behind both guards, or add up a word that counts them.",
+        "There is no `||`: write the block after both guards, or add up a word that counts them.",
     ],
     [
         "",
@@ -115,6 +155,64 @@ const HABITS: &[Habit] = &[
         "",
         "There is no `+=` or its like: write `x = x + 1;`.",
     ],
+    ["", "", "=", ">", "", "Did you mean `>=`?"],
+    ["", "<", ">", "", "", "There is no `<>`: compare by `!=`."],
+    [
+        "",
+        "== !=",
+        "=",
+        "",
+        "",
+        "There is no `===` or `!==`: compare by `==` or `!=`.",
+    ],
+    [
+        "",
+        "",
+        "and",
+        "",
+        "",
+        "There is no `and`: nest two choices, `if (x > 0) { if (x < 3) { .. } }`.",
+    ],
+    [
+        "",
+        "",
+        "or",
+        "",
+        "",
+        "There is no `or`: write the block after both guards, or add up a word that counts them.",
+    ],
+    [
+        "",
+        "",
+        "{ [",
+        "",
+        "( - 1 x",
+        "There are no lists of values: assign each element, as in `a[0] = 1; a[1] = 2;`, or give them by the inputs.",
+    ],
+    [
+        "public secret",
+        "int",
+        "*",
+        "",
+        "",
+        "There are no pointers: declare an array, `public int a[32];`.",
+    ],
+    [
+        "",
+        "",
+        "&",
+        "",
+        "( - 1 x",
+        "There are no pointers: declare an array, and name a word of it by an index.",
+    ],
+    [
+        "",
+        "*",
+        "*",
+        "",
+        "",
+        "There is no power: multiply, `x * x`.",
+    ],
     [
         "",
         "]",
@@ -137,7 +235,15 @@ const HABITS: &[Habit] = &[
         "",
         "",
         "{",
-        "What `if`, `else` and `while` do stands in braces: `if (x > 0) { x = 1; }`.",
+        "The block of an `if`, an `else` or a `while` is in braces: `if (x > 0) { x = 1; }`.",
+    ],
+    [
+        "if while",
+        "if while",
+        "",
+        "",
+        "(",
+        "A guard is in parentheses: `if (x > 0) { x = 1; }`.",
     ],
     [
         "if while",
@@ -145,7 +251,7 @@ const HABITS: &[Habit] = &[
         "",
         "",
         "{",
-        "What `if`, `else` and `while` do stands in braces: `if (x > 0) { x = 1; }`.",
+        "The block of an `if`, an `else` or a `while` is in braces: `if (x > 0) { x = 1; }`.",
     ],
     [
         "if while",
@@ -182,9 +288,9 @@ const HABITS: &[Habit] = &[
     [
         "public secret",
         "[",
-        "]",
         "",
         "",
+        "1",
         "An array has a length that is a number: `secret int a[32];`.",
     ],
     [
@@ -195,6 +301,74 @@ const HABITS: &[Habit] = &[
         "=",
         "An assignment is written with one `=`: `x = 1;`.",
     ],
+    [
+        "",
+        "",
+        "== != < <= > >=",
+        "",
+        ";",
+        "A comparison is only allowed in a guard: write `x = 0; if (s > 2) { x = 1; }`.",
+    ],
+    [
+        "",
+        "",
+        "=",
+        "",
+        ";",
+        "An assignment has no value: write `y = 3; x = y;`.",
+    ],
+    ["", "", "(", "", "; [", NO_VALUE],
+    ["", "", "(", "", "== [", NO_VALUE],
+    [
+        "",
+        "}",
+        ";",
+        "",
+        "if",
+        "A block has no `;` after it: remove it.",
+    ],
+    [
+        "",
+        "",
+        ";",
+        "",
+        "if",
+        "There is no empty statement: remove the `;`.",
+    ],
+    [
+        "",
+        "",
+        "else",
+        "",
+        "if",
+        "This `else` doesn't follow the block of an `if`.",
+    ],
+];
+
+const NO_VALUE: &str = "A call has no value: compute it by statements before this one.";
+
+/// Habits in a file that may have procedures.
+const WITH_PROCEDURES: &[Habit] = &[
+    [
+        "proc",
+        "",
+        "",
+        "",
+        "= [",
+        "Procedures come after the declarations and before all statements: move this one up.",
+    ],
+    [
+        "proc int",
+        "",
+        ") ;",
+        "",
+        "[",
+        "A parameter is `secret int p`, `public int p`, or an array `int a[]`.",
+    ],
+];
+
+/// Habits in a file with a procedure, where none is allowed.
+const WITHOUT_OPTION: &[Habit] = &[
     [
         "proc",
         "",
@@ -213,6 +387,16 @@ const HABITS: &[Habit] = &[
     ],
 ];
 
+/// Habits in a file without a procedure, where none is allowed.
+const WITHOUT_PROCEDURES: &[Habit] = &[[
+    "",
+    "",
+    "(",
+    "",
+    "= [",
+    "No function has this name: a statement is an assignment, an `if` or a `while`.",
+]];
+
 fn is_among(words: &str, token: &[u8]) -> bool {
     words.is_empty() || is_word_of(words, token)
 }
@@ -226,12 +410,38 @@ fn fits(habit: &Habit, tokens: Tokens<'_>, at: usize, wanted: &Wanted) -> bool {
         && (wants.is_empty() || wanted.has_each(wants))
 }
 
-/// How what is meant is said here, if a habit is known that leads to a token that isn't wanted there.
-pub(crate) fn said_here(tokens: Tokens<'_>, at: usize, wanted: &Wanted) -> Option<&'static str> {
-    for habit in HABITS {
+fn sentence_of(
+    habits: &'static [Habit],
+    tokens: Tokens<'_>,
+    at: usize,
+    wanted: &Wanted,
+) -> Option<&'static str> {
+    for habit in habits {
         if fits(habit, tokens, at, wanted) {
             return Some(habit[5]);
         }
     }
     None
+}
+
+/// How what is meant is said here, if a habit is known that leads to a token that isn't wanted there.
+pub(crate) fn said_here(tokens: Tokens<'_>, at: usize, wanted: &Wanted) -> Option<&'static str> {
+    sentence_of(HABITS, tokens, at, wanted)
+}
+
+/// The same of procedures and calls, which only a file with procedures may have.
+pub(crate) fn said_of_procedures(
+    tokens: Tokens<'_>,
+    at: usize,
+    wanted: &Wanted,
+    has_procs: bool,
+) -> Option<&'static str> {
+    let habits = if has_procs {
+        WITH_PROCEDURES
+    } else if tokens.has_procedure() {
+        WITHOUT_OPTION
+    } else {
+        WITHOUT_PROCEDURES
+    };
+    sentence_of(habits, tokens, at, wanted)
 }

@@ -3,12 +3,17 @@
 ghost use Rattle.std.specs.Prelude.{IfSome};
 ghost use Rattle.gr_word.specs.Fitting.{AreVariables};
 
+use crate::calls::Kind;
+use crate::json_faults::{JsonFault, json_fault};
+use crate::looks::put_other_kind;
 use crate::members::{item_at, member_at};
+use crate::nearest::Nearest;
 use crate::objects::object_in;
 use crate::texts::{Source, line_start, spot_at};
 use crate::tokens::SOURCE_BYTES;
 use crate::words::Words;
 use flow_types::type_program;
+use gr_base::Memory;
 use gr_word::{Shape, Want};
 use procs_parser::parse_procs;
 use run_data::{INPUT_BYTES, InputError, NameText, read_inputs};
@@ -58,6 +63,11 @@ fn program_of(alloc: Global, tokens: &[Token], has_procs: bool) -> Option<Progra
     }
 }
 
+/// The form of inputs.
+const JSON_FORM: &str =
+    "Inputs are one object, `{\"n\":3,\"a\":[1,2,3]}`: names in double quotation marks, decimal integers, and a comma \
+    between two members or items, with none after the last.";
+
 /// A text of inputs, and what it should give.
 #[derive(Clone, Copy)]
 struct Given<'a> {
@@ -95,7 +105,7 @@ impl Given<'_> {
                 "Inputs are one object, with a member for each variable: `{\"n\":3,\"a\":[1,2,3]}`.",
                 out,
             ),
-            InputError::UnknownName(name) => self.unknown(name.text(), out),
+            InputError::UnknownName(name) => self.unknown(alloc, name.text(), out),
             InputError::WrongShape(name) => self.misfit(alloc, name.text(), out),
             InputError::WrongLength(name) => self.misfit(alloc, name.text(), out),
             InputError::NotAWord(name) => self.misfit(alloc, name.text(), out),
@@ -108,6 +118,30 @@ impl Given<'_> {
     }
 
     fn no_json(&self, alloc: Global, out: &mut Words) {
+        if put_other_kind(self.source.name, Kind::Inputs, self.source.text, out) {
+            return;
+        }
+        match json_fault(alloc, self.source.text) {
+            Ok(Some(fault)) => self.put_json(fault, out),
+            Ok(None) => self.put_unread(alloc, out),
+            Err(_) => out.starve(),
+        }
+    }
+
+    fn put_json(&self, fault: JsonFault, out: &mut Words) {
+        self.source.point(fault.at, fault.what, out);
+        match fault.open {
+            Some(open) => {
+                out.say("The bracket at ");
+                out.put_numbers(spot_at(self.source.text, open));
+                out.line(" is still open.");
+            }
+            None => out.line(JSON_FORM),
+        }
+    }
+
+    // A text whose fault is only known to the reader of JSON, as a number that is too big.
+    fn put_unread(&self, alloc: Global, out: &mut Words) {
         let text = self.source.text;
         let at = match Value::from_slice(alloc, text) {
             Ok(_) => 0,
@@ -115,18 +149,18 @@ impl Given<'_> {
                 line_start(text, error.line()).saturating_add(error.column().saturating_sub(1))
             }
         };
-        self.source.put(
-            at,
-            "the text is no JSON value from here on",
-            "Names stand in quotation marks, members and items are parted by commas with none behind the last, numbers \
-            are decimal integers, and nothing stands behind the value.",
-            out,
-        )
+        self.source
+            .put(at, "the text is no JSON value up to here", JSON_FORM, out)
     }
 
-    fn unknown(&self, name: &str, out: &mut Words) {
+    fn unknown(&self, alloc: Global, name: &str, out: &mut Words) {
         self.source
             .point(self.member(name), "no variable has this name", out);
+        match nearest_variable(alloc, name, self.wants) {
+            Ok(Some(nearest)) => out.suggest(nearest),
+            Ok(None) => {}
+            Err(_) => out.starve(),
+        }
         out.say("The variables are");
         for want in self.wants.iter().take(20) {
             out.say(" ");
@@ -176,6 +210,19 @@ impl Given<'_> {
         out.put_line(text, spot);
         out.line("A word is a decimal integer from -9223372036854775808 to 9223372036854775807.");
     }
+}
+
+// The name of the variable that is nearest to a name, if one is near.
+fn nearest_variable<'a>(
+    alloc: Global,
+    name: &str,
+    wants: &'a [Want],
+) -> Result<Option<&'a [u8]>, Memory> {
+    let mut nearest = Nearest::to(alloc, name.as_bytes())?;
+    for want in wants {
+        nearest.compare(alloc, want.name.bytes())?;
+    }
+    Ok(nearest.found())
 }
 
 // The item of a list of the right length that is no word, by its number.

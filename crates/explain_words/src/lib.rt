@@ -9,12 +9,17 @@
 
 mod arms;
 mod assembly;
+mod brackets;
 mod buses;
+mod bytes;
 mod calls;
 mod fields;
 mod habits;
 mod inputs;
+mod json_faults;
+mod looks;
 mod members;
+mod nearest;
 mod objects;
 mod refusals;
 mod sentences;
@@ -23,6 +28,7 @@ mod statements;
 mod texts;
 mod tokens;
 mod typing;
+mod unexpected;
 mod usage;
 mod wanted;
 mod words;

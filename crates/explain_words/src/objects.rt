@@ -2,8 +2,9 @@
 
 ghost use Rattle.std.specs.Prelude.{◌≤◌, length};
 
+use crate::calls::Kind;
 use crate::fields::field_at;
-use crate::texts::piece;
+use crate::looks::looks_like;
 use crate::words::Words;
 use lt_isa::Object;
 use object_file::{DecodeError, decode};
@@ -67,12 +68,13 @@ fn place_in(bytes: &[u8], at: usize) -> usize
     at.min(bytes.len())
 }
 
-// What a file without the magic may be, by its first bytes.
+// What a file without the magic may be.
 fn of_head(bytes: &[u8]) -> &'static str {
-    match piece(bytes, 0, 7) {
-        b".object" => "It is an assembly text: the verb `asm` makes an object file of it.",
-        [b'{', ..] => "It looks like inputs: the object comes first, then its inputs.",
-        b"public " | b"secret " => "It is a source: the verb `compile` makes an object file of it.",
+    match looks_like(bytes) {
+        Some(Kind::Assembly) =>
+            "It is an assembly text: the verb `asm` makes an object file of it.",
+        Some(Kind::Source) => "It is a source: the verb `compile` makes an object file of it.",
+        Some(Kind::Inputs) => "It looks like inputs: the object comes first, then its inputs.",
         _ => "Object files are made by the verbs `compile`, `asm` and `sample`.",
     }
 }

@@ -3,30 +3,6 @@
 use src_tree::Which;
 use trace_patterns::Reason;
 
-/// What is meant where a byte begins no token.
-pub(crate) fn of_byte(byte: u8) -> &'static str {
-    match byte {
-        b',' => {
-            "There is no comma: declare each variable by itself, `public int x; public int y;`; parameters and arguments are \
-            parted by `;`."
-        }
-        b'!' => "There is no `!`: compare by `!=`, or exchange the two blocks of the choice.",
-        b'?' | b':' => "There is no `? :`: write `if (..) { x = 1; } else { x = 2; }`.",
-        b'.' => "Numbers are integers, and there are no structures.",
-        b'\'' | b'"' => "There are no characters and no strings: write the number.",
-        b'#' => "There is no preprocessor: write the number in place of its name.",
-        b'~' => "There is no `~`: write `-x - 1`.",
-        b'a'..=b'z' | b'A'..=b'Z' | b'_' => {
-            "A letter stands directly behind a number: numbers are decimal digits alone, and a name begins with a letter \
-            or `_`."
-        }
-        239 =>
-            "A source is ASCII text: a byte order mark at its head, or a letter beyond ASCII, has to go.",
-        128..=255 => "A source is ASCII text, in comments alone may other bytes stand.",
-        _ => "No sign of the language begins so.",
-    }
-}
-
 /// How a limit is kept.
 pub(crate) fn of_limit(limit: Which) -> &'static str {
     match limit {

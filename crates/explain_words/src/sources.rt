@@ -2,18 +2,18 @@
 
 ghost use Rattle.src_procs.specs.Promise.{ArePlain};
 
-use crate::habits::said_here;
-use crate::sentences::of_byte;
-use crate::texts::{Source, piece, spot_at};
+use crate::bytes::explain_byte;
+use crate::habits::{OUTPUT, PRINTING};
+use crate::texts::{Source, is_word_of};
 use crate::tokens::{SOURCE_BYTES, Tokens, tokens_of};
-use crate::wanted::Wanted;
+use crate::unexpected::explain_tokens;
 use crate::words::Words;
 use bank_alloc::{PlaceError, banks};
 use flow_types::{TypeError, Typed, type_program};
 use gr_word::Label;
 use procs_parser::parse_procs;
 use src_lexer::{LexError, Token, lex};
-use src_parser::{ParseError, parse};
+use src_parser::parse;
 use src_procs::{InlineError, ProcFile, inline};
 use src_tree::{Program, print};
 use std::alloc::Global;
@@ -38,7 +38,7 @@ pub(crate) fn explain_source(
         return;
     }
     match lex(alloc, text) {
-        Err(fault) => explain_piece(Source { name, text }, fault, out),
+        Err(fault) => explain_piece(alloc, Source { name, text }, fault, out),
         Ok(all) => {
             let all = all.as_slice();
             let tokens = Tokens { name, text, all };
@@ -59,12 +59,9 @@ fn explain_plain(alloc: Global, tokens: Tokens<'_>, room: Room, out: &mut Words)
     }
 }
 
-fn explain_piece(source: Source<'_>, fault: LexError, out: &mut Words) {
+fn explain_piece(alloc: Global, source: Source<'_>, fault: LexError, out: &mut Words) {
     match fault {
-        LexError::BadByte(at) => {
-            let byte = source.text.get(at as usize).copied().unwrap_or(0);
-            source.put(at as usize, "no token begins here", of_byte(byte), out)
-        }
+        LexError::BadByte(at) => explain_byte(alloc, source, at as usize, out),
         LexError::NumberTooBig(at) => source.put(
             at as usize,
             "the number is too big",
@@ -81,59 +78,6 @@ fn explain_piece(source: Source<'_>, fault: LexError, out: &mut Words) {
     }
 }
 
-fn explain_tokens(
-    alloc: Global,
-    tokens: Tokens<'_>,
-    has_procs: bool,
-    fault: ParseError,
-    out: &mut Words,
-) {
-    let Tokens { name, text, .. } = tokens;
-    match fault {
-        ParseError::Unexpected(start) => {
-            let at = tokens.at_byte(start);
-            let spot = spot_at(text, start as usize);
-            out.put_place(name, spot);
-            out.say("`");
-            out.quote(tokens.word(at));
-            out.say("` can't stand here");
-            out.put_line(text, spot);
-            explain_unwanted(alloc, tokens, at, start, has_procs, out)
-        }
-        ParseError::EndOfText => {
-            Source { name, text }.point(text.len(), "the text ends within a program", out);
-            explain_unwanted(alloc, tokens, tokens.all.len(), u32::MAX, has_procs, out)
-        }
-        ParseError::TooDeep(start) => Source { name, text }.put(
-            start as usize,
-            "more is nested here than is allowed",
-            "At most 32 of `(`, `[` and the sign `-`, and 32 of `{`, may be open, and a statement has at most 256 \
-            operators: put a part into a variable, in a statement before.",
-            out,
-        ),
-        ParseError::Memory => out.starve(),
-    }
-}
-
-// How it is said here, or what could have stood in the place of a token that starts at a byte.
-fn explain_unwanted(
-    alloc: Global,
-    tokens: Tokens<'_>,
-    at: usize,
-    start: u32,
-    has_procs: bool,
-    out: &mut Words,
-) {
-    let front = piece(tokens.text, 0, start as usize);
-    match Wanted::behind(alloc, front, start, has_procs) {
-        Ok(wanted) => match said_here(tokens, at, &wanted) {
-            Some(sentence) => out.line(sentence),
-            None => wanted.put(out),
-        },
-        Err(_) => out.starve(),
-    }
-}
-
 fn explain_program(
     alloc: Global,
     tokens: Tokens<'_>,
@@ -143,7 +87,7 @@ fn explain_program(
 ) {
     match type_program(alloc, program) {
         Ok(typed) => explain_room(alloc, tokens.name, &typed, room, out),
-        Err(fault) => tokens.explain_typing(fault, out),
+        Err(fault) => tokens.explain_typing(alloc, fault, out),
     }
 }
 
@@ -160,11 +104,11 @@ fn explain_calls(alloc: Global, tokens: Tokens<'_>, file: &ProcFile, room: Room,
 {
     match inline(alloc, file) {
         Ok(program) => explain_inlined(alloc, tokens.name, program, room, out),
-        Err(fault) => explain_inlining(tokens, fault, out),
+        Err(fault) => explain_inlining(alloc, tokens, fault, out),
     }
 }
 
-fn explain_inlining(tokens: Tokens<'_>, fault: InlineError, out: &mut Words) {
+fn explain_inlining(alloc: Global, tokens: Tokens<'_>, fault: InlineError, out: &mut Words) {
     let Tokens { name, text, .. } = tokens;
     let (number, is_procedure, what) = match fault {
         InlineError::TwiceNamed(number) => (
@@ -199,7 +143,22 @@ fn explain_inlining(tokens: Tokens<'_>, fault: InlineError, out: &mut Words) {
         InlineError::Memory => return out.starve(),
     };
     let at = tokens.start(tokens.named(number, is_procedure));
-    Source { name, text }.point(at, what, out)
+    Source { name, text }.point(at, what, out);
+    if let InlineError::NoProcedure(_) = fault {
+        put_near_procedure(alloc, tokens, tokens.named(number, is_procedure), out)
+    }
+}
+
+// What a call of no procedure may mean.
+fn put_near_procedure(alloc: Global, tokens: Tokens<'_>, at: usize, out: &mut Words) {
+    if is_word_of(PRINTING, tokens.word(at)) {
+        return out.line(OUTPUT);
+    }
+    match tokens.nearest_procedure(alloc, at) {
+        Ok(Some(nearest)) => out.suggest(nearest),
+        Ok(None) => {}
+        Err(_) => out.starve(),
+    }
 }
 
 // The program without calls: what is wrong in it is shown in its own text, since no place of the file stands for it.
@@ -222,7 +181,7 @@ fn explain_printed(alloc: Global, name: &str, text: &[u8], fault: TypeError, out
             text,
             all: all.as_slice(),
         };
-        tokens.explain_typing(fault, out)
+        tokens.explain_typing(alloc, fault, out)
     }
 }
 

@@ -94,12 +94,27 @@ pub(crate) fn line_of(text: &[u8], spot: Spot) -> &[u8] {
     piece(text, spot.start, spot.end.saturating_sub(spot.start))
 }
 
+// A line without the carriage return at its end.
+fn without_return(line: &[u8]) -> &[u8] {
+    match line {
+        [rest @ .., b'\r'] => rest,
+        _ => line,
+    }
+}
+
 impl Words {
     /// Adds the file's name, the line and the column of a place, both from 1.
     pub(crate) fn put_place(&mut self, name: &str, spot: Spot) {
-        let column = spot.at.saturating_sub(spot.start).saturating_add(1);
         self.name(name);
-        self.fill(":{}:{}: ", &[spot.line as u64, column as u64]);
+        self.say(":");
+        self.put_numbers(spot);
+        self.say(": ");
+    }
+
+    /// Adds the line and the column of a place, both from 1.
+    pub(crate) fn put_numbers(&mut self, spot: Spot) {
+        let column = spot.at.saturating_sub(spot.start).saturating_add(1);
+        self.fill("{}:{}", &[spot.line as u64, column as u64]);
     }
 
     /// Adds the line of a place, cut to what stands near it, and a caret below the place.
@@ -108,7 +123,7 @@ impl Words {
         let behind = spot.end.saturating_sub(spot.at).min(SHOWN_BEHIND);
         let start = spot.at.saturating_sub(before);
         self.say("\n    ");
-        self.quote(piece(text, start, before.saturating_add(behind)));
+        self.quote(without_return(piece(text, start, before.saturating_add(behind))));
         self.say("\n    ");
         for _ in 0..before {
             self.say(" ");

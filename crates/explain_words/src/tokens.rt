@@ -1,3 +1,4 @@
+use crate::nearest::Nearest;
 use crate::texts::piece;
 use gr_base::Memory;
 use src_lexer::{Token, TokenKind, lex};
@@ -77,6 +78,50 @@ impl<'a> Tokens<'a> {
             }
         }
         0
+    }
+
+    /// Whether a token is the first of its line.
+    pub(crate) fn begins_line(&self, at: usize) -> bool {
+        let Some(before) = at.checked_sub(1) else {
+            return true;
+        };
+        let from = self.start(before);
+        piece(self.text, from, self.start(at).saturating_sub(from)).contains(&b'\n')
+    }
+
+    /// Whether a procedure begins at some token.
+    pub(crate) fn has_procedure(&self) -> bool {
+        for at in 0..self.all.len() {
+            if self.is(at, "proc") && self.is_head(at) && self.is_name(at.saturating_add(1)) {
+                return true;
+            }
+        }
+        false
+    }
+
+    /// Whether a procedure has the name at a token.
+    pub(crate) fn is_procedure(&self, name: usize) -> bool {
+        for at in 0..self.all.len() {
+            if self.before(at) == b"proc".as_slice() && self.word(at) == self.word(name) {
+                return true;
+            }
+        }
+        false
+    }
+
+    /// The name of the procedure whose name is nearest to the one at a token, if one is near.
+    pub(crate) fn nearest_procedure(
+        &self,
+        alloc: Global,
+        name: usize,
+    ) -> Result<Option<&'a [u8]>, Memory> {
+        let mut nearest = Nearest::to(alloc, self.word(name))?;
+        for at in 0..self.all.len() {
+            if self.is_name(at) && self.before(at) == b"proc".as_slice() {
+                nearest.compare(alloc, self.word(at))?;
+            }
+        }
+        Ok(nearest.found())
     }
 
     /// The number of the token that starts at a byte, or how many there are.

@@ -1,22 +1,28 @@
 //! Why a program isn't well typed, or which limit it passes.
 
+use crate::nearest::Nearest;
 use crate::sentences::of_limit;
-use crate::texts::spot_at;
+use crate::texts::{is_word_of, length_up_to, piece, spot_at};
 use crate::tokens::Tokens;
 use crate::words::Words;
 use flow_types::{TypeError, Which};
+use gr_base::Memory;
+use std::alloc::Global;
+
+/// The most bytes of a guard that are shown.
+const GUARD_SHOWN: usize = 60;
 
 impl Tokens<'_> {
     /// Explains why a program isn't well typed, or which limit it passes.
-    pub(crate) fn explain_typing(&self, fault: TypeError, out: &mut Words) {
+    pub(crate) fn explain_typing(&self, alloc: Global, fault: TypeError, out: &mut Words) {
         match fault {
             TypeError::TwiceDeclared(number) => self.twice(u64::from(number), out),
-            TypeError::Undeclared(number) => self.misnamed(u64::from(number), out),
-            TypeError::WrongShape(number) => self.misnamed(u64::from(number), out),
-            TypeError::FlowToPublic(number) => self.flow(u64::from(number), out),
+            TypeError::Undeclared(number) => self.misnamed(alloc, u64::from(number), out),
+            TypeError::WrongShape(number) => self.misnamed(alloc, u64::from(number), out),
+            TypeError::FlowToPublic(number) => self.flow(alloc, u64::from(number), out),
             TypeError::SecretIndexOfPublic(number) => self.index(u64::from(number), out),
             TypeError::SecretGuardOfLoop(number) => self.guard(u64::from(number), out),
-            TypeError::LoopInSecret(number) => self.loop_in_secret(u64::from(number), out),
+            TypeError::LoopInSecret(number) => self.loop_in_secret(alloc, u64::from(number), out),
             TypeError::Limit(limit, number) => self.limit(limit, number, out),
             TypeError::Memory => out.starve(),
         }
@@ -57,19 +63,19 @@ impl Tokens<'_> {
     }
 
     // The first name of a statement that isn't declared, or stands with an index or without one against its declaration.
-    fn misnamed(&self, number: u64, out: &mut Words) {
+    fn misnamed(&self, alloc: Global, number: u64, out: &mut Words) {
         let (first, end) = self.own(number);
         for at in first..end.max(first) {
-            if self.is_name(at) && self.is_misnamed(at, out) {
+            if self.is_name(at) && self.is_misnamed(alloc, at, out) {
                 break;
             }
         }
     }
 
-    fn is_misnamed(&self, at: usize, out: &mut Words) -> bool {
+    fn is_misnamed(&self, alloc: Global, at: usize, out: &mut Words) -> bool {
         let has_index = self.is(at.saturating_add(1), "[");
         let Some(declared) = self.declaration_of(at) else {
-            self.undeclared(at, if has_index { "[32];`" } else { ";`" }, out);
+            self.undeclared(alloc, at, if has_index { "[32];`" } else { ";`" }, out);
             return true;
         };
         if declared.is_array && !has_index {
@@ -85,17 +91,41 @@ impl Tokens<'_> {
         false
     }
 
-    fn undeclared(&self, at: usize, end: &str, out: &mut Words) {
+    fn undeclared(&self, alloc: Global, at: usize, end: &str, out: &mut Words) {
         self.put(at, " is not declared", out);
-        out.say("Declare it at the head of the file: `public int ");
+        if is_word_of("true false TRUE FALSE True False", self.word(at)) {
+            return out.line("There are only integers: write 1 for true and 0 for false.");
+        }
+        match self.nearest_declared(alloc, at) {
+            Ok(Some(nearest)) => {
+                out.say("Did you mean `");
+                out.quote(nearest);
+                out.say("`? Otherwise declare");
+            }
+            Ok(None) => out.say("Declare"),
+            Err(_) => return out.starve(),
+        }
+        out.say(" it at the head of the file: `public int ");
         self.tell(at, end, out);
         out.say(" or `secret int ");
         self.tell(at, end, out);
         out.line(".");
     }
 
+    // The declared name that is nearest to the name at a token, if one is near.
+    fn nearest_declared(&self, alloc: Global, at: usize) -> Result<Option<&[u8]>, Memory> {
+        let mut nearest = Nearest::to(alloc, self.word(at))?;
+        for number in 0..256u64 {
+            let Some(declared) = self.declaration(number) else {
+                break;
+            };
+            nearest.compare(alloc, self.word(declared.name))?;
+        }
+        Ok(nearest.found())
+    }
+
     // An assignment of a secret, or from within secret code, to what is public.
-    fn flow(&self, number: u64, out: &mut Words) {
+    fn flow(&self, alloc: Global, number: u64, out: &mut Words) {
         let (first, end) = self.own(number);
         self.put(
             first,
@@ -107,10 +137,29 @@ impl Tokens<'_> {
                 self.tell(at, " is secret: declare ", out);
                 self.tell(first, " secret too, or keep the secret out of it.\n", out);
             }
-            None => out.line(
-                "The assignment stands in a choice on a secret, and tells which way was taken: declare it secret, or \
-                assign outside the choice.",
-            ),
+            None => {
+                self.put_choice(alloc, first, out);
+                out.say(", and the assignment would tell which way was taken: declare ");
+                self.tell(first, " secret too, or assign outside the `if`.\n", out);
+            }
+        }
+    }
+
+    // The secret guard in whose choice a token is, and that it is secret.
+    fn put_choice(&self, alloc: Global, at: usize, out: &mut Words) {
+        match self.secret_choice(alloc, at) {
+            Ok(Some(head)) => {
+                let from = self.start(head.saturating_add(2));
+                let up_to = self.start(self.own_end(head).saturating_sub(1));
+                let guard = piece(self.text, from, up_to.saturating_sub(from));
+                out.say("The guard `");
+                out.quote(piece(guard, 0, length_up_to(guard, b"\r\n").min(GUARD_SHOWN)));
+                out.say("` at ");
+                out.put_numbers(spot_at(self.text, from));
+                out.say(" is secret");
+            }
+            Ok(None) => out.say("It is in a choice on a secret"),
+            Err(_) => out.starve(),
         }
     }
 
@@ -159,13 +208,17 @@ impl Tokens<'_> {
     }
 
     // A loop in secret code.
-    fn loop_in_secret(&self, number: u64, out: &mut Words) {
+    fn loop_in_secret(&self, alloc: Global, number: u64, out: &mut Words) {
+        let at = self.statement(number);
         self.put(
-            self.statement(number),
+            at,
             " stands in a choice on a secret, and would show that it turns",
             out,
         );
-        out.line("Put the choice into the loop: `while (i < 9) { if (s > 0) { .. } i = i + 1; }`.");
+        self.put_choice(alloc, at, out);
+        out.line(
+            ". Put the choice into the loop: `while (i < 9) { if (s > 0) { .. } i = i + 1; }`.",
+        );
     }
 
     fn limit(&self, limit: Which, number: u64, out: &mut Words) {

@@ -1,3 +1,4 @@
+use crate::nearest::Nearest;
 use crate::texts::piece;
 use crate::tokens::tokens_of;
 use crate::words::Words;
@@ -103,6 +104,21 @@ impl Wanted {
         true
     }
 
+    /// The keyword that could have stood there and is nearest to a word, if one is near.
+    pub(crate) fn nearest(
+        &self,
+        alloc: Global,
+        word: &[u8],
+    ) -> Result<Option<&'static [u8]>, Memory> {
+        let mut nearest = Nearest::to(alloc, word)?;
+        for name in &self.names {
+            if name.len() > 1 {
+                nearest.compare(alloc, *name)?;
+            }
+        }
+        Ok(nearest.found())
+    }
+
     /// Adds what could have stood there.
     pub(crate) fn put(&self, out: &mut Words) {
         let has_operators = self.has(b"*");
@@ -115,7 +131,7 @@ impl Wanted {
             }
             number = number.saturating_add(1);
             out.say(if number == 1 {
-                "Here could stand "
+                "Expected "
             } else if number == count {
                 " or "
             } else {

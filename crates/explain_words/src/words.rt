@@ -84,6 +84,13 @@ impl Words {
         }
     }
 
+    /// Asks whether a word was meant that is known.
+    pub(crate) fn suggest(&mut self, known: &[u8]) {
+        self.say("Did you mean `");
+        self.quote(known);
+        self.line("`?");
+    }
+
     /// Adds a name that was given from outside. Each character that isn't printable ASCII is escaped, as `\x1b` or
     /// `\u{202e}`, so that two names never look alike.
     pub fn name(&mut self, name: &str) {

@@ -1,0 +1,59 @@
+//! The nearest of some known words to one that is misspelt.
+
+use gr_base::Memory;
+use std::alloc::Global;
+use strsim::osa_distance;
+
+/// A misspelt word in lower case, and the nearest known word so far.
+#[derive(Drop)]
+pub(crate) struct Nearest<'a> {
+    misspelt: Vec<u8>,
+    limit: usize,
+    found: Option<&'a [u8]>,
+}
+
+// How many characters are to be changed, removed, added or exchanged with the next one.
+fn distance(alloc: Global, first: &[u8], second: &[u8]) -> Result<usize, Memory> {
+    let Ok(first) = std::str::from_utf8(first) else {
+        return Ok(usize::MAX);
+    };
+    let Ok(second) = std::str::from_utf8(second) else {
+        return Ok(usize::MAX);
+    };
+    Ok(osa_distance(alloc, first, second)?)
+}
+
+impl<'a> Nearest<'a> {
+    /// The search for a word. Up to a third of its characters may be wrong.
+    pub(crate) fn to(alloc: Global, word: &[u8]) -> Result<Nearest<'a>, Memory> {
+        Ok(Nearest {
+            misspelt: word.to_ascii_lowercase(alloc)?,
+            limit: (word.len() / 3).saturating_add(1),
+            found: None,
+        })
+    }
+
+    /// Compares the word with a known word.
+    pub(crate) fn compare(&mut self, alloc: Global, known: &'a [u8]) -> Result<(), Memory> {
+        let lowered = known.to_ascii_lowercase(alloc)?;
+        let wrong = distance(alloc, self.misspelt.as_slice(), lowered.as_slice())?;
+        if wrong < self.limit {
+            self.limit = wrong;
+            self.found = Some(known);
+        }
+        Ok(())
+    }
+
+    /// Compares the word with some words, with a space between them.
+    pub(crate) fn compare_each(&mut self, alloc: Global, known: &'a str) -> Result<(), Memory> {
+        for word in known.split(" ") {
+            self.compare(alloc, word.as_bytes())?;
+        }
+        Ok(())
+    }
+
+    /// The nearest known word, if one is near.
+    pub(crate) fn found(&self) -> Option<&'a [u8]> {
+        self.found
+    }
+}
