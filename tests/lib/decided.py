@@ -111,10 +111,7 @@ def calls(tool):
                        ('a\u202eb', 'a\\u202eb'), ('\U000e0041', '\\udb40\\udc41'), ('\u00e9', '\u00e9')):
         tool.write('made.json', json.dumps({name: 1}, ensure_ascii=False))
         said = tool.call('run', 'made.obj', 'made.json', 'made.out')
-        yield 'In names hidden characters are escaped', said, f'fault 9 input unknown "{told}"'
-        yield 'In names hidden characters are escaped', tool.call('check', f'no/{name}'), f'fault 3 read no/{told}'
-    yield ('In names hidden characters are escaped', tool.call('check', 'no/a\nb\x1b'),
-           'fault 3 read no/a\\u000ab\\u001b')
+        yield 'In the name of an input hidden characters are escaped', said, f'fault 9 input unknown "{told}"'
     for words, asked, line in (
             ('`--paths=true` is a usage error', ['trace', 'x', 'y', '--paths=true'], 'fault 2 usage'),
             ('is a flag without a value** too', ['run', 'x', 'y', 'z', '--recursive=true'], 'fault 2 usage'),

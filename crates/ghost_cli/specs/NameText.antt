@@ -1,6 +1,6 @@
--- How a name that was given from outside is put into a line, so that no character of it acts on a terminal or can't be
--- seen: control characters, and those of Unicode that are bidirectional controls, line separators or ignorable by
--- default (ECMA-48; Unicode Standard Annex 9 and Annex 44), are written as JSON escapes (RFC 8259).
+-- How a name of an input file is printed: as JSON text (RFC 8259) in which no character acts on a terminal or can't be
+-- seen. Control characters, and those of Unicode that are bidirectional controls, line separators or ignorable by
+-- default (ECMA-48; Unicode Standard Annex 9 and Annex 44), are JSON escapes.
 use Rattle.std.specs.Prelude.{ℕ, ◌+◌, ◌-◌, ◌/◌, ◌%◌, Bool, ◌&&◌, nat_le, if◌then◌else◌, List, [], ◌∷◌, ◌++◌, codes, flat_map}
 use Rattle.std.specs.List.{list_any}
 use Rattle.std.specs.Char.{digit_char, encode_utf8}
@@ -36,6 +36,6 @@ shown_char c = if is_hidden c then escaped_char c else encode_utf8 c
 abbrev pub without_hidden : List ℕ → List ℕ
 without_hidden text = flat_map shown_char (chars text)
 
--- a name of an input file, as JSON text
+-- a name as JSON text
 abbrev pub name_text : List ℕ → List ℕ
 name_text name = without_hidden (quoted name)

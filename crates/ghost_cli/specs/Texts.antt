@@ -13,7 +13,6 @@ use Rattle.note_infer.specs.declared.faults.InferError.{InferError}
 use Rattle.note_infer.specs.declared.faults.InferError.TheVariants as notes
 use Rattle.src_tree.specs.declared.faults.Which.{Which}
 use Rattle.src_tree.specs.declared.faults.Which.TheVariants.{Variables, ArrayLength, TotalWords, Height, Weight}
-use Rattle.ghost_cli.specs.NameText.{without_hidden}
 use Rattle.ghost_cli.specs.declared.source_faults.SourceFault.{SourceFault}
 use Rattle.ghost_cli.specs.declared.source_faults.SourceFault.TheVariants as source
 use Rattle.ghost_cli.specs.declared.replies.InputFault.{InputFault}
@@ -150,7 +149,7 @@ done_text Compiled = codes "compiled"
 done_text (Sampled figures) = figures_text figures
 done_text (Inferred count) = codes "inferred " ++ decimal count
 
--- A status and the text that is put with it. The names of files are put without hidden characters.
+-- a status and the text that is put with it
 pub record Said : Type 0 where
   pub status : ℕ
   pub text : List ℕ
@@ -159,10 +158,10 @@ abbrev pub usage : Said
 usage = record { status = 2; text = codes "fault 2 usage\n" }
 
 abbrev pub unread : List ℕ → Said
-unread name = record { status = 3; text = codes "fault 3 read " ++ without_hidden name ++ codes "\n" }
+unread name = record { status = 3; text = codes "fault 3 read " ++ name ++ codes "\n" }
 
 abbrev pub unwritten : List ℕ → Said
-unwritten name = record { status = 4; text = codes "fault 4 write " ++ without_hidden name ++ codes "\n" }
+unwritten name = record { status = 4; text = codes "fault 4 write " ++ name ++ codes "\n" }
 
 abbrev pub no_memory : Said
 no_memory = record { status = 5; text = codes "fault 5 memory\n" }
@@ -170,7 +169,7 @@ no_memory = record { status = 5; text = codes "fault 5 memory\n" }
 abbrev pub too_long : List ℕ → ℕ → Said
 too_long name limit = record {
   status = 11;
-  text = codes "fault 11 long " ++ without_hidden name ++ codes " " ++ decimal limit ++ codes "\n";
+  text = codes "fault 11 long " ++ name ++ codes " " ++ decimal limit ++ codes "\n";
 }
 
 abbrev pub comes_to : Verdict → Said

@@ -2,11 +2,10 @@ ghost use Rattle.std.specs.Prelude.{◌≡◌, ◌⊎◌, IfOk, string_bytes};
 ghost use Rattle.ghost_cli.specs.Outside.{PutsSaid};
 ghost use Rattle.ghost_cli.specs.Texts.{no_memory, said};
 
-use crate::name_text::without_hidden;
-use crate::replies::{LongDetail, NO_MEMORY, Reply};
+use crate::replies::{NO_MEMORY, Reply};
 use gr_base::Memory;
 use gr_outside::Sink;
-use std::alloc::{AllocError, Global};
+use std::alloc::Global;
 
 /// The status of a call whose text couldn't be put.
 pub const NOT_PUT: u8 = 4;
@@ -35,30 +34,9 @@ pub fn say_no_memory<O: Sink>(out: &mut O) -> u8
 pub fn line_of(alloc: Global, reply: &Reply) -> Result<String, Memory>
     ensures { IfOk result (λ line. string_bytes line ≡ (said reply.now).text) }
 {
-    Ok(line_in(alloc, reply)?)
-}
-
-fn line_in(alloc: Global, reply: &Reply) -> Result<String, AllocError>
-    ensures { IfOk result (λ line. string_bytes line ≡ (said reply.now).text) }
-{
-    match reply {
-        Reply::Usage => String::from_str(alloc, "fault 2 usage\n"),
-        Reply::Unread(name) => {
-            let name = without_hidden(alloc, name)?;
-            format!(in alloc; "fault 3 read {name}\n")
-        }
-        Reply::Unwritten(name) => {
-            let name = without_hidden(alloc, name)?;
-            format!(in alloc; "fault 4 write {name}\n")
-        }
-        Reply::NoMemory => String::from_str(alloc, NO_MEMORY),
-        Reply::TooLong(name, limit) => {
-            let name = without_hidden(alloc, name)?;
-            let detail = LongDetail(name.as_str(), *limit);
-            format!(in alloc; "{detail}")
-        }
-        Reply::Comes(verdict) => format!(in alloc; "{verdict}"),
-        Reply::Wrote(done) => format!(in alloc; "{done}\n"),
+    match format!(in alloc; "{reply}") {
+        Ok(line) => Ok(line),
+        Err(_) => Err(Memory),
     }
 }
 

@@ -1,4 +1,4 @@
-ghost use Rattle.std.specs.Prelude.{◌≡◌, ◌++◌, IfOk, Some, codes, decimal};
+ghost use Rattle.std.specs.Prelude.{◌≡◌, IfOk, Some};
 ghost use Rattle.ghost_cli.specs.NameText.{name_text};
 ghost use Rattle.ghost_cli.specs.declared.replies.Reply.TheVariants.{NoMemory};
 ghost use Rattle.ghost_cli.specs.Texts.{bus_fault, done_text, figures_text, input_fault, notes_fault, object_fault, said, text_fault, verdict_status, verdict_text};
@@ -200,6 +200,23 @@ impl Verdict {
 /// The line for want of memory, which is put where there is none for any other.
 pub const NO_MEMORY: &str = "fault 5 memory\n";
 
+/// The bytes of the line.
+impl fmt::Display for Reply<'_> {
+    ghost output = { λ reply. Some (said reply).text };
+
+    fn fmt<W: fmt::Write>(&self, f: &mut fmt::Formatter<W>) -> fmt::Result {
+        match self {
+            Reply::Usage => f.write_str("fault 2 usage\n"),
+            Reply::Unread(name) => write!(f, "fault 3 read {name}\n"),
+            Reply::Unwritten(name) => write!(f, "fault 4 write {name}\n"),
+            Reply::NoMemory => f.write_str(NO_MEMORY),
+            Reply::TooLong(name, limit) => write!(f, "fault 11 long {name} {limit}\n"),
+            Reply::Comes(verdict) => write!(f, "{verdict}"),
+            Reply::Wrote(done) => write!(f, "{done}\n"),
+        }
+    }
+}
+
 impl fmt::Display for Verdict {
     ghost output = { λ verdict. Some (verdict_text verdict) };
 
@@ -295,21 +312,6 @@ impl fmt::Display for InputFault {
                 write!(f, "word {text}")
             }
         }
-    }
-}
-
-/// That a file is longer than a limit: its name, without hidden characters, and the limit.
-#[derive(Clone, Copy)]
-pub(crate) struct LongDetail<'a>(pub &'a str, pub u32);
-
-impl fmt::Display for LongDetail<'_> {
-    ghost output = { λ detail. Some (codes "fault 11 long " ++ detail.0.now ++ codes " " ++ decimal detail.1
-        ++ codes "\n") };
-
-    fn fmt<W: fmt::Write>(&self, f: &mut fmt::Formatter<W>) -> fmt::Result {
-        let name = self.0;
-        let limit = self.1;
-        write!(f, "fault 11 long {name} {limit}\n")
     }
 }
 

@@ -1,0 +1,8 @@
+" Made by editors/make: change that script, not this file.
+if exists('current_compiler')
+  finish
+endif
+let current_compiler = 'ghostriderasm'
+CompilerSet makeprg=ghostrider\ asm\ %:S\ %:r:S.obj
+" an explanation begins with FILE:LINE:COLUMN; the line of the file that it quotes, indented, is left out
+CompilerSet errorformat=%-G\ \ \ \ %.%#,%f:%l:%c:\ %m
