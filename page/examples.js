@@ -159,11 +159,11 @@ const USAGES = {
  "asm": "asm TEXT OUT",
  "dis": "dis OBJ OUT",
  "eval": "eval SRC INPUT OUT [--turns N] [--procs]",
- "compile": "compile SRC OUT [--block-log W] [--window P:O:C] [--procs]",
- "sample": "sample ITEMS OUT [--seed S]",
+ "compile": "compile SRC OUT [--fast] [--block-log W] [--window P:O:C] [--procs]",
+ "sample": "sample ITEMS OUT [--fast] [--seed S]",
  "bus": "bus OBJ INPUT .. [--cycles N] [--seed S]",
  "infer": "infer OBJ OUT",
  "diff": "diff OBJ INPUT INPUT [--cycles N] [--seed S] [--paths] [--recursive]",
  "count": "count OBJ INPUT [--cycles N] [--seed S] [--paths] [--recursive]",
- "layout": "layout SRC [--block-log W] [--window P:O:C] [--procs]"
+ "layout": "layout SRC [--fast] [--block-log W] [--window P:O:C] [--procs]"
 };
