@@ -197,7 +197,7 @@ SHELL = [  # a title, a line of the shell, its status, standard output, and what
     ('a name that turns its text', "./gr check $'a\\u202eb'", 3, None, b'a\\u{202e}b: '),
     ('a name that is no UTF-8', "./gr check $'a\\xff'", 2, b'fault 2 usage\n', b'is not valid UTF-8'),
     ('help of a verb', './gr compile x.gr --help >h; head -n 1 h', 0,
-     b'ghostrider compile SRC OUT [--block-log W] [--window P:O:C] [--procs]\n', None),
+     b'ghostrider compile SRC OUT [--fast] [--block-log W] [--window P:O:C] [--procs]\n', None),
     ('help is a file after --', './gr check -- --help', 3, b'fault 3 read --help\n', b'--help'),
     ('help of help', './gr help help >h; head -n 1 h', 0, b'ghostrider help [VERB]\n', None),
     ('help of no verb', './gr help frob', 2, b'fault 2 usage\n', b'frob is not a verb'),
