@@ -45,7 +45,7 @@ operation_cost-least p fits Xor = fits.alu.0
 operation_cost-least p fits Shl = fits.alu.0
 operation_cost-least p fits Shr = fits.alu.0
 
--- an instruction takes a cycle at least
+-- an instruction takes at least one cycle
 pub cost-least : (o : Parts) → IsInRange o → (i : Instr) (taken : Bool) (bank : ℕ) → bank < length o.banks
     → 1 ≤ cost_of o i taken bank
 cost-least o fits Nop taken bank exists = omega arith
@@ -61,7 +61,7 @@ cost-least o fits (Jmp offset) taken bank exists = fits.profile.taken.0
 cost-least o fits (Br cmp ra rb offset) true bank exists = fits.profile.taken.0
 cost-least o fits (Br cmp ra rb offset) false bank exists = omega arith
 
--- the greatest of some numbers and a first one is below none of them
+-- the greatest of some numbers and a first one is at least the first one
 fold_max-start : (a : ℕ) (xs : List ℕ) → a ≤ fold max a xs
 fold_max-start a [] = omega arith
 fold_max-start a (x ∷ xs) = omega (arith, fold_max-start (max a x) xs)

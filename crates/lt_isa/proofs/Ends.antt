@@ -1,4 +1,4 @@
--- How a run up to a cycle ends: at a halt, or with a state from which it can be run on.
+-- How a run up to a cycle ends: at a halt, or in a state from which it can be resumed.
 use Rattle.std.proofs.Common.{ℤ, true, false, cond, ◌≡◌, ℕ, zero, suc, get_or, ◌+◌, ◌<◌, ◌≤◌, List, [], ◌∷◌, ◌++◌, Option, Some, None, ◌⊎◌, inl, inr, refl, sym, ap, ◌∙◌, subst, ⊎_elim, arith, append_assoc}
 use Rattle.std.proofs.lemmas.Bool.{cases_lt}
 use Rattle.std.proofs.lemmas.List.{append-nil}
@@ -18,11 +18,11 @@ use Rattle.std.proofs.lemmas.List.Elements.{Contains-append_cases, Contains-appe
 use Rattle.lt_isa.proofs.Stretches.{reaches-shaped}
 use Rattle.lt_isa.proofs.Runs.{trace_from-past, trace_from-goes, trace_from-stops, trace_from-faults, final_from-past, final_from-goes, final_from-stops, final_from-faults}
 
--- the run up to cycle n shows what leads to its final state, from which no step starts below n, or a step is a fault
+-- the run up to cycle n reaches its final state, where the next step starts at n or later, or is a fault
 pub record IsSpent (o : Parts) (s : State) (n : ℕ) : Type 0 where
   pub reached : Reaches o s (trace_from o s n) (final_from o s n)
   pub ended : (n ≤ step_start o (final_from o s n)) ⊎ (step o (final_from o s n) ≡ Faults)
-  -- run on to a later cycle, it shows and leaves what one run to that cycle does
+  -- if it is resumed up to a later cycle, it shows and leaves what a single run up to that cycle does
   pub resumes : (m : ℕ) → n ≤ m → (trace_from o s m ≡ trace_from o s n ++ trace_from o (final_from o s n) m)
       × (final_from o s m ≡ final_from o (final_from o s n) m)
 
@@ -34,7 +34,7 @@ pub record HasHalted (o : Parts) (s : State) (n : ℕ) : Type 0 where
   pub stopped : step o last ≡ Stops (final_from o s n)
   pub in_time : step_start o last < n
   pub shown : trace_from o s n ≡ before ++ stamped (step_start o last) (Some Halted)
-  -- a later cycle shows and leaves the same
+  -- up to a later cycle it shows and leaves the same
   pub stays : (m : ℕ) → n ≤ m → (trace_from o s m ≡ trace_from o s n) × (final_from o s m ≡ final_from o s n)
 
 module _ (o : Parts) (fits : IsInRange o) where
@@ -133,7 +133,7 @@ module _ (o : Parts) (fits : IsInRange o) where
   pub run_ends : (s : State) (n : ℕ) → IsShaped o s → IsSpent o s n ⊎ HasHalted o s n
   run_ends s n shaped = ends-by n s n shaped (omega arith)
 
--- a step that goes on shows no halt
+-- the event of a read isn't the halt
 read_event-no_halt : (b a : ℕ) (words : List ℤ) → read_event b a words ≡ Halted → ⊥
 read_event-no_halt b a words =
     elim (is_ram b) as (λ c. cond c (RamRead a words) (cond (is_eram b) (EncRead a) (Oram b)) ≡ Halted → ⊥) [
@@ -177,7 +177,7 @@ stamped-no_halt start at (Some event) quiet halts = quiet (first halts.0 halts.1
     first zero within is = ap (λ e. e.event) is
     first (suc k) within is = absurd (omega arith)
 
--- a step that goes on shows no halt
+-- a step that leads to a state shows no halt
 pub step-no_halt : (o : Parts) (s : State) (event : Option Observed) (t : State) (start at : ℕ)
     → step o s ≡ Goes event t → HaltsAt (stamped start event) at → ⊥
 step-no_halt o s event t start at goes =
@@ -194,7 +194,7 @@ reaches-no_halt o s es u (Then s' event t fs u' goes rest) at halts =
     (reaches-no_halt o t fs u rest at)
     (Contains-append_cases (stamped (step_start o s) event) fs (seen_at at Halted) halts)
 
--- the halt that a step shows
+-- the stamp of a halt is the start of its step
 pub stamped-halt : (start at : ℕ) → HaltsAt (stamped start (Some Halted)) at → at ≡ start
 stamped-halt start at halts = first halts.0 halts.1 halts.2
   where
@@ -206,7 +206,7 @@ stamped-halt start at halts = first halts.0 halts.1 halts.2
 pub spent-no_halt : (o : Parts) (s : State) (n : ℕ) → IsSpent o s n → (at : ℕ) → HaltsAt (trace_from o s n) at → ⊥
 spent-no_halt o s n spent = reaches-no_halt o s (trace_from o s n) (final_from o s n) spent.reached
 
--- a run that has halted shows one halt, where the last step starts
+-- a run that has halted shows a halt, stamped with the start of its last step
 pub halted-at : (o : Parts) (s : State) (n : ℕ) (halted : HasHalted o s n)
     → HaltsAt (trace_from o s n) (step_start o halted.last)
 halted-at o s n halted =
@@ -214,7 +214,7 @@ halted-at o s n halted =
     (Contains-append_right halted.before (stamped (step_start o halted.last) (Some Halted)) _ (0, omega arith, refl))
 
 module _ (o : Parts) (fits : IsInRange o) (s : State) (shaped : IsShaped o s) where
-  -- a run that showed no halt is spent, and one that showed a halt has halted
+  -- a run that shows no halt is spent
   pub spent-from_no_halt : (n : ℕ) → ((at : ℕ) → HaltsAt (trace_from o s n) at → ⊥) → IsSpent o s n
   spent-from_no_halt n none =
       ⊎_elim (λ spent. spent) (λ halted. absurd (none (step_start o halted.last) (halted-at o s n halted)))
@@ -225,25 +225,25 @@ module _ (o : Parts) (fits : IsInRange o) (s : State) (shaped : IsShaped o s) wh
   halted-from_halt n at halts =
       ⊎_elim (λ spent. absurd (spent-no_halt o s n spent at halts)) (λ halted. halted) (run_ends o fits s n shaped)
 
-  -- a run to n and then on to m tells what one run to m tells, and leaves the same
+  -- a run to n, resumed up to m, shows what a single run to m shows
   pub trace_resumed : (n m : ℕ) → n ≤ m → ((at : ℕ) → HaltsAt (trace_from o s n) at → ⊥)
       → trace_from o s m ≡ trace_from o s n ++ trace_from o (final_from o s n) m
   trace_resumed n m le none = ((spent-from_no_halt n none).resumes m le).0
 
-  -- a run that hasn't halted goes on from where it was cut
+  -- a run to n, resumed up to m, leaves what a single run to m leaves
   pub final_resumed : (n m : ℕ) → n ≤ m → ((at : ℕ) → HaltsAt (trace_from o s n) at → ⊥)
       → final_from o s m ≡ final_from o (final_from o s n) m
   final_resumed n m le none = ((spent-from_no_halt n none).resumes m le).1
 
-  -- once halted, a later cycle shows and leaves the same
+  -- once a run has halted, it shows the same up to a later cycle
   pub trace_halted : (n m at : ℕ) → n ≤ m → HaltsAt (trace_from o s n) at → trace_from o s m ≡ trace_from o s n
   trace_halted n m at le halts = ((halted-from_halt n at halts).stays m le).0
 
-  -- more cycles change nothing of a run that has halted
+  -- once a run has halted, it leaves the same at a later cycle
   pub final_halted : (n m at : ℕ) → n ≤ m → HaltsAt (trace_from o s n) at → final_from o s m ≡ final_from o s n
   final_halted n m at le halts = ((halted-from_halt n at halts).stays m le).1
 
-  -- what is shown below a cycle is a front of what is shown below a later one
+  -- what is shown below a cycle is a prefix of what is shown below a later one
   pub trace_front : (n m : ℕ) → n ≤ m → (rest : List Stamped) × (trace_from o s m ≡ trace_from o s n ++ rest)
   trace_front n m le =
       ⊎_elim
@@ -251,7 +251,7 @@ module _ (o : Parts) (fits : IsInRange o) (s : State) (shaped : IsShaped o s) wh
       (λ halted. ([], (halted.stays m le).0 ∙ sym (append-nil (trace_from o s n))))
       (run_ends o fits s n shaped)
 
-  -- the state that is left has the shape
+  -- the final state has the object's shape
   pub final_shaped : (n : ℕ) → IsShaped o (final_from o s n)
   final_shaped n =
       ⊎_elim

@@ -23,7 +23,7 @@ find-passes p (y ∷ ys) x e =
       | inr fails ↦ find-passes p ys x (sym (cond-false (p y) (Some y) (find p ys) fails) ∙ e)
     ]
 
--- what an opcode names has that opcode, and each kind is named by its own
+-- an opcode that names a kind is that kind's opcode
 pub opcode_of_named : (n : ℕ) (kind : Kind) → kind_named n ≡ Some kind → n ≡ opcode_of kind
 unfolding kind_named
 opcode_of_named n kind e = eqb-true _ _ (find-passes (λ k. eqb n (opcode_of k)) kinds kind e)
@@ -93,7 +93,7 @@ opcode_of-lt Jmp = omega arith
 opcode_of-lt (Alu op) = operation_code-lt op
 opcode_of-lt (Br cmp) = comparison_code-lt cmp
 
--- the instruction of its kind with its operands
+-- an instruction is determined by its kind and its operands
 pub instruction_again : (i : Instr) → instruction_of (kind_of i) (operands_of i) ≡ i
 instruction_again instr.Nop = refl
 instruction_again instr.Halt = refl

@@ -13,13 +13,13 @@ use Rattle.lt_isa.proofs.Ends.{halted-from_halt}
 goes-stops : (event : Option Observed) (t u : State) → Goes event t ≡ Stops u → ⊥
 goes-stops event t u e = cc
 
--- where the run stops, it has come to no later state
+-- if the next step stops the run, no steps lead to another state
 stopped-here : (o : Parts) (s : State) (es : List Stamped) (u : State) → Reaches o s es u → (t : State)
     → step o s ≡ Stops t → s ≡ u
 stopped-here o s es u (Here s') t stops = refl
 stopped-here o s es u (Then s' event m fs u' goes rest) t stops = absurd (goes-stops event m t (sym goes ∙ stops))
 
--- no halt stands in a trace that is cut before a state which the run reaches
+-- a trace up to the cycle of a state that the run reaches has no halt
 pub lasting-no_halt : (o : Parts) → IsInRange o → (s : State) → IsShaped o s → (es : List Stamped) (u : State)
     → Reaches o s es u
     → (n : ℕ) → n ≤ u.cycle → (at : ℕ) → HaltsAt (trace_from o s n) at → ⊥

@@ -1,4 +1,4 @@
--- Two runs that show the same, and one run that meets no fault, from what each step or stretch keeps.
+-- Two runs show the same, and one run meets no fault, if each step or stretch keeps a relation or a property of states.
 use Rattle.std.proofs.Common.{◌≡◌, ℕ, zero, suc, ◌+◌, ◌≤◌, cond, ltb, List, [], ◌++◌, Some, ◌⊎◌, refl, sym, ap, ◌∙◌, ⊎_elim, arith}
 use Rattle.lt_isa.specs.Object.{Parts}
 use Rattle.lt_isa.specs.Ranges.{IsInRange}
@@ -50,12 +50,12 @@ module _ (o : Parts) (Related : State → State → Type 0) (keeps : (s t : Stat
       (shown-alike Related (step_start o s) (step_start o t) (step o s) (step o t) _ _ kept.0 kept.1
       (λ u v r. lockstep-within k u v r n))
 
-  -- related states show the same, where each step keeps them related
+  -- related states show the same if each step keeps them related
   pub lockstep : (s t : State) → Related s t → (n : ℕ) → trace_from o s n ≡ trace_from o t n
   unfolding trace_from
   lockstep s t related n = lockstep-within n s t related n
 
--- stretches from two states show the same and lead to related states, each some cycles later
+-- stretches from two states show the same events, lead to related states, and take some cycles
 pub record Meets (o : Parts) (Related : State → State → Type 0) (s t : State) : Type 0 where
   pub events : List Stamped
   pub first : State
@@ -66,7 +66,7 @@ pub record Meets (o : Parts) (Related : State → State → Type 0) (s t : State
   pub second_later : t.cycle + 1 ≤ second.cycle
   pub related : Related first second
 
--- stretches from two states show the same, and both runs halt at the same cycle behind them
+-- after stretches that show the same events, both runs halt at the same cycle
 pub record StopsAlike (o : Parts) (s t : State) : Type 0 where
   pub events : List Stamped
   pub first : State
@@ -106,7 +106,7 @@ module _ (o : Parts) (fits : IsInRange o) (Related : State → State → Type 0)
       (λ ends. stops-alike s t shape_s shape_t ends n)
       (keeps s t related shape_s shape_t)
 
-  -- related states show the same, where stretches lead from related states to related states and show the same
+  -- related states show the same if stretches from them show the same and lead to related states
   pub lockstep_over : (s t : State) → Related s t → IsShaped o s → IsShaped o t → (n : ℕ)
       → trace_from o s n ≡ trace_from o t n
   lockstep_over s t related shape_s shape_t n =

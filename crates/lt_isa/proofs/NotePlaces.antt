@@ -1,4 +1,4 @@
--- Where the notes of an object stand.
+-- The places of an object's notes.
 use Rattle.std.proofs.Common.{ℕ, ◌+◌, ◌<◌, ◌≤◌, List, [], ◌∷◌, ◌++◌, length, ap, arith, append_assoc}
 use Rattle.std.specs.Prelude.{All}
 use Rattle.std.proofs.lemmas.List.{append-nil}
@@ -9,7 +9,7 @@ use Rattle.gr_base.specs.Lists.{EachAfter}
 use Rattle.lt_isa.specs.Ranges.{NoteFits, next_place, IsInRange}
 use Rattle.gr_base.proofs.AtLast.{at_last-push}
 
--- the notes behind some notes end no earlier
+-- the first place after some notes doesn't fall if more notes follow
 next_place-append : (banks : ℕ) (before notes : List Note) → EachAfter (NoteFits banks) before notes
     → next_place before ≤ next_place (before ++ notes)
 next_place-append banks before [] each = omega (arith, ap next_place (append-nil before))
@@ -37,6 +37,6 @@ notes_before banks size before (n ∷ notes) each fits =
     ) in
     All-cons (λ (m : Note). m.pc < size) n notes here (notes_before banks size (before ++ n ∷ []) notes each.1 fits')
 
--- every note stands at a place of the code
+-- every note is at a place of the code
 pub notes-inside : (o : Parts) → IsInRange o → All (λ (n : Note). n.pc < length o.code) o.notes
 notes-inside o range = notes_before (length o.banks) (length o.code) [] o.notes range.notes range.behind_notes

@@ -10,7 +10,7 @@ use Rattle.lt_isa.specs.Shape.{IsShaped}
 use Rattle.lt_isa.proofs.Steps.{step_start-least, step-later}
 use Rattle.lt_isa.proofs.Shapes.{step-shaped}
 
--- what follows a step, by what follows each state that it may go on to
+-- what is shown from a step on depends only on what is shown from the state to which it may lead
 pub shown_then-same : (at : ℕ) (outcome : StepResult) (f g : State → List Stamped)
     → ((event : Option Observed) (t : State) → outcome ≡ Goes event t → f t ≡ g t)
     → shown_then at outcome f ≡ shown_then at outcome g
@@ -18,7 +18,7 @@ shown_then-same at (Goes event t) f g same = ap (λ rest. stamped at event ++ re
 shown_then-same at (Stops t) f g same = refl
 shown_then-same at Faults f g same = refl
 
--- what is left behind a step, by what is left of each state that it may go on to
+-- what is left from a step on depends only on what is left from the state to which it may lead
 pub left_then-same : (s : State) (outcome : StepResult) (f g : State → State)
     → ((event : Option Observed) (t : State) → outcome ≡ Goes event t → f t ≡ g t)
     → left_then s outcome f ≡ left_then s outcome g
@@ -26,7 +26,7 @@ left_then-same s (Goes event t) f g same = same event t refl
 left_then-same s (Stops t) f g same = refl
 left_then-same s Faults f g same = refl
 
--- nothing starts below a cycle that isn't above the start of the next step
+-- no events below a cycle that isn't above the start of the next step
 trace_within-past : (k : ℕ) (o : Parts) (s : State) (n : ℕ) → n ≤ step_start o s → trace_within k o s n ≡ []
 unfolding trace_within
 trace_within-past zero o s n past = refl
@@ -37,18 +37,18 @@ unfolding final_within
 final_within-past zero o s n past = refl
 final_within-past (suc k) o s n past = sym (cond_above (step_start o s) n _ _ _ past refl)
 
--- past the cut nothing is shown
+-- nothing is shown if the next step starts at n or later
 pub trace_from-past : (o : Parts) (s : State) (n : ℕ) → n ≤ step_start o s → trace_from o s n ≡ []
 unfolding trace_from
 trace_from-past o s n past = trace_within-past n o s n past
 
--- past the cut the state stays
+-- the state stays if the next step starts at n or later
 pub final_from-past : (o : Parts) (s : State) (n : ℕ) → n ≤ step_start o s → final_from o s n ≡ s
 unfolding final_from
 final_from-past o s n past = final_within-past n o s n past
 
 module _ (o : Parts) (fits : IsInRange o) where
-  -- more steps than cycles are left change nothing
+  -- as many steps as there are cycles left are enough; more change nothing
   pub trace_within-enough : (j k : ℕ) (s : State) (n : ℕ) → IsShaped o s → n ≤ s.cycle + j → n ≤ s.cycle + k
       → trace_within j o s n ≡ trace_within k o s n
   unfolding trace_within
@@ -79,7 +79,7 @@ module _ (o : Parts) (fits : IsInRange o) where
       (omega (arith, step_start-least o s))
       (omega (arith, step_start-least o s))))
 
-  -- a step that starts below the cycle, and what comes of the state behind it
+  -- if a step starts below the cycle, its event and then what is shown from the state after it
   pub trace_from-more : (s : State) (n : ℕ) → IsShaped o s → step_start o s < n
       → trace_from o s n ≡ shown_then (step_start o s) (step o s) (λ t. trace_from o t n)
   unfolding trace_from trace_within
@@ -90,7 +90,7 @@ module _ (o : Parts) (fits : IsInRange o) where
       let later = step-later o fits s shaped event t goes in
       trace_within-enough k (suc k) t (suc k) (step-shaped o fits s shaped event t goes) (omega arith) (omega arith))
 
-  -- before the cut the state is what one step leaves, and what follows from there
+  -- if a step starts below the cycle, what is left from the state after it
   pub final_from-more : (s : State) (n : ℕ) → IsShaped o s → step_start o s < n
       → final_from o s n ≡ left_then s (step o s) (λ t. final_from o t n)
   unfolding final_from final_within
@@ -101,20 +101,20 @@ module _ (o : Parts) (fits : IsInRange o) where
       let later = step-later o fits s shaped event t goes in
       final_within-enough k (suc k) t (suc k) (step-shaped o fits s shaped event t goes) (omega arith) (omega arith))
 
-  -- a step that goes on
+  -- the trace over a step that leads to a state
   pub trace_from-goes : (s : State) (event : Option Observed) (t : State) (n : ℕ) → IsShaped o s
       → step o s ≡ Goes event t → step_start o s < n
       → trace_from o s n ≡ stamped (step_start o s) event ++ trace_from o t n
   trace_from-goes s event t n shaped goes less =
       trace_from-more s n shaped less ∙ ap (λ r. shown_then (step_start o s) r (λ t. trace_from o t n)) goes
 
-  -- the final state over a step that goes on
+  -- the final state over a step that leads to a state
   pub final_from-goes : (s : State) (event : Option Observed) (t : State) (n : ℕ) → IsShaped o s
       → step o s ≡ Goes event t → step_start o s < n → final_from o s n ≡ final_from o t n
   final_from-goes s event t n shaped goes less =
       final_from-more s n shaped less ∙ ap (λ r. left_then s r (λ t. final_from o t n)) goes
 
-  -- a step that stops
+  -- the trace at a step that stops
   pub trace_from-stops : (s t : State) (n : ℕ) → IsShaped o s → step o s ≡ Stops t → step_start o s < n
       → trace_from o s n ≡ stamped (step_start o s) (Some Halted)
   trace_from-stops s t n shaped stops less =
@@ -126,7 +126,7 @@ module _ (o : Parts) (fits : IsInRange o) where
   final_from-stops s t n shaped stops less =
       final_from-more s n shaped less ∙ ap (λ r. left_then s r (λ t. final_from o t n)) stops
 
-  -- a fault shows nothing and changes nothing
+  -- a fault shows nothing
   pub trace_from-faults : (s : State) (n : ℕ) → IsShaped o s → step o s ≡ Faults → trace_from o s n ≡ []
   trace_from-faults s n shaped faults =
       ⊎_elim
@@ -134,7 +134,7 @@ module _ (o : Parts) (fits : IsInRange o) where
       (λ past. trace_from-past o s n past)
       (cases_lt (step_start o s) n)
 
-  -- the final state at a fault
+  -- a fault changes nothing
   pub final_from-faults : (s : State) (n : ℕ) → IsShaped o s → step o s ≡ Faults → final_from o s n ≡ s
   final_from-faults s n shaped faults =
       ⊎_elim

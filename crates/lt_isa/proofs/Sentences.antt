@@ -1,4 +1,4 @@
--- Traces and the states that are left are what their two sentences say, and nothing else is; and inputs that agree may
+-- Traces and final states satisfy the relations that define them, and nothing else does; and inputs that agree may
 -- differ.
 use Rattle.std.proofs.Common.{◌≡◌, ℕ, zero, suc, ◌+◌, ◌<◌, ◌≤◌, ℤ, List, [], ◌∷◌, get_or, sym, ◌∙◌, ⊎_elim, arith}
 use Rattle.std.proofs.lemmas.Bool.{cases_lt}
@@ -18,16 +18,16 @@ use Rattle.lt_isa.proofs.Steps.{step_start-least, step-later}
 use Rattle.lt_isa.proofs.Shapes.{step-shaped}
 use Rattle.lt_isa.proofs.Runs.{trace_from-past, trace_from-more, final_from-past, final_from-more, shown_then-same, left_then-same}
 
--- the computing form of traces has the two sentences
+-- the computing form of traces satisfies their relation
 pub are_traces : (o : Parts) → IsInRange o → AreTraces o (trace_from o)
 are_traces o fits = record { past = trace_from-past o; more = trace_from-more o fits }
 
--- the computing form of final states has its sentences
+-- the computing form of final states satisfies theirs
 pub are_finals : (o : Parts) → IsInRange o → AreFinals o (final_from o)
 are_finals o fits = record { past = final_from-past o; more = final_from-more o fits }
 
 module _ (o : Parts) (fits : IsInRange o) (events : State → ℕ → List Stamped) (are : AreTraces o events) where
-  -- by the cycles that are left
+  -- by induction on the cycles that are left
   same_within : (left : ℕ) (s : State) → IsShaped o s → (n : ℕ) → n ≤ s.cycle + left → events s n ≡ trace_from o s n
   same_within zero s shaped n few =
       are.past s n (omega (arith, step_start-least o s, few))
@@ -44,12 +44,12 @@ module _ (o : Parts) (fits : IsInRange o) (events : State → ℕ → List Stamp
       (λ past. are.past s n past ∙ sym (trace_from-past o s n past))
       (cases_lt (step_start o s) n)
 
-  -- the two sentences have one solution
+  -- the relation of traces has one solution
   pub no_other_traces : (s : State) → IsShaped o s → (n : ℕ) → events s n ≡ trace_from o s n
   no_other_traces s shaped n = same_within n s shaped n (omega arith)
 
 module _ (o : Parts) (fits : IsInRange o) (left : State → ℕ → State) (are : AreFinals o left) where
-  -- by the cycles that there still are
+  -- by induction on the cycles that are left
   same_final_within : (more : ℕ) (s : State) → IsShaped o s → (n : ℕ) → n ≤ s.cycle + more → left s n ≡ final_from o s n
   same_final_within zero s shaped n few =
       are.past s n (omega (arith, step_start-least o s, few))
@@ -66,11 +66,11 @@ module _ (o : Parts) (fits : IsInRange o) (left : State → ℕ → State) (are 
       (λ past. are.past s n past ∙ sym (final_from-past o s n past))
       (cases_lt (step_start o s) n)
 
-  -- the two sentences of final states have one solution
+  -- the relation of final states has one solution
   pub no_other_finals : (s : State) → IsShaped o s → (n : ℕ) → left s n ≡ final_from o s n
   no_other_finals s shaped n = same_final_within n s shaped n (omega arith)
 
--- two words for a secret scalar agree on all that is public
+-- inputs with two words for a secret scalar agree
 pub secrets_differ : (o : Parts) → OneSecret o → (x y : ℤ) → IsWord x → IsWord y → Agree o (one_word x) (one_word y)
 secrets_differ o one x y fx fy = record {
   first_fits = fits x fx;

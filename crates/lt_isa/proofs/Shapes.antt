@@ -1,4 +1,4 @@
--- Every state of a run has the shape of its object: from the start on, and behind every step.
+-- Every state of a run has the shape of its object, from the start on and after every step.
 use Rattle.std.proofs.Common.{◌≡◌, ℕ, ◌^◌, ◌<◌, ℤ, pos, List, [], length, get_or, set, Option, sym, ap, ◌∙◌, subst, ⊎_elim, arith}
 use Rattle.std.proofs.lemmas.Bool.{cases_lt, cases_eq}
 use Rattle.std.proofs.lemmas.List.{get_or_past, get_or-set_same, get_or-set_other, length-set}
@@ -18,7 +18,7 @@ use Rattle.lt_isa.specs.Shape.{IsShaped, SlotFits, IsBlock}
 use Rattle.lt_isa.proofs.Cycles.{blocks-least, blocks-most}
 use Rattle.lt_isa.proofs.Steps.{OnStepResult, on_goes, on_stops, on_step, on_bound, on_choice, instruction-fits, bound-fits}
 
--- what is read from a list of words is a word, also past its end
+-- a word that is read from a list of words is a word, also past the list's end
 pub IsWord-at : (words : List ℤ) → AreWords words → (i : ℕ) → IsWord (word_in words i)
 IsWord-at words all i =
     ⊎_elim
@@ -30,13 +30,13 @@ IsWord-at words all i =
 pub IsWord-register : (o : Parts) (s : State) → IsShaped o s → (r : ℕ) → IsWord (register s r)
 IsWord-register o s shaped r = IsWord-at s.registers shaped.registers r
 
--- a block with another word in it
+-- a block stays a block if one of its words is replaced
 pub IsBlock-set : (o : Parts) (words : List ℤ) (i : ℕ) (word : ℤ) → IsBlock o words → IsWord word
     → IsBlock o (set words i word)
 IsBlock-set o words i word block fits =
     record { size = length-set words i word ∙ block.size; all_words = All-set IsWord words i word fits block.all_words }
 
--- the shape doesn't depend on the place and the cycle
+-- the shape doesn't depend on the place or the cycle
 pub IsShaped-moved : (o : Parts) (s : State) (place cycle : ℕ) → IsShaped o s
     → IsShaped o (record s { place = place; cycle = cycle })
 IsShaped-moved o s place cycle shaped = record {
@@ -74,7 +74,7 @@ IsShaped-set_slot o s k found shaped fits = record {
   blocks = shaped.blocks;
 }
 
--- what holds at a place of a list with another item
+-- a property of the item at a place, after one item of the list was replaced
 at_set : {X : Type 0} (P : X → Type 0) (xs : List X) (i j : ℕ) (y d : X) → j < length xs → (j ≡ i → P y)
     → P (get_or xs j d) → P (get_or (set xs i y) j d)
 at_set P xs i j y d within here there =
@@ -112,12 +112,12 @@ IsShaped-set_block o s b a words shaped fits =
           (shaped.blocks c e exists within);
     }
 
--- a block of the object, where a word names it
+-- the block that a word names is one of its bank
 pub block_named-below : (o : Parts) → IsInRange o → (b : ℕ) → b < length o.banks → (word : ℤ)
     → block_named o b word < blocks_of o b
 block_named-below o fits b exists word = mod-lt (unsigned_of word) (blocks-least o fits b exists)
 
--- the next state has the shape
+-- the state after an instruction has the shape
 executed-shaped : (o : Parts) → IsInRange o → (s : State) → IsShaped o s → (i : Instr)
     → InstrFits (length o.banks) i → OnStepResult (λ event t. IsShaped o t) (IsShaped o) (executed o s i)
 executed-shaped o fits s shaped Nop operands = IsShaped-moved o s _ _ shaped
@@ -163,12 +163,12 @@ step-shaped_both : (o : Parts) → IsInRange o → (s : State) → IsShaped o s
 step-shaped_both o fits s shaped =
     on_step _ _ o s (λ i at. executed-shaped o fits s shaped i (instruction-fits o fits s.place i at))
 
--- a step that goes on keeps the shape of the state
+-- a step that leads to a state keeps the shape
 pub step-shaped : (o : Parts) → IsInRange o → (s : State) → IsShaped o s → (event : Option Observed) (t : State)
     → step o s ≡ Goes event t → IsShaped o t
 step-shaped o fits s shaped event t goes = on_goes _ _ (step o s) event t (step-shaped_both o fits s shaped) goes
 
--- a step that stops keeps the shape of the state
+-- a step that stops keeps the shape
 pub stop-shaped : (o : Parts) → IsInRange o → (s : State) → IsShaped o s → (t : State) → step o s ≡ Stops t
     → IsShaped o t
 stop-shaped o fits s shaped t stops = on_stops _ _ (step o s) t (step-shaped_both o fits s shaped) stops

@@ -15,7 +15,7 @@ use Rattle.lt_isa.specs.SymbolPlaces.{last_bank, last_end}
 use Rattle.lt_isa.specs.Start.{want_of, FitsObject, covers, start_word, start_state}
 use Rattle.lt_isa.proofs.StartWords.{covers-takes, takes-covers, bank_word-start}
 
--- inputs that fit have a list for each variable, of its length
+-- inputs that fit have one list for each variable
 pub fitting-count : (symbols : List Symbol) (inputs : List (List ℤ))
     → FitsWants (map want_of symbols) inputs → length inputs ≡ length symbols
 fitting-count [] [] fits = refl
@@ -31,7 +31,7 @@ fitting-length (s ∷ symbols) (words ∷ inputs) fits zero d exists = fits.0
 fitting-length (s ∷ symbols) (words ∷ inputs) fits (suc k) d exists =
     fitting-length symbols inputs fits.2 k d (omega arith)
 
--- a variable ends before another begins, or lies in an earlier bank
+-- a variable ends before another begins, or is in an earlier bank
 record LiesBefore (w : ℕ) (t s : Symbol) : Type 0 where
   bank : t.bank ≤ s.bank
   apart : t.bank ≡ s.bank → end_word w t ≤ first_word w s
@@ -46,7 +46,7 @@ lies_first w banks t before s fits bank apart = record {
       omega (arith, apart last, fits.lies.apart (sym same ∙ last));
 }
 
--- a variable lies before each of those that stand behind it
+-- a variable is before each of those that follow it
 lies_before : (w : ℕ) (banks : List BankSpec) (t : Symbol) (before symbols : List Symbol)
     → EachAfter (SymbolFits w banks) before symbols → t.bank ≤ last_bank before
     → (t.bank ≡ last_bank before → end_word w t ≤ last_end w before)
@@ -63,7 +63,7 @@ lies_before w banks t before (s ∷ symbols) each bank apart (suc k) d within =
     omega (arith, here, at_last-push (end_word w) before s))
     k d (omega arith)
 
--- a word that a variable takes, and one that it doesn't take since it lies before
+-- a word of a symbol is read from the symbol's own inputs, and not from those of a symbol before it
 own_here : (w : ℕ) (s : Symbol) (words : List ℤ) (rest : ℤ) (i : ℕ) → covers w s s.bank (first_word w s + i) ≡ true
     → cond (covers w s s.bank (first_word w s + i)) (get_or words (first_word w s + i - first_word w s) (pos 0)) rest
     ≡ get_or words i (pos 0)
@@ -102,7 +102,7 @@ start_word-own w banks before (s ∷ symbols) (words ∷ inputs) each fits (suc 
     (start_word-own w banks (before ++ s ∷ []) symbols inputs each.1 fits.2 k i d (omega arith) within)
     (covers w s (get_or symbols k d).bank (first_word w (get_or symbols k d) + i)) refl
 
--- lists of the variables' words, one by one
+-- two lists of words for variables are equal if they are equal for each variable
 each_list : (words_of : Symbol → List ℤ) (symbols : List Symbol) (inputs : List (List ℤ))
     → FitsWants (map want_of symbols) inputs
     → ((k : ℕ) (d : Symbol) → k < length symbols → words_of (get_or symbols k d) ≡ get_or inputs k [])
@@ -138,7 +138,7 @@ starts_with_inputs o range inputs fits = each_list (symbol_words o (start_state 
         (get_or o.symbols k d).length (pos 0) (fitting-length o.symbols inputs fits k d exists)
         (λ i within. sym (word k d exists i within)))
 
--- where no variable takes a word, it is 0
+-- a word that no variable takes is 0
 start_word-untaken : (w : ℕ) (symbols : List Symbol) (inputs : List (List ℤ)) (b i : ℕ)
     → All (λ s. covers w s b i ≡ false) symbols → start_word w symbols inputs b i ≡ pos 0
 unfolding start_word

@@ -1,4 +1,4 @@
--- The words of a bank at the start are those of the symbol that takes them.
+-- The words of a bank at the start are those of the symbols that take them.
 use Rattle.std.proofs.Common.{◌≡◌, ℕ, zero, suc, ◌-◌, ◌*◌, ◌/◌, ◌%◌, ◌<◌, ◌≤◌, Bool, true, false, cond, ◌==◌, ℤ, pos, List, [], ◌∷◌, length, map, get_or, refl, sym, ap, ◌∙◌, arith}
 use Rattle.std.specs.Prelude.{◌&&◌, nat_le, nat_lt, Contains}
 use Rattle.std.proofs.lemmas.Bool.{and_parts, and_from, eqb-true, eq-eqb, leb-true, le-leb, ltb-true, lt-ltb}
@@ -11,7 +11,7 @@ use Rattle.lt_isa.specs.Outputs.{bank_word_numbered}
 use Rattle.lt_isa.specs.Start.{covers, start_word, start_state}
 use Rattle.lt_isa.proofs.Starts.{block-start, start_block-at}
 
--- a symbol takes the words from its first on
+-- a symbol takes word number `at` of a bank
 pub record Takes (w : ℕ) (s : Symbol) (bank at : ℕ) : Type 0 where
   pub bank_is : s.bank ≡ bank
   pub behind : first_word w s ≤ at
@@ -34,7 +34,7 @@ takes-covers w s bank at takes =
     (and_from (nat_le (first_word w s) at) (nat_lt at (end_word w s)) (le-leb (first_word w s) at takes.behind)
     (lt-ltb at (end_word w s) takes.before))
 
--- where one symbol takes a word and no other does, the word is that symbol's
+-- if exactly one symbol takes a word, the word is that symbol's
 pub start_word-taken : (w : ℕ) (symbols : List Symbol) (words : Symbol → List ℤ) (s : Symbol) (bank at : ℕ)
     → Contains symbols s → Takes w s bank at
     → ((k : ℕ) (d : Symbol) → k < length symbols → Takes w (get_or symbols k d) bank at → get_or symbols k d ≡ s)
@@ -74,7 +74,7 @@ bank_word-start o inputs bank at exists within =
     ∙ start_block-at o inputs bank (at / w) (at % w) (mod-lt at some)
     ∙ ap (start_word w o.symbols inputs bank) (div-add-mod' at w)
 
--- where no symbol takes a word, it is 0
+-- a word that no symbol takes is 0
 pub start_word-free : (w : ℕ) (symbols : List Symbol) (words : Symbol → List ℤ) (bank at : ℕ)
     → ((k : ℕ) (d : Symbol) → k < length symbols → Takes w (get_or symbols k d) bank at → ⊥)
     → start_word w symbols (map words symbols) bank at ≡ pos 0

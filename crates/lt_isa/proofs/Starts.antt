@@ -16,7 +16,7 @@ use Rattle.lt_isa.specs.Shape.{IsShaped, SlotFits, IsBlock}
 use Rattle.lt_isa.specs.Start.{want_of, FitsObject, covers, start_word, start_block, start_bank, start_banks, start_state, AgreeOn, Agree}
 use Rattle.lt_isa.proofs.Shapes.{IsWord-at}
 
--- registers are 0 and slots unbound
+-- at the start registers are 0
 pub register-start : (o : Parts) (inputs : List (List ℤ)) (r : ℕ) → register (start_state o inputs) r ≡ pos 0
 unfolding start_state
 register-start o inputs r =
@@ -40,19 +40,19 @@ pub cycle-start : (o : Parts) (inputs : List (List ℤ)) → (start_state o inpu
 unfolding start_state
 cycle-start o inputs = refl
 
--- banks have the object's blocks, and blocks its words
+-- a state at the start has the object's number of banks
 pub length-start_banks : (o : Parts) (inputs : List (List ℤ)) → length (start_state o inputs).banks ≡ length o.banks
 unfolding start_state start_banks
 length-start_banks o inputs = length-map-range_with_len (start_bank o inputs) 0 (length o.banks)
 
--- the blocks of a bank at the start
+-- a bank at the start
 pub bank-start : (o : Parts) (inputs : List (List ℤ)) (b : ℕ) → b < length o.banks
     → bank_blocks (start_state o inputs) b ≡ start_bank o inputs b
 unfolding start_state start_banks
 bank-start o inputs b exists =
     get_or-map-range_with_len (start_bank o inputs) 0 (length o.banks) b b [] exists (omega arith)
 
--- at the start a bank has its blocks
+-- a bank at the start has its number of blocks
 pub length-start_bank : (o : Parts) (inputs : List (List ℤ)) (b : ℕ) → length (start_bank o inputs b) ≡ blocks_of o b
 unfolding start_bank
 length-start_bank o inputs b = length-map-range_with_len (start_block o inputs b) 0 (blocks_of o b)
@@ -76,7 +76,7 @@ length-start_block o inputs b a =
     length-map-range_with_len (λ i. start_word (block_words o) o.symbols inputs b (a * block_words o + i)) 0
     (block_words o)
 
--- a word of a block at the start
+-- a word of a block at the start, as a word of its bank
 pub start_block-at : (o : Parts) (inputs : List (List ℤ)) (b a i : ℕ) → i < block_words o
     → word_in (start_block o inputs b a) i ≡ start_word (block_words o) o.symbols inputs b (a * block_words o + i)
 unfolding start_block
@@ -84,7 +84,7 @@ start_block-at o inputs b a i within =
     get_or-map-range_with_len (λ i. start_word (block_words o) o.symbols inputs b (a * block_words o + i)) 0
     (block_words o) i i (pos 0) within (omega arith)
 
--- each word at the start is a word
+-- what a bank holds at the start are words
 pub IsWord-start_word : (w : ℕ) (symbols : List Symbol) (inputs : List (List ℤ))
     → FitsWants (map want_of symbols) inputs → (b i : ℕ) → IsWord (start_word w symbols inputs b i)
 unfolding start_word
@@ -137,7 +137,7 @@ same_choice : (c : Bool) (x y : List ℤ) (k : ℕ) (p q : ℤ) → (c ≡ true 
 same_choice true x y k p q here there = ap (λ l. get_or l k (pos 0)) (here refl)
 same_choice false x y k p q here there = there
 
--- where the symbols of a bank are public, inputs that agree give the bank the same start
+-- if all symbols of a bank are public, inputs that agree give each of its words the same start
 start_word-same : (w : ℕ) (symbols : List Symbol) (d e : List (List ℤ)) (b : ℕ) → FitsWants (map want_of symbols) d
     → FitsWants (map want_of symbols) e → AgreeOn symbols d e → All (λ s. s.bank ≡ b → s.label ≡ Public) symbols
     → (i : ℕ) → start_word w symbols d b i ≡ start_word w symbols e b i
@@ -160,7 +160,7 @@ start_block-same o d e b agree public a =
     (a * block_words o + i))
     (range_with_len 0 (block_words o))
 
--- a bank whose symbols are all public is the same at the start for inputs that agree
+-- if all symbols of a bank are public, inputs that agree give it the same start
 pub start_bank-same : (o : Parts) (d e : List (List ℤ)) (b : ℕ) → Agree o d e
     → All (λ s. s.bank ≡ b → s.label ≡ Public) o.symbols → start_bank o d b ≡ start_bank o e b
 unfolding start_bank

@@ -1,4 +1,4 @@
--- One step by the instruction that stands at the place, what holds behind every step, and its start and its end.
+-- One step by the instruction at the state's place, what is true after every step, and when a step starts and ends.
 use Rattle.std.proofs.Common.{◌≡◌, ℕ, ◌+◌, ◌≤◌, Bool, true, false, cond, ℤ, List, length, Option, Some, None, refl, sym, ap, ◌∙◌, subst, ⊎_elim, arith}
 use Rattle.std.proofs.lemmas.Bool.{cases_lt}
 use Rattle.std.proofs.lemmas.List.{get_or_past}
@@ -18,7 +18,7 @@ use Rattle.lt_isa.specs.Windows.{most_wait}
 use Rattle.lt_isa.proofs.Windows.{access_start-least, access_start-most}
 use Rattle.lt_isa.proofs.Cycles.{cost-least, latency-greatest}
 
--- the step by the instruction at the place, and outside the code
+-- a step at a place of the code executes the instruction there
 pub step-at : (o : Parts) (s : State) (i : Instr) → slice_get o.code s.place ≡ Some i → step o s ≡ executed o s i
 unfolding step
 step-at o s i at = ap (executed_if o s) at
@@ -28,25 +28,25 @@ pub step-outside : (o : Parts) (s : State) → slice_get o.code s.place ≡ None
 unfolding step
 step-outside o s at = ap (executed_if o s) at
 
--- the start by the instruction at the place, and outside the code
+-- a step at a place of the code starts when its instruction does
 pub step_start-at : (o : Parts) (s : State) (i : Instr) → slice_get o.code s.place ≡ Some i
     → step_start o s ≡ start_of o.profile i s.cycle
 unfolding step_start
 step_start-at o s i at = ap (start_if o s.cycle) at
 
--- and it begins at once
+-- a step outside the code starts at once
 pub step_start-outside : (o : Parts) (s : State) → slice_get o.code s.place ≡ None → step_start o s ≡ s.cycle
 unfolding step_start
 step_start-outside o s at = ap (start_if o s.cycle) at
 
--- the start depends on the place and the cycle alone
+-- the start depends only on the place and the cycle
 pub step_start-same : (o : Parts) (s t : State) → s.place ≡ t.place → s.cycle ≡ t.cycle
     → step_start o s ≡ step_start o t
 unfolding step_start
 step_start-same o s t place cycle =
     ap (λ c. start_if o c (slice_get o.code s.place)) cycle ∙ ap (λ p. start_if o t.cycle (slice_get o.code p)) place
 
--- no step starts before the state's cycle, nor later than the most that an access waits
+-- no instruction starts before the machine reaches it, nor after the longest wait of an access
 pub start_of-least : (profile : Profile) (i : Instr) (cycle : ℕ) → cycle ≤ start_of profile i cycle
 start_of-least profile (Ldb k b r) cycle = access_start-least profile cycle
 start_of-least profile (Stb k) cycle = access_start-least profile cycle
@@ -67,7 +67,7 @@ step_start-least o s =
       | Some i ↦ start_of-least o.profile i s.cycle
     ]
 
--- a step waits no longer than the profile lets it
+-- a step waits no longer than the profile allows
 pub step_start-most : (o : Parts) → ProfileFits o.profile → (s : State) → step_start o s ≤ s.cycle + most_wait o.profile
 unfolding step_start
 step_start-most o fits s =
@@ -76,25 +76,25 @@ step_start-most o fits s =
       | Some i ↦ start_of-most o.profile fits i s.cycle
     ]
 
--- what holds of the event and the state behind a step that goes on, and of the state behind one that stops
+-- a property of the event and the next state if a step leads to one, and of the last state if the step stops
 abbrev pub OnStepResult : (Option Observed → State → Type 0) → (State → Type 0) → StepResult → Type 0
 OnStepResult Going Stopping (Goes event next) = Going event next
 OnStepResult Going Stopping (Stops last) = Stopping last
 OnStepResult Going Stopping Faults = Unit {0}
 
--- what is known of all outcomes, where the run goes on
+-- what holds of all outcomes holds of the event and the next state
 pub on_goes : (Going : Option Observed → State → Type 0) (Stopping : State → Type 0) (outcome : StepResult)
     (event : Option Observed) (next : State)
     → OnStepResult Going Stopping outcome → outcome ≡ Goes event next → Going event next
 on_goes Going Stopping outcome event next holds is = subst (OnStepResult Going Stopping) is holds
 
--- what is known of all outcomes, where the run stops
+-- what holds of all outcomes holds of the last state
 pub on_stops : (Going : Option Observed → State → Type 0) (Stopping : State → Type 0) (outcome : StepResult)
     (last : State)
     → OnStepResult Going Stopping outcome → outcome ≡ Stops last → Stopping last
 on_stops Going Stopping outcome last holds is = subst (OnStepResult Going Stopping) is holds
 
--- it holds behind a step where it holds behind the instruction at the place
+-- a property holds of a step if it holds of the instruction at the place
 pub on_step : (Going : Option Observed → State → Type 0) (Stopping : State → Type 0) (o : Parts) (s : State)
     → ((i : Instr) → slice_get o.code s.place ≡ Some i → OnStepResult Going Stopping (executed o s i))
     → OnStepResult Going Stopping (step o s)
@@ -106,7 +106,7 @@ on_step Going Stopping o s each = on_found (slice_get o.code s.place) each
     on_found None each = tt
     on_found (Some i) each = each i refl
 
--- it holds of what is done with a slot where it holds for what the slot is bound to
+-- a property holds of an action on a slot if it holds for each block to which the slot may be bound
 pub on_bound : (Going : Option Observed → State → Type 0) (Stopping : State → Type 0) (found : Slot)
     (act : ℕ → ℕ → List ℤ → StepResult)
     → ((b a : ℕ) (words : List ℤ) → found ≡ Bound b a words → OnStepResult Going Stopping (act b a words))
@@ -114,7 +114,7 @@ pub on_bound : (Going : Option Observed → State → Type 0) (Stopping : State 
 on_bound Going Stopping Unbound act each = tt
 on_bound Going Stopping (Bound b a words) act each = each b a words refl
 
--- it holds of a choice where it holds of both
+-- a property holds of a choice if it holds of both outcomes
 pub on_choice : (Going : Option Observed → State → Type 0) (Stopping : State → Type 0) (b : Bool)
     (first second : StepResult) → OnStepResult Going Stopping first → OnStepResult Going Stopping second
     → OnStepResult Going Stopping (cond b first second)
@@ -128,7 +128,7 @@ instruction-fits o fits p i at =
     subst (InstrFits (length o.banks)) (get_or_from_slice_get o.code p i i at)
     (fits.code p i (slice_get_within o.code p i at))
 
--- the state at a slot
+-- the slot of a state fits the object
 pub slot-fits : (o : Parts) (s : State) → IsShaped o s → (k : ℕ) → SlotFits o (slot s k)
 slot-fits o s shaped k =
     ⊎_elim
@@ -136,16 +136,16 @@ slot-fits o s shaped k =
     (λ past. subst (SlotFits o) (sym (get_or_past s.slots k Unbound past)) tt)
     (cases_lt k (length s.slots))
 
--- the block that a slot holds is one of its bank
+-- the block that a slot holds is a block of its bank
 pub bound-fits : (o : Parts) (s : State) → IsShaped o s → (k b a : ℕ) (words : List ℤ) → slot s k ≡ Bound b a words
     → IsBound o b a words
 bound-fits o s shaped k b a words bound = subst (SlotFits o) bound (slot-fits o s shaped k)
 
--- a state whose cycle is behind the start of a step
+-- the cycle of a state is after the start of a step
 abbrev pub IsLater : ℕ → State → Type 0
 IsLater start t = start + 1 ≤ t.cycle
 
--- every instruction ends a cycle at least behind its start
+-- every instruction ends at least one cycle after its start
 pub executed-later : (o : Parts) → IsInRange o → (s : State) → IsShaped o s → (i : Instr) → InstrFits (length o.banks) i
     → OnStepResult (λ event t. IsLater (start_of o.profile i s.cycle) t)
     (IsLater (start_of o.profile i s.cycle)) (executed o s i)
@@ -177,12 +177,12 @@ step-later_both o fits s shaped =
     (sym (step_start-at o s i at))
     (executed-later o fits s shaped i (instruction-fits o fits s.place i at)))
 
--- a step ends a cycle at least behind its start
+-- a step ends at least one cycle after its start
 pub step-later : (o : Parts) → IsInRange o → (s : State) → IsShaped o s → (event : Option Observed) (t : State)
     → step o s ≡ Goes event t → step_start o s + 1 ≤ t.cycle
 step-later o fits s shaped event t goes = on_goes _ _ (step o s) event t (step-later_both o fits s shaped) goes
 
--- a step that stops executes a halt, and leaves all but the cycle as it was
+-- an instruction that stops is a halt, and changes only the cycle
 executed-stops : (o : Parts) (s : State) (i : Instr)
     → OnStepResult (λ event t. Unit {0}) (λ t. (i ≡ Halt) × (t ≡ passed o Halt false 0 s.place s)) (executed o s i)
 executed-stops o s Nop = tt
@@ -197,7 +197,7 @@ executed-stops o s (Stw rs k ro) = on_bound _ _ (slot s k) _ (λ b a words bound
 executed-stops o s (Jmp offset) = tt
 executed-stops o s (Br cmp ra rb offset) = on_choice _ _ (compared cmp (register s ra) (register s rb)) _ _ tt tt
 
--- a step ends by the most that its instruction costs, its waiting included, behind the cycle that it finds
+-- the cycle of a state is at most `end`
 abbrev IsBy : ℕ → State → Type 0
 IsBy end t = t.cycle ≤ end
 
@@ -223,7 +223,7 @@ executed-by o fits s shaped (Jmp offset) = omega arith
 executed-by o fits s shaped (Br cmp ra rb offset) =
     on_choice _ _ (compared cmp (register s ra) (register s rb)) _ _ (omega arith) (omega (arith, fits.profile.taken))
 
--- a step takes no more cycles than its instruction's greatest cost
+-- a step takes no more cycles than its instruction's greatest cost, which includes the wait
 pub step-by : (o : Parts) → IsInRange o → (s : State) → IsShaped o s → (i : Instr) → slice_get o.code s.place ≡ Some i
     → (event : Option Observed) (t : State) → step o s ≡ Goes event t → t.cycle ≤ s.cycle + greatest_cost o i
 step-by o fits s shaped i at event t goes =

@@ -1,4 +1,4 @@
--- Stretches of a run: steps that lead from one state to another, and what is left behind them.
+-- Stretches of a run: steps that lead from one state to another, and what is shown and left from there.
 use Rattle.std.proofs.Common.{◌≡◌, ℕ, ◌<◌, ◌≤◌, cond, ltb, List, [], ◌++◌, Option, Some, None, ◌⊎◌, inl, inr, refl, sym, ap, ◌∙◌, subst, ⊎_elim, arith, append_assoc, lt-ltb, le-ltb}
 use Rattle.std.specs.List.{filter}
 use Rattle.std.proofs.lemmas.Bool.{cases_lt}
@@ -21,7 +21,7 @@ below n events = filter (λ e. ltb e.stamp n) events
 pub below-append : (n : ℕ) (es fs : List Stamped) → below n (es ++ fs) ≡ below n es ++ below n fs
 below-append n es fs = filter-append (λ e. ltb e.stamp n) es fs
 
--- what one step shows, where it starts below the cycle, and where it doesn't
+-- the event of a step that starts below the cycle is kept, and that of a later step isn't
 pub below-stamped : (n at : ℕ) (event : Option Observed) → at < n → below n (stamped at event) ≡ stamped at event
 below-stamped n at None less = refl
 below-stamped n at (Some event) less = ap (λ c. cond c (stamped at (Some event)) []) (lt-ltb at n less)
@@ -30,13 +30,13 @@ pub below-stamped_past : (n at : ℕ) (event : Option Observed) → n ≤ at →
 below-stamped_past n at None past = refl
 below-stamped_past n at (Some event) past = ap (λ c. cond c (stamped at (Some event)) []) (le-ltb at n past)
 
--- one step is a stretch, and stretches follow one another
+-- one step is a stretch
 pub reaches-step : (o : Parts) (s : State) (event : Option Observed) (t : State) → step o s ≡ Goes event t
     → Reaches o s (stamped (step_start o s) event) t
 reaches-step o s event t goes =
     subst (λ es. Reaches o s es t) (append-nil (stamped (step_start o s) event)) (Then s event t [] t goes (Here t))
 
--- two stretches of a run, one behind the other
+-- two stretches of a run in sequence are one
 pub reaches-append : {o : Parts} {s : State} {es : List Stamped} {t : State} {fs : List Stamped} {u : State}
     → Reaches o s es t → Reaches o t fs u → Reaches o s (es ++ fs) u
 reaches-append (Here s) second = second
@@ -45,8 +45,7 @@ reaches-append {o = o} {fs = fs} {u = u} (Then s event m es t goes rest) second 
     (Then s event m (es ++ fs) u goes (reaches-append rest second))
 
 module _ (o : Parts) (fits : IsInRange o) where
-  -- the shape is kept, the cycle never falls, and the events are stamped from the start of the first step on and below
-  -- the cycle at the end
+  -- a stretch keeps the shape of the state
   pub reaches-shaped : (s : State) (es : List Stamped) (u : State) → Reaches o s es u → IsShaped o s → IsShaped o u
   reaches-shaped s es u (Here s') shaped = shaped
   reaches-shaped s es u (Then s' event t fs u' goes rest) shaped =
@@ -60,7 +59,7 @@ module _ (o : Parts) (fits : IsInRange o) where
       let after = reaches-cycle t fs u rest (step-shaped o fits s shaped event t goes) in
       omega (arith, step_start-least o s)
 
-  -- what is shown from a state on is what a stretch shows of it, and what is shown behind the stretch
+  -- the trace from a state is what a stretch shows of it, and then the trace from the end of the stretch
   pub trace_split : (s : State) (es : List Stamped) (u : State) → Reaches o s es u → IsShaped o s → (n : ℕ)
       → trace_from o s n ≡ below n es ++ trace_from o u n
   trace_split s es u (Here s') shaped n = refl
@@ -82,7 +81,7 @@ module _ (o : Parts) (fits : IsInRange o) where
       ∙ ap (λ l. l ++ trace_from o u n) (sym (below-append n (stamped (step_start o s) event) fs)))
       (cases_lt (step_start o s) n)
 
-  -- the state that is left, where the stretch ends by then
+  -- the final state of a run past a stretch is that of the run from the stretch's end
   pub final_split : (s : State) (es : List Stamped) (u : State) → Reaches o s es u → IsShaped o s → (n : ℕ)
       → u.cycle ≤ n → final_from o s n ≡ final_from o u n
   final_split s es u (Here s') shaped n by = refl
@@ -92,7 +91,7 @@ module _ (o : Parts) (fits : IsInRange o) where
       let after = reaches-cycle t fs u rest shape in
       final_from-goes o fits s event t n shaped goes (omega arith) ∙ final_split t fs u rest shape n by
 
-  -- two runs are alike where stretches of them show the same events and what is left is alike
+  -- two traces are equal if stretches show the same events and the traces from their ends are equal
   pub alike_over : (s t : State) (es fs : List Stamped) (u v : State) → Reaches o s es u → Reaches o t fs v
       → IsShaped o s → IsShaped o t → es ≡ fs → (n : ℕ) → trace_from o u n ≡ trace_from o v n
       → trace_from o s n ≡ trace_from o t n
@@ -102,7 +101,7 @@ module _ (o : Parts) (fits : IsInRange o) where
       ∙ ap (λ l. below n fs ++ l) rest
       ∙ sym (trace_split t fs v second shape_t n)
 
-  -- the same where the run stops behind the stretch, and where it meets a fault there
+  -- the trace of a run that stops right after a stretch
   pub trace_split-stops : (s : State) (es : List Stamped) (u t : State) → Reaches o s es u → IsShaped o s
       → step o u ≡ Stops t → (n : ℕ) → trace_from o s n ≡ below n (es ++ stamped (step_start o u) (Some Halted))
   trace_split-stops s es u t reaches shaped stops n =
@@ -123,7 +122,7 @@ module _ (o : Parts) (fits : IsInRange o) where
       ∙ ap (λ l. below n es ++ l) (trace_from-faults o fits u n (reaches-shaped s es u reaches shaped) faults)
       ∙ append-nil (below n es)
 
-  -- the final state of a run that stops behind a stretch
+  -- the final state of a run that stops right after a stretch
   pub final_split-stops : (s : State) (es : List Stamped) (u t : State) → Reaches o s es u → IsShaped o s
       → step o u ≡ Stops t → (n : ℕ) → step_start o u < n → final_from o s n ≡ t
   final_split-stops s es u t reaches shaped stops n less =
@@ -142,7 +141,7 @@ goes-event event event' t t' e = cc
 goes-next : (event event' : Option Observed) (t t' : State) → Goes event t ≡ Goes event' t' → t ≡ t'
 goes-next event event' t t' e = cc
 
--- of two stretches from one state one is the beginning of the other
+-- of two stretches from one state, one is a prefix of the other
 pub reaches-linear : (o : Parts) (s : State) (es fs : List Stamped) (u v : State) → Reaches o s es u → Reaches o s fs v
     → ((gs : List Stamped) × (fs ≡ es ++ gs) × Reaches o u gs v)
     ⊎ ((gs : List Stamped) × (es ≡ fs ++ gs) × Reaches o v gs u)

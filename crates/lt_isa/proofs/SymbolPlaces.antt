@@ -1,4 +1,4 @@
--- Where a symbol may lie, field by field.
+-- Where a symbol may be, field by field.
 use Rattle.std.proofs.Common.{◌≡◌, ℕ, ◌+◌, ◌-◌, ◌*◌, ◌≤◌, ◌<◌, eqb, List, [], length, take, arith}
 use Rattle.std.proofs.lemmas.Bool.{eqb-true, eq-eqb, cond_both, cond-true}
 use Rattle.gr_word.specs.declared.variables.Shape.{Shape}
@@ -12,12 +12,12 @@ use Rattle.lt_isa.specs.Object.{no_bank, first_word}
 use Rattle.lt_isa.specs.Ranges.{BankFits}
 use Rattle.lt_isa.specs.SymbolPlaces.{LiesBehind, FieldsFit, last_bank, last_end, blocks_in, first_free_word, most_length}
 
--- a symbol's words are within the limit whatever its shape
+-- a symbol's words are within the limit for any shape
 pub most_words-le : (shape : Shape) → most_words shape ≤ 1048576
 most_words-le Scalar = omega arith
 most_words-le Array = omega arith
 
--- a bank's blocks are within the greatest limit
+-- a bank has no more blocks than the greatest limit
 pub most_blocks-le : (index : ℕ) → most_blocks index ≤ 65536
 most_blocks-le index = grind arith
 
@@ -28,7 +28,7 @@ blocks_in-banks banks each b lt =
     let fits = (EachBelow-from_after BankFits banks each b no_bank lt).blocks in
     (fits.0, omega (arith, fits.1, most_blocks-le (length (take b banks))))
 
--- behind the symbol before, where that is in the same bank
+-- a symbol in the bank of the symbol before it begins after that one's end
 pub apart_from : (w : ℕ) (before : List Symbol) (bank block word : ℕ) → first_free_word w before bank block ≤ word
     → bank ≡ last_bank before → last_end w before ≤ block * w + word
 unfolding first_free_word
@@ -43,7 +43,7 @@ from_apart w before bank block word apart =
     cond_both (eqb bank (last_bank before)) (last_end w before - block * w) 0 (λ n. n ≤ word)
     (λ same. omega (arith, apart (eqb-true _ _ same))) (λ _. omega arith)
 
--- a length that the shape and the bank allow
+-- a length that both the shape and the bank allow
 pub record LengthFits (w : ℕ) (banks : List BankSpec) (shape : Shape) (bank start length : ℕ) : Type 0 where
   pub of_shape : Within 1 (most_words shape) length
   pub inside : start + length ≤ blocks_in banks bank * w
@@ -65,7 +65,7 @@ pub most_length-le : (w : ℕ) (banks : List BankSpec) (shape : Shape) (bank sta
 unfolding most_length
 most_length-le w banks shape bank start = omega (arith, most_words-le shape)
 
--- a symbol lies behind others exactly where each of its fields is in its range
+-- a symbol may have its place if each of its fields is in its range
 pub lies_by_fields : (w : ℕ) (banks : List BankSpec) (before : List Symbol) (s : Symbol)
     → FieldsFit w banks before s → LiesBehind w banks before s
 lies_by_fields w banks before s fields =
@@ -80,7 +80,7 @@ lies_by_fields w banks before s fields =
       inside = size.inside;
     }
 
--- a symbol that lies behind those before it has fields in range
+-- the fields of a symbol that may have its place are in their ranges
 pub fields_of_lies : (w : ℕ) (banks : List BankSpec) (before : List Symbol) (s : Symbol)
     → LiesBehind w banks before s → FieldsFit w banks before s
 fields_of_lies w banks before s lies =

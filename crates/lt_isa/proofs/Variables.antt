@@ -1,4 +1,4 @@
--- What inputs of an object must fit are variables, and what a state holds for them fits them.
+-- What inputs of an object must fit are variables, and the words that a state holds for them fit them.
 use Rattle.std.proofs.Common.{◌≡◌, ◌≢◌, ℕ, zero, suc, ◌<◌, nat_lt, true, false, cond, ℤ, List, [], ◌∷◌, length, map, get_or, refl, sym, subst, ⊎_elim, arith}
 use Rattle.std.specs.List.{range_with_len}
 use Rattle.std.proofs.lemmas.Bool.{cases_lt}
@@ -25,7 +25,7 @@ use Rattle.gr_base.proofs.EachAfter.{EachAfter-at}
 use Rattle.lt_isa.proofs.Shapes.{IsWord-at, step-shaped, stop-shaped}
 use Rattle.lt_isa.proofs.Starts.{IsShaped-start}
 
--- each symbol's name differs from those behind it
+-- each symbol's name differs from the names of those after it
 name-new : (w : ℕ) (banks : List BankSpec) (symbols : List Symbol) → EachAfter (SymbolFits w banks) [] symbols
     → (i j : ℕ) (d : Symbol) → i < j → j < length symbols → (get_or symbols i d).name ≢ (get_or symbols j d).name
 name-new w banks symbols each i j d less within =
@@ -47,7 +47,7 @@ one_word : (shape : Shape) (n : ℕ) → Within 1 (most_words shape) n → shape
 one_word Scalar n within is = omega (arith, within.0, within.1)
 one_word Array n within is = absurd (let f : ◌≡◌ {A = Shape} Array Scalar = is in cc)
 
--- what an object wants are variables
+-- what the inputs of an object must fit are variables
 pub wants_are_variables : (o : Parts) → IsInRange o → AreVariables (wants_of o)
 wants_are_variables o fits = record {
   distinct = distinct-from o.symbols (name-new (block_words o) o.banks o.symbols fits.symbols);
@@ -57,7 +57,7 @@ wants_are_variables o fits = record {
       (EachAfter-at (SymbolFits (block_words o) o.banks) [] o.symbols fits.symbols k d within).lies.length);
 }
 
--- the words of any block of a state are words
+-- the words of any block of a state are words of the machine
 pub AreWords-block_at : (o : Parts) (s : State) → IsShaped o s → (b a : ℕ) → AreWords (block_at s b a)
 AreWords-block_at o s shaped b a =
     ⊎_elim
@@ -92,7 +92,7 @@ symbols-fit o s shaped [] = tt
 symbols-fit o s shaped (symbol ∷ symbols) =
     (length-symbol_words o s symbol, AreWords-symbol_words o s shaped symbol, symbols-fit o s shaped symbols)
 
--- what a state holds for the symbols fits them
+-- the words that a state holds for the symbols fit them
 pub outputs-fit : (o : Parts) (s : State) → IsShaped o s → FitsObject o (outputs o s)
 unfolding outputs
 outputs-fit o s shaped = symbols-fit o s shaped o.symbols
@@ -116,12 +116,12 @@ within-shaped (suc steps) o fits s shaped n =
       | false ↦ shaped
     ]
 
--- a run leaves a state of the object's shape
+-- the final state of a run has the object's shape
 pub final-shaped : (o : Parts) → IsInRange o → (s : State) → IsShaped o s → (n : ℕ) → IsShaped o (final_from o s n)
 unfolding final_from
 final-shaped o fits s shaped n = within-shaped n o fits s shaped n
 
--- what a run on fitting inputs leaves for the symbols fits them
+-- what a run on inputs that fit leaves for the symbols fits them
 pub final_outputs-fit : (o : Parts) → IsInRange o → (inputs : List (List ℤ)) → FitsObject o inputs → (n : ℕ)
     → FitsObject o (outputs o (final o inputs n))
 final_outputs-fit o fits inputs given n =

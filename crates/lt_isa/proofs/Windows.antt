@@ -1,4 +1,4 @@
--- The start of an access, worked out, is the least cycle at which the window is open; and how long it waits.
+-- The computed start of an access is the first cycle at which the window is open; and how long an access waits.
 use Rattle.std.proofs.Common.{◌≡◌, ℕ, ◌+◌, ◌-◌, ◌*◌, ◌%◌, ◌/◌, ◌<◌, ◌≤◌, suc, false, cond, refl, sym, subst, ap, ◌∙◌, ◌⊎◌, inl, inr, ⊎_elim, arith, lt-ltb, le-ltb}
 use Rattle.std.specs.Prelude.{IsTrue, ◌↔◌}
 use Rattle.std.proofs.lemmas.Bool.{cases_lt, eqb-true, eq-eqb}
@@ -12,7 +12,7 @@ use Rattle.lt_isa.specs.Limits.{most_period}
 use Rattle.lt_isa.specs.Ranges.{ProfileFits}
 use Rattle.lt_isa.specs.Windows.{IsOpen, IsAccessStart, HasUnitPeriod, access_start, has_unit_period, most_wait}
 
--- where it comes before the window closes in this period, and where it comes later
+-- an access that is reached before the window closes in this period, and one that is reached later
 start-early : (p : Profile) (cycle : ℕ) → cycle % p.period < p.closes
     → access_start p cycle ≡ cycle + (p.opens - cycle % p.period)
 unfolding access_start
@@ -25,17 +25,17 @@ unfolding access_start
 start-late p cycle late =
     ap (λ b. cycle + cond b (p.opens - cycle % p.period) ((p.opens + p.period) - cycle % p.period)) (le-ltb _ _ late)
 
--- it never starts before the machine comes to it
+-- an access never starts before the machine reaches it
 pub access_start-least : (p : Profile) (cycle : ℕ) → cycle ≤ access_start p cycle
 unfolding access_start
 access_start-least p cycle = omega arith
 
--- the whole periods before a later one end where that one begins, or before
+-- a period ends no later than a later one begins
 pub periods : (width q r : ℕ) → q < r → q * width + width ≤ r * width
 periods width q r less = omega (arith, mul-le-mul_right {m = suc q} {n = r} width less, suc-mul q width)
 
 module _ (p : Profile) (fits : ProfileFits p) where
-  -- nor does it wait longer than the window isn't open
+  -- an access waits at most as many cycles as the window is closed in a period
   pub access_start-most : (cycle : ℕ) → access_start p cycle ≤ cycle + most_wait p
   access_start-most cycle =
       ⊎_elim
@@ -51,7 +51,7 @@ module _ (p : Profile) (fits : ProfileFits p) where
         unclosed = subst (λ n. n < p.closes) (sym same) unclosed;
       }
 
-  -- a cycle is so many whole periods and a part of one
+  -- a cycle is a number of whole periods and a part of one
   parts-of : (cycle : ℕ) → (cycle / p.period) * p.period + cycle % p.period ≡ cycle
   parts-of cycle = div-add-mod' cycle p.period
 
@@ -118,7 +118,7 @@ module _ (p : Profile) (fits : ProfileFits p) where
       (cases_lt q r))
       (cases_lt r q)
 
-  -- the computing form finds the first cycle of a window
+  -- the computing form finds the first cycle of the window
   pub access_start-is : (cycle : ℕ) → IsAccessStart p cycle (access_start p cycle)
   access_start-is cycle = record {
     not_before = access_start-least p cycle;
@@ -126,7 +126,7 @@ module _ (p : Profile) (fits : ProfileFits p) where
     least = access_start-first cycle;
   }
 
-  -- and it is the only such cycle
+  -- the computing form finds the only such cycle
   pub access_start-only : (cycle start : ℕ) → IsAccessStart p cycle start → start ≡ access_start p cycle
   access_start-only cycle start is =
       omega (
@@ -135,13 +135,13 @@ module _ (p : Profile) (fits : ProfileFits p) where
         access_start-first cycle start is.not_before is.in_window,
       )
 
--- memory that is always open isn't waited for
+-- no access waits if memory is always open
 pub access_start-at_once : (p : Profile) → HasUnitPeriod p → (cycle : ℕ) → access_start p cycle ≡ cycle
 access_start-at_once p whole cycle =
     let below : cycle % p.period < p.period = mod_below cycle p.period (omega (arith, whole.period)) in
     omega (arith, start-early p cycle (omega (arith, below, whole.period, whole.closes)), whole.opens)
 
--- and a period of one cycle leaves no other window
+-- among profiles in range, those with a period of one cycle are always open
 pub always_open : (p : Profile) → ProfileFits p → IsTrue (has_unit_period p) ↔ HasUnitPeriod p
 always_open p fits = (to, λ whole. eq-eqb _ _ whole.period)
   where
@@ -166,7 +166,7 @@ by_window p fits =
     (λ short. inl ((always_open p fits).0 (eq-eqb _ _ (omega (arith, short, fits.period)))))
     (cases_lt 1 p.period)
 
--- a period of two or more is a window
+-- a period of two or more cycles isn't the unit period
 pub windowed : (p : Profile) → 2 ≤ p.period → has_unit_period p ≡ false
 windowed p longer =
     ⊎_elim (λ same. absurd (omega (arith, same.1, longer))) (λ other. other.0) (eqb_tells p.period 1)
@@ -175,14 +175,14 @@ windowed p longer =
 abbrev pub opened : Profile → Profile
 opened p = record p { period = 1; opens = 0; closes = 1 }
 
--- a profile that is always open is its own open form
+-- a profile that is always open is equal to its form with memory that is always open
 pub opened-is : (p : Profile) → HasUnitPeriod p → opened p ≡ p
 opened-is p whole =
     ap (λ n. record p { period = n; opens = 0; closes = 1 }) (sym whole.period)
     ∙ ap (λ n. record p { opens = n; closes = 1 }) (sym whole.opens)
     ∙ ap (λ n. record p { closes = n }) (sym whole.closes)
 
--- a profile that is another one but for its window, and that window
+-- a profile that differs from another one only in its window, which is in range
 pub record IsWindowed (before p : Profile) : Type 0 where
   pub is : p ≡ record before { period = p.period; opens = p.opens; closes = p.closes }
   pub period : Within 2 most_period p.period

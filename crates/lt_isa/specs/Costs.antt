@@ -8,7 +8,7 @@ use Rattle.lt_isa.specs.declared.instructions.Instr.TheVariants.{Nop, Halt, Li, 
 use Rattle.lt_isa.specs.Object.{Parts, latency_of}
 use Rattle.lt_isa.specs.Windows.{most_wait}
 
--- a product, a quotient and a remainder cost mul, every other operation alu
+-- a product, a quotient and a remainder cost mul; every other operation costs alu
 abbrev pub operation_cost : Profile → Op → ℕ
 operation_cost p Add = p.alu
 operation_cost p Sub = p.alu
@@ -22,8 +22,8 @@ operation_cost p Xor = p.alu
 operation_cost p Shl = p.alu
 operation_cost p Shr = p.alu
 
--- What an instruction costs. Whether it was taken matters for a branch alone, the bank accessed for the loads and
--- stores of a block alone.
+-- What an instruction costs. Whether it was taken matters only for a branch; the bank that is accessed matters only for
+-- loads and stores of a block.
 abbrev pub cost_of : Parts → Instr → Bool → ℕ → ℕ
 cost_of o Nop taken bank = 1
 cost_of o Halt taken bank = 1
@@ -37,7 +37,7 @@ cost_of o (Stw rs k ro) taken bank = o.profile.word
 cost_of o (Jmp offset) taken bank = o.profile.taken
 cost_of o (Br cmp ra rb offset) taken bank = if taken then o.profile.taken else 1
 
--- the most that an instruction costs, wherever and whenever it runs: a load or a store of a block may wait before it
+-- the most that an instruction costs, wherever and whenever it runs: a load or a store of a block may also wait
 abbrev pub greatest_cost : Parts → Instr → ℕ
 greatest_cost o Nop = cost_of o Nop true 0
 greatest_cost o Halt = cost_of o Halt true 0

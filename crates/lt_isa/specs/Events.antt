@@ -1,4 +1,4 @@
--- What an event of the code says is observed. (Traces are those of the GhostRider paper, in this project's profile.)
+-- What an observer sees of an event of the code. (Traces are those of the GhostRider paper, in this project's profile.)
 use Rattle.lt_isa.specs.declared.events.Event.{Event}
 use Rattle.lt_isa.specs.declared.events.Event.TheVariants as event
 use Rattle.lt_isa.specs.Machine.{Observed, RamRead, RamWrite, EncRead, EncWrite, Oram, Halted}

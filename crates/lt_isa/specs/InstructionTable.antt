@@ -1,5 +1,5 @@
--- The table of instructions: what an opcode and a mnemonic name, and what the operand fields behind it hold (this
--- project's profile; GhostRider, ASPLOS 2015, has the instructions).
+-- The table of instructions: what an opcode and a mnemonic name, and what the operand fields after it hold.
+-- (GhostRider, ASPLOS 2015, has the instructions; opcodes, mnemonics and fields are this project's profile.)
 use Rattle.std.specs.Prelude.{ℕ, ◌-◌, ◌^◌, ◌==◌, Bool, true, false, if◌then◌else◌, ℤ, pos, List, [], ◌∷◌, ◌++◌, Option, map, find, codes}
 use Rattle.gr_word.specs.declared.operations.Op.{Op}
 use Rattle.gr_word.specs.declared.operations.Op.TheVariants.{Add, Sub, Mul, Div, Rem, Remu, And, Or, Xor, Shl, Shr}
@@ -99,7 +99,7 @@ mnemonic_of Jmp = codes "jmp"
 mnemonic_of (Alu op) = op_word op
 mnemonic_of (Br cmp) = codes "br"
 
--- what the fields a, b and c hold, and whether there is an offset and a constant
+-- what the fields a, b and c hold, in an instruction that has neither an offset nor a constant
 abbrev pub small_operands : Operand → Operand → Operand → Format
 small_operands a b c = record { a = a; b = b; c = c; offset = false; constant = false }
 
@@ -116,14 +116,14 @@ format_of Jmp = record (small_operands Unused Unused Unused) { offset = true }
 format_of (Alu op) = small_operands Register Register Register
 format_of (Br cmp) = record (small_operands Register Register Unused) { offset = true }
 
--- the most that a field may be, where there are so many banks: a field that isn't used is 0
+-- the greatest value of a field, in an object with this number of banks: a field that isn't used is 0
 abbrev pub most_operand : ℕ → Operand → ℕ
 most_operand banks Unused = 0
 most_operand banks Register = 31
 most_operand banks Slot = 7
 most_operand banks Bank = banks - 1
 
--- the most that a field of so many bits may be, where it is used
+-- the greatest value of a field of this many bits, if it is used, and 0 otherwise
 abbrev pub most_bits : ℕ → Bool → ℕ
 most_bits bits used = if used then 2 ^ bits - 1 else 0
 
@@ -166,7 +166,7 @@ operands_of (instr.Stw rs k ro) = operand_numbers rs k ro
 operands_of (instr.Jmp offset) = record (operand_numbers 0 0 0) { offset = offset }
 operands_of (instr.Br cmp ra rb offset) = record (operand_numbers ra rb 0) { offset = offset }
 
--- an instruction of a kind, with the operands that it uses
+-- the instruction of a kind with these operands, of which it takes those that it uses
 abbrev pub instruction_of : Kind → Operands → Instr
 instruction_of Nop x = instr.Nop
 instruction_of Halt x = instr.Halt
@@ -180,6 +180,6 @@ instruction_of Jmp x = instr.Jmp x.offset
 instruction_of (Alu op) x = instr.Alu op x.a x.b x.c
 instruction_of (Br cmp) x = instr.Br cmp x.a x.b x.offset
 
--- an instruction with another offset, where it has one
+-- an instruction with another offset, if it has one
 abbrev pub with_offset : ℤ → Instr → Instr
 with_offset offset i = instruction_of (kind_of i) (record (operands_of i) { offset = offset })

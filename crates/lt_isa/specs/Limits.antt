@@ -3,18 +3,18 @@ use Rattle.std.specs.Prelude.{ℕ, if◌then◌else◌, nat_lt}
 use Rattle.gr_word.specs.declared.variables.Shape.{Shape}
 use Rattle.gr_word.specs.declared.variables.Shape.TheVariants.{Scalar, Array}
 
--- the base-2 logarithm of the words of a block
+-- the base-2 logarithm of a block's number of words
 abbrev pub least_block_log : ℕ
 least_block_log = 3
 
 abbrev pub most_block_log : ℕ
 most_block_log = 9
 
--- of an operation, and of a word that is read or written in the scratchpad, in cycles
+-- of an operation, and of reading or writing a word of the scratchpad, in cycles
 abbrev pub most_cycles : ℕ
 most_cycles = 127
 
--- of a jump, and of a branch that is taken, in cycles
+-- of a jump, and of a taken branch, in cycles
 abbrev pub most_taken : ℕ
 most_taken = 32
 
@@ -38,15 +38,15 @@ most_notes = 262144
 abbrev pub most_instructions : ℕ
 most_instructions = 1048576
 
--- of a bank, in cycles
+-- of an access to a bank, in cycles
 abbrev pub most_latency : ℕ
 most_latency = 1000000
 
--- of a window, in cycles
+-- of the period in which memory opens and closes once, in cycles
 abbrev pub most_period : ℕ
 most_period = 1000000
 
--- the most blocks of a bank that stands behind so many banks: the first two are plain and encrypted memory
+-- the most blocks of the bank with this number: the first two banks are plain and encrypted memory
 abbrev pub most_blocks : ℕ → ℕ
 most_blocks index = if nat_lt index 2 then 65536 else 4096
 

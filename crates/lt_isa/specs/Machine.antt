@@ -4,12 +4,12 @@
 use Rattle.std.specs.Prelude.{ℕ, if◌then◌else◌, ℤ, pos, List, [], slice_index_or, slice_set}
 use Rattle.lt_isa.specs.Object.{is_ram, is_eram}
 
--- a slot of the scratchpad: unbound, or bound to a block of a bank, of which it holds words
+-- a slot of the scratchpad: unbound, or bound to a block of a bank, with the words that it holds for that block
 pub data Slot : Type 0 where
   Unbound : Slot
   Bound : (bank block : ℕ) (words : List ℤ) → Slot
 
--- the block that a slot is bound to, and the words that it holds; block 0 and no words where it is unbound
+-- the block to which a slot is bound, and the words that it holds; block 0 and no words if the slot is unbound
 abbrev pub slot_block : Slot → ℕ
 slot_block Unbound = 0
 slot_block (Bound bank block words) = block
@@ -39,7 +39,7 @@ bank_blocks s b = slice_index_or s.banks b []
 abbrev pub block_at : State → ℕ → ℕ → List ℤ
 block_at s b a = slice_index_or (bank_blocks s b) a []
 
--- the word at i of a block, and the block with another word there
+-- word number i of a block
 abbrev pub word_in : List ℤ → ℕ → ℤ
 word_in words i = slice_index_or words i (pos 0)
 
@@ -53,8 +53,8 @@ set_slot s k bound = record s { slots = slice_set s.slots k bound }
 abbrev pub set_block : State → ℕ → ℕ → List ℤ → State
 set_block s b a words = record s { banks = slice_set s.banks b (slice_set (bank_blocks s b) a words) }
 
--- What the observer sees of an access: of plain memory the block's number and its words, of encrypted memory the
--- block's number, of an oblivious bank its name alone; and the halt.
+-- What the observer sees: of an access to plain memory the block's number and its words, to encrypted memory the
+-- block's number, to an oblivious bank only the bank's number; and the halt.
 pub data Observed : Type 0 where
   RamRead : (block : ℕ) (words : List ℤ) → Observed
   RamWrite : (block : ℕ) (words : List ℤ) → Observed

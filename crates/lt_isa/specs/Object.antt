@@ -1,4 +1,4 @@
--- Objects: what the machine runs. (GhostRider, ASPLOS 2015: the target language L_T; sizes and cycles are this
+-- Objects, which the machine runs. (GhostRider, ASPLOS 2015: the target language L_T; sizes and cycles are this
 -- project's profile.)
 use Rattle.std.specs.Prelude.{ℕ, ◌+◌, ◌*◌, ◌^◌, Bool, ◌==◌, if◌then◌else◌, List, slice_index_or}
 use Rattle.lt_isa.specs.declared.profiles.Profile.{Profile}
@@ -26,11 +26,11 @@ usual_profile block_log =
 abbrev pub usual_latencies : Latencies
 usual_latencies = record { ram = 634; eram = 662; oram = 4262 }
 
--- how many words a block has
+-- the number of words of a block
 abbrev pub block_words : Parts → ℕ
 block_words o = 2 ^ o.profile.block_log
 
--- what stands for a bank that an object lacks
+-- used instead of a bank that an object lacks
 abbrev pub no_bank : BankSpec
 no_bank = record { blocks = 0; latency = 0 }
 
@@ -51,7 +51,8 @@ is_eram b = b == 1
 abbrev pub bank_kind : ℕ → BankKind
 bank_kind b = if is_ram b then Plain else (if is_eram b then Encrypted else Oblivious)
 
--- the number of a symbol's first word in its bank, where a block has w words, and the number behind its last
+-- the number of a symbol's first word in its bank, if a block has w words, and the number of the word after its last
+-- one
 abbrev pub first_word : ℕ → Symbol → ℕ
 first_word w s = s.block * w + s.word
 

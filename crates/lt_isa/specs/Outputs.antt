@@ -5,7 +5,7 @@ use Rattle.lt_isa.specs.declared.symbols.Symbol.{Symbol}
 use Rattle.lt_isa.specs.Object.{Parts, block_words, first_word}
 use Rattle.lt_isa.specs.Machine.{State, block_at, word_in}
 
--- word number i of bank b, where a block has w words
+-- word number i of bank b, if a block has w words
 abbrev pub bank_word_numbered : ℕ → State → ℕ → ℕ → ℤ
 bank_word_numbered w s b i = word_in (block_at s b (i / w)) (i % w)
 

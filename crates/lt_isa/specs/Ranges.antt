@@ -33,25 +33,26 @@ pub record BankFits (before : List BankSpec) (b : BankSpec) : Type 0 where
 abbrev pub total_length : List Symbol → ℕ
 total_length symbols = sum_by (λ s. s.length) symbols
 
--- A symbol's name is new, it lies behind those before it, and the words of all symbols aren't too many.
+-- A symbol's name is new, its place is after those of the symbols before it, and all symbols together have no more
+-- words than the limit.
 pub record SymbolFits (w : ℕ) (banks : List BankSpec) (before : List Symbol) (s : Symbol) : Type 0 where
   pub name : IsTrue (is_name s.name)
   pub new : All (λ t. t.name ≢ s.name) before
   pub lies : LiesBehind w banks before s
   pub total : total_length before + s.length ≤ most_symbol_words
 
--- the first place behind some notes
+-- the first place after those of some notes
 abbrev pub next_place : List Note → ℕ
 next_place notes = at_last (λ n. n.pc + 1) notes
 
--- what a note says of a slot: a bank's number, or 255 for any
+-- a note's claim about a slot: a bank's number, or 255 for any bank or none
 abbrev pub any_bank : ℕ
 any_bank = 255
 
 abbrev pub is_slot_claim : ℕ → ℕ → Bool
 is_slot_claim banks claim = nat_lt claim banks || (claim == any_bank)
 
--- notes rise in place
+-- notes are in rising order of place
 pub record NoteFits (banks : ℕ) (before : List Note) (n : Note) : Type 0 where
   pub pc : Within (next_place before) (2 ^ 32 - 1) n.pc
   pub secrets : n.secrets < 2 ^ 32
@@ -68,7 +69,7 @@ IsSlot k = k < 8
 abbrev pub IsOffset : ℤ → Type 0
 IsOffset offset = FitsSigned w32 offset
 
--- the operands of an instruction, where there are so many banks
+-- the ranges of an instruction's operands, in an object with this number of banks
 abbrev pub InstrFits : ℕ → Instr → Type 0
 InstrFits banks Nop = Unit {0}
 InstrFits banks Halt = Unit {0}

@@ -1,6 +1,6 @@
--- What runs show and leave, said without counting steps: in two sentences each, one for a cycle that isn't above the
--- start of the next step, and one for a cycle that is.
--- (Traces are those of the GhostRider paper, in this project's profile.)
+-- What runs show and leave, as relations that don't count steps. Each relation has two clauses: one for a cycle that
+-- isn't above the start of the next step, and one for a cycle that is. (Traces are those of the GhostRider paper, in
+-- this project's profile.)
 use Rattle.std.specs.Prelude.{◌≡◌, ℕ, ◌<◌, ◌≤◌, ℤ, List, []}
 use Rattle.lt_isa.specs.Object.{Parts}
 use Rattle.lt_isa.specs.Machine.{State}
@@ -9,15 +9,15 @@ use Rattle.lt_isa.specs.Step.{step, step_start}
 use Rattle.lt_isa.specs.Trace.{Stamped, shown_then, left_then, HaltsAt}
 use Rattle.lt_isa.specs.Start.{trace}
 
--- The events below cycle n: none where the next step starts at n or later; else what it shows, followed by those from
--- the state behind it.
+-- The events below cycle n. There are none if the next step starts at n or later. Otherwise they are what that step
+-- shows, followed by the events from the state after it.
 pub record AreTraces (o : Parts) (events : State → ℕ → List Stamped) : Type 0 where
   pub past : (s : State) (n : ℕ) → n ≤ step_start o s → events s n ≡ []
   pub more : (s : State) (n : ℕ) → IsShaped o s → step_start o s < n
       → events s n ≡ shown_then (step_start o s) (step o s) (λ t. events t n)
 
--- The state that is left at cycle n: the same where the next step starts at n or later; else what is left of the state
--- behind that step.
+-- The state that is left at cycle n. It is the same state if the next step starts at n or later. Otherwise it is what
+-- is left from the state after that step.
 pub record AreFinals (o : Parts) (left : State → ℕ → State) : Type 0 where
   pub past : (s : State) (n : ℕ) → n ≤ step_start o s → left s n ≡ s
   pub more : (s : State) (n : ℕ) → IsShaped o s → step_start o s < n

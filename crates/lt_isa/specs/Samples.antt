@@ -1,4 +1,4 @@
--- A sample of objects with a secret: the only variable is a secret scalar. (This project's profile.)
+-- Objects with a secret, as an example: the only variable is a secret scalar. (This project's profile.)
 use Rattle.std.specs.Prelude.{◌≡◌, ℤ, List, [], ◌∷◌}
 use Rattle.gr_word.specs.declared.variables.Label.TheVariants.{Secret}
 use Rattle.lt_isa.specs.declared.symbols.Symbol.{Symbol}

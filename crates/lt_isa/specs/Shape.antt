@@ -1,11 +1,11 @@
--- What every state of a run is like: as many registers and slots as the machine has, words in them and in the banks,
--- and banks, blocks and bound slots of the object's sizes. (This project's profile.)
+-- What every state of a run has: the machine's numbers of registers and slots, words in registers, slots and banks, and
+-- banks, blocks and bound slots of the object's sizes. (This project's profile.)
 use Rattle.std.specs.Prelude.{◌≡◌, ℕ, ◌<◌, ℤ, List, length, All}
 use Rattle.gr_word.specs.Fitting.{AreWords}
 use Rattle.lt_isa.specs.Object.{Parts, block_words, blocks_of}
 use Rattle.lt_isa.specs.Machine.{Slot, Unbound, Bound, State, bank_blocks, block_at}
 
--- a block: so many words
+-- a block's words, as many as the profile gives a block
 pub record IsBlock (o : Parts) (words : List ℤ) : Type 0 where
   pub size : length words ≡ block_words o
   pub all_words : AreWords words

@@ -9,7 +9,7 @@ use Rattle.lt_isa.specs.Object.{Parts, block_words, blocks_of, first_word, end_w
 use Rattle.lt_isa.specs.Machine.{State, Unbound}
 use Rattle.lt_isa.specs.Trace.{Stamped, trace_from, final_from}
 
--- what the inputs of an object must fit: its symbols
+-- what the inputs of an object must fit: one variable for each symbol
 abbrev pub want_of : Symbol → Want
 want_of s = record { name = s.name; label = s.label; shape = s.shape; length = s.length }
 
@@ -19,11 +19,11 @@ wants_of o = map want_of o.symbols
 abbrev pub FitsObject : Parts → List (List ℤ) → Type 0
 FitsObject o inputs = FitsWants (wants_of o) inputs
 
--- the symbol takes word number i of bank b, where a block has w words
+-- the symbol takes word number i of bank b, if a block has w words
 abbrev pub covers : ℕ → Symbol → ℕ → ℕ → Bool
 covers w s b i = (s.bank == b) && (nat_le (first_word w s) i && nat_lt i (end_word w s))
 
--- word number i of bank b at the start: that of the symbol that takes it, and 0 where none does
+-- word number i of bank b at the start: the word of the symbol that takes it, or 0 if no symbol does
 unfoldable pub start_word : ℕ → List Symbol → List (List ℤ) → ℕ → ℕ → ℤ
 start_word w [] inputs b i = pos 0
 start_word w (s ∷ symbols) [] b i = pos 0
@@ -41,7 +41,7 @@ start_bank o inputs b = map (start_block o inputs b) (range_with_len 0 (blocks_o
 unfoldable pub start_banks : Parts → List (List ℤ) → List (List (List ℤ))
 start_banks o inputs = map (start_bank o inputs) (range_with_len 0 (length o.banks))
 
--- the first instruction, cycle 0, registers 0, slots unbound, and the inputs at their places
+-- place 0, cycle 0, registers 0, slots unbound, and the inputs at their places
 unfoldable pub start_state : Parts → List (List ℤ) → State
 start_state o inputs = record {
   registers = replicate 32 (pos 0);
@@ -51,7 +51,7 @@ start_state o inputs = record {
   cycle = 0;
 }
 
--- the trace of a run on inputs, and the state that it leaves
+-- the trace of a run on inputs, and the state that the run leaves
 abbrev pub trace : Parts → List (List ℤ) → ℕ → List Stamped
 trace o inputs n = trace_from o (start_state o inputs) n
 

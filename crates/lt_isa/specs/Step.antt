@@ -1,5 +1,5 @@
--- One step of the machine.
--- (GhostRider, ASPLOS 2015: the semantics of L_T; the cycle at which a step starts is part of what is seen.)
+-- One step of the machine. (GhostRider, ASPLOS 2015: the semantics of L_T. In this project the observer also sees the
+-- cycle at which a step starts.)
 use Rattle.std.specs.Prelude.{ℕ, ◌+◌, ◌-◌, ◌%◌, Bool, true, false, if◌then◌else◌, nat_lt, ℤ, pos, negsuc, List, length, slice_set, slice_get, Option, Some, None}
 use Rattle.gr_word.specs.Words.{applied, compared, unsigned_of}
 use Rattle.lt_isa.specs.declared.profiles.Profile.{Profile}
@@ -10,46 +10,47 @@ use Rattle.lt_isa.specs.Machine.{Slot, Unbound, Bound, State, Observed, register
 use Rattle.lt_isa.specs.Costs.{cost_of}
 use Rattle.lt_isa.specs.Windows.{access_start}
 
--- A step goes on to a state and shows at most one event; it stops the run, and shows the halt; or it is a fault.
+-- A step leads to a state and shows at most one event; or it stops the run and shows the halt; or it is a fault.
 pub data StepResult : Type 0 where
   Goes : (event : Option Observed) (next : State) → StepResult
   Stops : (last : State) → StepResult
   Faults : StepResult
 
--- the cycle at which an instruction starts: only a load or a store of a block may wait
+-- the cycle at which an instruction starts if the machine reaches it at a cycle: only a load or a store of a block may
+-- wait
 abbrev pub start_of : Profile → Instr → ℕ → ℕ
 start_of profile (Ldb k b r) cycle = access_start profile cycle
 start_of profile (Stb k) cycle = access_start profile cycle
 start_of profile i cycle = cycle
 
--- The place that an offset leads to. Both sides of the code are outside it, so a place before the code is read as the
--- one behind it.
+-- The place to which an offset leads. Every place outside the code is a fault, so a target before the code is
+-- represented by the place after its end.
 abbrev pub target_of : Parts → ℕ → ℤ → ℕ
 target_of o place (pos n) = place + n
 target_of o place (negsuc n) = if nat_lt n place then place - (n + 1) else length o.code
 
--- the state behind an instruction: another place, and the cycle at which it ends
+-- the state after an instruction: at another place, and at the cycle at which the instruction ends
 abbrev pub passed : Parts → Instr → Bool → ℕ → ℕ → State → State
 passed o i taken bank place s =
     record s { place = place; cycle = start_of o.profile i s.cycle + cost_of o i taken bank }
 
--- the next place, where no block was accessed
+-- the state at the next place, if no block was accessed
 abbrev pub went_on : Parts → Instr → State → State
 went_on o i s = passed o i false 0 (s.place + 1) s
 
--- what is done with a slot that must be bound
+-- an action on a slot that must be bound
 abbrev pub with_bound : Slot → (ℕ → ℕ → List ℤ → StepResult) → StepResult
 with_bound Unbound act = Faults
 with_bound (Bound bank block words) act = act bank block words
 
--- the block that a register names in a bank, and the word that it names in a block
+-- the number of the block that a word names in a bank, and of the word that it names in a block
 abbrev pub block_named : Parts → ℕ → ℤ → ℕ
 block_named o b word = unsigned_of word % blocks_of o b
 
 abbrev pub word_named : Parts → ℤ → ℕ
 word_named o word = unsigned_of word % block_words o
 
--- block a of bank b is bound to slot k
+-- block a of bank b is loaded into slot k
 abbrev pub loaded : State → ℕ → ℕ → ℕ → State
 loaded s k b a = set_slot s k (Bound b a (block_at s b a))
 

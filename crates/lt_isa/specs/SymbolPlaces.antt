@@ -1,4 +1,4 @@
--- Where a symbol may lie behind others, and how long it may be (this project's profile).
+-- Where a symbol may be after others, and how long it may be (this project's profile).
 use Rattle.std.specs.Prelude.{◌≡◌, ℕ, ◌-◌, ◌*◌, ◌<◌, ◌≤◌, min, ◌==◌, if◌then◌else◌, List, length, slice_index_or}
 use Rattle.gr_word.specs.declared.variables.Shape.{Shape}
 use Rattle.gr_base.specs.Lists.{Within, at_last}
@@ -7,19 +7,19 @@ use Rattle.lt_isa.specs.declared.symbols.Symbol.{Symbol}
 use Rattle.lt_isa.specs.Object.{no_bank, first_word, end_word}
 use Rattle.lt_isa.specs.Limits.{most_words}
 
--- the bank of the last of some symbols, and the number of the first word that is free behind it
+-- the bank of the last of some symbols, and the number of the first free word after it
 abbrev pub last_bank : List Symbol → ℕ
 last_bank symbols = at_last (λ s. s.bank) symbols
 
 abbrev pub last_end : ℕ → List Symbol → ℕ
 last_end w symbols = at_last (end_word w) symbols
 
--- the blocks of bank b of some banks
+-- the number of blocks of bank b
 abbrev pub blocks_in : List BankSpec → ℕ → ℕ
 blocks_in banks b = (slice_index_or banks b no_bank).blocks
 
--- A symbol lies where it may: symbols stand in order of bank and place and don't overlap, and a symbol lies within its
--- bank, where a block has w words.
+-- A symbol may have its place: symbols are in order of bank and place and don't overlap, and a symbol is within its
+-- bank, if a block has w words.
 pub record LiesBehind (w : ℕ) (banks : List BankSpec) (before : List Symbol) (s : Symbol) : Type 0 where
   pub order : last_bank before ≤ s.bank
   pub bank : s.bank < length banks
@@ -29,15 +29,15 @@ pub record LiesBehind (w : ℕ) (banks : List BankSpec) (before : List Symbol) (
   pub length : Within 1 (most_words s.shape) s.length
   pub inside : end_word w s ≤ blocks_in banks s.bank * w
 
--- the first word of a block that is free behind some symbols, where a block has w words
+-- the first word of a block that is free after some symbols, if a block has w words
 unfoldable pub first_free_word : ℕ → List Symbol → ℕ → ℕ → ℕ
 first_free_word w before bank block = if bank == last_bank before then last_end w before - block * w else 0
 
--- the most words of a symbol from word number `start` of a bank on
+-- the most words of a symbol that begins at word number `start` of a bank
 unfoldable pub most_length : ℕ → List BankSpec → Shape → ℕ → ℕ → ℕ
 most_length w banks shape bank start = min (most_words shape) (blocks_in banks bank * w - start)
 
--- the same field by field: each is in a range that those before it give
+-- a symbol may have its place, field by field: each field is in a range that the fields before it determine
 pub record FieldsFit (w : ℕ) (banks : List BankSpec) (before : List Symbol) (s : Symbol) : Type 0 where
   pub order : last_bank before ≤ s.bank
   pub bank : s.bank < length banks

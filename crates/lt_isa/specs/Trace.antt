@@ -13,24 +13,24 @@ pub record Stamped : Type 0 where
 abbrev pub seen_at : ℕ → Observed → Stamped
 seen_at at event = record { stamp = at; event = event }
 
--- what a step shows that may show an event
+-- the event of a step, with its stamp, if the step shows one
 abbrev pub stamped : ℕ → Option Observed → List Stamped
 stamped at None = []
 stamped at (Some event) = seen_at at event ∷ []
 
--- what a step shows, followed by what is shown from the state behind it
+-- what a step shows, followed by what is shown from the state after it
 abbrev pub shown_then : ℕ → StepResult → (State → List Stamped) → List Stamped
 shown_then at (Goes event next) rest = stamped at event ++ rest next
 shown_then at (Stops last) rest = stamped at (Some Halted)
 shown_then at Faults rest = []
 
--- the state behind a step, or what comes of that state; a fault changes nothing
+-- the state after a step, or what is left from there; a fault changes nothing
 abbrev pub left_then : State → StepResult → (State → State) → State
 left_then s (Goes event next) rest = rest next
 left_then s (Stops last) rest = last
 left_then s Faults rest = s
 
--- the events of the steps from a state that start below cycle n, by at most that many steps, and the state they leave
+-- the events of the steps from a state that start below cycle n, in at most this many steps, and the state they leave
 unfoldable pub trace_within : ℕ → Parts → State → ℕ → List Stamped
 trace_within zero o s n = []
 trace_within (suc steps) o s n =
@@ -41,7 +41,7 @@ final_within zero o s n = s
 final_within (suc steps) o s n =
     if nat_lt (step_start o s) n then left_then s (step o s) (λ t. final_within steps o t n) else s
 
--- Each step takes a cycle at least, so n steps are enough for all that start below cycle n.
+-- Each step takes at least one cycle, so n steps are enough for all that start below cycle n.
 unfoldable pub trace_from : Parts → State → ℕ → List Stamped
 trace_from o s n = trace_within n o s n
 
@@ -52,7 +52,7 @@ final_from o s n = final_within n o s n
 abbrev pub HaltsAt : List Stamped → ℕ → Type 0
 HaltsAt events at = Contains events (seen_at at Halted)
 
--- some steps that show these events lead from one state to another
+-- some steps lead from one state to another and show these events
 pub data Reaches (o : Parts) : State → List Stamped → State → Type 0 where
   Here : (s : State) → Reaches o s [] s
   Then : (s : State) (event : Option Observed) (t : State) (events : List Stamped) (u : State)

@@ -10,8 +10,8 @@ use crate::objects::Object;
 use crate::profiles::Profile;
 use gr_word::Op;
 
-/// The cycles that an instruction takes. `taken` matters for a branch alone, `bank` for the loads and stores of a
-/// block alone: it is the bank that they access.
+/// The cycles that an instruction takes. `taken` matters only for a branch. `bank` matters only for a load or a store
+/// of a block: it is the bank that the instruction accesses.
 pub fn latency(object: &Object, instruction: &Instr, taken: bool, bank: u8) -> u32
     requires { bank < length object.now.banks }
     ensures { result ≡ cost_of object.now instruction.now taken bank }
@@ -36,8 +36,8 @@ fn operation_cost(profile: &Profile, op: Op) -> u8
     }
 }
 
-/// The cycle at which an instruction starts that the machine comes to at a cycle: a load or a store of a block waits
-/// for the window, and every other one starts at once.
+/// The cycle at which an instruction starts if the machine reaches it at `cycle`. A load or a store of a block waits
+/// for the window; every other instruction starts at once.
 pub fn start_of(object: &Object, instruction: &Instr, cycle: u64) -> u64
     requires { cycle < 2 ^ 63 }
     ensures start { result ≡ start_of object.now.profile instruction.now cycle }
@@ -48,8 +48,8 @@ pub fn start_of(object: &Object, instruction: &Instr, cycle: u64) -> u64
     }
 }
 
-/// The cycle at which a load or a store of a block starts that the machine comes to at a cycle: the least from there on
-/// at which the window of the object is open.
+/// The cycle at which a load or a store of a block starts if the machine reaches it at `cycle`: the first cycle from
+/// there on at which the object's window is open.
 #[tactic(auto, unfolding(crate::specs::Windows::access_start))]
 pub fn access_start(object: &Object, cycle: u64) -> u64
     requires { cycle < 2 ^ 63 }
@@ -61,7 +61,7 @@ pub fn access_start(object: &Object, cycle: u64) -> u64
     cycle + u64::from(wait_from(profile, into as u32))
 }
 
-// How long it is waited from a cycle of the period.
+// How long an access waits if the machine reaches it `into` cycles after the start of a period.
 fn wait_from(profile: &Profile, into: u32) -> u32
     requires in_range { ProfileFits profile.now }
     requires of_period { into < profile.now.period }

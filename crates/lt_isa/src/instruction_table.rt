@@ -41,7 +41,7 @@ pub const OPERATIONS: [Op; 11] = [
 /// All comparisons, in the order of their opcodes.
 pub const COMPARISONS: [Cmp; 6] = [Cmp::Eq, Cmp::Ne, Cmp::Lt, Cmp::Le, Cmp::Gt, Cmp::Ge];
 
-/// An instruction without its operands: what an opcode names.
+/// An instruction without its operands: an opcode names one kind.
 #[derive(Clone, Copy, Debug, PartialEq, Eq)]
 pub enum Kind {
     Nop,
@@ -76,14 +76,13 @@ pub struct Format {
     pub a: Operand,
     pub b: Operand,
     pub c: Operand,
-    /// Whether there is the offset of a target.
+    /// Whether the instruction has an offset to a target.
     pub offset: bool,
-    /// Whether there is a constant.
+    /// Whether the instruction has a constant.
     pub constant: bool,
 }
 
-/// The most that each operand field of a kind of instruction may be, as a number without a sign; 0 where the field
-/// isn't used.
+/// The greatest value of each operand field of a kind of instruction, as an unsigned number; 0 if the field isn't used.
 #[derive(Clone, Copy, Debug, PartialEq, Eq)]
 pub struct Limits {
     pub a: u8,
@@ -103,7 +102,7 @@ pub struct Operands {
     pub constant: i64,
 }
 
-/// The kind of instruction that an opcode names.
+/// The kind of instruction that an opcode names, or `None` if it names none.
 #[tactic(auto, unfolding(crate::specs::InstructionTable::kind_named))]
 pub fn kind_named(opcode: u8) -> Option<Kind>
     ensures { result ≡ kind_named opcode }
@@ -294,7 +293,7 @@ fn most_operand(banks: u8, operand: Operand) -> u8
     }
 }
 
-/// The most that the operand fields of a kind of instruction may be, in an object of so many banks.
+/// The greatest value of each operand field of a kind of instruction, in an object with `banks` banks.
 pub fn limits_of(banks: u8, kind: Kind) -> Limits
     ensures { result ≡ limits_of banks kind }
 {
@@ -366,7 +365,7 @@ pub fn operands_of(instruction: Instr) -> Operands
     }
 }
 
-/// The instruction of a kind with these operands, of which it takes those that it uses.
+/// The instruction of a kind with these operands; operands that the kind doesn't use are ignored.
 pub fn instruction_of(kind: Kind, operands: Operands) -> Instr
     ensures { result ≡ instruction_of kind operands }
 {
@@ -415,7 +414,7 @@ pub fn instruction_of(kind: Kind, operands: Operands) -> Instr
     }
 }
 
-/// The same instruction with another offset, where it has one.
+/// The same instruction with another offset. An instruction without an offset stays as it is.
 pub fn with_offset(instruction: Instr, offset: i32) -> Instr
     ensures { result ≡ with_offset offset instruction }
 {
@@ -426,8 +425,8 @@ pub fn with_offset(instruction: Instr, offset: i32) -> Instr
     instruction_of(kind_of(instruction), operands)
 }
 
-/// The place that an offset leads to from a place of an object's code. Both sides of the code are outside it, so a
-/// place before the code is read as the one behind it.
+/// The place to which an offset leads from a place of an object's code. Every place outside the code is a fault, so a
+/// target before the code is reported as the place after its end.
 pub fn target_of(object: &Object, place: usize, offset: i32) -> usize
     requires { place < length object.now.code }
     ensures { result ≡ target_of object.now place offset }

@@ -13,9 +13,9 @@ ghost use Rattle.lt_isa.specs.Trace.{Stamped, final_from, trace_from};
 ghost use Rattle.lt_isa.specs.Windows.{IsAccessStart, HasUnitPeriod, access_start, has_unit_period, most_wait};
 ghost use Rattle.lt_isa.specs.declared.profiles.Profile.{Profile};
 
-/// Does nothing; its clauses are the laws of runs. The traces and the states that are left are what their two sentences
-/// say, and nothing else is; at the start the variables have the words of the inputs, and every other word is 0; and
-/// inputs may agree and differ, as those of an object whose one variable is a secret scalar.
+/// Does nothing; its clauses are the laws of runs. The traces and the final states of runs satisfy the relations that
+/// define them, and nothing else does. At the start the variables have the words of the inputs, and every other word is
+/// 0. Inputs may agree and still differ, for example those of an object whose only variable is a secret scalar.
 pub fn run_laws()
     ensures traces { (o : Parts) → IsInRange o → AreTraces o (trace_from o) }
     ensures no_other_traces { (o : Parts)
@@ -49,10 +49,10 @@ pub fn run_laws()
         → OneSecret o → (x y : ℤ) → IsWord x → IsWord y → Agree o (one_word x) (one_word y) }
 {}
 
-/// Does nothing; its clauses are the laws of windows. An access starts at the least cycle at which the window is open,
-/// from the one on at which the machine comes to it. That cycle is given by the profile and the machine's cycle alone.
-/// It is never waited for longer than the window isn't open in a period, and not at all where the period is one cycle.
-/// So no step starts before the machine's cycle, and none later than that wait behind it.
+/// Does nothing; its clauses are the laws of windows. An access starts at the first cycle at which the window is open,
+/// from the cycle on at which the machine reaches the access. Only the profile and the machine's cycle determine that
+/// start. An access waits at most as many cycles as the window is closed in a period, and not at all if the period is
+/// one cycle. So a step starts no earlier than the machine's cycle, and no later than that wait after it.
 pub fn window_laws()
     ensures starts { (p : Profile) → ProfileFits p → (cycle : ℕ) → IsAccessStart p cycle (access_start p cycle) }
     ensures no_other_starts { (p : Profile)

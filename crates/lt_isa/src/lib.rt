@@ -1,7 +1,8 @@
-//! The target language L_T: profiles, instructions, objects and the machine that they are read by.
+//! The target language L_T: profiles, instructions, objects, and the machine that runs them.
 //!
-//! An [`Object`] is seen as its five parts, all of them in range. The definitions in `specs/` say what a state of the
-//! machine is, what one step does, what a run shows to an observer, how a run starts, and when an object is oblivious.
+//! Contracts see an [`Object`] as its five parts, all of them in range. The definitions in `specs/` state what a state
+//! of the machine is, what one step does, what a run shows to an observer, how a run starts, and when an object is
+//! oblivious.
 #![tactic(auto)]
 
 pub mod costs;

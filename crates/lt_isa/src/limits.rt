@@ -9,10 +9,10 @@ pub const LEAST_BLOCK_LOG: u8 = 3;
 /// The greatest base-2 logarithm of the words of a block.
 pub const MOST_BLOCK_LOG: u8 = 9;
 
-/// The most cycles of an operation, and of a word that is read or written in the scratchpad.
+/// The most cycles of an operation, and of reading or writing a word of the scratchpad.
 pub const MOST_CYCLES: u8 = 127;
 
-/// The most cycles of a jump, and of a branch that is taken.
+/// The most cycles of a jump, and of a taken branch.
 pub const MOST_TAKEN: u8 = 32;
 
 /// The fewest banks of an object: plain and encrypted memory.
@@ -33,13 +33,13 @@ pub const MOST_NOTES: usize = 262_144;
 /// The most instructions of an object.
 pub const MOST_INSTRUCTIONS: usize = 1_048_576;
 
-/// The most cycles that a bank takes.
+/// The most cycles that an access to a bank takes.
 pub const MOST_LATENCY: u32 = 1_000_000;
 
 /// The most cycles of the period in which memory opens and closes.
 pub const MOST_PERIOD: u32 = 1_000_000;
 
-/// The most blocks of a bank that stands behind so many others: the first two are plain and encrypted memory.
+/// The most blocks of the bank with number `index`; the first two banks are plain and encrypted memory.
 pub fn most_blocks(index: usize) -> u32
     ensures { result ≡ most_blocks index }
 {

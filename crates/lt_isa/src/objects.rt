@@ -17,7 +17,7 @@ use std::marker::Model;
 #[derive(Clone, Copy, Debug, PartialEq, Eq)]
 pub struct OutOfRange;
 
-/// An object: a program of the machine with its memory. Seen as its five parts, each in range.
+/// An object: a program of the machine with its memory. Contracts see it as its five parts, each in range.
 #[derive(Debug, Drop)]
 pub struct Object {
     profile: Profile,
@@ -51,7 +51,7 @@ impl Model for Object {
 }
 
 impl Object {
-    /// Makes an object of five parts, where each is in range. The parts are dropped otherwise.
+    /// Makes an object of five parts. It is an error if a part isn't in range; the parts are dropped then.
     pub fn try_new(
         profile: Profile,
         banks: Vec<BankSpec>,
@@ -123,7 +123,7 @@ impl Object {
         }
     }
 
-    /// What the processor is built with.
+    /// The parameters of the processor for which the object is made.
     pub fn profile(&self) -> &Profile
         ensures value { result.now ≡ self.now.profile }
         ensures in_range { IsInRange self.now }
@@ -131,7 +131,7 @@ impl Object {
         &self.profile
     }
 
-    /// The banks, plain memory first, then encrypted memory.
+    /// The banks: plain memory first, then encrypted memory, then the oblivious banks.
     pub fn banks(&self) -> &[BankSpec]
         ensures value { result.now ≡ self.now.banks }
         ensures in_range { IsInRange self.now }
@@ -147,7 +147,7 @@ impl Object {
         self.symbols.as_slice()
     }
 
-    /// The claims on places of the code, in order of place.
+    /// The claims about places of the code, in order of place.
     pub fn notes(&self) -> &[Note]
         ensures value { result.now ≡ self.now.notes }
         ensures in_range { IsInRange self.now }

@@ -2,19 +2,19 @@ ghost use Rattle.std.specs.Prelude.{◌≡◌, ◌≤◌, ◌^◌};
 ghost use Rattle.lt_isa.specs.Object.{bank_kind, usual_profile, usual_latencies};
 ghost use Rattle.lt_isa.specs.Windows.{has_unit_period};
 
-/// What a processor is built with: the block size, as the logarithm of its number of words, cycles of instructions, and
-/// the window of each period in which memory can be reached.
+/// The parameters of a processor: the block size, as the base-2 logarithm of a block's number of words, the cycles of
+/// instructions, and the window of each period in which memory can be reached.
 #[derive(Clone, Copy, Debug, PartialEq, Eq)]
 pub struct Profile {
     /// A block has 2 to the power of this many words; 3 to 9.
     pub block_log: u8,
-    /// Cycles of an operation without multiplying and dividing, 1 to 127.
+    /// Cycles of an operation other than multiplication, division and remainder, 1 to 127.
     pub alu: u8,
     /// Cycles of a product, a quotient or a remainder, 1 to 127.
     pub mul: u8,
     /// Cycles of reading or writing a word of the scratchpad, 1 to 127.
     pub word: u8,
-    /// Cycles of a jump or a branch that is taken, 1 to 32.
+    /// Cycles of a jump or a taken branch, 1 to 32.
     pub taken: u8,
     /// Cycles of the period in which memory opens and closes once, 1 to 1,000,000.
     pub period: u32,
@@ -50,7 +50,7 @@ impl Profile {
         self.period == 1
     }
 
-    /// How many words a block has.
+    /// The number of words of a block.
     pub fn block_words(&self) -> u32
         requires { self.now.block_log ≤ 9 }
         ensures words { result ≡ 2 ^ self.now.block_log }
@@ -60,7 +60,7 @@ impl Profile {
     }
 }
 
-/// The cycles that reading or writing a block takes, by the kind of memory.
+/// The cycles that a read or a write of a block takes, by the kind of memory.
 #[derive(Clone, Copy, Debug, PartialEq, Eq)]
 pub struct Latencies {
     /// Of plain memory.
@@ -84,8 +84,8 @@ impl Latencies {
     }
 }
 
-/// The kinds of bank, by what an observer sees of an access: of plain memory the block's number and its words, of
-/// encrypted memory the block's number, of an oblivious bank its name alone.
+/// The kinds of bank. They differ in what an observer sees of an access: of plain memory the block's number and its
+/// words, of encrypted memory only the block's number, and of an oblivious bank only the bank's number.
 #[derive(Clone, Copy, Debug, PartialEq, Eq)]
 pub enum BankKind {
     Plain,

@@ -14,10 +14,10 @@ use crate::profiles::{BankSpec, Profile};
 use crate::symbol_places::lies_behind;
 use crate::symbols::{Note, Symbol};
 
-/// What a note has in place of a bank's number where a slot may be bound to any bank or to none.
+/// A note's claim about a slot that may be bound to any bank, or to none.
 pub const ANY_BANK: u8 = 255;
 
-/// Whether a profile is in its ranges.
+/// Whether each field of a profile is in its range.
 pub fn profile_fits(profile: &Profile) -> bool
     ensures { IsTrue result ↔ ProfileFits profile.now }
 {
@@ -42,7 +42,7 @@ fn window_fits(profile: &Profile) -> bool
         && profile.closes <= profile.period
 }
 
-/// Whether a bank fits behind those before it.
+/// Whether a bank fits as the next one after the banks `before`.
 pub fn bank_fits(before: &[BankSpec], bank: &BankSpec) -> bool
     ensures { IsTrue result ↔ BankFits before.now bank.now }
 {
@@ -50,7 +50,7 @@ pub fn bank_fits(before: &[BankSpec], bank: &BankSpec) -> bool
         && (1..=MOST_LATENCY).contains(&bank.latency)
 }
 
-/// Whether each bank fits behind those before it.
+/// Whether each bank fits as the next one after those before it.
 pub fn banks_fit(banks: &[BankSpec]) -> bool
     ensures { IsTrue result ↔ EachAfter BankFits [] banks.now }
 {
@@ -62,14 +62,14 @@ pub fn banks_fit(banks: &[BankSpec]) -> bool
     true
 }
 
-/// Whether no symbol of these has the name.
+/// Whether none of these symbols has the name.
 pub fn is_new_name(before: &[Symbol], name: &[u8]) -> bool
     ensures { IsTrue result ↔ All (λ t. t.name ≢ name.now) before.now }
 {
     before.iter().all(|symbol| symbol.name.bytes() != name)
 }
 
-/// Whether a symbol fits behind those before it, which have so many words together.
+/// Whether a symbol fits as the next one after the symbols `before`, which have `total` words altogether.
 fn symbol_fits(
     block_words: u32,
     banks: &[BankSpec],
@@ -87,7 +87,7 @@ fn symbol_fits(
         && symbol.length <= MOST_SYMBOL_WORDS - total
 }
 
-/// Whether each symbol fits behind those before it, where a block has so many words.
+/// Whether each symbol fits as the next one after those before it, if a block has `block_words` words.
 fn symbols_fit(block_words: u32, banks: &[BankSpec], symbols: &[Symbol]) -> bool
     requires { block_words ≤ 512 }
     ensures { IsTrue result ↔ EachAfter (SymbolFits block_words banks.now) [] symbols.now }
@@ -103,14 +103,14 @@ fn symbols_fit(block_words: u32, banks: &[BankSpec], symbols: &[Symbol]) -> bool
     true
 }
 
-/// Whether a claim of a note on a slot is a bank's number or [`ANY_BANK`].
+/// Whether a note's claim about a slot is a bank's number or [`ANY_BANK`].
 pub fn is_slot_claim(banks: usize, claim: u8) -> bool
     ensures { result ≡ is_slot_claim banks claim }
 {
     (claim as usize) < banks || claim == ANY_BANK
 }
 
-/// The first place behind some notes.
+/// The first place after those of some notes.
 #[tactic(auto, using(gr_base::proofs::AtLast::at_last_read))]
 pub fn next_place(before: &[Note]) -> u64
     ensures { result ≡ next_place before.now }
@@ -127,14 +127,14 @@ fn claims_fit(banks: usize, claims: &[u8]) -> bool
     claims.iter().all(|claim| is_slot_claim(banks, *claim))
 }
 
-/// Whether a note fits behind those before it, where there are so many banks.
+/// Whether a note fits as the next one after the notes `before`, in an object with `banks` banks.
 fn note_fits(banks: usize, before: &[Note], note: Note) -> bool
     ensures { IsTrue result ↔ NoteFits banks before.now note }
 {
     next_place(before) <= u64::from(note.pc) && claims_fit(banks, &note.slots)
 }
 
-/// Whether each note fits behind those before it, where there are so many banks.
+/// Whether each note fits as the next one after those before it, in an object with `banks` banks.
 fn notes_fit(banks: usize, notes: &[Note]) -> bool
     ensures { IsTrue result ↔ EachAfter (NoteFits banks) [] notes.now }
 {
@@ -146,21 +146,21 @@ fn notes_fit(banks: usize, notes: &[Note]) -> bool
     true
 }
 
-/// Whether a number is a register's.
+/// Whether a number is the number of a register.
 pub fn is_register(number: u8) -> bool
     ensures { IsTrue result ↔ number < 32 }
 {
     number < 32
 }
 
-/// Whether a number is a slot's.
+/// Whether a number is the number of a slot.
 pub fn is_slot(number: u8) -> bool
     ensures { IsTrue result ↔ number < 8 }
 {
     number < 8
 }
 
-/// Whether an instruction's operands are in range where there are so many banks.
+/// Whether an instruction's operands are in range, in an object with `banks` banks.
 pub fn instruction_fits(banks: usize, instruction: Instr) -> bool
     ensures { IsTrue result ↔ InstrFits banks instruction }
 {
@@ -212,7 +212,7 @@ pub fn parts_fit(
         && code_fits(banks.len(), code)
 }
 
-/// Whether an object may have so many banks, symbols, notes and instructions.
+/// Whether an object may have these numbers of banks, symbols, notes and instructions.
 fn counts_fit(banks: &[BankSpec], symbols: &[Symbol], notes: &[Note], code: &[Instr]) -> bool
     ensures { IsTrue result
         ↔ ((Within fewest_banks most_banks (length banks.now))

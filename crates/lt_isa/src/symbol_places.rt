@@ -15,7 +15,7 @@ use crate::profiles::BankSpec;
 use crate::symbols::Symbol;
 use gr_word::Shape;
 
-/// The number of a symbol's first word in its bank, where a block has so many words.
+/// The number of a symbol's first word in its bank, if a block has `block_words` words.
 pub fn first_word(block_words: u32, symbol: &Symbol) -> u64
     requires { block_words ≤ 512 }
     ensures { result ≡ first_word block_words symbol.now }
@@ -25,7 +25,7 @@ pub fn first_word(block_words: u32, symbol: &Symbol) -> u64
     block * u64::from(block_words) + word
 }
 
-/// The number of the word behind a symbol's last in its bank, where a block has so many words.
+/// The number of the word after a symbol's last one in its bank, if a block has `block_words` words.
 pub fn end_word(block_words: u32, symbol: &Symbol) -> u64
     requires { block_words ≤ 512 }
     ensures { result ≡ end_word block_words symbol.now }
@@ -33,7 +33,7 @@ pub fn end_word(block_words: u32, symbol: &Symbol) -> u64
     first_word(block_words, symbol) + u64::from(symbol.length)
 }
 
-/// The bank of the last of some symbols, 0 where there is none.
+/// The bank of the last of some symbols, or 0 if there are none.
 #[tactic(auto, using(gr_base::proofs::AtLast::at_last_read))]
 pub fn last_bank(before: &[Symbol]) -> u8
     ensures { result ≡ last_bank before.now }
@@ -44,7 +44,7 @@ pub fn last_bank(before: &[Symbol]) -> u8
     }
 }
 
-/// The number of the word behind the last of some symbols in its bank, 0 where there is none.
+/// The number of the word after the last of some symbols in its bank, or 0 if there are none.
 #[tactic(auto, using(gr_base::proofs::AtLast::at_last_read))]
 pub fn last_end(block_words: u32, before: &[Symbol]) -> u64
     requires { block_words ≤ 512 }
@@ -56,7 +56,7 @@ pub fn last_end(block_words: u32, before: &[Symbol]) -> u64
     }
 }
 
-/// The blocks of a bank, 0 where there is no such bank.
+/// The number of blocks of a bank, or 0 if there is no such bank.
 pub fn blocks_in(banks: &[BankSpec], bank: u8) -> u32
     ensures { result ≡ blocks_in banks.now bank }
 {
@@ -66,7 +66,7 @@ pub fn blocks_in(banks: &[BankSpec], bank: u8) -> u32
     }
 }
 
-/// The first word of a block that is free behind some symbols, where a block has so many words.
+/// The first word of a block that is free after some symbols, if a block has `block_words` words.
 #[tactic(auto, unfolding(crate::specs::SymbolPlaces::first_free_word))]
 pub fn first_free(block_words: u32, before: &[Symbol], bank: u8, block: u32) -> u64
     requires { block_words ≤ 512 }
@@ -79,7 +79,8 @@ pub fn first_free(block_words: u32, before: &[Symbol], bank: u8, block: u32) -> 
     last_end(block_words, before).saturating_sub(start)
 }
 
-/// The most words of a symbol from word number `start` of a bank on, where a block has so many words.
+/// The most words that a symbol may have if it begins at word number `start` of a bank and a block has `block_words`
+/// words.
 #[tactic(auto, unfolding(crate::specs::SymbolPlaces::most_length))]
 pub fn most_length(block_words: u32, banks: &[BankSpec], shape: Shape, bank: u8, start: u64) -> u64
     requires { block_words ≤ 512 }
@@ -90,7 +91,7 @@ pub fn most_length(block_words: u32, banks: &[BankSpec], shape: Shape, bank: u8,
     u64::from(most_words(shape)).min(bank_words.saturating_sub(start))
 }
 
-// Whether each field is in the range that those before it give.
+// Whether each field is in the range that the fields before it determine.
 fn fields_fit(block_words: u32, banks: &[BankSpec], before: &[Symbol], symbol: &Symbol) -> bool
     requires { block_words ≤ 512 }
     ensures { IsTrue result ↔ FieldsFit block_words banks.now before.now symbol.now }
@@ -106,7 +107,7 @@ fn fields_fit(block_words: u32, banks: &[BankSpec], before: &[Symbol], symbol: &
         && u64::from(symbol.length) <= most
 }
 
-/// Whether a symbol may lie where it does, behind others, where a block has so many words.
+/// Whether a symbol may have its place, after the symbols `before`, if a block has `block_words` words.
 #[tactic(auto, using(crate::proofs::SymbolPlaces::lies_by_fields, crate::proofs::SymbolPlaces::fields_of_lies))]
 pub fn lies_behind(block_words: u32, banks: &[BankSpec], before: &[Symbol], symbol: &Symbol) -> bool
     requires { block_words ≤ 512 }

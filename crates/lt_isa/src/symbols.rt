@@ -3,7 +3,7 @@ ghost use Rattle.std.specs.Prelude.{◌≡◌, IfOk};
 use gr_word::{Label, Memory, Name, Shape, Want};
 use std::alloc::Global;
 
-/// Where a variable lies: from word `word` of block `block` of bank `bank` on, `length` words.
+/// A variable and its place: `length` words, from word `word` of block `block` of bank `bank` on.
 #[derive(Debug, Drop)]
 pub struct Symbol {
     pub name: Name,
@@ -31,14 +31,14 @@ impl Symbol {
     }
 }
 
-/// What is claimed of the state at a place of the code: which registers may hold secrets, and which bank each slot of
-/// the scratchpad is bound to.
+/// Claims about the state at a place of the code: which registers may hold secrets, and to which bank each slot of the
+/// scratchpad is bound.
 #[derive(Clone, Copy, Debug, PartialEq, Eq)]
 pub struct Note {
     /// The place.
     pub pc: u32,
-    /// Bit r is set where register r may hold a secret.
+    /// Bit r is set if register r may hold a secret.
     pub secrets: u32,
-    /// For each slot a bank's number, or 255 for any.
+    /// For each slot a bank's number, or 255 for any bank or none.
     pub slots: [u8; 8],
 }
