@@ -1,4 +1,4 @@
--- What is carried from related states, and that what is carried from one state is one.
+-- What is carried from related states is related, and at most one state is carried from a state.
 use Rattle.std.proofs.Common.{◌≡◌, ℕ, ◌+◌, ◌-◌, ℤ, true, false, slice_get, Option, Some, refl, sym, ap, ◌∙◌, subst, arith}
 use Rattle.gr_word.specs.declared.operations.Cmp.{Cmp}
 use Rattle.lt_isa.specs.declared.instructions.Instr.{Instr}
@@ -9,8 +9,7 @@ use Rattle.trace_patterns.specs.Shape.{Arms}
 use Rattle.trace_patterns.specs.Carried.{only_goes_on, held_behind}
 use Rattle.trace_patterns.specs.Carries.{CarriesTo, Arrived, Along, Through, CarriesOver, ByBoth}
 
--- What is carried from a state is carried from each state that stands in a relation to it, and ends in the relation,
--- where one instruction and a join keep it.
+-- If one instruction and a join keep a relation, what is carried from two related states is related.
 module _ (o : Parts) (R : SymState → SymState → Type 0)
     (held : (s t : SymState) (i : Instr) (p : ℕ) → slice_get o.code p ≡ Some i → R s t
     → R (held_behind o s i) (held_behind o t i))
@@ -58,7 +57,7 @@ module _ (o : Parts) (R : SymState → SymState → Type 0)
           related = both l.state left r.state right l.related r.related;
         }
 
--- the instruction at a place is one
+-- a place has at most one instruction
 pub instr-once : (o : Parts) (p : ℕ) (i j : Instr) → slice_get o.code p ≡ Some i → slice_get o.code p ≡ Some j → i ≡ j
 instr-once o p i j e f = let g : ◌≡◌ {A = Option Instr} (Some i) (Some j) = sym e ∙ f in cc
 
@@ -70,12 +69,12 @@ br_goes_not o p i cmp ra rb offset e f goes =
 pub offset_once : (c d : Cmp) (ra rb sa sb : ℕ) (x y : ℤ) → Br c ra rb x ≡ Br d sa sb y → x ≡ y
 offset_once c d ra rb sa sb x y e = cc
 
--- the parts of a shape are one
+-- a shape determines the beginning of the second arm and the join
 pub arms-once : (a b c d : ℕ) → Arms a b ≡ Arms c d → (a ≡ c) × (b ≡ d)
 arms-once a b c d e = (cc, cc)
 
 mutual
-  -- what is carried from one state is one
+  -- at most one state is carried from a state
   pub carries-once : (o : Parts) (depth end p : ℕ) (s t u : SymState) → CarriesTo o depth end p s t
       → CarriesTo o depth end p s u → t ≡ u
   carries-once o depth end p s t u (Arrived d e p' s' at) (Arrived d1 e1 p1 s1 at1) = refl

@@ -1,4 +1,4 @@
--- Patterns over the numbers of a table are the same exactly where the patterns over trees are that they stand for.
+-- Patterns over the numbers of a table are equal exactly if the patterns over trees that they represent are equal.
 use Rattle.std.proofs.Common.{◌≡◌, ℕ, zero, suc, ◌+◌, ◌<◌, ◌≤◌, List, [], ◌∷◌, length, get_or, map, refl, ap, arith}
 use Rattle.std.proofs.lemmas.List.{map-append}
 use Rattle.std.proofs.lemmas.List.Elements.{All-append, All-push}
@@ -49,24 +49,24 @@ module _ (nodes : List Node) (table : IsTable nodes) where
   parts-same (x ∷ ps) [] hp hq e =
       let f : ◌≡◌ {A = List (ℕ × TreeEvent)} (part_of nodes x ∷ map (part_of nodes) ps) [] = e in cc
 
-  -- equal patterns of trees are those of equal patterns of numbers
+  -- patterns that represent equal patterns over trees are equal
   pub over_trees-same : (p q : Shown SymEvent) → NumbersBelow (length nodes) p → NumbersBelow (length nodes) q
       → over_trees nodes p ≡ over_trees nodes q → p ≡ q
   over_trees-same p q hp hq e =
       shown-same p q (parts-same p.parts q.parts hp hq (ap (λ (s : Shown TreeEvent). s.parts) e))
       (ap (λ (s : Shown TreeEvent). s.last) e)
 
-  -- patterns of numbers are the same exactly where the patterns of trees are
+  -- patterns over numbers are equal exactly if the patterns over trees are
   pub patterns_agree : (p q : Shown SymEvent) → NumbersBelow (length nodes) p → NumbersBelow (length nodes) q
       → (p ≡ q) ↔ (over_trees nodes p ≡ over_trees nodes q)
   patterns_agree p q hp hq = (ap (over_trees nodes), over_trees-same p q hp hq)
 
--- what is done with patterns of numbers is done with the patterns of trees
+-- adding an event to a pattern over numbers adds its event to the pattern over trees
 pub over_trees-event : (nodes : List Node) (p : Shown SymEvent) (e : SymEvent)
     → over_trees nodes (with_event p e) ≡ with_event (over_trees nodes p) (tree_event nodes e)
 over_trees-event nodes p e = shown-same _ _ (map-append (part_of nodes) p.parts ((p.last, e) ∷ [])) refl
 
--- the pattern over trees of two patterns, one behind the other
+-- two patterns over numbers in sequence represent the patterns over trees in sequence
 pub over_trees-joined : (nodes : List Node) (p q : Shown SymEvent)
     → over_trees nodes (joined p q) ≡ joined (over_trees nodes p) (over_trees nodes q)
 over_trees-joined nodes p q = by q.parts q.last
@@ -78,7 +78,7 @@ over_trees-joined nodes p q = by q.parts q.last
     by (part ∷ parts) last =
         shown-same _ _ (map-append (part_of nodes) p.parts ((p.last + part.0, part.1) ∷ parts)) refl
 
--- a table that grows keeps what patterns stand for
+-- an event represents the same in a table that has grown
 event_of-keeps : (old new : List Node) → KeepsTrees old new → (e : SymEvent) → NumberBelow (length old) e
     → tree_event new e ≡ tree_event old e
 event_of-keeps old new keeps (event.RamRead i) h = ap RamRead (keeps i _ (record { inside = h; tree = refl })).tree
@@ -94,12 +94,12 @@ parts-keep old new keeps (x ∷ ps) h =
     let rest = parts-keep old new keeps ps (λ k d lt. h (suc k) d (omega arith)) in
     λ i. (x.0, first i) ∷ rest i
 
--- more nodes change no pattern that names earlier ones
+-- a pattern represents the same in a table that has grown
 pub over_trees-keeps : (old new : List Node) (p : Shown SymEvent) → KeepsTrees old new → NumbersBelow (length old) p
     → over_trees new p ≡ over_trees old p
 over_trees-keeps old new p keeps h = shown-same _ _ (parts-keep old new keeps p.parts h) refl
 
--- numbers below a count stay below it, and are below a greater one
+-- a number below a count is below a greater count
 below_more : (count more : ℕ) (e : SymEvent) → count ≤ more → NumberBelow count e → NumberBelow more e
 below_more count more (event.RamRead i) le h = omega arith
 below_more count more (event.EncRead i) le h = omega arith
@@ -111,17 +111,17 @@ pub numbers_below-more : (count more : ℕ) (p : Shown SymEvent) → count ≤ m
     → NumbersBelow more p
 numbers_below-more count more p le h = λ k d lt. below_more count more _ le (h k d lt)
 
--- a pattern without events names nothing
+-- a pattern without events has no numbers
 pub numbers_below-none : (count : ℕ) → NumbersBelow count no_events
 numbers_below-none count = λ k d lt. absurd (omega arith)
 
--- an event more
+-- a pattern with one more event
 pub numbers_below-event : (count : ℕ) (p : Shown SymEvent) (e : SymEvent) → NumbersBelow count p → NumberBelow count e
     → NumbersBelow count (with_event p e)
 numbers_below-event count p e h he =
     All-push (λ (part : ℕ × SymEvent). NumberBelow count part.1) p.parts (p.last, e) h he
 
--- one pattern behind another
+-- two patterns in sequence
 pub numbers_below-joined : (count : ℕ) (p q : Shown SymEvent) → NumbersBelow count p → NumbersBelow count q
     → NumbersBelow count (joined p q)
 numbers_below-joined count p q hp hq = by q.parts q.last hq

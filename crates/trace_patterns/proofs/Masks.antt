@@ -1,4 +1,4 @@
--- Labels kept as the bits of a mask, and banks kept as the bytes of claims.
+-- Labels that are stored as the bits of a mask, and banks that are stored as the bytes of claims.
 use Rattle.std.proofs.Common.{◌≡◌, ℕ, zero, suc, ◌-◌, ◌*◌, ◌%◌, ◌^◌, ◌<◌, ◌≤◌, ◌==◌, Bool, true, false, not, ◌||◌, List, length, get_or, set, min, Option, Some, None, refl, sym, ap, ◌∙◌, subst, ⊎_elim, arith, length-set, get_or-set_same, get_or-set_other, w32, bit_and, bit_or}
 use Rattle.std.specs.Int.{bit_at, bit_not}
 use Rattle.std.specs.Prelude.{if◌then◌else◌}
@@ -10,7 +10,7 @@ use Rattle.std.proofs.lemmas.Nat.Bits.{bit_at_set_same, bit_at_set_other, bit_at
 use Rattle.trace_patterns.specs.Known.{is_marked, claimed_bank, marks, claims, register_fits, registers_fit}
 use Rattle.trace_patterns.proofs.Ranges.{all_in, all_at}
 
--- a mask gives one mark a register
+-- a mask has one mark for each register
 pub length-marks : (count mask : ℕ) → length (marks count mask) ≡ count
 unfolding marks
 length-marks count mask = length-map-range_with_len (is_marked mask) 0 count
@@ -20,7 +20,7 @@ pub get_or-marks : (count mask r : ℕ) (d : Bool) → r < count → get_or (mar
 unfolding marks
 get_or-marks count mask r d inside = get_or-map-range_with_len (is_marked mask) 0 count r r d inside (omega arith)
 
--- one claim a slot
+-- there is one claim for each slot
 pub length-claims : (count : ℕ) (slots : List ℕ) → length (claims count slots) ≡ count
 unfolding claims
 length-claims count slots = length-map-range_with_len (λ k. claimed_bank (get_or slots k 255)) 0 count
@@ -32,7 +32,7 @@ unfolding claims
 get_or-claims count slots j d inside =
     get_or-map-range_with_len (λ k. claimed_bank (get_or slots k 255)) 0 count j j d inside (omega arith)
 
--- a mask with another bit r, and the same bits else
+-- the marks of a mask that differs from another only in bit r
 marks_changed : (count mask other r : ℕ) (bit : Bool) → r < count → is_marked other r ≡ bit
     → ((i : ℕ) → i < count → (i ≡ r → ⊥) → bit_at other i ≡ bit_at mask i)
     → marks count other ≡ set (marks count mask) r bit
@@ -87,7 +87,7 @@ claims-set slots j bank within inside small =
     ∙ sym (get_or-set_other (claims 8 slots) j i (Some bank) None ne ∙ get_or-claims 8 slots i None fits))
     (cases_eq i j))
 
--- one label fits another exactly where its bit isn't set alone
+-- if x isn't set without y, then y is set whenever x is
 bits_fit : (x y : ℕ) → x < 2 → y < 2 → min x (1 - y) ≡ 0 → (not (x == 1) || (y == 1)) ≡ true
 bits_fit zero y small_x small_y none = refl
 bits_fit (suc zero) zero small_x small_y none = absurd (omega arith)
@@ -102,7 +102,7 @@ bits_apart (suc zero) (suc zero) small_x small_y fit = omega arith
 bits_apart (suc zero) (suc (suc y)) small_x small_y fit = absurd (omega arith)
 bits_apart (suc (suc x)) y small_x small_y fit = absurd (omega arith)
 
--- the bit that is set in the first mask alone
+-- bit r of what is set in the first mask and not in the second
 alone : (a b r : ℕ) → b < 2 ^ 32 → r < 32 → bit_at (bit_and a (bit_not w32 b)) r ≡ min (bit_at a r) (1 - bit_at b r)
 alone a b r small inside = bit_at_and a (bit_not w32 b) r ∙ ap (min (bit_at a r)) (bit_at_not w32 b r small inside)
 
@@ -124,7 +124,7 @@ none_alone a b small_a small_b fit =
     bit_at_and a (bit_not w32 b) i ∙ ap (λ n. min n (bit_at (bit_not w32 b) i)) high ∙ omega (arith, bit_at-zero i))
     (cases_lt i 32))
 
--- the labels of a mask fit those of another exactly where no bit is set in the first alone
+-- the labels of a mask fit those of another exactly if no bit is set only in the first
 pub registers_fit-masks : (a b : ℕ) (first second : List (Option ℕ)) → a < 2 ^ 32 → b < 2 ^ 32
     → registers_fit 32 (record { secret = marks 32 a; banks = first })
     (record { secret = marks 32 b; banks = second }) ≡ (bit_and a (bit_not w32 b) == 0)

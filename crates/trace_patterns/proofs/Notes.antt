@@ -1,4 +1,4 @@
--- The notes of an object: none stands between two places, and what a note claims is fitted.
+-- The notes of an object: none is between two places, and when what is known fits a note's claim.
 use Rattle.std.proofs.Common.{◌≡◌, ℕ, ◌<◌, ◌≤◌, ◌==◌, Bool, true, false, not, ◌||◌, ◌&&◌, nat_lt, List, [], ◌∷◌, length, Option, Some, None, refl, sym, ap, ◌∙◌, subst, ⊎_elim, arith}
 use Rattle.std.specs.Prelude.{if◌then◌else◌, ◌↔◌}
 use Rattle.std.specs.List.{list_any}
@@ -13,7 +13,7 @@ use Rattle.trace_patterns.specs.Rules.{note_of_place, claimed_at}
 use Rattle.trace_patterns.proofs.Ranges.{all_in, all_at}
 use Rattle.trace_patterns.proofs.Masks.{length-marks, length-claims}
 
--- no note is found at a place where none stands
+-- no note is found at a place that has none
 none_at : (notes : List Note) (low high q : ℕ) → low < q → q < high
     → list_any (λ n. nat_lt low n.pc && nat_lt n.pc high) notes ≡ false → note_of_place notes q ≡ None
 none_at [] low high q after before none = refl
@@ -31,13 +31,13 @@ none_at (n ∷ notes) low high q after before none =
         (lt-ltb n.pc high (omega arith))) ∙ fails))
     by false is fails rest = ap (λ (b : Bool). if b then Some n else note_of_place notes q) is ∙ rest
 
--- no note claims anything where a region has none
+-- no place inside a region has a claim, if no note is between its branch and its join
 pub claimed_at-inside : (o : Parts) (p join q : ℕ) → has_note_between o p join ≡ false → p < q → q < join
     → claimed_at o q ≡ None
 unfolding claimed_at
 claimed_at-inside o p join q none after before = ap (option_map note_known) (none_at o.notes p join q after before none)
 
--- a claim speaks of 32 registers and 8 slots
+-- a claim is about 32 registers and 8 slots
 pub record IsClaim (claimed : Known) : Type 0 where
   pub registers : length claimed.secret ≡ 32
   pub slots : length claimed.banks ≡ 8
@@ -70,7 +70,7 @@ bank_tested known None h = refl
 bank_tested None (Some c) h = absurd (let f : ◌≡◌ {A = Option ℕ} None (Some c) = h c refl in cc)
 bank_tested (Some a) (Some c) h = let same : Some a ≡ Some c = h c refl in eq-eqb a c cc
 
--- the test of what fits a claim holds exactly where it fits
+-- if the test of a claim passes, what is known fits it
 pub fits_claim : (k claimed : Known) → IsClaim claimed → fits k claimed ≡ true → FitsClaim k claimed
 unfolding registers_fit slots_fit
 fits_claim k claimed size fit =
@@ -91,7 +91,7 @@ fits_claim k claimed size fit =
           (cases_lt j 8);
     }
 
--- and it is found where it fits
+-- if what is known fits a claim, the test passes
 pub claim_tested : (k claimed : Known) → FitsClaim k claimed → fits k claimed ≡ true
 unfolding registers_fit slots_fit
 claim_tested k claimed h =
@@ -100,7 +100,7 @@ claim_tested k claimed h =
     (λ r low high. label_tested (is_secret k r) (is_secret claimed r) (h.registers r)))
     (all_in (slot_fits k claimed) 0 8 (λ j low high. bank_tested (bank_known k j) (bank_known claimed j) (h.slots j)))
 
--- the test whether what is known fits a note, and what it means
+-- the test of a note's claim passes exactly if what is known fits it
 pub fits-claim : (o : Parts) (p : ℕ) (k claimed : Known) → claimed_at o p ≡ Some claimed
     → (fits k claimed ≡ true) ↔ FitsClaim k claimed
 fits-claim o p k claimed at = (fits_claim k claimed (is_claim o p claimed at), claim_tested k claimed)

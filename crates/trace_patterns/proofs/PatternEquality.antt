@@ -1,4 +1,4 @@
--- Patterns are the same exactly where their parts compare as equal.
+-- Patterns are equal exactly if their parts compare as equal.
 use Rattle.std.proofs.Common.{◌≡◌, ℕ, Bool, true, ◌&&◌, ◌==◌, ap, subst, rules}
 use Rattle.std.specs.Bool.{Decides}
 use Rattle.std.specs.Cmp.Lexicographic.{pointwise}
@@ -11,7 +11,7 @@ use Rattle.trace_patterns.specs.contracts.events.SymEventPartialEq.TheImpl.{ghos
 use Rattle.trace_patterns.specs.contracts.events.SymEventEq.TheImpl.Laws.{laws-law}
 use Rattle.trace_patterns.specs.Patterns.{Shown}
 
--- two pairs are the same where both parts are
+-- two pairs are equal if both components are
 decides_pair : {A B : Type 0} (E : A → A → Bool) (F : B → B → Bool) → ((a b : A) → Decides (E a b) (a ≡ b))
     → ((a b : B) → Decides (F a b) (a ≡ b)) → (x y : A × B) → Decides (E x.0 y.0 && F x.1 y.1) (x ≡ y)
 decides_pair {A} {B} E F first second x y = (
@@ -23,7 +23,7 @@ decides_pair {A} {B} E F first second x y = (
   λ e. and_from (E x.0 y.0) (F x.1 y.1) ((first x.0 y.0).1 (λ i. (e i).0)) ((second x.1 y.1).1 (λ i. (e i).1)),
 )
 
--- patterns with the same last gap are the same where their parts compare as equal
+-- patterns with equal last gaps are equal exactly if their parts compare as equal
 pub decides_parts : {E : Type 0} (F : E → E → Bool) → ((a b : E) → Decides (F a b) (a ≡ b)) → (p q : Shown E) (r : Bool)
     → p.last ≡ q.last → r ≡ pointwise (λ x y. (x.0 == y.0) && F x.1 y.1) p.parts q.parts → Decides r (p ≡ q)
 decides_parts {E} F decides p q r last is =
@@ -43,7 +43,7 @@ same_number a b e = absurd (false≢true e)
 decides_number : (a b : SymEvent) → Decides (ghosts.eq a b) (a ≡ b)
 decides_number a b = (same_number a b, λ e. subst (λ (x : SymEvent). ghosts.eq a x ≡ true) e (laws-law.refl a))
 
--- what the comparison of two patterns of numbers says
+-- the comparison of two patterns over numbers decides whether they are equal
 pub decides_numbers : (p q : Shown SymEvent) (r : Bool) → p.last ≡ q.last
     → r ≡ pointwise (λ x y. (x.0 == y.0) && ghosts.eq x.1 y.1) p.parts q.parts → Decides r (p ≡ q)
 decides_numbers p q r last is = decides_parts ghosts.eq decides_number p q r last is

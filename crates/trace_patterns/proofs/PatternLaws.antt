@@ -3,7 +3,7 @@ use Rattle.std.proofs.Common.{◌≡◌, ℕ, ◌+◌, ◌<◌, List, [], ◌∷
 use Rattle.std.proofs.Math.Seq.{get_or-append_seam, set-append_seam}
 use Rattle.trace_patterns.specs.Patterns.{Shown, with_gap, with_event, joined, joined_parts, no_events}
 
--- where the first gap of what was put behind a pattern takes up the pattern's last gap, the two are joined
+-- appending parts and then adding the pattern's last gap to the first of them joins the two patterns
 pub joined-by_widening : {E : Type 0} (ps qs all : List (ℕ × E)) (start last other : ℕ) (x : ℕ × E) → all ≡ ps ++ qs
     → start ≡ length ps → start < length all → x ≡ get_or all start x
     → record { parts = set all start (x.0 + last, x.1); last = other } ≡ joined_parts
@@ -21,7 +21,7 @@ joined-by_widening {E} ps (y ∷ ys) all start last other x is at inside reads =
     ∙ set-append_seam ps y ys wide in
     λ i. record { parts = parts i; last = other }
 
--- a pattern is told by its parts and its last gap
+-- a pattern is determined by its parts and its last gap
 pub shown-same : {E : Type 0} (p q : Shown E) → p.parts ≡ q.parts → p.last ≡ q.last → p ≡ q
 shown-same p q parts last = λ i. record { parts = parts i; last = last i }
 
@@ -29,11 +29,11 @@ shown-same p q parts last = λ i. record { parts = parts i; last = last i }
 pub with_gap-more : {E : Type 0} (p : Shown E) (m n : ℕ) → with_gap (with_gap p m) n ≡ with_gap p (m + n)
 with_gap-more {E} p m n = shown-same {E = E} _ _ refl (add_assoc p.last m n)
 
--- joining goes part by part
+-- a pattern without events and cycles, joined after another, changes nothing
 pub joined-no_events : {E : Type 0} (p : Shown E) → joined p no_events ≡ p
 joined-no_events p = shown-same (with_gap p 0) p refl (omega arith)
 
--- nothing before a pattern changes nothing
+-- a pattern without events and cycles, joined before another, changes nothing
 pub no_events-joined : {E : Type 0} (p : Shown E) → joined no_events p ≡ p
 no_events-joined {E} p = begins p.parts p.last
   where
@@ -43,7 +43,7 @@ no_events-joined {E} p = begins p.parts p.last
     begins (part ∷ parts) last =
         ap (λ (gap : ℕ). let q : Shown E = record { parts = (gap, part.1) ∷ parts; last = last } in q) (zero-add part.0)
 
--- cycles behind the second pattern
+-- cycles after the second pattern
 pub joined-gap : {E : Type 0} (p q : Shown E) (n : ℕ) → joined p (with_gap q n) ≡ with_gap (joined p q) n
 joined-gap {E} p q n = by q.parts q.last
   where
@@ -51,7 +51,7 @@ joined-gap {E} p q n = by q.parts q.last
     by [] last = sym (with_gap-more p last n)
     by (part ∷ parts) last = refl
 
--- an event behind the second pattern
+-- an event after the second pattern
 pub joined-event : {E : Type 0} (p q : Shown E) (e : E) → joined p (with_event q e) ≡ with_event (joined p q) e
 joined-event {E} p q e = by q.parts q.last
   where
@@ -61,7 +61,7 @@ joined-event {E} p q e = by q.parts q.last
     by (part ∷ parts) last =
         shown-same _ _ (sym (append_assoc p.parts ((p.last + part.0, part.1) ∷ parts) ((last, e) ∷ []))) refl
 
--- three patterns one behind the other
+-- three patterns in sequence
 pub joined-assoc : {E : Type 0} (p q r : Shown E) → joined (joined p q) r ≡ joined p (joined q r)
 joined-assoc {E} p q r = by q.parts q.last r.parts r.last
   where

@@ -3,7 +3,7 @@ use Rattle.std.proofs.Common.{◌≡◌, ℕ, zero, suc, ◌+◌, ◌<◌, ◌�
 use Rattle.std.specs.List.{range_with_len, list_all}
 use Rattle.std.proofs.lemmas.Bool.{and_from, and_parts, cases_eq, false_from_ne_true, false≢true}
 
--- it holds of all of them
+-- if it is true for each number, it is true for the whole range
 pub all_in : (test : ℕ → Bool) (a n : ℕ) → ((q : ℕ) → a ≤ q → q < a + n → test q ≡ true)
     → list_all test (range_with_len a n) ≡ true
 all_in test a zero h = refl
@@ -11,7 +11,7 @@ all_in test a (suc n) h =
     and_from (test a) (list_all test (range_with_len (a + 1) n)) (h a (omega arith) (omega arith))
     (all_in test (a + 1) n (λ q low high. h q (omega arith) (omega arith)))
 
--- it holds of one where it holds of all
+-- if it is true for the whole range, it is true for each number
 pub all_at : (test : ℕ → Bool) (a n q : ℕ) → list_all test (range_with_len a n) ≡ true → a ≤ q → q < a + n
     → test q ≡ true
 all_at test a zero q h low high = absurd (omega arith)
@@ -22,7 +22,7 @@ all_at test a (suc n) q h low high =
     (λ (ne : q ≡ a → ⊥). all_at test (a + 1) n q parts.1 (omega arith) (omega arith))
     (cases_eq q a)
 
--- it fails of one, so it doesn't hold of all
+-- if it is false for one number, it is false for the whole range
 pub fails_at : (test : ℕ → Bool) (a n q : ℕ) → a ≤ q → q < a + n → test q ≡ false
     → list_all test (range_with_len a n) ≡ false
 fails_at test a n q low high e =

@@ -1,4 +1,4 @@
--- What the shape of a region says of its places.
+-- What the shape of a region says about its places.
 use Rattle.std.proofs.Common.{◌≡◌, ℕ, zero, suc, ◌+◌, ◌-◌, ◌<◌, ◌≤◌, ◌==◌, Bool, true, false, not, nat_lt, ℤ, pos, negsuc, List, [], ◌∷◌, length, slice_get, Option, Some, refl, ap, ◌∙◌, subst, arith}
 use Rattle.std.specs.Prelude.{if◌then◌else◌}
 use Rattle.std.proofs.lemmas.Bool.Decides.{nat_tests}
@@ -10,7 +10,7 @@ use Rattle.lt_isa.specs.Step.{target_of}
 use Rattle.trace_patterns.specs.declared.reasons.Reason.{Reason}
 use Rattle.trace_patterns.specs.Shape.{RegionShape, BadShape, Arms, first_held, most_regions, leads_back, places_on, is_jump, jump_offset, is_outside, has_note_between, second_arm, join_of, shape_tests, shape}
 
--- the places of a region: a branch at p, a second arm that begins at t behind a jump, and a join
+-- the places of a region: a branch at p, a second arm that begins at t after a jump, and a join
 pub record IsRegion (o : Parts) (depth end p : ℕ) (offset : ℤ) (t join : ℕ) : Type 0 where
   pub around : depth < most_regions
   pub target : target_of o p offset ≡ t
@@ -28,7 +28,7 @@ abbrev pub AllFail : List (Bool × ℕ × Reason) → Type 0
 AllFail [] = Unit {0}
 AllFail (test ∷ tests) = (test.0 ≡ false) × AllFail tests
 
--- a region that isn't refused passes all tests, and one that passes them isn't refused
+-- a region isn't refused exactly if all tests are false; then it has the shape that follows the tests
 record Passed (tests : List (Bool × ℕ × Reason)) (next : RegionShape) (t join : ℕ) : Type 0 where
   fails : AllFail tests
   arms : next ≡ Arms t join
@@ -49,7 +49,7 @@ passes [] next fails = refl
 passes (test ∷ tests) next fails =
     ap (λ (b : Bool). if b then BadShape test.1 test.2 else first_held tests next) fails.0 ∙ passes tests next fails.1
 
--- where an offset leads that leads forward
+-- the target of an offset that leads forward
 record LeadsOn (o : Parts) (p : ℕ) (offset : ℤ) : Type 0 where
   target : target_of o p offset ≡ p + places_on offset
   forward : 0 < places_on offset
@@ -66,7 +66,7 @@ a_jump i e = absurd (let f : true ≡ false = e in cc)
 inside : (o : Parts) (q : ℕ) → is_outside o q ≡ false → q < length o.code
 inside o q e = ltb-true q (length o.code) (not-false (nat_lt q (length o.code)) e)
 
--- the tests of a region by their places
+-- the tests of a region, by the places to which it leads
 abbrev tests_of : Parts → (depth end p : ℕ) → ℤ → List (Bool × ℕ × Reason)
 tests_of o depth end p offset =
     let q = second_arm p offset in
@@ -81,7 +81,7 @@ shape-passed : (o : Parts) (depth end p : ℕ) (offset : ℤ) (t join : ℕ) →
 unfolding shape
 shape-passed o depth end p offset t join e = passed (tests_of o depth end p offset) (arms_of o p offset) t join e
 
--- what is shaped as two arms is a region
+-- a shape with two arms is a region
 pub shape-arms : (o : Parts) (depth end p : ℕ) (offset : ℤ) (t join : ℕ) → shape o depth end p offset ≡ Arms t join
     → IsRegion o depth end p offset t join
 shape-arms o depth end p offset t join e =
@@ -114,11 +114,11 @@ shape-arms o depth end p offset t join e =
       no_note = subst (λ (n : ℕ). has_note_between o p n ≡ false) at joins.1;
     }
 
--- a region has its shape up to each later end
+-- a place within an end is within a later end
 less_outside : (end more q : ℕ) → end ≤ more → nat_lt end q ≡ false → nat_lt more q ≡ false
 less_outside end more q le e = let h : q ≤ end = ltb-false end q e in grind (arith, nat_tests)
 
--- a region within a stretch is one within a longer stretch
+-- a region up to an end has the same shape up to a later end
 pub shape-wider : (o : Parts) (depth end p : ℕ) (offset : ℤ) (t join more : ℕ) → end ≤ more
     → shape o depth end p offset ≡ Arms t join → shape o depth more p offset ≡ Arms t join
 unfolding shape
@@ -157,7 +157,7 @@ shape-wider o depth end p offset t join more le e =
     ) in
     passes (tests_of o depth more p offset) (arms_of o p offset) fails ∙ h.arms
 
--- a region whose branch and jump lead on to places of the code, without a note between, has its shape
+-- an offset above 0 leads forward
 forward : (n : ℕ) → 0 < n → leads_back (pos n) ≡ false
 forward zero h = absurd (omega arith)
 forward (suc n) h = refl
@@ -165,7 +165,8 @@ forward (suc n) h = refl
 within_code : (o : Parts) (q : ℕ) → q < length o.code → is_outside o q ≡ false
 within_code o q h = ap not (lt-ltb q (length o.code) h)
 
--- a branch and the jump before its target are a region
+-- a branch and a jump before its target, both forward within the code and without a note between, have the shape of a
+-- region
 pub shape-region : (o : Parts) (depth end p on back : ℕ) → depth < most_regions → 1 < on → 0 < back
     → slice_get o.code (p + on - 1) ≡ Some (Jmp (pos back)) → p + on ≤ p + on - 1 + back → p + on - 1 + back ≤ end
     → p + on - 1 + back < length o.code → has_note_between o p (p + on - 1 + back) ≡ false

@@ -1,4 +1,4 @@
--- What is made of one instruction of an arm: only a branch opens a region.
+-- The result of one instruction of an arm: only a branch opens a region.
 use Rattle.std.proofs.Common.{◌≡◌, ℕ, ℤ, Bool, true, false, Option, Some, None, refl, ap, subst}
 use Rattle.std.specs.Prelude.{if◌then◌else◌}
 use Rattle.gr_word.specs.declared.operations.Cmp.{Cmp}
@@ -50,7 +50,7 @@ pub record IsBranch (i : Instr) (offset : ℤ) : Type 0 where
 no : {A : Type 0} (made : Single) (offset : ℤ) → NoBranch made → made ≡ Branches offset → A
 no made offset h e = absurd (subst NoBranch e h)
 
--- only a branch branches
+-- only a branch opens a region
 pub single-branches : (o : Parts) (s : SymState) (i : Instr) (offset : ℤ) → single o s i ≡ Branches offset
     → IsBranch i offset
 unfolding single
@@ -72,7 +72,7 @@ single-branches o s (Br cmp ra rb by) offset e =
     let same : by ≡ offset = cc in
     record { cmp = cmp; ra = ra; rb = rb; is = ap (Br cmp ra rb) same }
 
--- and a branch does
+-- a branch opens a region
 pub branch-single : (o : Parts) (s : SymState) (cmp : Cmp) (ra rb : ℕ) (offset : ℤ)
     → single o s (Br cmp ra rb offset) ≡ Branches offset
 unfolding single

@@ -1,4 +1,4 @@
--- What a state of a region holds: at the entry, at a join, and back in public code.
+-- What a state in a region holds: at the entry, at a join, and after the join in public code.
 use Rattle.std.proofs.Common.{◌≡◌, ℕ, zero, suc, ◌<◌, ◌≤◌, Bool, true, false, ◌&&◌, ◌==◌, ℤ, List, [], ◌∷◌, length, get_or, map, Option, Some, None, inl, inr, ◌⊎◌, ⊎_elim, refl, sym, ap, ◌∙◌, subst, arith, length-set}
 use Rattle.std.specs.Prelude.{◌↔◌, if◌then◌else◌, is_none}
 use Rattle.std.specs.List.{zip}
@@ -19,12 +19,12 @@ use Rattle.trace_patterns.specs.Known.{Known, is_secret, bank_known}
 use Rattle.trace_patterns.specs.SymStates.{Origin, Entry, Loaded, SymSlot, AnySlot, RamSlot, EramSlot, OramSlot, SymState, tree_held, slot_held, hold_tree, hold_slot, entry_tree, entry_slot, entry_trees, entry_slots, at_entry, slot_bank, known_after, same_origin, common_tree, common_slot, common, IsJoin}
 use Rattle.trace_patterns.specs.Single.{Single, Refuses, Goes, Branches, at_tree, stores, if_bound, if_stored, single}
 
--- as many registers and slots as the machine has
+-- the numbers of registers and slots that the machine has
 pub record IsSized (s : SymState) : Type 0 where
   pub registers : length s.registers ≡ 32
   pub slots : length s.slots ≡ 8
 
--- at the entry
+-- the tree of a register at the entry
 pub tree-at_entry : (k : Known) (r : ℕ) → r < 32 → tree_held (at_entry k) r ≡ entry_tree k r
 unfolding entry_trees
 tree-at_entry k r inside = get_or-map-range_with_len (entry_tree k) 0 32 r r None inside (omega arith)
@@ -35,7 +35,7 @@ unfolding entry_slots
 slot-at_entry k j inside =
     get_or-map-range_with_len (λ i. entry_slot (bank_known k i) i) 0 8 j j AnySlot inside (omega arith)
 
--- the state at the entry has its registers and slots
+-- the state at the entry has all registers and slots
 pub sized-at_entry : (k : Known) → IsSized (at_entry k)
 unfolding entry_trees entry_slots
 sized-at_entry k = record {
@@ -43,7 +43,7 @@ sized-at_entry k = record {
   slots = length-map-range_with_len (λ i. entry_slot (bank_known k i) i) 0 8;
 }
 
--- a register with a tree at the entry is public, and holds what it holds there
+-- a register with a tree at the entry is public, and its tree is the register itself
 pub entry-tree : (k : Known) (r : ℕ) (t : Value) → tree_held (at_entry k) r ≡ Some t
     → (is_secret k r ≡ false) × (t ≡ Reg r)
 entry-tree k r t e =
@@ -59,7 +59,7 @@ entry-tree k r t e =
     by true is f = absurd (let g : ◌≡◌ {A = Option Value} None (Some t) = f in cc)
     by false is f = (is, let g : ◌≡◌ {A = Option Value} (Some (Reg r)) (Some t) = f in cc)
 
--- a slot that may be bound to any bank at the entry is one of which nothing is known in public code
+-- what a slot is bound to at the entry: nothing is known, or the bank that is known in public code
 pub entry-slot : (k : Known) (j : ℕ) (known : SymSlot) → slot_held (at_entry k) j ≡ known
     → (known ≡ AnySlot) ⊎ ((j < 8) × (entry_slot (bank_known k j) j ≡ known))
 entry-slot k j known e =
@@ -68,15 +68,15 @@ entry-slot k j known e =
     (λ (le : 8 ≤ j). inl (sym e ∙ get_or_past (at_entry k).slots j AnySlot (omega (arith, (sized-at_entry k).slots))))
     (cases_lt j 8)
 
--- back in public code
+-- after a region, in public code, a register may hold a secret exactly if it has no tree
 pub secret-after : (s : SymState) (r : ℕ) → is_secret (known_after s) r ≡ is_none (tree_held s r)
 secret-after s r = get_or-map is_none s.registers r None
 
--- the bank of a slot behind a region
+-- the bank of a slot after a region
 pub bank-after : (s : SymState) (j : ℕ) → bank_known (known_after s) j ≡ slot_bank (slot_held s j)
 bank-after s j = get_or-map slot_bank s.slots j AnySlot
 
--- at a join
+-- two lists combined item by item: one item, and the length
 zip_held : {X Z : Type 0} (f : X → X → Z) (d : X) (z : Z) → ((x : X) → f d x ≡ z) → ((x : X) → f x d ≡ z)
     → (xs ys : List X) (i : ℕ) → get_or (map (λ p. f p.0 p.1) (zip xs ys)) i z ≡ f (get_or xs i d) (get_or ys i d)
 zip_held f d z left right [] ys i =
@@ -95,7 +95,7 @@ length-zipped f [] (y ∷ ys) e = absurd (omega arith)
 length-zipped f (x ∷ xs) [] e = absurd (omega arith)
 length-zipped f (x ∷ xs) (y ∷ ys) e = ap suc (length-zipped f xs ys (omega arith))
 
--- nothing is known at a join of what one of the states doesn't know
+-- at a join a tree isn't known if one of the arms doesn't know it
 pub none_left : (t : Option Value) → common_tree None t ≡ None
 none_left None = refl
 none_left (Some t) = refl
@@ -116,17 +116,17 @@ any_right (RamSlot block origin) = refl
 any_right (EramSlot block) = refl
 any_right (OramSlot bank) = refl
 
--- a register where two states are joined
+-- a register at the join of two states
 pub tree-common : (s t : SymState) (r : ℕ) → tree_held (common s t) r ≡ common_tree (tree_held s r) (tree_held t r)
 unfolding common
 tree-common s t r = zip_held common_tree None None none_left none_right s.registers t.registers r
 
--- a slot where two states are joined
+-- a slot at the join of two states
 pub slot-common : (s t : SymState) (j : ℕ) → slot_held (common s t) j ≡ common_slot (slot_held s j) (slot_held t j)
 unfolding common
 slot-common s t j = zip_held common_slot AnySlot AnySlot any_left any_right s.slots t.slots j
 
--- the join has its registers and slots
+-- the state at a join has all registers and slots
 pub sized-common : (s t : SymState) → IsSized s → IsSized t → IsSized (common s t)
 unfolding common
 sized-common s t hs ht = record {
@@ -135,13 +135,13 @@ sized-common s t hs ht = record {
   slots = length-zipped (λ p. common_slot p.0 p.1) s.slots t.slots (hs.slots ∙ sym ht.slots) ∙ hs.slots;
 }
 
--- what is known at a join was known behind both arms
+-- a value that is kept if a test says that two are equal
 tree_if : (x y : Option Value) (same : Bool) → (same ≡ true → x ≡ y)
     → ((if same then x else None) ≡ None) ⊎ ((x ≡ y) × ((if same then x else None) ≡ x))
 tree_if x y true h = inr (h refl, refl)
 tree_if x y false h = inl refl
 
--- two trees are joined to one of them only where they are the same
+-- two trees are joined to one of them only if they are equal
 pub common_tree-cases : (x y : Option Value) → (common_tree x y ≡ None) ⊎ ((x ≡ y) × (common_tree x y ≡ x))
 common_tree-cases (Some t) (Some u) = tree_if (Some t) (Some u) (same_tree t u) (λ e. ap Some (same_tree-true t u e))
 common_tree-cases (Some t) None = inl refl
@@ -158,7 +158,7 @@ slot_if : (x y : SymSlot) (same : Bool) → (same ≡ true → x ≡ y)
 slot_if x y true h = inr (h refl, refl)
 slot_if x y false h = inl refl
 
--- two slots are joined to one of them only where they are the same
+-- two slots are joined to one of them only if they are equal
 pub common_slot-cases : (x y : SymSlot) → (common_slot x y ≡ AnySlot) ⊎ ((x ≡ y) × (common_slot x y ≡ x))
 common_slot-cases AnySlot y = inl (any_left y)
 common_slot-cases (RamSlot block origin) (RamSlot other origin') =
@@ -180,7 +180,7 @@ common_slot-cases (OramSlot bank) AnySlot = inl refl
 common_slot-cases (OramSlot bank) (RamSlot other origin) = inl refl
 common_slot-cases (OramSlot bank) (EramSlot other) = inl refl
 
--- what both arms leave is known at a join
+-- a tree joined with itself
 pub own_tree : (t : Option Value) → common_tree t t ≡ t
 own_tree None = refl
 own_tree (Some t) = ap (λ (b : Bool). let v : Option Value = if b then Some t else None in v) (same_tree-own t)
@@ -198,7 +198,7 @@ own_slot (RamSlot t origin) =
 own_slot (EramSlot t) = ap (λ (c : Bool). if c then EramSlot t else AnySlot) (same_tree-own t)
 own_slot (OramSlot bank) = ap (λ (c : Bool). if c then OramSlot bank else AnySlot) (eq-eqb bank bank refl)
 
--- so a join is what both arms leave, and nothing else
+-- a join has what both arms leave, and nothing more
 left_by_both : {X : Type 0} (nothing : X) (both : X → X → X) → ((x : X) → both x x ≡ x)
     → ((x y : X) → (both x y ≡ nothing) ⊎ ((x ≡ y) × (both x y ≡ x)))
     → (x y z : X) → ¬ (z ≡ nothing) → (both x y ≡ z) ↔ ((x ≡ z) × (y ≡ z))
@@ -213,7 +213,7 @@ left_by_both nothing both own cases x y z some = (
   λ h. ap (λ v. both v y) h.0 ∙ ap (both z) h.1 ∙ own z,
 )
 
--- the computed join is the join
+-- the computed join is the join of the definition
 pub join-common : (s t : SymState) → IsJoin s t (common s t)
 join-common s t = record {
   registers = λ r u.
@@ -226,7 +226,7 @@ join-common s t = record {
       (λ e. joins.0 (sym (slot-common s t k) ∙ e), λ h. slot-common s t k ∙ joins.1 h);
 }
 
--- an instruction keeps the sizes
+-- each kind of change keeps the numbers of registers and slots
 module _ (s : SymState) (sized : IsSized s) where
   sized-tree : (r : ℕ) (value : Option Value) → IsSized (hold_tree s r value)
   sized-tree r value = record { registers = length-set s.registers r value ∙ sized.registers; slots = sized.slots }
@@ -234,7 +234,7 @@ module _ (s : SymState) (sized : IsSized s) where
   sized-slot : (j : ℕ) (bound : SymSlot) → IsSized (hold_slot s j bound)
   sized-slot j bound = record { registers = sized.registers; slots = length-set s.slots j bound ∙ sized.slots }
 
-  -- where an instruction goes on, the state behind it has the sizes
+  -- if an instruction continues, the state after it has all registers and slots
   KeepsSize : Single → Type 0
   KeepsSize made = (pattern : Shown TreeEvent) (t : SymState) → made ≡ Goes pattern t → IsSized t
 
@@ -294,7 +294,7 @@ module _ (s : SymState) (sized : IsSized s) where
   sized_single o (Jmp offset) = sized_refuses _
   sized_single o (Br cmp ra rb offset) = sized_branches offset
 
-  -- one instruction leaves a state with its registers and slots
+  -- the state after an instruction has all registers and slots
   pub single-sized : (o : Parts) (i : Instr) (pattern : Shown TreeEvent) (t : SymState) → single o s i ≡ Goes pattern t
       → IsSized t
   unfolding KeepsSize

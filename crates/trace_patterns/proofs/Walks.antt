@@ -1,4 +1,4 @@
--- Walks: the places of a region that is crossed, and a walk that goes on behind another.
+-- Walks: the places of a region that is crossed, and two walks in sequence.
 use Rattle.std.proofs.Common.{ℕ, ◌+◌, ◌-◌, ◌≤◌, ℤ, sym, subst, arith}
 use Rattle.lt_isa.specs.Object.{Parts}
 use Rattle.trace_patterns.specs.Patterns.{Shown, joined}
@@ -9,7 +9,7 @@ use Rattle.trace_patterns.proofs.PatternLaws.{no_events-joined, joined-assoc}
 use Rattle.trace_patterns.proofs.Shapes.{IsRegion, shape-arms, shape-wider}
 use Rattle.trace_patterns.proofs.SymStateLaws.{IsSized, single-sized, sized-common}
 
--- a region that is crossed has its places
+-- a region that is crossed has the places of a region
 pub crosses-region : (o : Parts) (depth end p : ℕ) (offset : ℤ) (s : SymState) (pattern : Shown TreeEvent) (join : ℕ)
     (state : SymState)
     → CrossesTo o depth end p offset s pattern join state → (second : ℕ) × IsRegion o depth end p offset second join
@@ -17,7 +17,7 @@ crosses-region o depth end p offset s pattern join state
     (BothArms d e p' f s' second join' one left other right arms first behind ways) =
     (second, shape-arms o depth end p offset second join arms)
 
--- it is crossed up to each later end too
+-- a region that is crossed up to an end is crossed up to a later end
 pub crosses-wider : (o : Parts) (depth end p : ℕ) (offset : ℤ) (s : SymState) (pattern : Shown TreeEvent) (join : ℕ)
     (state : SymState)
     → CrossesTo o depth end p offset s pattern join state → (more : ℕ) → end ≤ more
@@ -27,7 +27,7 @@ crosses-wider o depth end p offset s pattern join state
     BothArms depth more p offset s second join one left other right
     (shape-wider o depth end p offset second join more le arms) first behind ways
 
--- a walk goes on behind another
+-- two walks in sequence
 pub walks-then : (o : Parts) (depth mid p : ℕ) (s : SymState) (pattern : Shown TreeEvent) (t : SymState)
     → WalksTo o depth mid p s pattern t
     → (end : ℕ) (rest : Shown TreeEvent) (u : SymState) → mid ≤ end → WalksTo o depth end mid t rest u
@@ -45,7 +45,7 @@ walks-then o depth mid p s pattern t
     (crosses-wider o depth mid p offset s shown join v crosses end le)
     (walks-then o depth mid join v behind t walk end rest u le more))
 
--- a walk keeps the sizes
+-- a walk keeps the numbers of registers and slots
 mutual
   pub walks-sized : (o : Parts) (depth end p : ℕ) (s : SymState) (pattern : Shown TreeEvent) (t : SymState)
       → WalksTo o depth end p s pattern t → IsSized s → IsSized t

@@ -15,7 +15,7 @@ use Rattle.trace_patterns.specs.Walk.{BlockedAt}
 use Rattle.trace_patterns.specs.Rules.{Refused, Falls, Opens, claimed_at, ruling_at}
 use Rattle.trace_patterns.specs.Visits.{VisitedAt, ComesTo, IsVisited, LiesInside, FitsNote, CrossesFrom}
 
--- a secret variable lies in plain memory
+-- a secret variable is in plain memory
 abbrev pub is_secret_label : Label → Bool
 is_secret_label Public = false
 is_secret_label Secret = true
@@ -28,9 +28,9 @@ abbrev pub RegionIsCrossed : Parts → ℕ → ℤ → Known → Type 0
 RegionIsCrossed o p offset known =
     (pattern : Shown TreeEvent) × (join : ℕ) × (state : SymState) × CrossesFrom o p offset known pattern join state
 
--- No secret variable lies in plain memory. Each place of the code is visited, or lies in a region that is crossed. What
--- comes to a place fits its note. No place that is visited is refused, none falls through behind the last place, and
--- each region that one opens is crossed.
+-- No secret variable is in plain memory. Each place of the code is visited, or is inside a region that is crossed. What
+-- reaches a place fits its note. No visited place is refused, the last place doesn't fall through, and each region that
+-- opens at a visited place is crossed.
 pub record Accepts (o : Parts) : Type 0 where
   pub symbols : has_secret_in_ram o ≡ false
   pub covered : (p : ℕ) → p < length o.code → IsVisited o p ⊎ LiesInside o p
@@ -42,9 +42,9 @@ pub record Accepts (o : Parts) : Type 0 where
   pub crossed : (p : ℕ) (known : Known) (offset : ℤ)
       → VisitedAt o p known → ruling_at o p known ≡ Opens offset → RegionIsCrossed o p offset known
 
--- A place of public code is refused: it is neither visited nor inside a region; or what comes to it doesn't fit its
--- note; or its instruction is refused; or it is the last and falls through; or a place of the region that it opens is
--- refused. What a note claims is looked at before the instruction.
+-- The refusal that place p of public code causes: p is neither visited nor inside a region; or what reaches it doesn't
+-- fit its note; or its instruction is refused; or it is the last and falls through; or a place of the region that it
+-- opens is refused. A note that doesn't fit comes before the instruction.
 pub data RefusedAt (o : Parts) : (p place : ℕ) → Reason → Type 0 where
   Missed : (p : ℕ) → ¬ IsVisited o p → ¬ LiesInside o p → RefusedAt o p p NoNote
   Unfit : (p : ℕ) (known claimed : Known)
@@ -59,14 +59,14 @@ pub data RefusedAt (o : Parts) : (p place : ℕ) → Reason → Type 0 where
       → BlockedAt o 0 (length o.code - 1) p offset (at_entry known) place reason
       → RefusedAt o p place reason
 
--- the refusal of the lowest place of public code that is refused
+-- the refusal that the lowest place with one causes
 pub record IsLowestRefusal (o : Parts) (place : ℕ) (reason : Reason) : Type 0 where
   pub at : ℕ
   pub inside : at < length o.code
   pub refused : RefusedAt o at place reason
   pub none_below : (q other : ℕ) (why : Reason) → q < at → ¬ RefusedAt o q other why
 
--- a secret variable in plain memory refuses the object before its code, with place 0
+-- a secret variable in plain memory is refused before any code, at place 0
 abbrev pub FirstRefusal : Parts → ℕ → Reason → Type 0
 FirstRefusal o place reason =
     MatchBool (has_secret_in_ram o) ((place ≡ 0) × (reason ≡ SecretSymbolInRam)) (IsLowestRefusal o place reason)

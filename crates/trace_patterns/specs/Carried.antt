@@ -1,5 +1,5 @@
--- What is known behind one instruction, whether or not the check refuses it: in public code, and in an arm.
--- (GhostRider, ASPLOS 2015: the type system of L_T; that nothing is refused here is this project's profile.)
+-- What is known after one instruction, whether or not the check refuses it: in public code, and in an arm. (GhostRider,
+-- ASPLOS 2015: the type system of L_T; that nothing is refused here is this project's profile.)
 use Rattle.std.specs.Prelude.{ℕ, Bool, true, false, not, ◌||◌, if◌then◌else◌, Option, Some, None}
 use Rattle.lt_isa.specs.declared.instructions.Instr.{Instr}
 use Rattle.lt_isa.specs.declared.instructions.Instr.TheVariants.{Nop, Halt, Li, Alu, Ldb, Stb, Idb, Ldw, Stw, Jmp, Br}
@@ -10,14 +10,14 @@ use Rattle.trace_patterns.specs.SymStates.{Loaded, SymSlot, AnySlot, RamSlot, Er
 use Rattle.trace_patterns.specs.Single.{applied_trees, block_held, word_held, named_block}
 use Rattle.trace_patterns.specs.Rules.{shows_block}
 
--- an instruction that only goes on to the next place
+-- an instruction that only continues to the next place
 abbrev pub only_goes_on : Instr → Bool
 only_goes_on Halt = false
 only_goes_on (Jmp offset) = false
 only_goes_on (Br cmp ra rb offset) = false
 only_goes_on _ = true
 
--- a slot whose block the observer sees, and one whose words are public; none of them where the bank isn't known
+-- a slot whose block the observer sees, and one whose words are public; neither, if the bank isn't known
 abbrev pub slot_shows : Option ℕ → Bool
 slot_shows None = false
 slot_shows (Some bank) = shows_block bank
@@ -40,8 +40,7 @@ known_behind k (Stw rs slot ro) = k
 known_behind k (Jmp offset) = k
 known_behind k (Br cmp ra rb offset) = k
 
--- In an arm: a slot that is loaded from plain or encrypted memory at an address that isn't known may be bound to any
--- bank from then on.
+-- In an arm. After a load from plain or encrypted memory at an address that isn't known, nothing is known of the slot.
 abbrev pub ram_loaded : Parts → ℕ → Option Value → SymSlot
 ram_loaded o bank None = AnySlot
 ram_loaded o bank (Some t) = RamSlot (named_block o bank t) Loaded

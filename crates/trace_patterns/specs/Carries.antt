@@ -1,6 +1,6 @@
--- What is carried over a region, whether or not the check refuses it: from its branch through both arms to its join.
--- (GhostRider, ASPLOS 2015: the rule for secret conditionals of L_T; that nothing but the shape of a region is refused
--- here is this project's profile.)
+-- What is known at the join of a region, carried from its branch through both arms whether or not the check refuses
+-- something there. (GhostRider, ASPLOS 2015: the rule for secret conditionals of L_T; that only a region's shape is
+-- refused here is this project's profile.)
 use Rattle.std.specs.Prelude.{◌≡◌, ℕ, ◌+◌, ◌-◌, ◌<◌, ℤ, true, [], length, slice_get, Some}
 use Rattle.gr_word.specs.declared.operations.Cmp.{Cmp}
 use Rattle.lt_isa.specs.declared.instructions.Instr.{Instr}
@@ -11,14 +11,14 @@ use Rattle.trace_patterns.specs.SymStates.{SymState, at_entry, known_after, comm
 use Rattle.trace_patterns.specs.Shape.{Arms, shape}
 use Rattle.trace_patterns.specs.Carried.{only_goes_on, held_behind}
 
--- an object without its notes: no note is looked at
+-- an object without its notes, so that none is tested
 abbrev pub without_notes : Parts → Parts
 without_notes o = record o { notes = [] }
 
 mutual
-  -- From a place up to an end, in so many regions, a state is carried: nothing is left; or an instruction goes on to
-  -- the next place; or a branch opens a region, through which it is carried to the join. Nothing is refused, but for a
-  -- jump or a halt, and for a region that isn't shaped as two arms.
+  -- What is known is carried from place p up to an end, inside `depth` regions: p is the end; or the instruction
+  -- continues to the next place; or a branch opens a region, over which it is carried to the join. Nothing is refused
+  -- but a jump, a halt, and a region that doesn't have the shape of two arms.
   pub data CarriesTo (o : Parts) : (depth end p : ℕ) → (s t : SymState) → Type 0 where
     Arrived : (depth end p : ℕ) (s : SymState) → p ≡ end → CarriesTo o depth end p s s
     Along : (depth end p : ℕ) (s : SymState) (i : Instr) (t : SymState)
@@ -28,14 +28,14 @@ mutual
         → p < end → slice_get o.code p ≡ Some (Br cmp ra rb offset)
         → CarriesOver o depth end p offset s join t → CarriesTo o depth end join t u → CarriesTo o depth end p s u
 
-  -- a state is carried over a region, from its branch to its join: what both arms leave alike
+  -- it is carried over a region: what both arms leave alike is known at the join
   pub data CarriesOver (o : Parts) : (depth end p : ℕ) → ℤ → SymState → (join : ℕ) → SymState → Type 0 where
     ByBoth : (depth end p : ℕ) (offset : ℤ) (s : SymState) (second join : ℕ) (left right : SymState)
         → shape (without_notes o) depth end p offset ≡ Arms second join
         → CarriesTo o (depth + 1) (second - 1) (p + 1) s left → CarriesTo o (depth + 1) join second s right
         → CarriesOver o depth end p offset s join (common left right)
 
--- the region of a branch at p in public code: what is known at its join, where k is known at the branch
+-- the region of a branch at p in public code: what is known at its join, if k is known at the branch
 pub record JoinsIn (o : Parts) (p : ℕ) (offset : ℤ) (k : Known) (join : ℕ) (next : Known) : Type 0 where
   pub state : SymState
   pub over : CarriesOver o 0 (length o.code - 1) p offset (at_entry k) join state

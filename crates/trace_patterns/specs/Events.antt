@@ -1,6 +1,6 @@
--- Events whose blocks are told by trees, and the patterns of trees that patterns of numbers stand for.
--- (GhostRider, ASPLOS 2015: the trace patterns of the type system of L_T; what each kind of bank shows is this
--- project's own choice.)
+-- Events that name blocks by trees, and the patterns over trees that patterns over numbers represent. (GhostRider,
+-- ASPLOS 2015: the trace patterns of the type system of L_T; what each kind of bank shows is this project's own
+-- choice.)
 use Rattle.std.specs.Prelude.{ℕ, ◌<◌, List, map, All}
 use Rattle.symbolic_values.specs.declared.nodes.Node.{Node}
 use Rattle.symbolic_values.specs.Trees.{Value, tree_of}
@@ -15,14 +15,14 @@ pub data TreeEvent : Type 0 where
   EncWrite : (block : Value) → TreeEvent
   Oram : (bank : ℕ) → TreeEvent
 
--- the event that one over numbers stands for
+-- the event over trees that an event over numbers represents
 abbrev pub tree_event : List Node → SymEvent → TreeEvent
 tree_event nodes (event.RamRead block) = RamRead (tree_of nodes block)
 tree_event nodes (event.EncRead block) = EncRead (tree_of nodes block)
 tree_event nodes (event.EncWrite block) = EncWrite (tree_of nodes block)
 tree_event nodes (event.Oram bank) = Oram bank
 
--- the pattern that one over numbers stands for
+-- the pattern over trees that a pattern over numbers represents
 abbrev pub part_of : List Node → ℕ × SymEvent → ℕ × TreeEvent
 part_of nodes part = (part.0, tree_event nodes part.1)
 

@@ -1,6 +1,6 @@
--- What is known at a place of the code whatever the secrets are: which registers may hold a secret, and to which bank
--- each slot of the scratchpad is bound.
--- (GhostRider, ASPLOS 2015: the security types of L_T; that notes claim them is this project's profile.)
+-- What is known at a place of the code, for any secrets: which registers may hold a secret, and to which bank each slot
+-- of the scratchpad is bound. (GhostRider, ASPLOS 2015: the security types of L_T; that notes claim them is this
+-- project's profile.)
 use Rattle.std.specs.Prelude.{◌≡◌, ℕ, Bool, true, false, not, ◌&&◌, ◌||◌, ◌==◌, if◌then◌else◌, List, map, replicate, slice_index_or, slice_set, Option, Some, None}
 use Rattle.std.specs.List.{range_with_len, list_all}
 use Rattle.std.specs.Int.{bit_at}
@@ -11,15 +11,15 @@ pub record Known : Type 0 where
   pub secret : List Bool
   pub banks : List (Option ℕ)
 
--- The register may hold a secret; the bank that the slot is bound to, where it is known. A register or slot that isn't
--- listed may hold anything.
+-- The register may hold a secret; and the bank to which the slot is bound, if it is known. A register or a slot that
+-- isn't listed may hold anything.
 abbrev pub is_secret : Known → ℕ → Bool
 is_secret k r = slice_index_or k.secret r true
 
 abbrev pub bank_known : Known → ℕ → Option ℕ
 bank_known k slot = slice_index_or k.banks slot None
 
--- the same, but for a register's label or a slot's bank
+-- what is known, with another label of a register or another bank of a slot
 abbrev pub set_secret : Known → ℕ → Bool → Known
 set_secret k r secret = record k { secret = slice_set k.secret r secret }
 
@@ -30,7 +30,7 @@ set_bank k slot bank = record k { banks = slice_set k.banks slot (Some bank) }
 unfoldable pub start_known : Known
 start_known = record { secret = replicate 32 false; banks = replicate 8 None }
 
--- what a note claims of register r, and of a slot
+-- a note's claim about register r, and about a slot
 abbrev pub is_marked : ℕ → ℕ → Bool
 is_marked mask r = bit_at mask r == 1
 
@@ -46,13 +46,13 @@ claims count slots = map (λ k. claimed_bank (slice_index_or slots k 255)) (rang
 abbrev pub note_known : Note → Known
 note_known n = record { secret = marks 32 n.secrets; banks = claims 8 n.slots }
 
--- What is known fits a claim: each register that may hold a secret is claimed so, and each slot for which a bank is
--- claimed is bound to that bank.
+-- What is known fits a claim: the claim marks each register that may hold a secret, and each slot is bound to the bank
+-- that the claim names for it, if it names one.
 pub record FitsClaim (known claimed : Known) : Type 0 where
   pub registers : (r : ℕ) → is_secret known r ≡ true → is_secret claimed r ≡ true
   pub slots : (slot bank : ℕ) → bank_known claimed slot ≡ Some bank → bank_known known slot ≡ Some bank
 
--- the same as a test, for what a note claims of 32 registers and 8 slots: register by register, and slot by slot
+-- `FitsClaim` as a test, for the 32 registers and the 8 slots of a note's claim
 abbrev pub register_fits : Known → Known → ℕ → Bool
 register_fits k claimed r = not (is_secret k r) || is_secret claimed r
 

@@ -1,4 +1,4 @@
--- The numbers by which reasons are told. (This project's profile.)
+-- The numbers of reasons. (This project's profile.)
 use Rattle.std.specs.Prelude.{ℕ}
 use Rattle.trace_patterns.specs.declared.reasons.Reason.{Reason}
 use Rattle.trace_patterns.specs.declared.reasons.Reason.TheVariants.{SecretAddress, SecretToRam, UnboundSlot, JumpOutside, NoNote, NoteTooLow, SecretLoop, HaltInSecret, RamStoreInSecret, UnequalArms, BadRegion, RunsOffEnd, SecretSymbolInRam}

@@ -1,5 +1,5 @@
--- What the check rules of each instruction of public code, given what is known where it stands.
--- (GhostRider, ASPLOS 2015: the type system of L_T; what each kind of bank shows is this project's own choice.)
+-- The check's ruling on each instruction of public code, given what is known at its place. (GhostRider, ASPLOS 2015:
+-- the type system of L_T; what each kind of bank shows is this project's own choice.)
 use Rattle.std.specs.Prelude.{ℕ, Bool, true, false, not, ◌&&◌, ◌||◌, ◌==◌, nat_lt, if◌then◌else◌, ℤ, List, length, slice_get, find, Option, Some, None}
 use Rattle.std.specs.Option.{option_map}
 use Rattle.lt_isa.specs.declared.symbols.Note.{Note}
@@ -11,8 +11,8 @@ use Rattle.trace_patterns.specs.declared.reasons.Reason.{Reason}
 use Rattle.trace_patterns.specs.declared.reasons.Reason.TheVariants.{SecretAddress, SecretToRam, UnboundSlot, JumpOutside, NoNote, NoteTooLow}
 use Rattle.trace_patterns.specs.Known.{Known, is_secret, bank_known, set_secret, set_bank, note_known, fits}
 
--- An instruction is refused; or the next place is reached from it, and this is known there; or it isn't; or it is a
--- branch on a secret, which opens a region.
+-- An instruction is refused; or it falls through to the next place, with what is known there; or it never continues to
+-- the next place; or it is a branch on a secret, which opens a region.
 pub data Ruling : Type 0 where
   Refused : (reason : Reason) → Ruling
   Falls : (known : Known) → Ruling
@@ -26,21 +26,21 @@ note_of_place notes p = find (λ n. n.pc == p) notes
 unfoldable pub claimed_at : Parts → ℕ → Option Known
 claimed_at o p = option_map note_known (note_of_place o.notes p)
 
--- of plain and encrypted memory the observer sees the number of the block
+-- the observer sees the number of the block in plain and encrypted memory
 abbrev pub shows_block : ℕ → Bool
 shows_block bank = is_ram bank || is_eram bank
 
--- refused for a reason where a test holds, and else as follows
+-- refused for a reason if a test is true, and otherwise what follows
 abbrev pub refused_if : Bool → Reason → Ruling → Ruling
 refused_if true reason next = Refused reason
 refused_if false reason next = next
 
--- what is ruled of a slot whose bank must be known
+-- the ruling on a slot whose bank must be known
 abbrev pub at_bank : Option ℕ → (ℕ → Ruling) → Ruling
 at_bank None go = Refused UnboundSlot
 at_bank (Some bank) go = go bank
 
--- a jump leads to a place of the code where a note stands, and what is known fits that note
+-- a jump leads to a place of the code that has a note, and what is known fits that note
 abbrev pub at_claim : Option Known → Known → Ruling → Ruling
 at_claim None k next = Refused NoNote
 at_claim (Some claimed) k next = refused_if (not (fits k claimed)) NoteTooLow next
@@ -49,7 +49,7 @@ abbrev pub jumped : Parts → ℕ → Known → Ruling → Ruling
 jumped o target k next =
     refused_if (not (nat_lt target (length o.code))) JumpOutside (at_claim (claimed_at o target) k next)
 
--- what is ruled of instruction i at place p, where k is known
+-- the ruling on instruction i at place p, if k is known there
 unfoldable pub ruling_of : Parts → ℕ → Known → Instr → Ruling
 ruling_of o p k Nop = Falls k
 ruling_of o p k Halt = Leaves
@@ -68,7 +68,7 @@ ruling_of o p k (Jmp offset) = jumped o (target_of o p offset) k Leaves
 ruling_of o p k (Br cmp ra rb offset) =
     if is_secret k ra || is_secret k rb then Opens offset else jumped o (target_of o p offset) k (Falls k)
 
--- what is ruled at place p; no instruction stands outside the code
+-- the ruling at place p; outside the code there is no instruction, and nothing continues
 abbrev pub ruling_if : Parts → ℕ → Known → Option Instr → Ruling
 ruling_if o p k None = Leaves
 ruling_if o p k (Some i) = ruling_of o p k i

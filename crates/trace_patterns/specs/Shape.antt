@@ -8,21 +8,21 @@ use Rattle.lt_isa.specs.Object.{Parts}
 use Rattle.trace_patterns.specs.declared.reasons.Reason.{Reason}
 use Rattle.trace_patterns.specs.declared.reasons.Reason.TheVariants.{JumpOutside, SecretLoop, BadRegion}
 
--- A region is refused at a place; or its second arm begins at one place, and both arms join at another.
+-- A region is refused at a place, or its second arm begins at one place and both arms join at another.
 pub data RegionShape : Type 0 where
   BadShape : (place : ℕ) (reason : Reason) → RegionShape
   Arms : (second join : ℕ) → RegionShape
 
--- The first test that holds refuses the region, at its place and for its reason.
+-- The first test that is true refuses the region, at its place and for its reason.
 abbrev pub first_held : List (Bool × ℕ × Reason) → RegionShape → RegionShape
 first_held [] next = next
 first_held (test ∷ tests) next = if test.0 then BadShape test.1 test.2 else first_held tests next
 
--- how many regions may lie around a place
+-- the number of regions that may be around a place
 abbrev pub most_regions : ℕ
 most_regions = 64
 
--- whether an offset leads forward, and how many places it leads on then
+-- whether an offset doesn't lead forward and, if it does, how many places ahead it leads
 abbrev pub leads_back : ℤ → Bool
 leads_back (pos zero) = true
 leads_back (pos (suc n)) = false
@@ -41,16 +41,16 @@ abbrev pub jump_offset : Option Instr → ℤ
 jump_offset (Some (Jmp offset)) = offset
 jump_offset _ = pos 0
 
--- a place behind the last instruction
+-- a place past the last instruction
 abbrev pub is_outside : Parts → ℕ → Bool
 is_outside o q = not (nat_lt q (length o.code))
 
--- a note stands behind a place and before another
+-- there is a note after one place and before another
 abbrev pub has_note_between : Parts → ℕ → ℕ → Bool
 has_note_between o low high = list_any (λ n. nat_lt low n.pc && nat_lt n.pc high) o.notes
 
--- The tests of the region of a branch at p that leads on by an offset to t, behind an instruction that jumps to the
--- join, where so many regions lie around it and its join may be at the end at most.
+-- The tests of the region of a branch at p with an offset to t. `before` is the instruction before t, which must jump
+-- to the join; `depth` is the number of regions around this one, and the join is at `end` at the latest.
 abbrev pub shape_tests : Parts → (depth end p : ℕ) → ℤ → (t : ℕ) → Option Instr → (join : ℕ) → List (Bool × ℕ × Reason)
 shape_tests o depth end p offset t before join =
     (nat_le most_regions depth, p, BadRegion)
@@ -63,7 +63,7 @@ shape_tests o depth end p offset t before join =
     ∷ (nat_lt end join || has_note_between o p join, p, BadRegion)
     ∷ []
 
--- the place to which the branch leads, and the one to which the jump before it leads
+-- the place to which the branch leads, and the place to which the jump before it leads
 abbrev pub second_arm : ℕ → ℤ → ℕ
 second_arm p offset = p + places_on offset
 

@@ -1,5 +1,5 @@
--- One instruction of an arm of a branch on a secret: what it shows, and what is known behind it.
--- (GhostRider, ASPLOS 2015: the type system of L_T; the order of refusals is this project's profile.)
+-- One instruction of an arm of a branch on a secret: what it shows, and what is known after it. (GhostRider, ASPLOS
+-- 2015: the type system of L_T; the order of refusals is this project's profile.)
 use Rattle.std.specs.Prelude.{ℕ, zero, suc, false, pos, negsuc, ℤ, if◌then◌else◌, Option, Some, None}
 use Rattle.gr_word.specs.declared.operations.Op.{Op}
 use Rattle.gr_word.specs.declared.operations.Op.TheVariants.{Remu}
@@ -14,14 +14,14 @@ use Rattle.trace_patterns.specs.Patterns.{Shown, no_events, with_gap, with_event
 use Rattle.trace_patterns.specs.Events.{TreeEvent, RamRead, EncRead, EncWrite, Oram}
 use Rattle.trace_patterns.specs.SymStates.{Origin, Entry, Loaded, SymSlot, AnySlot, RamSlot, EramSlot, OramSlot, SymState, tree_held, slot_held, hold_tree, hold_slot}
 
--- An instruction is refused; or it shows a pattern and what is known behind it; or it is a branch, which opens a region
--- of its own.
+-- An instruction is refused; or it shows a pattern, with what is known after it; or it is a branch, which opens another
+-- region.
 pub data Single : Type 0 where
   Refuses : (reason : Reason) → Single
   Goes : (pattern : Shown TreeEvent) (state : SymState) → Single
   Branches : (offset : ℤ) → Single
 
--- a number of cycles without an event, and an event
+-- the pattern of some cycles without an event, and of one event
 abbrev pub gap : ℕ → Shown TreeEvent
 gap cycles = with_gap no_events cycles
 
@@ -39,17 +39,17 @@ named_block o bank t = Apply Remu t (Const (pos (blocks_of o bank)))
 abbrev pub named_word : Parts → Value → Value
 named_word o t = Apply Remu t (Const (pos (block_words o)))
 
--- a word of a slot of plain memory
+-- the tree of a word of a slot that is bound to plain memory
 abbrev pub word_tree : Origin → Value → Value → Value
 word_tree (Entry slot) block place = SlotWord slot place
 word_tree Loaded block place = MemWord block place
 
--- the tree of an operation, where both operands have one
+-- the tree of an operation, if both operands have one
 abbrev pub applied_trees : Op → Option Value → Option Value → Option Value
 applied_trees op (Some a) (Some b) = Some (Apply op a b)
 applied_trees op _ _ = None
 
--- where the number of the block is seen, its tree must be known
+-- if the observer sees the number of the block, its tree must be known
 abbrev pub at_tree : Option Value → (Value → Single) → Single
 at_tree None go = Refuses SecretAddress
 at_tree (Some t) go = go t
@@ -62,26 +62,26 @@ loads o s k bank r =
     Goes (event (EncRead block)) (hold_slot s k (EramSlot block)))
     else Goes (event (Oram bank)) (hold_slot s k (OramSlot bank)))
 
--- a block is stored, but none of plain memory
+-- a block is stored, but not in plain memory
 abbrev pub stores : SymState → SymSlot → Single
 stores s AnySlot = Refuses UnboundSlot
 stores s (RamSlot block origin) = Refuses RamStoreInSecret
 stores s (EramSlot block) = Goes (event (EncWrite block)) s
 stores s (OramSlot bank) = Goes (event (Oram bank)) s
 
--- the number of a slot's block
+-- the tree of the number of a slot's block
 abbrev pub block_held : SymSlot → Option Value
 block_held AnySlot = None
 block_held (RamSlot block origin) = Some block
 block_held (EramSlot block) = Some block
 block_held (OramSlot bank) = None
 
--- a slot's word, where it is one of plain memory and its place is known
+-- the tree of a slot's word, if the slot is bound to plain memory and the word's place is known
 abbrev pub word_held : Parts → SymSlot → Option Value → Option Value
 word_held o (RamSlot block origin) (Some t) = Some (word_tree origin block (named_word o t))
 word_held o _ _ = None
 
--- what is done with a slot that must be bound, and with one that must not be bound to plain memory
+-- an instruction whose slot must be bound; and an instruction whose slot must be bound, but not to plain memory
 abbrev pub if_bound : SymSlot → Single → Single
 if_bound AnySlot go = Refuses UnboundSlot
 if_bound (RamSlot block origin) go = go
@@ -94,13 +94,13 @@ if_stored (RamSlot block origin) go = Refuses RamStoreInSecret
 if_stored (EramSlot block) go = go
 if_stored (OramSlot bank) go = go
 
--- a jump in an arm is refused, backwards as a loop
+-- a jump in an arm is refused; a jump that doesn't lead forward is refused as a loop
 abbrev pub jump_refused : ℤ → Reason
 jump_refused (pos zero) = SecretLoop
 jump_refused (pos (suc n)) = BadRegion
 jump_refused (negsuc n) = SecretLoop
 
--- what is made of an instruction where s is known
+-- the result of an instruction, if s is known before it
 unfoldable pub single : Parts → SymState → Instr → Single
 single o s Nop = quietly o Nop s
 single o s Halt = Refuses HaltInSecret

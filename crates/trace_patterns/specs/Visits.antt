@@ -9,18 +9,19 @@ use Rattle.trace_patterns.specs.SymStates.{SymState, at_entry, known_after}
 use Rattle.trace_patterns.specs.Walk.{CrossesTo}
 use Rattle.trace_patterns.specs.Rules.{Falls, Opens, claimed_at, ruling_at}
 
--- the region of a branch at p in public code is crossed, where k is known: its join may be at the last place at most
+-- the region of a branch at p in public code is crossed, if k is known there: its join is at the last place at the
+-- latest
 abbrev pub CrossesFrom : Parts → (p : ℕ) → ℤ → Known → Shown TreeEvent → (join : ℕ) → SymState → Type 0
 CrossesFrom o p offset k pattern join state =
     CrossesTo o 0 (length o.code - 1) p offset (at_entry k) pattern join state
 
 mutual
-  -- a place is visited, and this is known there: what its note claims; or, without a note, what comes to it
+  -- a place is visited, and this is known there: what its note claims or, if it has no note, what reaches it
   pub data VisitedAt (o : Parts) : ℕ → Known → Type 0 where
     Noted : (p : ℕ) (claimed : Known) → claimed_at o p ≡ Some claimed → VisitedAt o p claimed
     Unnoted : (p : ℕ) (known : Known) → claimed_at o p ≡ None → ComesTo o p known → VisitedAt o p known
 
-  -- this comes to a place: at the start; or the place before it falls through; or a region joins there
+  -- what is known reaches a place: at the start; or the place before it falls through; or a region joins there
   pub data ComesTo (o : Parts) : ℕ → Known → Type 0 where
     Starts : ComesTo o 0 start_known
     FallsTo : (p : ℕ) (known next : Known)
@@ -32,7 +33,7 @@ mutual
 abbrev pub IsVisited : Parts → ℕ → Type 0
 IsVisited o p = (known : Known) × VisitedAt o p known
 
--- a place lies in a region that is crossed: behind the branch that opens it, and before its join
+-- a place is inside a region that is crossed: after the branch that opens it, and before its join
 pub record LiesInside (o : Parts) (p : ℕ) : Type 0 where
   pub branch : ℕ
   pub known : Known
@@ -46,6 +47,6 @@ pub record LiesInside (o : Parts) (p : ℕ) : Type 0 where
   pub behind : branch < p
   pub before : p < join
 
--- whatever comes to a place fits the note that stands there
+-- all that reaches a place fits the place's note
 abbrev pub FitsNote : Parts → ℕ → Type 0
 FitsNote o p = (known claimed : Known) → ComesTo o p known → claimed_at o p ≡ Some claimed → FitsClaim known claimed

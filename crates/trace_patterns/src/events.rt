@@ -1,4 +1,4 @@
-/// An event that code in an arm of a secret branch shows. A block is told by the number of its value in one
+/// An event that code in an arm of a branch on a secret shows. It names a block by the number of its value in one
 /// [`symbolic_values::Values`].
 #[derive(Clone, Copy, Debug, PartialEq, Eq)]
 pub enum SymEvent {

@@ -5,13 +5,13 @@ use lt_isa::Note;
 use lt_isa::ranges::ANY_BANK;
 use std::marker::Model;
 
-/// What is known at a place of the code, whatever the secrets are. It is seen as a label for each register, and for
-/// each slot the bank that it is bound to, where that is known.
+/// What is known at a place of the code, for any secrets. Contracts see it as a label for each register and, for each
+/// slot, the bank to which it is bound, if that is known.
 #[derive(Debug, Drop)]
 pub struct Known {
-    // Bit r is set where register r may hold a secret.
+    // Bit r is set if register r may hold a secret.
     secrets: u32,
-    // For each slot the number of its bank, or 255 where that isn't known.
+    // For each slot the number of its bank, or 255 if that isn't known.
     slots: [u8; 8],
 }
 
@@ -24,7 +24,7 @@ impl Model for Known {
 }
 
 impl Known {
-    /// What is known at the start: every register is public, and nothing is known of the slots.
+    /// What is known at the start: every register is public, and no slot's bank is known.
     pub fn start() -> Known
         ensures { result ≡ start_known }
     {
@@ -44,7 +44,7 @@ impl Known {
         }
     }
 
-    /// The note at a place that claims just this.
+    /// The note at place `pc` that claims exactly this.
     pub fn note(&self, pc: u32) -> Note
         ensures place { result.pc ≡ pc }
         ensures claim { note_known result ≡ self.now }
@@ -73,7 +73,7 @@ impl Known {
         self.is_secret(first) || self.is_secret(second)
     }
 
-    /// The bank that a slot is bound to, where it is known.
+    /// The bank to which a slot is bound, if it is known.
     pub fn bank(&self, slot: u8) -> Option<u8>
         requires { slot < 8 }
         ensures bank { result ≡ bank_known self.now slot }
@@ -82,7 +82,7 @@ impl Known {
         claimed_bank(self.slots[slot as usize])
     }
 
-    /// Labels a register anew.
+    /// Sets the label of a register.
     pub fn set_secret(&mut self, register: u8, secret: bool)
         requires { register < 32 }
         ensures { self.new ≡ set_secret self.old register secret }
@@ -104,7 +104,7 @@ impl Known {
         self.slots[slot as usize] = bank;
     }
 
-    /// The same, with another label of a register.
+    /// A copy with another label of a register.
     pub fn with_register(&self, register: u8, secret: bool) -> Known
         requires { register < 32 }
         ensures { result ≡ set_secret self.now register secret }
@@ -114,7 +114,7 @@ impl Known {
         known
     }
 
-    /// The same, with a slot bound to a bank.
+    /// A copy in which a slot is bound to a bank.
     pub fn with_bank(&self, slot: u8, bank: u8) -> Known
         requires slot { slot < 8 }
         requires bank { bank < 255 }
@@ -125,7 +125,7 @@ impl Known {
         known
     }
 
-    /// The same.
+    /// A copy.
     pub fn copied(&self) -> Known
         ensures { result ≡ self.now }
     {
@@ -135,8 +135,8 @@ impl Known {
         }
     }
 
-    /// Whether what is known fits a claim: each register that may hold a secret is claimed so, and each slot for which
-    /// a bank is claimed is bound to that bank.
+    /// Whether what is known fits a claim: the claim marks each register that may hold a secret, and each slot is bound
+    /// to the bank that the claim names for it, if it names one.
     pub fn fits(&self, claimed: &Known) -> bool
         ensures { result ≡ fits self.now claimed.now }
     {

@@ -1,8 +1,8 @@
-//! Patterns of what stretches of code show, and which objects are accepted.
+//! Patterns of what stretches of code show, and which objects the check accepts.
 //!
-//! A [`Pattern`] is seen as a list of events, each with the gap before it, and a last gap. [`Known`] is what is known
-//! at a place of the code whatever the secrets are. The definitions in `specs/` say what is ruled of each instruction,
-//! which places are visited, when a region is crossed, and when an object is accepted.
+//! Contracts see a [`Pattern`] as a list of events, each with the gap before it, and a last gap. [`Known`] is what is
+//! known at a place of the code, for any secrets. The definitions in `specs/` state the check's ruling on each
+//! instruction, which places are visited, when a region is crossed, and when an object is accepted.
 #![tactic(auto)]
 
 pub mod events;

@@ -6,9 +6,9 @@ use gr_base::Memory;
 use std::alloc::Global;
 use std::marker::Model;
 
-/// What a stretch of code shows: its events, and between them gaps, the cycles of the instructions without an event
-/// that stand there. The cycles that an event's own instruction takes are in no gap. Seen as a list of events, each
-/// with the gap before it, and a last gap.
+/// What a stretch of code shows: its events and, between them, gaps. A gap is the number of cycles that the
+/// instructions without an event take there; the cycles of an event's own instruction are in no gap. Contracts see a
+/// pattern as a list of events, each with the gap before it, and a last gap.
 #[derive(Debug, Drop)]
 pub struct Pattern {
     parts: Vec<(u64, SymEvent)>,
@@ -43,7 +43,7 @@ impl Pattern {
         self.last += cycles as u64;
     }
 
-    /// Adds an event behind the last gap, and then a gap of 0 cycles. Want of memory leaves the pattern as it was.
+    /// Adds an event after the last gap, and then a gap of 0 cycles. Out of memory leaves the pattern as it was.
     pub fn push_event(&mut self, event: SymEvent) -> Result<(), Memory>
         ensures added { OnOk result (self.new ≡ with_event self.old event) }
         ensures unchanged { OnErr result (self.new ≡ self.old) }
@@ -53,8 +53,8 @@ impl Pattern {
         Ok(())
     }
 
-    /// Adds another pattern at the end. The last gap and the first of the other are one. Want of memory leaves the
-    /// pattern as it was.
+    /// Adds another pattern at the end; the last gap and the first gap of the other become one. Out of memory leaves
+    /// the pattern as it was.
     pub fn append(&mut self, other: &Pattern) -> Result<(), Memory>
         requires { self.old.last + first_gap other.now < 2 ^ 63 }
         ensures added { OnOk result (self.new ≡ joined self.old other.now) }

@@ -1,18 +1,18 @@
 ghost use Rattle.std.specs.Prelude.{◌≡◌};
 ghost use Rattle.trace_patterns.specs.Reasons.{reason_number};
 
-/// Why an object is refused.
+/// Why the check rejects an object.
 #[derive(Clone, Copy, Debug, PartialEq, Eq)]
 pub enum Reason {
-    /// A block of plain or encrypted memory is named by a secret.
+    /// A secret determines which block of plain or encrypted memory is accessed.
     SecretAddress,
     /// A secret would reach plain memory.
     SecretToRam,
-    /// Nothing is known of the bank that a slot is bound to.
+    /// The bank to which a slot is bound isn't known.
     UnboundSlot,
     /// A jump leads outside the code.
     JumpOutside,
-    /// No note stands where one is needed.
+    /// A place needs a note and has none.
     NoNote,
     /// A note claims more than is known.
     NoteTooLow,
@@ -22,19 +22,19 @@ pub enum Reason {
     HaltInSecret,
     /// Plain memory would be written inside a branch on a secret.
     RamStoreInSecret,
-    /// The two ways of a branch on a secret differ in what they show.
+    /// The two ways through a branch on a secret differ in what they show.
     UnequalArms,
-    /// A branch on a secret hasn't the shape of two arms that join: no jump stands before the second arm, the arms
-    /// reach past the end, a jump stands within an arm, a note stands inside, or more than 64 regions lie around.
+    /// A branch on a secret doesn't have two arms that join: there is no jump before the second arm, the arms reach
+    /// past the end, a jump or a note is inside, or regions would be nested more than 64 deep.
     BadRegion,
-    /// The code runs on behind its last instruction.
+    /// The code continues past its last instruction.
     RunsOffEnd,
-    /// A secret variable lies in plain memory.
+    /// A secret variable is in plain memory.
     SecretSymbolInRam,
 }
 
 impl Reason {
-    /// The number by which the reason is told: 1 to 13, in the order of the reasons.
+    /// The number of the reason: 1 to 13, in the order of the reasons.
     pub fn number(&self) -> u8
         ensures { result ≡ reason_number self.now }
     {
