@@ -1,4 +1,4 @@
--- The accesses of a run: to blocks that there are, and as many to an oblivious bank as its trace shows.
+-- The accesses of a run: only to existing blocks, and as many to an oblivious bank as its trace shows.
 use Rattle.std.proofs.Common.{◌≡◌, ◌≢◌, ℕ, zero, suc, ◌+◌, ◌<◌, ◌≤◌, Bool, true, false, cond, ltb, List, [], ◌∷◌, ◌++◌, length, All, Option, Some, None, refl, sym, ap, ◌∙◌, subst, ⊎_elim, arith}
 use Rattle.std.proofs.lemmas.Bool.{cases_eq, eq-eqb, ne_eqb}
 use Rattle.std.proofs.lemmas.List.{length-append}
@@ -24,7 +24,7 @@ accesses_shown-append : (b : ℕ) (xs ys : List Stamped)
 accesses_shown-append b [] ys = omega arith
 accesses_shown-append b (x ∷ xs) ys = let more = accesses_shown-append b xs ys in omega (arith, more)
 
--- one step: its event is an access to the bank exactly where it makes one
+-- a step makes one access to oblivious bank b if that is the bank that it accesses, and otherwise none
 one_made : (b : ℕ) → 2 ≤ b → (made : Option Access) → length (in_bank b (at_most_one made))
     ≡ if_it_is b (made_bank made)
 one_made b two None = refl
@@ -106,7 +106,7 @@ pub accesses-counted : (b : ℕ) → 2 ≤ b → (o : Parts) (s : State) (n : �
 unfolding trace_from accesses_from
 accesses-counted b two o s n = within_counts b two n o s n
 
--- an access to a block of the object
+-- an access to an existing block of the object
 abbrev pub AccessFits : Parts → Access → Type 0
 AccessFits o access = (access.bank < length o.banks) × (access.block < blocks_of o access.bank)
 
@@ -169,7 +169,7 @@ within_fits o range (suc k) s n shaped =
     (then_fits o (step o s) (λ t. accesses_within k o t n)
     (λ event t goes. within_fits o range k t n (step-shaped o range s shaped event t goes))))
 
--- a run accesses blocks of the object
+-- a run accesses only existing blocks
 pub accesses-fit : (o : Parts)
     → IsInRange o → (s : State) (n : ℕ) → IsShaped o s → All (AccessFits o) (accesses_from o s n)
 unfolding accesses_from
@@ -193,7 +193,7 @@ in_bank-fits o b (access ∷ accesses) fits =
     (sym (ne_eqb b access.bank other)) later)
     (cases_eq b access.bank)
 
--- only blocks of the bank are accessed
+-- a run accesses only existing blocks of bank b
 pub blocks-exist : (o : Parts) → IsInRange o → (s : State) (n : ℕ) → IsShaped o s → (b : ℕ)
     → All (λ a. a < blocks_of o b) (in_bank b (accesses_from o s n))
 blocks-exist o range s n shaped b = in_bank-fits o b (accesses_from o s n) (accesses-fit o range s n shaped)

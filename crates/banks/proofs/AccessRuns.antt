@@ -12,13 +12,13 @@ use Rattle.lt_isa.proofs.Steps.{step_start-least, step-later}
 use Rattle.lt_isa.proofs.Shapes.{step-shaped}
 use Rattle.banks.specs.Accesses.{Access, accessed, accessed_by, accessed_if, accessed_then, accesses_within, accesses_from, at_most_one, AreAccesses}
 
--- the access at an instruction, and outside the code
+-- a step at a place of the code makes the access of the instruction there
 pub accessed-at : (o : Parts) (s : State) (i : Instr)
     → slice_get o.code s.place ≡ Some i → accessed o s ≡ accessed_by o s i
 unfolding accessed
 accessed-at o s i at = ap (accessed_if o s) at
 
--- outside the code nothing is accessed
+-- a step outside the code makes no access
 pub accessed-outside : (o : Parts) (s : State) → slice_get o.code s.place ≡ None → accessed o s ≡ None
 unfolding accessed
 accessed-outside o s at = ap (accessed_if o s) at
@@ -30,19 +30,19 @@ accessed_then-same (Goes event t) f g same = same event t refl
 accessed_then-same (Stops t) f g same = refl
 accessed_then-same Faults f g same = refl
 
--- nothing is accessed below a cycle that isn't above the start of the next step
+-- no accesses below a cycle that isn't above the start of the next step
 accesses_within-past : (k : ℕ) (o : Parts) (s : State) (n : ℕ) → n ≤ step_start o s → accesses_within k o s n ≡ []
 unfolding accesses_within
 accesses_within-past zero o s n past = refl
 accesses_within-past (suc k) o s n past = sym (cond_above (step_start o s) n _ _ _ past refl)
 
--- past the cut nothing is accessed
+-- nothing is accessed if the next step starts at n or later
 pub accesses_from-past : (o : Parts) (s : State) (n : ℕ) → n ≤ step_start o s → accesses_from o s n ≡ []
 unfolding accesses_from
 accesses_from-past o s n past = accesses_within-past n o s n past
 
 module _ (o : Parts) (fits : IsInRange o) where
-  -- more steps than cycles are left change nothing
+  -- as many steps as there are cycles left are enough; more change nothing
   accesses_within-enough : (j k : ℕ) (s : State) (n : ℕ)
       → IsShaped o s → n ≤ s.cycle + j → n ≤ s.cycle + k → accesses_within j o s n ≡ accesses_within k o s n
   unfolding accesses_within
@@ -58,7 +58,7 @@ module _ (o : Parts) (fits : IsInRange o) where
       (omega (arith, step_start-least o s))
       (omega (arith, step_start-least o s))))
 
-  -- a step that starts below the cycle, and what comes of the state behind it
+  -- if a step starts below the cycle, its access and then the accesses from the state after it
   pub accesses_from-more : (s : State) (n : ℕ) → IsShaped o s → step_start o s < n
       → accesses_from o s n ≡ at_most_one (accessed o s) ++ accessed_then (step o s) (λ t. accesses_from o t n)
   unfolding accesses_from accesses_within
@@ -70,7 +70,7 @@ module _ (o : Parts) (fits : IsInRange o) where
       accesses_within-enough k (suc k) t (suc k) (step-shaped o fits s shaped event t goes)
       (omega arith) (omega arith)))
 
-  -- a step that ends so
+  -- if a step with a given outcome starts below the cycle, its access and then the accesses after that outcome
   pub accesses_from-step : (s : State) (outcome : StepResult) (n : ℕ)
       → IsShaped o s → step o s ≡ outcome → step_start o s < n
       → accesses_from o s n ≡ at_most_one (accessed o s) ++ accessed_then outcome (λ t. accesses_from o t n)
@@ -78,12 +78,12 @@ module _ (o : Parts) (fits : IsInRange o) where
       accesses_from-more s n shaped less
       ∙ ap (λ r. at_most_one (accessed o s) ++ accessed_then r (λ t. accesses_from o t n)) is
 
--- the computing form of accesses has the two sentences
+-- the computing form of accesses satisfies their relation
 pub are_accesses : (o : Parts) → IsInRange o → AreAccesses o (accesses_from o)
 are_accesses o fits = record { past = accesses_from-past o; more = accesses_from-more o fits }
 
 module _ (o : Parts) (fits : IsInRange o) (accesses : State → ℕ → List Access) (are : AreAccesses o accesses) where
-  -- by the cycles that are left
+  -- by induction on the cycles that are left
   same_within : (left : ℕ) (s : State) → IsShaped o s → (n : ℕ) → n ≤ s.cycle + left → accesses s n
       ≡ accesses_from o s n
   same_within zero s shaped n few =
@@ -101,6 +101,6 @@ module _ (o : Parts) (fits : IsInRange o) (accesses : State → ℕ → List Acc
       (λ past. are.past s n past ∙ sym (accesses_from-past o s n past))
       (cases_lt (step_start o s) n)
 
-  -- the two sentences have one solution
+  -- the relation of accesses has one solution
   pub no_other_accesses : (s : State) → IsShaped o s → (n : ℕ) → accesses s n ≡ accesses_from o s n
   no_other_accesses s shaped n = same_within n s shaped n (omega arith)

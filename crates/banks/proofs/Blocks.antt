@@ -1,4 +1,4 @@
--- What is in the blocks of words that stand one behind the other, and in them after a block was replaced.
+-- The blocks of words in sequence, before and after a block is replaced.
 use Rattle.std.proofs.Common.{◌≡◌, ℕ, zero, suc, ◌+◌, ◌*◌, ◌-◌, ◌/◌, ◌%◌, ◌<◌, ◌≤◌, ◌≢◌, ◌⊎◌, inl, inr, true, false, cond, ◌&&◌, ℤ, pos, List, [], ◌∷◌, ◌++◌, length, map, get_or, set, take, drop, replicate, refl, sym, ap, ◌∙◌, subst, ⊎_elim, arith, add-one}
 use Rattle.std.specs.Prelude.{nat_le, nat_lt}
 use Rattle.std.proofs.lemmas.Bool.{cases_lt, cases_eq}
@@ -13,12 +13,12 @@ use Rattle.lt_isa.specs.Machine.{word_in}
 use Rattle.banks.specs.Banks.{block_numbered}
 use Rattle.banks.specs.Blocks.{Blocks, block_of_words, cut, filled_up, in_blocks, words_of_blocks}
 
--- so many blocks are cut
+-- n blocks are cut
 pub length-cut : (w n : ℕ) (words : List ℤ) → length (cut w n words) ≡ n
 unfolding cut
 length-cut w n words = length-map-range_with_len (block_of_words w words) 0 n
 
--- a block that is cut
+-- one block of those that are cut
 pub block-cut : (w n : ℕ) (words : List ℤ) (at : ℕ) → at < n → block_numbered (cut w n words) at
     ≡ block_of_words w words at
 unfolding cut
@@ -31,7 +31,7 @@ word-cut w n words at i exists within =
     ap (λ block. word_in block i) (block-cut w n words at exists)
     ∙ (get_or-take w (drop (at * w) words) i (pos 0) within ∙ get_or-drop (at * w) words i (pos 0))
 
--- the words of the first blocks, one behind the other
+-- the words of the first n blocks in sequence
 words_of_front : (w n : ℕ) (words : List ℤ) → words_of_blocks (cut w n words) ≡ take (n * w) words
 unfolding cut
 words_of_front w zero words = ap (λ k. take k words) (sym (zero-mul w))
@@ -43,7 +43,7 @@ words_of_front w (suc n) words =
     ∙ (ap (λ list. take (n * w) words ++ list) (append-nil (block_of_words w words n))
     ∙ (sym (take-add (n * w) w words) ∙ ap (λ k. take k words) (sym (suc-mul n w))))))
 
--- cutting into blocks changes no word
+-- the words of all blocks in sequence are the words that were cut
 pub words_of_cut : (w n : ℕ) (words : List ℤ) → length words ≡ n * w → words_of_blocks (cut w n words) ≡ words
 words_of_cut w n words all = words_of_front w n words ∙ take_all (n * w) words (omega arith)
 
@@ -54,21 +54,21 @@ block_end w n at exists =
     let grown : (at + 1) * w ≤ n * w = mul-le-mul_right w up in
     omega (arith, grown)
 
--- a block has its width
+-- a block has w words
 pub length-block_of_words : (w n : ℕ) (words : List ℤ) (at : ℕ)
     → length words ≡ n * w → at < n → length (block_of_words w words at) ≡ w
 length-block_of_words w n words at all exists =
     let end : at * w + w ≤ n * w = block_end w n at exists in
     length-take-le w (drop (at * w) words) (omega (arith, end, all, length-drop (at * w) words))
 
--- the zeros behind some words: how many words there are then, and what each is
+-- the number of words after zeros are appended
 pub filled_up-more : (n : ℕ) (words : List ℤ) → length (filled_up n words) ≡ length words + (n - length words)
 unfolding filled_up
 filled_up-more n words =
     length-append words (replicate (n - length words) (pos 0))
     ∙ ap (λ k. length words + k) (length-replicate (n - length words) (pos 0))
 
--- words that are filled up to a count are so many
+-- words that are filled up to n are n words
 pub length-filled_up : (n : ℕ) (words : List ℤ) → length words ≤ n → length (filled_up n words) ≡ n
 length-filled_up n words within = omega (arith, filled_up-more n words)
 
@@ -79,7 +79,7 @@ zero-replicate m i =
     (λ past. get_or_past (replicate m (pos 0)) i (pos 0) (omega (arith, past, length-replicate m (pos 0))))
     (cases_lt i m)
 
--- zeros behind the words change no word
+-- appended zeros change no word, since a word past the end is read as 0
 pub get_or-filled_up : (n : ℕ) (words : List ℤ) (i : ℕ) → get_or (filled_up n words) i (pos 0) ≡ get_or words i (pos 0)
 unfolding filled_up
 get_or-filled_up n words i =
@@ -91,14 +91,14 @@ get_or-filled_up n words i =
     ∙ (zero-replicate (n - length words) (i - length words) ∙ sym (get_or_past words i (pos 0) (omega arith))))
     (cases_lt i (length words))
 
--- as many words as there are, or more, stay as they are
+-- n words or more stay as they are
 pub filled_up_full : (n : ℕ) (words : List ℤ) → n ≤ length words → filled_up n words ≡ words
 unfolding filled_up
 filled_up_full n words full =
     let none : n - length words ≡ 0 = omega arith in
     ap (λ k. words ++ replicate k (pos 0)) none ∙ append-nil words
 
--- a block is known by its words
+-- a block is determined by its words
 pub block-by_index : (w n : ℕ) (words : List ℤ) (at : ℕ) (block : List ℤ)
     → length words ≡ n * w → at < n → length block ≡ w
     → ((i : ℕ) → i < w → get_or words (at * w + i) (pos 0) ≡ get_or block i (pos 0)) → block_of_words w words at ≡ block
@@ -132,7 +132,7 @@ replaced-apart new old start block is i apart =
     ⊎_elim (λ before. grind (arith, nat_tests)) (λ behind. grind (arith, nat_tests)) apart in
     is i ∙ ap (λ b. cond b (get_or block (i - start) (pos 0)) (get_or old i (pos 0))) other
 
--- a word of another block stands before the block or behind it
+-- a word of another block is before the block or after it
 apart-from : (w at k i : ℕ) → i < w → k ≢ at → (k * w + i < at * w) ⊎ (at * w + w ≤ k * w + i)
 apart-from w at k i within other =
     ⊎_elim
@@ -140,7 +140,7 @@ apart-from w at k i within other =
     (λ rest. let above : at * w + w ≤ k * w = block_end w k at (omega arith) in inr (omega arith))
     (cases_lt k at)
 
--- the blocks after one was replaced
+-- cut after the words of a block were replaced, the blocks are the same but for that block
 pub cut-replaced : (w n : ℕ) (new old : List ℤ) (at : ℕ) (block : List ℤ)
     → length new ≡ n * w → length old ≡ n * w → at < n → length block ≡ w → IsReplaced new old (at * w) block
     → cut w n new ≡ set (cut w n old) at block
@@ -163,7 +163,7 @@ cut-replaced w n new old at block all as_many exists size is =
     ∙ sym (get_or-take w (drop (k * w) old) i (pos 0) within ∙ get_or-drop (k * w) old i (pos 0))))))
     (cases_eq k at)))
 
--- a word of a block replaced among all words is its block replaced
+-- replacing a word of a block among all words replaces it in the block
 one-of-block : (new old : List ℤ) (start index : ℕ) (word : ℤ) (before : List ℤ) → index < length before
     → ((i : ℕ) → i < length before → get_or old (start + i) (pos 0) ≡ get_or before i (pos 0))
     → IsReplaced new old (start + index) (word ∷ []) → IsReplaced new old start (set before index word)
@@ -201,23 +201,22 @@ one-of-block new old start index word before inside same one i =
     (cases_lt i (start + length block)))
     (cases_lt i start)
 
--- What is seen of a bank that keeps its first words one behind the other: how many blocks it has, what one holds, and
--- all of it after one was replaced.
+-- how contracts see a bank that stores its first words in sequence
 abbrev pub seen_as : ℕ → ℕ → List ℤ → Blocks
 seen_as w n words = record { contents = cut w n (filled_up (n * w) words); width = w }
 
--- how many blocks words are seen as
+-- the number of blocks as which words are seen
 pub count_of : (w n : ℕ) (words : List ℤ) (bank : Blocks) → seen_as w n words ≡ bank → n ≡ length bank.contents
 count_of w n words bank is = sym (length-cut w n (filled_up (n * w) words)) ∙ ap (λ b. length b.contents) is
 
--- a block of the bank is one of the blocks that words are seen as
+-- a block of the bank is one of the blocks as which the words are seen
 pub exists_in : (w n : ℕ) (words : List ℤ) (bank : Blocks) (at : ℕ)
     → seen_as w n words ≡ bank → at < length bank.contents → at < n
 exists_in w n words bank at is exists = subst (λ m. at < m) (sym (count_of w n words bank is)) exists
 
 module _ (w n : ℕ) (words : List ℤ) (within : length words ≤ n * w) (bank : Blocks) (is : seen_as w n words ≡ bank)
     (at : ℕ) (exists : at < length bank.contents) (start : ℕ) (starts : start ≡ at * w) where
-  -- a word of a block by its place among all words
+  -- a word of a block, by its place among all words
   pub word_of_bank : (i : ℕ) → i < bank.width → get_or words (start + i) (pos 0)
       ≡ word_in (block_numbered bank.contents at) i
   word_of_bank i inside =
@@ -227,7 +226,7 @@ module _ (w n : ℕ) (words : List ℤ) (within : length words ≤ n * w) (bank 
       ∙ (sym (word-cut w n (filled_up (n * w) words) at i (exists_in w n words bank at is exists) below)
       ∙ ap (λ b. word_in (block_numbered b.contents at) i) is))
 
-  -- words that were copied are the block
+  -- words that are equal to those of a block are the block
   pub block_of_bank : (into : List ℤ) → length into ≡ bank.width
       → ((i : ℕ) → i < length into → get_or into i (pos 0) ≡ get_or words (start + i) (pos 0))
       → into ≡ block_numbered bank.contents at
@@ -240,7 +239,7 @@ module _ (w n : ℕ) (words : List ℤ) (within : length words ≤ n * w) (bank 
       ∙ (ap (λ k. get_or words (k + i) (pos 0)) (sym starts) ∙ sym (read i (omega arith)))))
       ∙ (sym (block-cut w n (filled_up (n * w) words) at there) ∙ ap (λ b. block_numbered b.contents at) is)
 
-  -- the words of a block replaced are the block replaced
+  -- replacing the words of a block replaces the block
   pub bank_replaced : (new block : List ℤ)
       → length new ≤ n * w → length block ≡ bank.width → IsReplaced new words start block
       → seen_as w n new ≡ record { contents = set bank.contents at block; width = bank.width }
@@ -259,7 +258,7 @@ module _ (w n : ℕ) (words : List ℤ) (within : length words ≤ n * w) (bank 
       (sym (get_or-filled_up (n * w) words i))))))
       ∙ ap (λ (b : Blocks). let c : Blocks = record { contents = set b.contents at block; width = b.width } in c) is
 
-  -- one word of a block replaced
+  -- replacing one word of a block
   pub word_replaced : (new : List ℤ) (index place : ℕ) (word : ℤ) → place ≡ start + index → index < bank.width
       → length new ≤ n * w → IsReplaced new words place (word ∷ []) → seen_as w n new ≡ record {
         contents = set bank.contents at (set (block_numbered bank.contents at) index word);
@@ -279,7 +278,7 @@ module _ (w n : ℕ) (words : List ℤ) (within : length words ≤ n * w) (bank 
       (λ i below. word_of_bank i (omega (arith, below, long, wide)))
       (subst (λ k. IsReplaced new words k (word ∷ [])) is_at one))
 
--- a bank of whole blocks keeps them all
+-- a bank of whole blocks keeps all of them
 pub whole-bank : (w : ℕ) (words : List ℤ) (n : ℕ)
     → 0 < w → n ≡ length words → length words % w ≡ 0 → cut w (n / w) (filled_up (n / w * w) words) ≡ in_blocks w words
 whole-bank w words n some is whole =

@@ -1,4 +1,4 @@
--- Vectors that keep the first words of a bank, after words were put at a place of them.
+-- Vectors that store the first words of a bank, after words were written at a place of them.
 use Rattle.std.proofs.Common.{◌≡◌, ℕ, ◌+◌, ◌-◌, ◌<◌, ◌≤◌, false, cond, ◌&&◌, ℤ, pos, List, ◌++◌, length, get_or, take, replicate, sym, ap, ◌∙◌, ⊎_elim, arith}
 use Rattle.std.specs.Prelude.{nat_le, nat_lt}
 use Rattle.std.specs.declared.vec.Vec.{Vec}
@@ -9,7 +9,7 @@ use Rattle.std.proofs.lemmas.List.{get_or_past, take_all, with_items_is}
 use Rattle.banks.specs.Blocks.{filled_up}
 use Rattle.banks.proofs.Blocks.{IsReplaced, filled_up-more, get_or-filled_up}
 
--- words that were taken to a length and filled up
+-- words that are resized to n, and aren't more, are filled up to n
 pub resized : {Z : Type 0} (old : Vec ℤ Z) (n : ℕ) (new : List ℤ)
     → length old.items ≤ n → new ≡ take n old.items ++ replicate (n - old.len) (pos 0) → new ≡ filled_up n old.items
 unfolding filled_up
@@ -27,7 +27,7 @@ module _ {Z : Type 0} (v : Vec ℤ Z) (old held new block : List ℤ) (start : �
   more : length held ≡ length old + (start + length block - length old)
   more = ap length lent ∙ (ap length filled ∙ filled_up-more (start + length block) old)
 
-  -- a block that was written into the front
+  -- a block that was written among the first words replaces the words there
   pub written : ((i : ℕ) → i < length held → get_or new i (pos 0) ≡ cond
       (nat_le start i && nat_lt i (start + length block)) (get_or block (i - start) (pos 0)) (get_or held i (pos 0)))
       → IsReplaced (with_items v new).items old start block
@@ -46,7 +46,7 @@ module _ {Z : Type 0} (v : Vec ℤ Z) (old held new block : List ℤ) (start : �
       ∙ sym (ap (λ b. cond b (get_or block (i - start) (pos 0)) (get_or old i (pos 0))) apart)))
       (cases_lt i (length held))
 
-  -- the front stays within the bank
+  -- the stored words stay within the bank
   pub within : (n : ℕ) → length old ≤ n → start + length block ≤ n → length (with_items v new).items ≤ n
   within n few end =
       let long : length (with_items v new).items ≡ length new = ap length whole in omega (arith, long, kept, more)

@@ -4,7 +4,7 @@ use Rattle.std.proofs.lemmas.Bool.{eq-eqb, ne_eqb}
 use Rattle.std.specs.Prelude.{◌==◌}
 use Rattle.banks.specs.Accesses.{Access, in_bank}
 
--- in two stretches
+-- the accesses to one bank in two lists of accesses
 pub in_bank-append : (b : ℕ) (xs ys : List Access) → in_bank b (xs ++ ys) ≡ in_bank b xs ++ in_bank b ys
 in_bank-append b [] ys = refl
 in_bank-append b (x ∷ xs) ys =
@@ -16,7 +16,7 @@ in_bank-append b (x ∷ xs) ys =
     chosen true = refl
     chosen false = refl
 
--- an access to it, and one to another bank
+-- an access to this bank, and an access to another one
 pub in_bank-this : (b : ℕ) (access : Access) (rest : List Access)
     → b ≡ access.bank → in_bank b (access ∷ rest) ≡ access.block ∷ in_bank b rest
 in_bank-this b access rest is =

@@ -1,4 +1,4 @@
--- The accesses of a run that is cut, and of the run that goes on from there.
+-- The accesses of a run that is interrupted, and of the run that resumes from there.
 use Rattle.std.proofs.Common.{◌≡◌, ℕ, zero, suc, ◌+◌, ◌<◌, ◌≤◌, [], ◌++◌, Option, None, refl, sym, ap, ◌∙◌, subst, ⊎_elim, arith}
 use Rattle.std.proofs.lemmas.Bool.{cases_lt}
 use Rattle.std.proofs.lemmas.List.{append_assoc}
@@ -17,7 +17,7 @@ use Rattle.banks.proofs.ShownAccesses.{shows_its_access}
 use Rattle.banks.proofs.AccessRuns.{accesses_from-past, accesses_from-step}
 
 module _ (o : Parts) (fits : IsInRange o) where
-  -- one step, by how it ends; `rest` says the same of the state behind it
+  -- one step, by its outcome; `rest` states the same about the state after it
   resumed_step : (s : State) → IsShaped o s → (n m : ℕ) → n ≤ m → step_start o s < n
       → ((at : ℕ) → HaltsAt (trace_from o s n) at → ⊥)
       → ((event : Option Observed) (t : State) → step o s ≡ Goes event t
@@ -71,7 +71,7 @@ module _ (o : Parts) (fits : IsInRange o) where
       (past_resumed s n m)
       (cases_lt (step_start o s) n)
 
-  -- a run that was cut before its halt, and one on from there, make together the accesses of one run
+  -- the accesses of a run that was interrupted before its halt, and then of the resumed run, are those of a single run
   pub accesses_resumed : (s : State) → IsShaped o s → (n m : ℕ) → n ≤ m
       → ((at : ℕ) → HaltsAt (trace_from o s n) at → ⊥)
       → accesses_from o s m ≡ accesses_from o s n ++ accesses_from o (final_from o s n) m

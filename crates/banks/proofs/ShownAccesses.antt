@@ -25,7 +25,7 @@ shows_access plain sealed (suc (suc i)) a ram eram =
     ∙ ap (λ c. cond c sealed (Oram (suc (suc i)))) (ne_eqb (suc (suc i)) 1 (λ is. omega arith))))
     (refl, omega arith)
 
--- an instruction that only uses the block of a slot makes no access
+-- an instruction that only uses the slot's block makes no access
 quiet : (held : Slot) (next : ℕ → ℕ → List ℤ → State)
     → ShowsItsAccess (with_bound held (λ b a words. Goes None (next b a words))) None
 quiet Unbound next = refl
@@ -64,7 +64,7 @@ executed_shows o s (Stw rs k ro) = quiet (slot s k) _
 executed_shows o s (Jmp offset) = refl
 executed_shows o s (Br cmp ra rb offset) = either (compared cmp (register s ra) (register s rb)) _ _
 
--- the event of a step shows its access
+-- the event of a step shows the step's access
 pub shows_its_access : (o : Parts) (s : State) → ShowsItsAccess (step o s) (accessed o s)
 unfolding step accessed
 shows_its_access o s = found (slice_get o.code s.place)
@@ -73,12 +73,12 @@ shows_its_access o s = found (slice_get o.code s.place)
     found None = refl
     found (Some i) = executed_shows o s i
 
--- the oblivious bank that is accessed, as the event tells it and as the access tells it
+-- the oblivious bank that an event accesses, if there is an event and it accesses one
 abbrev pub told_bank : Option Observed → Option ℕ
 told_bank None = None
 told_bank (Some event) = oblivious event
 
--- a bank where it is oblivious
+-- a bank, if it is oblivious
 abbrev pub if_oblivious : ℕ → Option ℕ
 if_oblivious zero = None
 if_oblivious (suc zero) = None
@@ -95,7 +95,7 @@ event_of_outcome (Goes event t) = event
 event_of_outcome (Stops t) = Some Halted
 event_of_outcome Faults = None
 
--- an event that shows an access tells its bank, where that is an oblivious one
+-- if an event shows an access to an oblivious bank, it names the bank
 bank_shown : (event : Observed) (access : Access)
     → ShowsAccess event access → oblivious event ≡ if_oblivious access.bank
 bank_shown (RamRead block words) access shows = sym (ap if_oblivious shows.0)
@@ -118,6 +118,6 @@ outcome_bank (Goes (Some event) t) made shows =
 outcome_bank (Stops t) made shows = sym (ap made_bank shows)
 outcome_bank Faults made shows = sym (ap made_bank shows)
 
--- the bank that a step tells is the one that it accesses
+-- the oblivious bank that a step's event names is the one that the step accesses
 pub step-bank : (o : Parts) (s : State) → told_bank (event_of_outcome (step o s)) ≡ made_bank (accessed o s)
 step-bank o s = outcome_bank (step o s) (accessed o s) (shows_its_access o s)

@@ -13,7 +13,7 @@ pub record Access : Type 0 where
   pub bank : ℕ
   pub block : ℕ
 
--- an access to the block that a slot is bound to
+-- an access to the block to which a slot is bound
 abbrev pub access_on : Slot → Option Access
 access_on Unbound = None
 access_on (Bound b a words) = Some (record { bank = b; block = a })
@@ -44,7 +44,7 @@ abbrev pub at_most_one : Option Access → List Access
 at_most_one None = []
 at_most_one (Some access) = access ∷ []
 
--- an event shows an access: its bank, and in plain and encrypted memory its block
+-- an event shows an access: its bank and, in plain and encrypted memory, its block
 abbrev pub ShowsAccess : Observed → Access → Type 0
 ShowsAccess (RamRead block words) access = (access.bank ≡ 0) × (access.block ≡ block)
 ShowsAccess (RamWrite block words) access = (access.bank ≡ 0) × (access.block ≡ block)
@@ -53,27 +53,27 @@ ShowsAccess (EncWrite block) access = (access.bank ≡ 1) × (access.block ≡ b
 ShowsAccess (Oram bank) access = (access.bank ≡ bank) × (2 ≤ bank)
 ShowsAccess Halted access = ⊥
 
--- A step makes an access exactly where it goes on and shows an event, and the event shows that access.
+-- A step makes an access exactly if it leads to a state and shows an event, and the event shows that access.
 abbrev pub ShowsItsAccess : StepResult → Option Access → Type 0
 ShowsItsAccess (Goes None t) made = made ≡ None
 ShowsItsAccess (Goes (Some event) t) made = (access : Access) × (made ≡ Some access) × ShowsAccess event access
 ShowsItsAccess (Stops t) made = made ≡ None
 ShowsItsAccess Faults made = made ≡ None
 
--- what is accessed from the state behind a step
+-- the accesses from the state after a step
 abbrev pub accessed_then : StepResult → (State → List Access) → List Access
 accessed_then (Goes event next) rest = rest next
 accessed_then (Stops last) rest = []
 accessed_then Faults rest = []
 
--- The accesses below cycle n, said without counting steps: none where the next step starts at n or later; else the one
--- that it makes, if it makes one, followed by those from the state behind it.
+-- The accesses below cycle n, defined without counting steps. There are none if the next step starts at n or later.
+-- Otherwise they are the access of that step, if it makes one, followed by those from the state after it.
 pub record AreAccesses (o : Parts) (accesses : State → ℕ → List Access) : Type 0 where
   pub past : (s : State) (n : ℕ) → n ≤ step_start o s → accesses s n ≡ []
   pub more : (s : State) (n : ℕ) → IsShaped o s → step_start o s < n
       → accesses s n ≡ at_most_one (accessed o s) ++ accessed_then (step o s) (λ t. accesses t n)
 
--- the accesses of the steps from a state that start below cycle n, by at most that many steps
+-- the accesses of the steps from a state that start below cycle n, in at most this many steps
 unfoldable pub accesses_within : ℕ → Parts → State → ℕ → List Access
 accesses_within zero o s n = []
 accesses_within (suc steps) o s n =
@@ -81,7 +81,7 @@ accesses_within (suc steps) o s n =
     then at_most_one (accessed o s) ++ accessed_then (step o s) (λ t. accesses_within steps o t n)
     else []
 
--- Each step takes a cycle at least, so n steps are enough for all that start below cycle n.
+-- Each step takes at least one cycle, so n steps are enough for all that start below cycle n.
 unfoldable pub accesses_from : Parts → State → ℕ → List Access
 accesses_from o s n = accesses_within n o s n
 

@@ -7,7 +7,7 @@ use Rattle.banks.specs.declared.bank.Leaves.{Leaves}
 abbrev pub block_numbered : List (List ℤ) → ℕ → List ℤ
 block_numbered blocks at = slice_index_or blocks at []
 
--- at most six leaves are listed, and what stands behind them is 0
+-- at most six leaves are listed, and the entries after them are 0
 pub record AreLeaves (leaves : Leaves) : Type 0 where
   pub most : leaves.len ≤ 6
   pub rest : (i : ℕ) → leaves.len ≤ i → slice_index_or leaves.at i 0 ≡ 0
@@ -19,6 +19,6 @@ no_leaves = record { len = 0; at = replicate 6 0 }
 abbrev pub one_leaf : ℕ → Leaves
 one_leaf leaf = record { len = 1; at = leaf ∷ replicate 5 0 }
 
--- a path of each tree, at most six, in this order
+-- the leaves of some paths, at most six, in this order
 abbrev pub listed_leaves : List ℕ → Leaves
 listed_leaves leaves = record { len = length leaves; at = leaves ++ replicate (6 - length leaves) 0 }

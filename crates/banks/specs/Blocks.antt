@@ -1,8 +1,8 @@
--- Words that stand one behind the other, seen as blocks of equal width (this project's profile).
+-- Words in sequence, seen as blocks of equal width (this project's profile).
 use Rattle.std.specs.Prelude.{ℕ, ◌-◌, ◌*◌, ◌/◌, ℤ, pos, List, ◌++◌, length, map, take, drop, replicate}
 use Rattle.std.specs.List.{range_with_len, flat_map}
 
--- block number `at` of some words, where a block has w of them
+-- block number `at` of some words, if a block has w of them
 abbrev pub block_of_words : ℕ → List ℤ → ℕ → List ℤ
 block_of_words w words at = take w (drop (at * w) words)
 
@@ -14,15 +14,15 @@ cut w count words = map (block_of_words w words) (range_with_len 0 count)
 abbrev pub in_blocks : ℕ → List ℤ → List (List ℤ)
 in_blocks w words = cut w (length words / w) words
 
--- some words, and zeros behind them up to n words
+-- some words, followed by zeros up to n words
 unfoldable pub filled_up : ℕ → List ℤ → List ℤ
 filled_up n words = words ++ replicate (n - length words) (pos 0)
 
--- the words of some blocks, one behind the other
+-- the words of some blocks in sequence
 abbrev pub words_of_blocks : List (List ℤ) → List ℤ
 words_of_blocks blocks = flat_map (λ block. block) blocks
 
--- what is seen of a bank: its blocks, and how many words each has
+-- how contracts see a bank: its blocks, and the number of words of each
 pub record Blocks : Type 0 where
   pub contents : List (List ℤ)
   pub width : ℕ

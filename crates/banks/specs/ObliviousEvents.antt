@@ -1,10 +1,10 @@
--- Which events are accesses to oblivious banks, and how many of a trace are. (GhostRider, ASPLOS 2015: an access to an
--- oblivious bank shows the bank alone.)
+-- Which events are accesses to oblivious banks, and how many events of a trace are. (GhostRider, ASPLOS 2015: an access
+-- to an oblivious bank shows only the bank.)
 use Rattle.std.specs.Prelude.{ℕ, ◌+◌, ◌==◌, if◌then◌else◌, List, [], ◌∷◌, Option, Some, None}
 use Rattle.lt_isa.specs.Machine.{Observed, RamRead, RamWrite, EncRead, EncWrite, Oram, Halted}
 use Rattle.lt_isa.specs.Trace.{Stamped}
 
--- the oblivious bank that an event is an access to
+-- the oblivious bank that an event accesses
 abbrev pub oblivious : Observed → Option ℕ
 oblivious (RamRead block words) = None
 oblivious (RamWrite block words) = None
@@ -13,7 +13,7 @@ oblivious (EncWrite block) = None
 oblivious (Oram bank) = Some bank
 oblivious Halted = None
 
--- how many of some events are accesses to bank b, an oblivious one
+-- the number of events that are accesses to oblivious bank b
 abbrev pub if_it_is : ℕ → Option ℕ → ℕ
 if_it_is b None = 0
 if_it_is b (Some bank) = if b == bank then 1 else 0

@@ -2,8 +2,8 @@ ghost use Rattle.std.specs.Prelude.{◌≡◌, ◌<◌, List, ℕ, ℤ, [], ◌�
 ghost use Rattle.lt_isa.specs.Machine.{word_in};
 ghost use Rattle.banks.specs.Banks.{AreLeaves, block_numbered, no_leaves, one_leaf};
 
-/// The paths that an access to an oblivious bank showed, each by its leaf: `len` of them, at most six, from the front
-/// of `at`. The entries behind them are 0.
+/// The paths that an access to an oblivious bank showed, each given by its leaf. The first `len` entries of `at`, at
+/// most six, are leaves; the others are 0.
 #[derive(Clone, Copy, Debug, PartialEq, Eq)]
 pub struct Leaves {
     pub len: u8,
@@ -31,20 +31,20 @@ impl Leaves {
     }
 }
 
-/// A bank of memory: a list of blocks, each a list of so many words. No call can be refused, and none takes memory.
+/// A bank of memory: a list of blocks of `width` words each. No call fails, and none takes memory.
 pub trait Bank {
     ghost use Rattle.banks.specs.declared.bank.Leaves.{Leaves};
 
     /// The blocks.
     ghost contents: { Self → List (List ℤ) };
 
-    /// How many words a block has.
+    /// The number of words of a block.
     ghost width: { Self → ℕ };
 
-    /// The paths that accesses to these blocks will show, from now on and in this order: those of each access.
+    /// The paths that accesses to these blocks will show, from now on and in this order: one entry for each access.
     ghost shows: { Self → List ℕ → List Leaves };
 
-    /// Whether accesses to these blocks, in this order, can lead from the first bank to the second.
+    /// Whether accesses to these blocks, in this order, can change the first bank into the second.
     ghost comes: { Self → List ℕ → Self → Type 0 };
 
     /// The number of blocks.
@@ -55,7 +55,7 @@ pub trait Bank {
     fn block_words(&self) -> u32
         ensures { result ≡ width self.now };
 
-    /// An access: fills the slice with a block and leaves the blocks as they are.
+    /// An access: copies a block into the slice, and leaves the blocks as they are.
     fn read(&mut self, at: u32, into: &mut [i64]) -> Leaves
         requires exists { at < length (contents self.old) }
         requires size { length into.old ≡ width self.old }
@@ -76,20 +76,20 @@ pub trait Bank {
         ensures shown { (later : List ℕ) → shows self.old (at ∷ later) ≡ result ∷ shows self.new later }
         ensures came { comes self.old (at ∷ []) self.new };
 
-    /// A word of a block. This is no access, and changes nothing.
+    /// A word of a block. This isn't an access, and it changes nothing.
     fn word(&self, at: u32, index: u32) -> i64
         requires exists { at < length (contents self.now) }
         requires within { index < width self.now }
         ensures { result ≡ word_in (block_numbered (contents self.now) at) index };
 
-    /// Each access shows its paths, whether some or none.
+    /// There is one entry for each access, which may list no paths.
     ghost shows_each: { (bank : Self) (blocks : List ℕ) → length (shows bank blocks) ≡ length blocks };
 
-    /// A list of no accesses leads from a bank to itself.
+    /// No accesses change a bank into itself.
     ghost comes_none: { (bank : Self) → comes bank [] bank };
 
-    /// Accesses that lead from a first bank to a second, and others that lead from there to a third, lead one behind
-    /// the other from the first to the third.
+    /// If accesses change a first bank into a second, and others change the second into a third, then all of them in
+    /// sequence change the first into the third.
     ghost comes_then: { (first second third : Self) (blocks more : List ℕ)
         → comes first blocks second → comes second more third → comes first (blocks ++ more) third };
 }

@@ -17,14 +17,14 @@ ghost use Rattle.std.specs.Prelude.{
 };
 ghost use Rattle.banks.specs.Blocks.{filled_up};
 
-/// A word by its number, and 0 where there is none.
+/// A word by its number, or 0 if there is no such word.
 pub(crate) fn word_at(words: &[i64], at: usize) -> i64
     ensures { result ≡ slice_index_or words.now at (pos 0) }
 {
     if at < words.len() { words[at] } else { 0 }
 }
 
-/// Fills a slice with the words from a place on, and with 0 where there is none.
+/// Fills a slice with the words from a place on, and with 0 past their end.
 pub(crate) fn read_at(words: &[i64], start: usize, into: &mut [i64])
     requires { start < 2 ^ 63 }
     ensures { (i : ℕ) → i < length into.old
@@ -39,7 +39,7 @@ pub(crate) fn read_at(words: &[i64], start: usize, into: &mut [i64])
     }
 }
 
-// Copies the words from a place on, as many as there are, to the front of a longer slice of zeros.
+// Copies the words from a place on to the beginning of a slice of zeros that is longer than they are.
 fn read_kept(words: &[i64], start: usize, into: &mut [i64])
     requires end { length words.now < start + length into.old }
     requires zeros { (i : ℕ) → slice_index_or into.old i (pos 0) ≡ pos 0 }
@@ -52,7 +52,8 @@ fn read_kept(words: &[i64], start: usize, into: &mut [i64])
     }
 }
 
-/// Puts words at a place of a vector that has room for them, with 0 between what it had and them. It takes no memory.
+/// Writes words at a place of a vector that has room for them, with 0 between the words that it had and these. It takes
+/// no memory.
 pub fn write_at(words: &mut Vec<i64>, start: usize, from: &[i64])
     requires { start + length from.now ≤ vec_capacity words.old }
     ensures words { (i : ℕ) → slice_index_or words.new.items i (pos 0)
@@ -66,7 +67,7 @@ pub fn write_at(words: &mut Vec<i64>, start: usize, from: &[i64])
     write_over(words.as_mut_slice(), start, from);
 }
 
-// Puts words at a place of a slice.
+// Writes words at a place of a slice.
 fn write_over(words: &mut [i64], start: usize, from: &[i64])
     requires { start + length from.now ≤ length words.old }
     ensures { (i : ℕ) → i < length words.old → slice_index_or words.new i (pos 0)
@@ -77,7 +78,8 @@ fn write_over(words: &mut [i64], start: usize, from: &[i64])
     words[start..start + from.len()].copy_from_slice(from);
 }
 
-/// Adds zeros to a vector with room for them until it has so many words; a longer one stays. It takes no memory.
+/// Appends zeros to a vector that has room for them until it has `len` words; a longer vector stays as it is. It takes
+/// no memory.
 pub fn fill_up(words: &mut Vec<i64>, len: usize)
     requires { len ≤ vec_capacity words.old }
     ensures items { words.new.items ≡ filled_up len words.old.items }

@@ -9,9 +9,9 @@ ghost use Rattle.lt_isa.specs.Trace.{trace_from};
 ghost use Rattle.banks.specs.Accesses.{Access, AreAccesses, ShowsItsAccess, accessed, accesses_from, in_bank};
 ghost use Rattle.banks.specs.ObliviousEvents.{accesses_shown};
 
-/// Does nothing; its clauses are laws of the accesses of runs. They are what their two sentences say, and nothing else
-/// is; each is the one that its event shows; a trace shows as many accesses to an oblivious bank as are made to it, and
-/// only blocks of a bank are accessed.
+/// Does nothing; its clauses are laws of the accesses of runs. The accesses of runs satisfy the relation that defines
+/// them, and nothing else does. Each access is the one that its event shows. A trace shows as many accesses to an
+/// oblivious bank as are made to it, and only existing blocks of a bank are accessed.
 pub fn access_laws()
     ensures accesses { (o : Parts) → IsInRange o → AreAccesses o (accesses_from o) }
     ensures no_other_accesses { (o : Parts)

@@ -1,7 +1,7 @@
 //! Banks of memory, and the accesses of runs to them.
 //!
-//! A [`Bank`] is a list of blocks. It says of any accesses which paths they will show, and which banks may come of them;
-//! [`PlainBank`] shows none. Which accesses a run makes to each bank is a list of its own ([`access_laws`]).
+//! A [`Bank`] is a list of blocks. Its contracts say which paths any accesses will show, and into which banks they can
+//! change it. A [`PlainBank`] shows no paths. The accesses that a run makes are a list of their own ([`access_laws`]).
 #![tactic(auto)]
 
 mod bank;

@@ -7,9 +7,9 @@ use crate::bank::{Bank, Leaves};
 use crate::fronts::{read_at, word_at, write_at};
 use std::marker::Model;
 
-/// A bank that keeps its blocks one behind the other, and shows no path. It keeps the words up to the last that was
-/// given or written; those behind are 0, and the room that waits for them is never touched. Seen as its blocks and
-/// their width.
+/// A bank that stores its blocks in sequence, and shows no paths. It stores the words up to the last one that was given
+/// or written. The words after that are 0, and the room that is reserved for them is never touched. Contracts see the
+/// bank as its blocks and their width.
 #[derive(Debug, Drop)]
 pub struct PlainBank {
     words: Vec<i64>,
@@ -36,7 +36,7 @@ impl Model for PlainBank {
 }
 
 impl PlainBank {
-    /// A bank of these words, which are its blocks one behind the other.
+    /// A bank of these words, which are its blocks in sequence.
     pub fn new(blocks: Vec<i64>, block_words: u32) -> PlainBank
         requires some_word { 1 ≤ block_words }
         requires most_words { block_words ≤ 512 }
@@ -50,7 +50,7 @@ impl PlainBank {
         PlainBank::with_front(blocks, count, block_words)
     }
 
-    /// Replaces one word of a block. This is no access: it shows nothing. It takes no memory.
+    /// Replaces one word of a block. This isn't an access: it shows nothing. It takes no memory.
     #[tactic(auto, using(crate::proofs::Blocks::block_end))]
     pub fn set_word(&mut self, at: u32, index: u32, word: i64)
         requires exists { at < length self.old.contents }
@@ -64,7 +64,7 @@ impl PlainBank {
         write_at(&mut self.words, start + index as usize, &[word]);
     }
 
-    /// A bank of so many blocks, of which these are the first words, in a vector with room for all. The others are 0.
+    /// A bank of `count` blocks whose first words are these, in a vector with room for all; the other words are 0.
     pub fn with_front(words: Vec<i64>, count: u32, block_words: u32) -> PlainBank
         requires small { block_words ≤ 512 }
         requires within { length words.items ≤ count * block_words }
