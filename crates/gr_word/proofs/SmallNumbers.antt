@@ -7,7 +7,7 @@ use Rattle.std.proofs.lemmas.Nat.{and_mask, pow_pos}
 use Rattle.gr_word.specs.declared.operations.Op.TheVariants.{Add, Remu, And, Shr}
 use Rattle.gr_word.specs.Words.{applied, unsigned_of}
 
--- a small number as a signed one
+-- a small number read as a signed one
 cast-small : (n : ℕ) → n < 2 ^ 63 → cast_signed w64 n ≡ pos n
 cast-small n below = to_z_pos w64 n below
 
@@ -18,7 +18,7 @@ remu_small a n least below =
     let part : unsigned_of a % n < n = mod-lt (unsigned_of a) least in
     ap (λ b. cond b a (cast_signed w64 (unsigned_of a % n))) no_zero ∙ cast-small (unsigned_of a % n) (omega arith)
 
--- a mask of low bits is the remainder by a power of two
+-- the bits under a mask of low bits are the remainder by a power of two
 pub and_small : (a : ℤ) (k : ℕ) → k < 63 → applied And a (pos (2 ^ k - 1)) ≡ pos (unsigned_of a % 2 ^ k)
 and_small a k below =
     let least : 0 < 2 ^ k = pow_pos k in

@@ -1,4 +1,4 @@
--- What the machine's operations give is a word.
+-- The results of the machine's operations are words.
 use Rattle.std.proofs.Common.{ℕ, zero, suc, ◌+◌, ◌/◌, ◌%◌, ◌^◌, ◌<◌, ◌≤◌, true, false, cond, ℤ, pos, negsuc, arith, neg_ℤ}
 use Rattle.std.specs.Prelude.{int_div, int_rem}
 use Rattle.std.specs.Int.{w64, cast_signed, cast_unsigned, int_wrapping_div}
@@ -11,7 +11,7 @@ use Rattle.gr_word.specs.declared.operations.Op.{Op}
 use Rattle.gr_word.specs.declared.operations.Op.TheVariants.{Add, Sub, Mul, Div, Rem, Remu, And, Or, Xor, Shl, Shr}
 use Rattle.gr_word.specs.Words.{IsWord, applied, is_zero, unless_zero, unsigned_of}
 
--- a number below 2^64 is a word when read as a signed one
+-- a number below 2^64 is a word if it is read as a signed number
 IsWord-cast : (n : ℕ) → n < 2 ^ 64 → IsWord (cast_signed w64 n)
 IsWord-cast n below = sfits_to_z (record { fits = below })
 
@@ -24,7 +24,7 @@ IsWord-unless divisor otherwise at_zero first second =
 IsWord-below : (z a : ℤ) → mag z ≤ mag a → IsWord a → IsWord z
 IsWord-below z a le fits = record { sfits = omega (arith, fits.sfits) }
 
--- a quotient's bits: only that of -2^63 and -1 has a magnitude above every word's
+-- a quotient of words is a word: only -2^63 by -1 has a magnitude above that of each word, and it wraps
 cast_unsigned-below : (z : ℤ) → mag z ≤ 2 ^ 63 → cast_unsigned w64 z < 2 ^ 64
 cast_unsigned-below (pos n) le = omega arith
 cast_unsigned-below (negsuc n) le = omega arith
@@ -44,7 +44,7 @@ IsWord-quotient a b fits =
     IsWord-cast (cast_unsigned w64 (int_div a b))
     (cast_unsigned-below (int_div a b) (omega (arith, mag-quotient a b, fits.sfits)))
 
--- an operation on words gives a word
+-- an operation on words results in a word
 pub IsWord-applied : (op : Op) (a b : ℤ) → IsWord a → IsWord b → IsWord (applied op a b)
 IsWord-applied Add a b fa fb = SFits-int_wrap w64 _
 IsWord-applied Sub a b fa fb = SFits-int_wrap w64 _

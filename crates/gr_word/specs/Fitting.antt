@@ -4,7 +4,7 @@ use Rattle.gr_word.specs.declared.variables.Want.{Want}
 use Rattle.gr_word.specs.declared.variables.Shape.TheVariants.{Scalar}
 use Rattle.gr_word.specs.Words.{IsWord}
 
--- the words of variable number i, none past the last
+-- the words of variable number i, or none past the last variable
 abbrev pub words_at : List (List ℤ) → ℕ → List ℤ
 words_at lists i = slice_index_or lists i []
 
@@ -12,19 +12,19 @@ words_at lists i = slice_index_or lists i []
 abbrev pub AreWords : List ℤ → Type 0
 AreWords words = All IsWord words
 
--- one list of words for each want, in order, of the want's length
+-- for each want, in order, a list of as many words as the want has
 abbrev pub FitsWants : List Want → List (List ℤ) → Type 0
 FitsWants [] [] = Unit {0}
 FitsWants [] (words ∷ lists) = ⊥
 FitsWants (want ∷ wants) [] = ⊥
 FitsWants (want ∷ wants) (words ∷ lists) = (length words ≡ want.length) × AreWords words × FitsWants wants lists
 
--- no two wants have one name
+-- no two wants have the same name
 abbrev pub AreDistinct : List Want → Type 0
 AreDistinct [] = Unit {0}
 AreDistinct (want ∷ wants) = All (λ other. want.name ≢ other.name) wants × AreDistinct wants
 
--- wants that are variables: their names differ, and a scalar is one word
+-- wants that are variables: their names differ, and a scalar has one word
 pub record AreVariables (wants : List Want) : Type 0 where
   pub distinct : AreDistinct wants
   pub scalars : All (λ want. want.shape ≡ Scalar → want.length ≡ 1) wants

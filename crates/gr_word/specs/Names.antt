@@ -1,4 +1,4 @@
--- Names: 1 to 32 bytes of ASCII letters, digits and '_', the first no digit (this project's profile).
+-- Names: 1 to 32 bytes of ASCII letters, digits and '_', of which the first isn't a digit (this project's profile).
 use Rattle.std.specs.Prelude.{ℕ, Bool, not, ◌&&◌, ◌||◌, ◌==◌, nat_le, List, length, slice_index}
 use Rattle.std.specs.List.{list_all}
 use Rattle.std.specs.Char.{is_ascii_digit, is_ascii_alphanumeric}

@@ -1,5 +1,5 @@
--- Words and what is done with them. A word is a number from -2^63 to 2^63 - 1, 64-bit two's complement.
--- Division and remainders follow the M extension of RISC-V; the rest is two's complement arithmetic.
+-- Words, and the operations on them. A word is a number from -2^63 to 2^63 - 1, 64-bit two's complement. Division and
+-- remainders follow the M extension of RISC-V; the rest is two's complement arithmetic.
 use Rattle.std.specs.Prelude.{ℕ, ◌%◌, Bool, not, if◌then◌else◌, ◌==◌, ℤ, negsuc, ◌+ℤ◌, ◌-ℤ◌, ◌*ℤ◌, int_rem, int_lt, int_le, FitsSigned}
 use Rattle.std.specs.Int.{w64, int_wrap, int_wrapping_div, int_bit_and, int_bit_or, int_bit_xor, int_shl, int_shr, cast_unsigned, cast_signed}
 use Rattle.gr_word.specs.declared.operations.Op.{Op}
@@ -15,7 +15,7 @@ unsigned_of word = cast_unsigned w64 word
 abbrev pub is_zero : ℤ → Bool
 is_zero word = unsigned_of word == 0
 
--- one number where the divisor isn't 0, another where it is
+-- one number if the divisor isn't 0, another if it is
 abbrev pub unless_zero : ℤ → ℤ → ℤ → ℤ
 unless_zero divisor otherwise at_zero = if is_zero divisor then at_zero else otherwise
 
@@ -33,7 +33,7 @@ applied Xor a b = int_bit_xor w64 a b
 applied Shl a b = int_shl w64 a (unsigned_of b % 64)
 applied Shr a b = int_shr a (unsigned_of b % 64)
 
--- whether a comparison holds
+-- whether a comparison is true
 abbrev pub compared : Cmp → ℤ → ℤ → Bool
 compared Eq a b = unsigned_of a == unsigned_of b
 compared Ne a b = not (unsigned_of a == unsigned_of b)

@@ -5,7 +5,7 @@ use gr_base::Memory;
 use std::alloc::Global;
 use std::marker::Model;
 
-/// The words of variables, a list of words for each. Seen as a list of lists of words.
+/// The words of variables, one list of words for each. Contracts see them as a list of lists of words.
 #[derive(Drop)]
 pub struct Inputs {
     lists: Vec<Vec<i64>>,
@@ -29,7 +29,7 @@ impl Inputs {
         }
     }
 
-    /// Adds the words of the next variable. Want of memory leaves the lists as they were and drops the words.
+    /// Adds the words of the next variable. Out of memory leaves the lists as they were, and drops the words.
     pub fn push(&mut self, words: Vec<i64>) -> Result<(), Memory>
         ensures added { OnOk result (self.new ≡ self.old ++ words.items ∷ []) }
         ensures unchanged { OnErr result (self.new ≡ self.old) }
@@ -38,14 +38,14 @@ impl Inputs {
         Ok(())
     }
 
-    /// How many lists there are.
+    /// The number of lists.
     pub fn len(&self) -> usize
         ensures { result ≡ length self.now }
     {
         self.lists.len()
     }
 
-    /// Whether there is no list.
+    /// Whether there are no lists.
     pub fn is_empty(&self) -> bool
         ensures { result ≡ (length self.now == 0) }
     {
@@ -60,7 +60,7 @@ impl Inputs {
         self.lists[i].as_slice()
     }
 
-    /// Changes word number `at` of list number `i`.
+    /// Replaces word number `at` of list number `i`.
     pub fn set(&mut self, i: usize, at: usize, word: i64)
         requires list { i < length self.old }
         requires word { at < length (words_at self.old i) }

@@ -1,8 +1,8 @@
-//! Words, operations, names and inputs: what every other crate of GhostRider speaks of.
+//! Words, operations, names and inputs, which all other crates of GhostRider use.
 //!
-//! A word is an `i64`, 64-bit two's complement, seen in contracts as a signed number. [`apply`] and [`holds`] are the
-//! machine's operations and comparisons, each by its formula. A [`Name`] is seen as its bytes and always fits
-//! [`name_fits`]; [`Inputs`] are seen as a list of lists of words.
+//! A word is an `i64`, 64-bit two's complement, and contracts see it as a signed number. [`apply`] and [`holds`] are
+//! the machine's operations and comparisons, each defined by its formula. Contracts see a [`Name`] as its bytes, which
+//! always pass [`name_fits`], and [`Inputs`] as a list of lists of words.
 #![tactic(auto)]
 
 pub mod input_lists;

@@ -6,11 +6,11 @@ use gr_base::Memory;
 use std::alloc::Global;
 use std::marker::Model;
 
-/// The most bytes that a name has.
+/// The most bytes of a name.
 pub const NAME_BYTES: usize = 32;
 
-/// A name of a variable: 1 to 32 bytes of ASCII letters, digits and `_`, of which the first is no digit. It is seen as
-/// the list of its bytes.
+/// The name of a variable: 1 to 32 bytes, all of them ASCII letters, digits or `_`, and the first isn't a digit.
+/// Contracts see it as the list of its bytes.
 #[derive(Debug, Drop)]
 pub struct Name {
     bytes: Vec<u8>,
@@ -28,7 +28,7 @@ impl Model for Name {
 }
 
 impl Name {
-    /// Makes a name of bytes that fit. The bytes are copied.
+    /// Makes a name of a copy of these bytes.
     pub fn new(alloc: Global, bytes: &[u8]) -> Result<Name, Memory>
         requires { IsTrue (is_name bytes.now) }
         ensures { IfOk result (λ name. name ≡ bytes.now) }
@@ -45,7 +45,7 @@ impl Name {
         self.bytes.as_slice()
     }
 
-    /// The same name once more.
+    /// A copy of the name.
     pub fn copy(&self, alloc: Global) -> Result<Name, Memory>
         ensures { IfOk result (λ name. name ≡ self.now) }
     {
@@ -53,7 +53,7 @@ impl Name {
     }
 }
 
-/// Whether these bytes make a name: 1 to 32 ASCII letters, digits and `_`, of which the first is no digit.
+/// Whether these bytes are a name: 1 to 32 ASCII letters, digits or `_`, of which the first isn't a digit.
 pub fn name_fits(bytes: &[u8]) -> bool
     ensures { result ≡ is_name bytes.now }
 {

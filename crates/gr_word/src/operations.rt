@@ -28,9 +28,9 @@ pub enum Cmp {
     Ge,
 }
 
-/// The result of an operation on two words. Every pair of words has one: sums, differences and products are taken
-/// modulo 2^64, and division follows the M extension of RISC-V, so dividing by 0 gives -1 and leaves the dividend as
-/// the remainder. Shifts go by the low six bits of `b`.
+/// The result of an operation on two words, which any two words have. Sums, differences and products are taken modulo
+/// 2^64. Division follows the M extension of RISC-V: a quotient by 0 is -1, and a remainder by 0 is the dividend.
+/// Shifts use the low six bits of `b`.
 pub fn apply(op: Op, a: i64, b: i64) -> i64
     ensures { result ≡ applied op a b }
 {
@@ -71,7 +71,7 @@ fn unsigned_remainder(a: i64, b: i64) -> i64
     }
 }
 
-/// Whether a comparison of two words holds.
+/// Whether a comparison of two words is true.
 pub fn holds(cmp: Cmp, a: i64, b: i64) -> bool
     ensures { result ≡ compared cmp a b }
 {
