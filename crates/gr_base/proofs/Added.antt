@@ -1,10 +1,10 @@
--- What two calls one after the other added.
+-- What two calls in sequence added.
 use Rattle.std.proofs.Common.{◌+◌, ◌<◌, List, ◌++◌, length, Option, Some, None, refl, arith, length-append, append_assoc}
 use Rattle.std.proofs.Math.Seq.{take-append-add}
 use Rattle.std.proofs.lemmas.List.{take-append-le}
 use Rattle.gr_base.specs.Added.{Adds, AddsLess}
 
--- two pieces, one behind the other
+-- two additions in sequence
 pub Adds-then : {X : Type 0} (old middle new : Option (List X)) (first second : List X)
     → Adds old middle first → Adds middle new second → Adds old new (first ++ second)
 Adds-then (Some a) (Some b) (Some c) first second one two = rw (two, one, append_assoc) refl
@@ -15,7 +15,7 @@ Adds-then None (Some b) new first second one two = absurd one
 Adds-then None None (Some c) first second one two = absurd two
 Adds-then None None None first second one two = tt
 
--- a piece, and then less than another: less than both
+-- an addition, and then only a part of another
 pub AddsLess-then : {X : Type 0} (old middle new : Option (List X)) (first second : List X)
     → Adds old middle first → 0 < length second → AddsLess middle new second → AddsLess old new (first ++ second)
 AddsLess-then (Some a) (Some b) (Some c) first second one some two = (
@@ -30,7 +30,7 @@ AddsLess-then None (Some b) new first second one some two = absurd one
 AddsLess-then None None (Some c) first second one some two = absurd two
 AddsLess-then None None None first second one some two = tt
 
--- less than a piece is less than the piece with more behind it
+-- a part of some items is a part of those items and more
 pub AddsLess-more : {X : Type 0} (old new : Option (List X)) (piece more : List X)
     → AddsLess old new piece → AddsLess old new (piece ++ more)
 AddsLess-more (Some a) (Some c) piece more less = (

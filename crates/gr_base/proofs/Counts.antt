@@ -1,4 +1,4 @@
--- Counts of faults that rose: by one, and in several calls.
+-- Counts of faults that rose by one, or over several calls.
 use Rattle.std.proofs.Common.{◌≡◌, ℕ, ◌+◌, ◌-◌, ◌^◌, ◌<◌, ◌≤◌, ◌⊎◌, inl, inr, min, ⊎_elim, arith}
 use Rattle.std.proofs.lemmas.Bool.{cases_lt}
 use Rattle.gr_base.specs.Counts.{Rose}
@@ -12,7 +12,7 @@ rose_by_one count fits = (
   omega arith,
 )
 
--- a count that rose behind calls in which it didn't fall
+-- a count that rose after calls in which it didn't fall
 pub rose_behind : (first before now : ℕ) → first ≤ before → before ≤ now → Rose before now → Rose first now
 rose_behind first before now earlier later rose = (
   ⊎_elim

@@ -1,4 +1,4 @@
--- The numbers that digits write, and the one text that is a number's canonical numeral.
+-- The values of digits, and the canonical numeral of a number.
 use Rattle.std.proofs.Common.{◌≡◌, ℕ, zero, suc, ◌+◌, ◌*◌, ◌^◌, ◌<◌, ◌≤◌, Bool, true, false, not, eqb, List, [], ◌∷◌, length, get_or, take, refl, sym, subst, ap, ◌∙◌, arith}
 use Rattle.std.specs.Prelude.{◌||◌, decimal}
 use Rattle.std.specs.Char.{is_ascii_digit, digit_value}
@@ -17,14 +17,14 @@ AllDigits-take radix zero ds all = tt
 AllDigits-take radix (suc i) [] all = tt
 AllDigits-take radix (suc i) (d ∷ ds) all = (all.0, AllDigits-take radix i ds all.1)
 
--- each of the digits is one
+-- each of the digits is a digit
 pub AllDigits-at : (radix : ℕ) (ds : List ℕ) (i : ℕ)
     → AllDigits radix ds → i < length ds → digit_value (get_or ds i 0) < radix
 AllDigits-at radix [] i all lt = absurd (omega arith)
 AllDigits-at radix (d ∷ ds) zero all lt = all.0
 AllDigits-at radix (d ∷ ds) (suc i) all lt = AllDigits-at radix ds i all.1 (omega arith)
 
--- one more digit fits
+-- the value fits with one more digit
 pub digits_fit : (radix : ℕ) (ds : List ℕ) (i : ℕ) → AllDigits radix ds → radix ^ length ds ≤ 2 ^ 64 → i < length ds
     → digits_value radix (take i ds) * radix + digit_value (get_or ds i 0) < 2 ^ 64
 digits_fit radix ds i all short lt =
@@ -46,7 +46,7 @@ digit_from_test c e = grind (arith, nat_tests)
 digit_test : (c : ℕ) → digit_value c < 10 → is_ascii_digit c ≡ true
 digit_test c h = grind (arith, nat_tests)
 
--- digits by their test
+-- decimal digits, by their test
 pub AllDigits-test : (ds : List ℕ) → are_digits ds ≡ true → AllDigits 10 ds
 AllDigits-test [] e = tt
 AllDigits-test (d ∷ ds) e = let p = and_parts _ _ e in (digit_from_test d p.0, AllDigits-test ds p.1)
@@ -55,11 +55,11 @@ pub are_digits-from_all : (ds : List ℕ) → AllDigits 10 ds → are_digits ds 
 are_digits-from_all [] h = refl
 are_digits-from_all (d ∷ ds) h = and_from _ _ (digit_test d h.0) (are_digits-from_all ds h.1)
 
--- the decimal text of a number is digits
+-- the decimal text of a number consists of digits
 pub decimal_digits : (n : ℕ) → n < 2 ^ 64 → are_digits (decimal n) ≡ true
 decimal_digits n small = are_digits-from_all (decimal n) (decimal_is_IsNumeral n small).0.1
 
--- what a canonical numeral is
+-- what a canonical numeral has
 
 pub record IsCanonical (text : List ℕ) : Type 0 where
   pub some : 0 < length text
@@ -83,7 +83,7 @@ canonical_from_test text e =
       no_zero = no_leading (length text) (get_or text 0 0) q.1;
     }
 
--- no leading zero but for 0
+-- the decimal text of a number has no leading zero, except that of 0
 first_test : (n : ℕ) → n < 2 ^ 64 → (eqb (length (decimal n)) 1 || not (eqb (get_or (decimal n) 0 0) 48)) ≡ true
 first_test zero small = rw (decimal_digit 0 (omega arith)) refl
 first_test (suc n) small =
@@ -101,7 +101,7 @@ decimal_canonical n small =
     let h = (decimal_is_IsNumeral n small).0 in
     and_from _ _ (le-leb _ _ (omega (arith, h.0))) (and_from _ _ (decimal_digits n small) (first_test n small))
 
--- the law, there and back
+-- the law, in both directions
 
 -- a canonical numeral is the decimal text of its value
 pub numeral_text : (text : List ℕ)
@@ -120,6 +120,6 @@ there n text small h = sym (numeral_text text h.0 (omega (arith, h.1))) ∙ ap d
 back : (n : ℕ) (text : List ℕ) → n < 2 ^ 64 → text ≡ decimal n → IsNumeralOf n text
 back n text small is = subst (IsNumeralOf n) (sym is) (decimal_canonical n small, numeral_value n small)
 
--- a number has one canonical numeral
+-- a number has exactly one canonical numeral
 pub one_numeral : OneNumeral
 one_numeral n text small = (there n text small, back n text small)

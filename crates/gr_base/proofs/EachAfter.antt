@@ -1,14 +1,14 @@
--- Lists in which each item fits behind those before it: by places, and one more item at the end.
+-- Lists in which each item fits after those before it: by index, and with one more item at the end.
 use Rattle.std.proofs.Common.{◌≡◌, ℕ, zero, suc, ◌+◌, ◌<◌, List, [], ◌∷◌, ◌++◌, length, get_or, take, subst, sym, ⊎_elim, arith, append_assoc}
 use Rattle.std.proofs.lemmas.List.{append-nil, get_or_read}
 use Rattle.std.proofs.lemmas.Bool.{cases_eq}
 use Rattle.gr_base.specs.Lists.{EachAfter}
 
--- each of the first n items fits behind those before it
+-- each of the first n items fits after those before it
 abbrev pub EachBelow : {X : Type 0} → (List X → X → Type 0) → List X → ℕ → Type 0
 EachBelow {X} Fits xs n = (k : ℕ) (d : X) → k < n → Fits (take k xs) (get_or xs k d)
 
--- what holds of each item behind those before, at one index
+-- if each item fits after those before it, so does the one at an index
 pub EachAfter-at : {X : Type 0} (Fits : List X → X → Type 0) (before xs : List X)
     → EachAfter Fits before xs → (k : ℕ) (d : X) → k < length xs → Fits (before ++ take k xs) (get_or xs k d)
 EachAfter-at Fits before [] each k d within = absurd (omega arith)
@@ -26,12 +26,12 @@ EachAfter-from_at Fits before (x ∷ xs) at = (
       (sym (append_assoc before (x ∷ []) (take k xs))) (at (suc k) d (omega arith))),
 )
 
--- the same by indexes, from each item
+-- each item fits, if the item at each index does
 pub EachAfter-from_below : {X : Type 0} (Fits : List X → X → Type 0) (xs : List X)
     → EachBelow Fits xs (length xs) → EachAfter Fits [] xs
 EachAfter-from_below Fits xs below = EachAfter-from_at Fits [] xs below
 
--- and back
+-- the item at each index fits, if each item does
 pub EachBelow-from_after : {X : Type 0} (Fits : List X → X → Type 0) (xs : List X)
     → EachAfter Fits [] xs → EachBelow Fits xs (length xs)
 EachBelow-from_after Fits xs each = EachAfter-at Fits [] xs each
@@ -46,7 +46,7 @@ EachAfter-push Fits before (y ∷ xs) x each fits = (
       (subst (λ l. Fits l x) (sym (append_assoc before (y ∷ []) xs)) fits),
 )
 
--- the items of two lists, one behind the other
+-- two lists in sequence
 pub EachAfter-append : {X : Type 0} (Fits : List X → X → Type 0) (before xs ys : List X)
     → EachAfter Fits before xs → EachAfter Fits (before ++ xs) ys → EachAfter Fits before (xs ++ ys)
 EachAfter-append Fits before [] ys first second = subst (λ l. EachAfter Fits l ys) (append-nil before) second
@@ -56,13 +56,13 @@ EachAfter-append Fits before (x ∷ xs) ys first second = (
       (subst (λ l. EachAfter Fits l ys) (sym (append_assoc before (x ∷ []) xs)) second),
 )
 
--- at an item that was read
+-- an item that was read
 pub EachAfter-read : {X : Type 0} (Fits : List X → X → Type 0) (xs : List X) (k : ℕ) (x : X)
     → x ≡ get_or xs k x → k < length xs → EachAfter Fits [] xs → Fits (take k xs) x
 EachAfter-read Fits xs k x read within each =
     subst (Fits (take k xs)) (sym read) (EachAfter-at Fits [] xs each k x within)
 
--- one place further, by the item that was read there
+-- one more item, which was read
 pub EachBelow-more : {X : Type 0} (Fits : List X → X → Type 0) (xs : List X) (i : ℕ) (x : X)
     → i < length xs → x ≡ get_or xs i x → EachBelow Fits xs i → Fits (take i xs) x → EachBelow Fits xs (i + 1)
 EachBelow-more Fits xs i x within read below fits k d less =

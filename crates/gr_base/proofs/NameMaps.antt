@@ -1,4 +1,4 @@
--- What a map of names gains.
+-- A map of names after a name was added.
 use Rattle.std.proofs.Common.{◌≡◌, ℕ, cond, List, Some, ap, ◌∙◌}
 use Rattle.std.specs.Prelude.{bytes_eq}
 use Rattle.std.specs.Borrow.{Bor}
@@ -13,7 +13,7 @@ use Rattle.gr_base.specs.NameMaps.{found_under}
 abbrev pub key_cmp : Bor (List ℕ) → Bor (List ℕ) → Ordering
 key_cmp a b = slice_cmp nat_cmp a.now b.now
 
--- a name that was added to the map
+-- the value of each name after one was added
 pub name_added : {V : Type 0} (m n : BTreeMap (Bor (List ℕ)) V) (k : Bor (List ℕ)) (v : V)
     → ((q : Bor (List ℕ)) → get key_cmp n q ≡ cond (is_at (key_cmp k) q) (Some v) (get key_cmp m q))
     → (name : List ℕ) → found_under n name ≡ cond (bytes_eq k.now name) (Some v) (found_under m name)

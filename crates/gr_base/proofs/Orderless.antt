@@ -1,11 +1,11 @@
--- What can't tell two items that stand side by side from the same two exchanged can't tell the orders of a list.
+-- If exchanging two neighbours makes no difference to a relation of lists, neither does the order of a list.
 use Rattle.std.proofs.Common.{ℕ, zero, suc, ◌<◌, List, [], ◌∷◌, length, get_or, set, refl, arith}
 use Rattle.std.specs.List.{swap}
 use Rattle.std.specs.List.Sorted.{IsPermutation}
 use Rattle.std.proofs.lemmas.List.Sorted.{IsPermutation-keeps, IsPermutation-swap}
 use Rattle.gr_base.proofs.Permuted.{EachTwo, each_two_permuted}
 
--- what relates a list to itself, goes on from one to the next, and goes under an item in front
+-- a relation of lists that is reflexive and transitive, and is kept if an item is added at the beginning of both lists
 pub record IsCongruence {X : Type 0} (Same : List X → List X → Type 0) : Type 0 where
   pub same : (xs : List X) → Same xs xs
   pub goes_on : (xs ys zs : List X) → Same xs ys → Same ys zs → Same xs zs
@@ -19,7 +19,7 @@ module _ {X : Type 0} (R : X → X → Type 0) (Same : List X → List X → Typ
         each.at (suc i) (suc j) d (omega (arith, in_i)) (omega (arith, in_j)) (omega (arith, differ));
   }
 
-  -- the first item is exchanged with one behind it
+  -- the first item is exchanged with a later one
   first_exchanged : (x : X) (xs : List X) (j : ℕ) (d : X) → j < length xs
       → ((k : ℕ) → k < length xs → R x (get_or xs k d)) → EachTwo R xs → Same (x ∷ xs) (get_or xs j d ∷ set xs j x)
   first_exchanged x [] j d within first each = absurd (omega (arith, within))
@@ -51,7 +51,7 @@ module _ {X : Type 0} (R : X → X → Type 0) (Same : List X → List X → Typ
   swapped [] i j in_i in_j each = absurd (omega (arith, in_i))
   swapped (x ∷ xs) i j in_i in_j each = exchanged (x ∷ xs) i j x in_i in_j each
 
-  -- in whatever order the items stand
+  -- the items of a list in another order
   pub same_permuted : (xs ys : List X) → IsPermutation xs ys → EachTwo R xs → Same xs ys
   same_permuted xs ys permuted each =
       (IsPermutation-keeps xs (λ l. EachTwo R l × Same xs l) (each, is.same xs)

@@ -1,4 +1,4 @@
--- What holds of each two items of a list holds of each two items of the list in another order.
+-- What holds for each two items of a list holds for each two items of the list in another order.
 use Rattle.std.proofs.Common.{◌≡◌, ◌≢◌, ℕ, ◌<◌, List, length, get_or, refl, sym, subst, ⊎_elim, arith}
 use Rattle.std.specs.List.{swap}
 use Rattle.std.specs.List.Sorted.{IsPermutation}
@@ -6,11 +6,11 @@ use Rattle.std.proofs.lemmas.Bool.{cases_eq}
 use Rattle.std.proofs.lemmas.List.Edits.{length-swap, swapped_from_swap}
 use Rattle.std.proofs.lemmas.List.Sorted.{IsPermutation-keeps}
 
--- a relation between an item and any other
+-- a relation that each item has to each other item
 pub record EachTwo {X : Type 0} (R : X → X → Type 0) (xs : List X) : Type 0 where
   pub at : (i j : ℕ) (d : X) → i < length xs → j < length xs → i ≢ j → R (get_or xs i d) (get_or xs j d)
 
--- where an item stood before two were exchanged
+-- the place of an item before two were exchanged
 data Moved (a b : ℕ) (i : ℕ) : ℕ → Type 0 where
   First : i ≡ a → Moved a b i b
   Second : i ≢ a → i ≡ b → Moved a b i a
@@ -72,7 +72,7 @@ exchanged {X} R xs a b in_a in_b each = record {
       (moved-differ a b i j s.place t.place s.moved t.moved differ)));
 }
 
--- what holds of each two items, in any order of the two, holds of the list in another order
+-- a relation that each item has to each other item holds in any other order of the list
 pub each_two_permuted : {X : Type 0} (R : X → X → Type 0) (xs ys : List X)
     → IsPermutation xs ys → EachTwo R xs → EachTwo R ys
 each_two_permuted R xs ys permuted each =

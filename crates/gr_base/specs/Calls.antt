@@ -1,4 +1,4 @@
--- Calls that are numbered from 0, of which some are to fail. (This project's profile.)
+-- Calls that are numbered from 0, some of which are to fail. (This project's profile.)
 use Rattle.std.specs.Prelude.{ℕ, ◌+◌, ◌-◌, ◌^◌, min, Bool, ◌==◌, List}
 use Rattle.std.specs.List.{list_any}
 
@@ -11,7 +11,7 @@ pub record Calls : Type 0 where
 abbrev pub next_fails : Calls → Bool
 next_fails calls = list_any (λ number. number == calls.next) calls.failing
 
--- one more, up to 2^64 - 1, where it stays
+-- one more, up to 2^64 - 1
 abbrev pub one_more : ℕ → ℕ
 one_more count = min (count + 1) (2 ^ 64 - 1)
 

@@ -4,8 +4,8 @@ ghost use Rattle.gr_base.specs.Calls.{next_fails, after_call};
 
 use std::marker::Model;
 
-/// The number of the next call, counted from 0, and the numbers of the calls that are to fail. The number stays at
-/// 2^64 - 1, which is the number of no call that is to fail.
+/// The number of the next call, counted from 0, and the numbers of the calls that are to fail. The count stays at 2^64
+/// - 1, above each number of a call that is to fail.
 #[derive(Debug, Drop)]
 pub struct CallCounter {
     failing: Vec<u32>,
@@ -21,14 +21,14 @@ impl Model for CallCounter {
 }
 
 impl CallCounter {
-    /// Before the first call.
+    /// The counter before the first call.
     pub fn new(failing: Vec<u32>) -> CallCounter
         ensures { result ≡ record { failing = failing.items; next = 0 } }
     {
         CallCounter { failing, next: 0 }
     }
 
-    /// Counts a call, and says whether it is one that is to fail.
+    /// Counts a call, and returns whether it is one that is to fail.
     pub fn call(&mut self) -> bool
         ensures fails { result ≡ next_fails self.old }
         ensures counted { self.new ≡ after_call self.old }

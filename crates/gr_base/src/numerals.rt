@@ -10,7 +10,7 @@ pub fn are_digits(text: &[u8]) -> bool
     text.iter().all(|byte| byte.is_ascii_digit())
 }
 
-/// Whether a text is a canonical numeral: decimal digits, one or more, of which the first is 0 only in `0`.
+/// Whether a text is a canonical numeral: one or more decimal digits, of which the first is 0 only in `0`.
 #[tactic(auto, unfolding(crate::specs::Numerals::is_canonical_numeral))]
 pub fn is_canonical_numeral(text: &[u8]) -> bool
     ensures { result ≡ is_canonical_numeral text.now }
@@ -29,7 +29,7 @@ pub fn digit_value(digit: u8) -> u64
     }
 }
 
-/// The number that digits write, leading zeros allowed. There are few enough that it fits.
+/// The value of digits, which may begin with zeros. The digits are few enough that it fits.
 pub fn digits_value(radix: u64, digits: &[u8]) -> u64
     requires radix { radix ≤ 16 }
     requires digits { AllDigits radix digits.now }
@@ -44,7 +44,7 @@ pub fn digits_value(radix: u64, digits: &[u8]) -> u64
     value
 }
 
-/// The number that decimal digits write, leading zeros allowed, or `most` where it is more.
+/// The value of decimal digits, which may begin with zeros, or `most` if the value is greater.
 pub fn number_capped(most: u64, digits: &[u8]) -> u64
     requires { are_digits digits.now ≡ true }
     ensures { result ≡ min (digits_value 10 digits.now) most }
@@ -56,7 +56,7 @@ pub fn number_capped(most: u64, digits: &[u8]) -> u64
     number
 }
 
-/// A number with one digit more, or `most` where it is more.
+/// A number with one more digit, or `most` if that is greater.
 fn capped(most: u64, number: u64, digit: u64) -> u64
     ensures { result ≡ min (number * 10 + digit) most }
 {
@@ -64,7 +64,8 @@ fn capped(most: u64, number: u64, digit: u64) -> u64
     if more > most { most } else { more }
 }
 
-/// The number up to `most` whose canonical numeral, and so whose decimal text, this is.
+/// The number up to `most` whose decimal text this is, or `None` if there is none. That text is the number's canonical
+/// numeral.
 pub fn numeral_up_to(most: u64, text: &[u8]) -> Option<u64>
     requires { most < 2 ^ 64 - 1 }
     ensures some { IfSome result (λ n. (n ≤ most) × (text.now ≡ decimal n)) }
@@ -77,7 +78,7 @@ pub fn numeral_up_to(most: u64, text: &[u8]) -> Option<u64>
     if number > most { None } else { Some(number) }
 }
 
-/// Does nothing; its clause is a law: the canonical numeral of a number is its decimal text, and no other text.
+/// Does nothing; its clause is a law: a number has one canonical numeral, its decimal text.
 pub fn numeral_laws()
     ensures one_numeral { OneNumeral }
 {}
