@@ -1,4 +1,4 @@
--- A list of files and the map that it stands for: look-ups, a file that is replaced, a file that is added.
+-- A list of files and its map: look-ups, a file that is replaced, a file that is added.
 use Rattle.std.proofs.Common.{◌≡◌, ℕ, ◌<◌, Bool, true, false, cond, nat_lt, length, List, [], ◌∷◌, ◌++◌, map, get_or, set, Some, None, refl, sym, ap, ◌∙◌, subst}
 use Rattle.std.proofs.lemmas.Bool.{ltb-true, ltb-false}
 use Rattle.std.proofs.lemmas.Option.{cond_some, slice_get-get_or, slice_get_past, none-some}
@@ -37,7 +37,7 @@ pub get-files_of : (name : List ℕ) (files : List File)
     → get (files_of files) name ≡ option_map contents (find (is_named name) files)
 get-files_of name files = get-from_entries nat_list_cmp_total (map entry_of files) name ∙ find-entries name files
 
--- where a test first passes
+-- the place at which a test first passes
 found_place : (test : File → Bool) (files : List File) (place : ℕ)
     → Some place ≡ position test files → (place < length files) × (place ≡ position_or_len test files)
 found_place test files place found =
@@ -60,13 +60,13 @@ find_nowhere : (test : File → Bool) (files : List File) → None ≡ position 
 find_nowhere test files missing =
     find_at test files ∙ slice_get_past files (position_or_len test files) (ltb-false _ _ (nowhere _ _ missing))
 
--- the file at the position of its name is the one that is told
+-- the file at the place of its name is the one that the map has
 pub get_found : (name : List ℕ) (files : List File) (place : ℕ) (d : File)
     → Some place ≡ position (is_named name) files → get (files_of files) name ≡ Some (contents (get_or files place d))
 get_found name files place d found =
     get-files_of name files ∙ ap (option_map contents) (find_found (is_named name) files place d found)
 
--- a name that no file has is told nothing
+-- the map has nothing under a name that no file has
 pub get_missing : (name : List ℕ) (files : List File)
     → None ≡ position (is_named name) files → get (files_of files) name ≡ None
 get_missing name files missing =
@@ -75,7 +75,7 @@ get_missing name files missing =
 same_name : (name : List ℕ) (file : File) → is_named name file ≡ true → name ≡ file.name.items
 same_name name file named = (bytes_eq-Decides name file.name.items).0 named
 
--- the file at the position of a name has that name
+-- the file at the place of a name has that name
 pub found_named : (name : List ℕ) (files : List File) (place : ℕ) (d : File)
     → Some place ≡ position (is_named name) files → is_named name (get_or files place d) ≡ true
 found_named name files place d found =
@@ -100,7 +100,7 @@ find-replaced name q files place file found named false other =
     (subst (λ (n : List ℕ). bytes_eq q n ≡ false) there other)
     (subst (λ (n : List ℕ). bytes_eq q n ≡ false) new other))
 
--- a file whose place is found by its name is replaced by one of the same name
+-- a file with the same name replaces the one that is found
 pub files_of-replaced : (name : List ℕ) (files : List File) (place : ℕ) (file : File)
     → Some place ≡ position (is_named name) files → is_named name file ≡ true
     → files_of (set files place file) ≡ with_file name (contents file) (files_of files)
@@ -112,7 +112,7 @@ files_of-replaced name files place file found named =
     ∙ ap (cond (eq_by_cmp (slice_cmp nat_cmp) q name) (Some (contents file))) (sym (get-files_of q files))
     ∙ sym (get-insert nat_list_cmp_total (files_of files) name (contents file) q))
 
--- a file whose name isn't there is added at the end
+-- a file with a new name is added at the end
 pub files_of-added : (files : List File) (file : File) → None ≡ position (is_named file.name.items) files
     → files_of (files ++ file ∷ []) ≡ with_file file.name.items (contents file) (files_of files)
 files_of-added files file missing =

@@ -1,4 +1,4 @@
--- A write to one name leaves all other files.
+-- A write to one name leaves all other files as they were.
 use Rattle.std.proofs.Common.{◌≡◌, ℕ, Bool, true, false, cond, List, Option, Some, None, refl, sym, ap, ◌∙◌}
 use Rattle.std.specs.Ordering.{nat_cmp, eq_by_cmp}
 use Rattle.std.specs.Cmp.Lexicographic.{slice_cmp, nat_list_cmp_total}
@@ -10,7 +10,7 @@ covered : (same : Bool) (there : Option (List ℕ)) (bytes : List ℕ)
 covered true there bytes = refl
 covered false there bytes = refl
 
--- the other files are the same whether or not one is written
+-- the other files are the same, whether or not one was written
 pub remove_with_file : (name bytes : List ℕ) (files : Files)
     → remove (with_file name bytes files) name ≡ remove files name
 remove_with_file name bytes files =

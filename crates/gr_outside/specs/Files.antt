@@ -18,7 +18,7 @@ files_of files = from_entries (map entry_of files)
 abbrev pub is_named : List ℕ → File → Bool
 is_named name file = bytes_eq name file.name.items
 
--- no two of them have one name
+-- the names of the files all differ
 abbrev pub are_distinct : List File → Bool
 are_distinct [] = true
 are_distinct (file ∷ files) = not (list_any (is_named file.name.items) files) && are_distinct files

@@ -1,11 +1,11 @@
--- What is seen of a shelf in memory some of whose calls fail. (This project's profile.)
+-- How contracts see a shelf in memory that fails at chosen calls. (This project's profile.)
 use Rattle.std.specs.Prelude.{ℕ, List, if◌then◌else◌}
 use Rattle.std.specs.Prelude.{refl}
 use Rattle.std.specs.Coded.{Coded, code_by, coded×, coded_ℕ, coded_list}
 use Rattle.gr_outside.specs.Shelf.{Files, files_code, with_file}
 use Rattle.gr_base.specs.Calls.{Calls, next_fails, after_call, one_more}
 
--- the files, the calls, reads and writes together, how many of each kind failed, and how many writes wanted memory
+-- the files; the calls, both reads and writes; how many of each kind failed; and how many writes ran out of memory
 pub record Shelved : Type 0 where
   pub files : Files
   pub calls : Calls
@@ -13,7 +13,7 @@ pub record Shelved : Type 0 where
   pub write_faults : ℕ
   pub starved : ℕ
 
--- a code for it, as a value that contracts see
+-- the ghost value that represents it: the tuple of its fields
 abbrev pub shelved_code : Coded Shelved
 shelved_code =
     code_by (Files × (List ℕ × (ℕ × (ℕ × (ℕ × ℕ)))))
@@ -28,14 +28,14 @@ shelved_code =
     })
     (λ _. refl)
 
--- after a read: the number of calls is one more, and where the call was to fail the count of failed reads
+-- after a read: one more call and, if the call was to fail, one more failed read
 abbrev pub after_read : Shelved → Shelved
 after_read shelf = record shelf {
   calls = after_call shelf.calls;
   read_faults = if next_fails shelf.calls then one_more shelf.read_faults else shelf.read_faults;
 }
 
--- after a write that changed no file: it failed as it was to fail, or wanted memory
+-- after a write that changed no file: it was to fail, or it ran out of memory
 abbrev pub after_refused_write : Shelved → Shelved
 after_refused_write shelf = record shelf {
   calls = after_call shelf.calls;
@@ -43,7 +43,7 @@ after_refused_write shelf = record shelf {
   starved = if next_fails shelf.calls then shelf.starved else one_more shelf.starved;
 }
 
--- after a write that was done
+-- after a write that succeeded
 abbrev pub after_write : List ℕ → List ℕ → Shelved → Shelved
 after_write name bytes shelf = record shelf {
   files = with_file name bytes shelf.files;

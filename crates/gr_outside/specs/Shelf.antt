@@ -1,4 +1,4 @@
--- What a shelf keeps: files by their names. (This project's profile.)
+-- What a shelf holds: files by their names. (This project's profile.)
 use Rattle.std.specs.Prelude.{◌≡◌, ℕ, List, take, Option}
 use Rattle.std.specs.Option.{option_map}
 use Rattle.std.specs.Ordering.{nat_cmp}
@@ -6,29 +6,29 @@ use Rattle.std.specs.Cmp.Lexicographic.{slice_cmp}
 use Rattle.std.specs.FinMap.{FinMap, get, insert, remove, code}
 use Rattle.std.specs.Coded.{Coded, coded_ℕ, coded_list}
 
--- a finite map from names, texts seen as their bytes, to contents
+-- a finite map from names, as the bytes of their text, to contents
 abbrev pub Files : Type 0
 Files = FinMap {K = List ℕ} (slice_cmp nat_cmp) (List ℕ)
 
--- a code for them, as a value that contracts see
+-- the ghost value that represents it
 abbrev pub files_code : Coded Files
 files_code = code (coded_list coded_ℕ) (coded_list coded_ℕ)
 
--- the first `most` bytes of a file, all of them where it has fewer; none where there is no such file
+-- the first `most` bytes of a file, or all of them if it has fewer; none if there is no such file
 abbrev pub front_of : Files → List ℕ → ℕ → Option (List ℕ)
 front_of files name most = option_map (take most) (get files name)
 
--- the name stands for the bytes, all other files are as before
+-- the bytes are the contents of the file with the name, and all other files are as before
 abbrev pub with_file : List ℕ → List ℕ → Files → Files
 with_file name bytes files = insert files name bytes
 
--- all files but this one are as before, and they are told after it exactly where they were told before
+-- all files but this one are as before, and the files are visible exactly if they were before
 abbrev pub SameBut : List ℕ → Option Files → Option Files → Type 0
 SameBut name before after =
     option_map (λ files. remove files name) after ≡ option_map (λ files. remove files name) before
 
--- what is seen of a shelf: its files where it tells them, how many reads and writes failed, and how many writes wanted
--- memory; the counts never fall, and stand still at 2^64 - 1
+-- how contracts see a shelf: its files, if they are visible; how many reads and writes failed; and how many writes ran
+-- out of memory; the counts never fall, and stay at 2^64 - 1
 pub record ShelfSeen : Type 0 where
   pub files : Option Files
   pub read_faults : ℕ

@@ -1,14 +1,14 @@
--- What is seen of a shelf in memory that never fails. (This project's profile.)
+-- How contracts see a shelf in memory that never fails. (This project's profile.)
 use Rattle.std.specs.Prelude.{ℕ, refl}
 use Rattle.std.specs.Coded.{Coded, code_by, coded×, coded_ℕ}
 use Rattle.gr_outside.specs.Shelf.{Files, files_code}
 
--- the files, and how many writes wanted memory
+-- the files, and how many writes ran out of memory
 pub record Kept : Type 0 where
   pub files : Files
   pub starved : ℕ
 
--- a code for it, as a value that contracts see
+-- the ghost value that represents it: the tuple of its fields
 abbrev pub kept_code : Coded Kept
 kept_code =
     code_by (Files × ℕ) (coded× files_code coded_ℕ)

@@ -9,14 +9,14 @@ use crate::shelf::ShelfError;
 use std::alloc::{AllocError, Global};
 use std::marker::Model;
 
-/// A file: its name, the UTF-8 bytes of a text, and its contents.
+/// A file: its name, which is UTF-8 text, and its contents.
 #[derive(Debug, Drop)]
 pub struct File {
     pub name: Vec<u8>,
     pub bytes: Vec<u8>,
 }
 
-/// Whether no two of the files have one name.
+/// Whether the names of the files all differ.
 pub fn names_are_distinct(files: &[File]) -> bool
     ensures { result ≡ are_distinct files.now }
 {
@@ -46,7 +46,7 @@ fn position_of(files: &[File], name: &[u8]) -> Option<usize>
     files.iter().position(|file| is_named(file, name))
 }
 
-/// Files in a list, seen as the map from their names to their contents.
+/// Files in a list. Contracts see it as the map from their names to their contents.
 #[derive(Debug, Drop)]
 pub(crate) struct FileTable {
     files: Vec<File>,
@@ -72,7 +72,7 @@ impl FileTable {
         FileTable { files }
     }
 
-    /// The contents of a file.
+    /// The contents of a file, or `None` if there is no such file.
     pub(crate) fn bytes(&self, name: &[u8]) -> Option<&[u8]>
         ensures { option_copied result ≡ get self.now name.now }
     {
@@ -82,7 +82,7 @@ impl FileTable {
         }
     }
 
-    /// The first `most` bytes of a file.
+    /// The first `most` bytes of a file, or all of them if it has fewer.
     pub(crate) fn front(
         &self,
         alloc: Global,
@@ -100,7 +100,7 @@ impl FileTable {
         }
     }
 
-    /// Makes the name stand for these bytes. Want of memory changes nothing.
+    /// Makes these bytes the contents of the file with that name. Out of memory changes nothing.
     pub(crate) fn set(&mut self, alloc: Global, name: &[u8], bytes: &[u8]) -> Result<(), AllocError>
         ensures ok { OnOk result (self.new ≡ with_file name.now bytes.now self.old) }
         ensures err { OnErr result (self.new ≡ self.old) }

@@ -1,7 +1,7 @@
 //! The outside of GhostRider as two traits: a [`Shelf`], where files are read and written by name, and a [`Sink`],
-//! which takes bytes. Each has a written meaning and counts its own faults, so that code above it can show the cause of
-//! each fault it answers. Beside them stand shelves and sinks in memory: [`MemShelf`] and [`MemSink`] fail at calls
-//! that are chosen in advance, [`SureShelf`] and [`SureSink`] never fail.
+//! which takes bytes. Their contracts define what they do. Each counts its own faults, so that code that uses it can
+//! show the cause of each fault that it reports. There are also shelves and sinks in memory: [`MemShelf`] and
+//! [`MemSink`] fail at calls that are chosen in advance, and [`SureShelf`] and [`SureSink`] never fail.
 #![tactic(auto)]
 
 pub mod files;

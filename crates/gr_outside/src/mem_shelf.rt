@@ -11,8 +11,8 @@ use gr_base::CallCounter;
 use std::alloc::Global;
 use std::marker::Model;
 
-/// A shelf in memory that always tells its files. Its calls, reads and writes together, are numbered from 0, and those
-/// whose numbers were chosen fail.
+/// A shelf in memory, whose files are visible to contracts. Its calls, both reads and writes, are numbered from 0, and
+/// those with chosen numbers fail.
 #[derive(Debug, Drop)]
 pub struct MemShelf {
     alloc: Global,
@@ -40,7 +40,7 @@ impl Model for MemShelf {
 }
 
 impl MemShelf {
-    /// A shelf with these files, at which the calls with these numbers fail.
+    /// A shelf with these files. The calls with these numbers fail.
     pub fn new(alloc: Global, files: Vec<File>, failing: Vec<u32>) -> MemShelf
         requires { IsTrue (are_distinct files.items) }
         ensures { result ≡ record {
@@ -61,7 +61,7 @@ impl MemShelf {
         }
     }
 
-    /// The contents of a file, none exactly where there is no such file.
+    /// The contents of a file, or `None` if there is no such file.
     pub fn file(&self, name: &str) -> Option<&[u8]>
         ensures { option_copied result ≡ get self.now.files name.now }
     {

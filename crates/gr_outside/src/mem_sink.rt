@@ -6,8 +6,8 @@ use gr_base::{CallCounter, Memory};
 use std::alloc::Global;
 use std::marker::Model;
 
-/// A sink in memory that always tells its bytes. Its puts are numbered from 0; those whose numbers were chosen fail,
-/// and so does a put whose bytes would pass the room. No put takes memory.
+/// A sink in memory, whose bytes are visible to contracts. The calls of `put` are numbered from 0. Those with chosen
+/// numbers fail, and so does a call whose bytes would exceed the room. No call takes memory.
 #[derive(Debug, Drop)]
 pub struct MemSink {
     bytes: Vec<u8>,
@@ -28,7 +28,8 @@ impl Model for MemSink {
 }
 
 impl MemSink {
-    /// A sink with room for that many bytes, which is reserved here. The puts with these numbers fail.
+    /// A sink with room for `room` bytes, which is reserved here. The calls of `put` with the numbers in `failing`
+    /// fail.
     pub fn new(alloc: Global, failing: Vec<u32>, room: usize) -> Result<MemSink, Memory>
         ensures { IfOk result (λ sink. sink ≡ record {
           bytes = [];

@@ -8,16 +8,16 @@ ghost use Rattle.gr_outside.specs.declared.shelf.ShelfError.TheVariants.{Memory}
 use std::alloc::{AllocError, AllocFailed};
 use thiserror::Error;
 
-/// Why a shelf refuses a call.
+/// Why a call of a shelf failed.
 #[derive(Clone, Copy, Debug, PartialEq, Eq, Error)]
 pub enum ShelfError {
-    /// There is no such file. Only a read is refused so.
+    /// There is no such file. Only a read fails so.
     #[error("no such file")]
     Missing = 1,
-    /// The shelf failed, and counted it.
+    /// The shelf failed, and counted the failure.
     #[error("the shelf failed")]
     Failed = 2,
-    /// Want of memory.
+    /// Out of memory.
     #[error("out of memory")]
     Memory = 3,
 }
@@ -38,17 +38,18 @@ impl<T: Drop> From<AllocFailed<T>> for ShelfError {
     }
 }
 
-/// A place where files are read and written by name. It may tell its files or not: a shelf over real files can't.
+/// A place where files are read and written by name. Its files may be visible to contracts or not: those of the system
+/// aren't.
 ///
-/// A count never falls and stands still at 2^64 - 1. That it rose in a call means that it is greater after the call
-/// than before it, or stood at 2^64 - 1. Code above a shelf can't raise its counts, so a fault that it answers has its
-/// cause here. A call that is done leaves every count.
+/// A count never falls, and stays at 2^64 - 1. It rose in a call if it is greater after the call than before it, or was
+/// 2^64 - 1. Code that uses a shelf can't raise its counts, so a fault that the code reports was a fault of the shelf.
+/// A call that succeeds leaves every count as it was.
 pub trait Shelf {
-    /// What is seen of the shelf: its files, where it tells them; how many reads and how many writes failed; and how
-    /// many writes wanted memory.
+    /// How contracts see the shelf: its files, if they are visible; how many reads and how many writes failed; and how
+    /// many writes ran out of memory.
     ghost seen: { Self → ShelfSeen };
 
-    /// The first `most` bytes of the file with that name, all of them where it has fewer.
+    /// The first `most` bytes of the file with that name, or all of them if it has fewer.
     fn read(&mut self, name: &str, most: usize) -> Result<Vec<u8>, ShelfError>
         ensures at_most { IfOk result (λ bytes. vec_len bytes ≤ most) }
         ensures bytes { IfOk result
@@ -56,7 +57,7 @@ pub trait Shelf {
         ensures calm { OnOk result (seen self.new ≡ seen self.old) }
         ensures others { seen self.new ≡ record (seen self.old) { read_faults = (seen self.new).read_faults } }
 
-        // Missing: told files lack the name, or files aren't told and the read failed.
+        // Missing: the files are visible and none has the name, or they aren't visible and the read counts as failed.
         ensures missing { result ≡ Err ShelfError.Missing
             → MatchOption (seen self.old).files (Rose (seen self.old).read_faults (seen self.new).read_faults)
             (λ all. get all name.now ≡ None) }
@@ -67,7 +68,8 @@ pub trait Shelf {
         ensures read_count_stays { (seen self.old).read_faults ≡ 2 ^ 64 - 1
             → (seen self.new).read_faults ≡ 2 ^ 64 - 1 };
 
-    /// Makes the name stand for these bytes. A refused write may leave anything under that name.
+    /// Makes these bytes the contents of the file with that name. A write that fails may leave anything under that
+    /// name.
     fn write(&mut self, name: &str, bytes: &[u8]) -> Result<(), ShelfError>
         ensures written { OnOk result
             (seen self.new

@@ -5,20 +5,21 @@ ghost use Rattle.gr_outside.specs.Sink.{SinkSeen};
 
 use thiserror::Error;
 
-/// A sink failed to take the whole of a piece, and counted it.
+/// A sink failed to take all bytes of a call, and counted the failure.
 #[derive(Clone, Copy, Debug, PartialEq, Eq, Error)]
 #[error("the sink failed")]
 pub struct SinkFailed;
 
-/// What takes bytes, each piece behind the ones before. It may tell the bytes that it holds or not: standard output
-/// can't. A sink that can't may hold bytes back until it is flushed. Its count of faults never falls and stands still
-/// at 2^64 - 1, as those of a shelf. A call that is done leaves it.
+/// Something that takes bytes and adds them at its end. The bytes that it holds may be visible to contracts or not:
+/// those of standard output aren't. A sink whose bytes aren't visible may hold bytes back until it is flushed. Its
+/// count of faults never falls, and stays at 2^64 - 1, like those of a shelf. A call that succeeds leaves the count as
+/// it was.
 pub trait Sink {
-    /// What is seen of the sink: the bytes that were put, where it tells them, and how many calls failed.
+    /// How contracts see the sink: the bytes that it took, if they are visible, and how many calls failed.
     ghost seen: { Self → SinkSeen };
 
-    /// Adds the bytes at the end. A put that fails adds nothing, or a part of the bytes from their front that isn't the
-    /// whole. A sink that tells its bytes after a call told them before it.
+    /// Adds the bytes at the end. A call that fails adds a prefix of the bytes, possibly none but never all of them. If
+    /// the sink's bytes are visible after a call, they were visible before it.
     fn put(&mut self, bytes: &[u8]) -> Result<(), SinkFailed>
         ensures added { OnOk result (Adds (seen self.old).held (seen self.new).held bytes.now) }
         ensures calm { OnOk result ((seen self.new).faults ≡ (seen self.old).faults) }
@@ -27,8 +28,8 @@ pub trait Sink {
         ensures count { (seen self.old).faults ≤ (seen self.new).faults }
         ensures count_stays { (seen self.old).faults ≡ 2 ^ 64 - 1 → (seen self.new).faults ≡ 2 ^ 64 - 1 };
 
-    /// Hands on what is held back, and adds nothing. A sink that tells its bytes holds nothing back, so this doesn't
-    /// fail there.
+    /// Passes on the bytes that are held back, and adds none. A sink whose bytes are visible holds nothing back, so its
+    /// flush doesn't fail.
     fn flush(&mut self) -> Result<(), SinkFailed>
         ensures nothing_added { (seen self.new).held ≡ (seen self.old).held }
         ensures calm { OnOk result ((seen self.new).faults ≡ (seen self.old).faults) }
@@ -39,7 +40,7 @@ pub trait Sink {
         Ok(())
     }
 
-    /// How many bytes the sink holds, where it tells them, and any number else.
+    /// How many bytes the sink holds, if they are visible; otherwise any number.
     fn mark(&self) -> usize
         ensures told { IfSome (seen self.now).held (λ bytes. result ≡ length bytes) };
 }

@@ -9,7 +9,8 @@ use crate::shelf::{Shelf, ShelfError};
 use std::alloc::Global;
 use std::marker::Model;
 
-/// A shelf in memory that always tells its files and never fails. It counts the writes that wanted memory.
+/// A shelf in memory that never fails, and whose files are visible to contracts. It counts the writes that ran out of
+/// memory.
 #[derive(Debug, Drop)]
 pub struct SureShelf {
     alloc: Global,

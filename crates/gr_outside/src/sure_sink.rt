@@ -7,8 +7,8 @@ use gr_base::Memory;
 use std::alloc::Global;
 use std::marker::Model;
 
-/// A sink in memory that never fails. It counts the bytes that are put, and holds and tells them exactly while they fit
-/// its room. No put takes memory.
+/// A sink in memory that never fails. It counts the bytes that it is given. It holds them, visible to contracts, as
+/// long as they fit its room. No call takes memory.
 #[derive(Debug, Drop)]
 pub struct SureSink {
     bytes: Vec<u8>,
@@ -29,7 +29,7 @@ impl Model for SureSink {
 }
 
 impl SureSink {
-    /// A sink with room for no byte, for which nothing is reserved.
+    /// A sink without room, for which no memory is reserved.
     pub fn new(alloc: Global) -> SureSink
         ensures { result ≡ record { put = 0; room = 0; held = Some [] } }
     {
@@ -40,7 +40,7 @@ impl SureSink {
         }
     }
 
-    /// A sink with room for that many bytes, which is reserved here.
+    /// A sink with room for `bytes` bytes, which is reserved here.
     pub fn with_room(alloc: Global, bytes: usize) -> Result<SureSink, Memory>
         ensures { IfOk result (λ sink. sink ≡ record { put = 0; room = bytes; held = Some [] }) }
     {
@@ -51,7 +51,7 @@ impl SureSink {
         })
     }
 
-    /// The bytes that were put while they fit the room, and no bytes past that.
+    /// The bytes that the sink was given, if they fit the room, and otherwise none.
     pub fn held(&self) -> &[u8]
         ensures { result.now ≡ unwrap_or self.now.held [] }
     {
@@ -83,7 +83,7 @@ impl Sink for SureSink {
         }
     }
 
-    /// How many bytes were put, up to 2^64 - 1.
+    /// How many bytes the sink was given, up to 2^64 - 1.
     fn mark(&self) -> usize
         ensures put { result ≡ self.now.put }
         ensures told { IfSome self.now.held (λ bytes. result ≡ length bytes) }
