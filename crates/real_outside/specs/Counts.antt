@@ -1,4 +1,4 @@
--- What is seen of a shelf over real files, which tell nothing of their contents. (This project's profile.)
+-- How contracts see a shelf over real files, without their contents. (This project's profile.)
 use Rattle.std.specs.Prelude.{ℕ}
 
 pub record FaultCounts : Type 0 where

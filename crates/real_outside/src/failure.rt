@@ -10,7 +10,7 @@ const MOST_WORDS: usize = 320;
 /// What the standard library prints after the system's words: the number of the error.
 const NUMBER: &str = " (os error ";
 
-/// Why the system failed a call. `Display` prints the system's own words, as `No space left on device`.
+/// Why the system failed a call. `Display` prints the system's own words, such as `No space left on device`.
 #[derive(Clone, Copy, Debug, Drop)]
 pub struct Cause(Error);
 
@@ -41,7 +41,8 @@ fn without_number(words: &str) -> &str {
 }
 
 /// A read or a write of a file that failed: the file's name, as the caller wrote it, and the cause. `Display` prints
-/// both, as `out.obj: No space left on device`. The name is printed as it is, so escape it before a terminal.
+/// both, in the form `out.obj: No space left on device`. The name is printed as it is, so escape it before you print it
+/// to a terminal.
 #[derive(Debug, Drop)]
 pub struct Failure {
     name: Option<String>,

@@ -1,6 +1,6 @@
 //! The real outside of the program: [`RealShelf`] over the files of the system, and [`RealSink`] over a writer, such as
-//! standard output. They are proved against the traits of `gr_outside`; that the system keeps files and passes bytes on
-//! is not proved. After a failure each has the cause in the system's own words: a [`Failure`] of a file, a [`Cause`].
+//! standard output. They are proved against the traits of `gr_outside`. That the system keeps files and passes bytes on
+//! isn't proved. After a failure each has the cause in the system's own words: a [`Failure`] of a file, or a [`Cause`].
 #![tactic(auto)]
 
 pub mod failure;

@@ -65,8 +65,8 @@ where
     }
 }
 
-// Whether a name is of standard output, where the bytes and the result line would mix. The null device may take both.
-// If the system doesn't show standard output as a file, nothing is.
+// Whether a name refers to standard output, where the bytes and the result line would mix. The null device may take
+// both. If the system doesn't show standard output as a file, no name refers to it.
 fn is_standard_output<R: Files>(rt: &R, name: &str) -> bool {
     match fs::metadata(rt, name) {
         Ok(file) => match fs::metadata(rt, "/dev/stdout") {
@@ -77,8 +77,8 @@ fn is_standard_output<R: Files>(rt: &R, name: &str) -> bool {
     }
 }
 
-// Gives a new file the name of another, and returns whether the system allowed it. It doesn't if the other one belongs
-// to somebody else in a sticky folder, or is a mount point: then the other one is to be written in place.
+// Gives a new file the name of another, and returns whether the system allowed it. The system doesn't if the other one
+// belongs to somebody else in a sticky folder, or is a mount point; then the other one is to be written in place.
 fn take_name<R: Files>(rt: &R, beside: &str, path: &str) -> io::Result<bool> {
     match fs::rename(rt, beside, path) {
         Ok(()) => Ok(true),
@@ -89,8 +89,8 @@ fn take_name<R: Files>(rt: &R, beside: &str, path: &str) -> io::Result<bool> {
     }
 }
 
-// The mode with which a new file is created. Without an old file the system makes the rights of it, by the umask and
-// the folder's default ACL.
+// The mode with which a new file is created. If there is no old file, the umask and the folder's default ACL determine
+// the rights.
 fn mode_at_first(rights: Option<Rights>) -> u32 {
     match rights {
         Some(_) => PRIVATE,
@@ -98,8 +98,8 @@ fn mode_at_first(rights: Option<Rights>) -> u32 {
     }
 }
 
-// Writes the bytes to a new file that only its owner may read, syncs them, and then gives the file its rights: so what
-// a kill leaves is private, unless it comes between the last change of rights and the rename.
+// Writes the bytes to a new file that only its owner may read, syncs them, and then gives the file its rights. So what
+// is left if the program is killed is private, unless it is killed between the last change of rights and the rename.
 fn fill<F: Write + OpenFile + AsFd>(
     file: &mut F,
     rights: Option<Rights>,
@@ -107,7 +107,7 @@ fn fill<F: Write + OpenFile + AsFd>(
 ) -> io::Result<()> {
     let rights = match rights {
         Some(rights) => rights,
-        // Whoever opens the empty file until here may read the whole one later.
+        // A process that opens the empty file before this may read all of it later.
         None => Rights::withheld(file)?,
     };
     file.write_all(bytes)?;
@@ -191,7 +191,7 @@ fn old_file<R: Files>(rt: &R, path: String) -> io::Result<Option<Target>> {
     Ok(Some(Target { path, rights }))
 }
 
-// A new file in the folder of another, named after it and with this mode, or `None` if it can't be made.
+// A new file with this mode in the folder of another, named after that one; `None` if it can't be made.
 fn new_beside<R: Files>(
     rt: &R,
     alloc: Global,
@@ -222,7 +222,7 @@ fn is_want_of_room(kind: ErrorKind) -> bool {
     )
 }
 
-// A name such as `/dev/stdout` may be of an open regular file, which is to be written, not replaced.
+// A name such as `/dev/stdout` may refer to an open regular file, which is to be written, not replaced.
 fn is_of_the_system(path: &str) -> bool {
     path.starts_with("/dev/") || path.starts_with("/proc/")
 }

@@ -41,14 +41,14 @@ impl Rights {
     }
 
     /// Gives the rights to an open file. If the file can't get the owner and the group, only its owner may do anything
-    /// with it, since the bits of the group and of others would then speak of other people.
+    /// with it, since the bits of the group and of others would then apply to other people.
     pub(crate) fn give_to<F: OpenFile + AsFd>(self, file: &F) -> io::Result<()> {
         let mode = mode_to_give(self.mode, self.gets_ids(file)?);
         file.set_permissions(Permissions::from_mode(mode))
     }
 
     // Gives the file the owner and the group, and returns whether it has both. Some file systems report success and
-    // keep the old ones, so the file itself is looked at.
+    // keep the old ones, so this looks at the file itself.
     fn gets_ids<F: OpenFile + AsFd>(self, file: &F) -> io::Result<bool> {
         if self.has_ids_of(&file.metadata()?) {
             return Ok(true);
@@ -64,7 +64,8 @@ impl Rights {
     }
 }
 
-/// The mode of a file that is to have this one, and has the owner and the group that go with it or not.
+/// The mode of a file that is to have the mode `mode`: all of it if the file has the owner and the group that go with
+/// it, and otherwise only the owner's bits.
 fn mode_to_give(mode: u32, ids_kept: bool) -> u32
     ensures kept { ids_kept ≡ true → result ≡ mode }
     ensures private { ids_kept ≡ false → result ≡ bit_and mode 0o700 }

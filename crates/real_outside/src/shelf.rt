@@ -16,14 +16,15 @@ use std::{fs, io};
 /// The most bytes that one call of the system reads.
 const CHUNK: usize = 65_536;
 
-/// A shelf over real files. It can't list its files, so no clause speaks of their contents. A missing file counts as a
-/// failed read. Running out of memory doesn't count as a failure of a read or a write; such writes have their own count.
-/// [`RealShelf::failure`] has the last failure and its cause.
+/// A shelf over real files. It can't list its files, so no clause is about their contents. A missing file counts as a
+/// failed read. Running out of memory doesn't count as a failure of a read or a write; writes that run out of memory
+/// have their own count. [`RealShelf::failure`] returns the last failure and its cause.
 ///
-/// A regular file is replaced as a whole: if the write is broken off, the name refers to the old bytes or to the new
-/// ones. Nobody may read the new file, nor its parts meanwhile, who might not read the old one, access control lists
-/// left aside. Any other file is written in place, and so is one that no new file can be made beside: the folder takes
-/// none, or none with so long a name, or has the new file's names already.
+/// A regular file is replaced as a whole: if the write is interrupted, the name refers to the old bytes or to the new
+/// ones. Only those who could read the old file can read the new one, or parts of it meanwhile, apart from access
+/// control lists. Any other file is written in place. A regular file is also written in place if no new file can be
+/// made beside it, because the folder takes none, or none with so long a name, or already has the new file's names; or
+/// if the system doesn't let the new file take the name.
 #[derive(Drop)]
 pub struct RealShelf<R: Files + Drop> {
     rt: R,
@@ -68,8 +69,8 @@ impl<R: Files + Drop> RealShelf<R> {
         self.failure.as_ref()
     }
 
-    /// Whether both names are of one regular file, by device and number. Links are followed. A name that can't be
-    /// looked at is of no file.
+    /// Whether both names refer to one regular file, by device and number. Links are followed. A name that can't be
+    /// looked up refers to no file.
     pub fn are_one_file(&self, one: &str, other: &str) -> bool {
         match (fs::metadata(&self.rt, one), fs::metadata(&self.rt, other)) {
             (Ok(one), Ok(other)) => one.is_file() && is_one_file(&one, &other),
@@ -148,7 +149,7 @@ fn refusal_of_read(kind: ErrorKind) -> ShelfError
     }
 }
 
-/// Whether two files are one, by device and number.
+/// Whether two files are the same one, by device and number.
 pub(crate) fn is_one_file(file: &Metadata, other: &Metadata) -> bool {
     file.dev() == other.dev() && file.ino() == other.ino()
 }

@@ -14,13 +14,14 @@ use std::marker::Model;
 /// How many bytes may wait before they are passed to the writer.
 const ROOM: usize = 65_536;
 
-/// Why a writer failed that took none of the bytes and named no cause.
+/// The cause if a writer took none of the bytes and named no cause.
 const TAKES_NONE: &str = "it takes no more bytes";
 
 /// A sink over a writer. It keeps up to 64 KiB waiting and passes them to the writer together; a flush passes the rest.
-/// If a put is Ok, its bytes were passed on or are waiting, so a failure of the writer may be reported at a later put or
-/// at the flush. As a sink it doesn't report its bytes, since standard output reports none; its own clauses say what
-/// the writer was handed, if the writer reports that. [`RealSink::failure`] has the cause of the last failure.
+/// If `put` returns Ok, its bytes were passed on or are waiting, so a failure of the writer may be reported at a later
+/// `put` or at the flush. As a sink its bytes aren't visible to contracts, since those of standard output aren't. Its
+/// own clauses state what the writer was handed, if that is visible. [`RealSink::failure`] returns the cause of the
+/// last failure.
 #[derive(Drop)]
 pub struct RealSink<W: Write + Drop> {
     writer: W,
@@ -49,7 +50,7 @@ impl<W: Write + Drop> Model for RealSink<W> {
 }
 
 impl<W: Write + Drop> RealSink<W> {
-    /// A sink over this writer. No put has failed yet, and nothing waits. Want of memory drops the writer.
+    /// A sink over this writer. No put has failed yet, and nothing waits. Out of memory drops the writer.
     pub fn new(alloc: Global, writer: W) -> Result<RealSink<W>, Memory>
         ensures { IfOk result (λ s. s
             ≡ record { handed = W.contents writer; waiting = []; put = 0; faults = 0 }) }
@@ -71,7 +72,7 @@ impl<W: Write + Drop> RealSink<W> {
         self.cause
     }
 
-    // Lets the bytes wait.
+    // Adds the bytes to those that wait.
     fn hold(&mut self, bytes: &[u8])
         requires { length self.old.waiting + length bytes.now ≤ most_waiting }
         ensures { self.new ≡ record self.old {
@@ -85,7 +86,7 @@ impl<W: Write + Drop> RealSink<W> {
         };
     }
 
-    // Passes the waiting bytes to the writer. Those that it doesn't take keep waiting.
+    // Passes the waiting bytes to the writer. Bytes that it doesn't take keep waiting.
     fn hand_on(&mut self) -> Result<(), SinkFailed>
         ensures kept { Keeps (gathered self.old) (gathered self.new) }
         ensures nothing_waits { OnOk result (self.new.waiting ≡ []) }
@@ -190,7 +191,7 @@ impl<W: Write + Drop> Sink for RealSink<W> {
     }
 }
 
-/// How many of some bytes a writer took, and why it took no more of them.
+/// How many of some bytes a writer took, and why it took no more.
 #[derive(Drop)]
 struct Written {
     count: usize,

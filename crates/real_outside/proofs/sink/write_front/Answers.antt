@@ -6,7 +6,7 @@ use Rattle.std.proofs.KnownBytes.{Appends-trans, Appends-kept}
 use Rattle.real_outside.proofs.sink.write_front.Goals as goal
 use Rattle.real_outside.proofs.sink.write_front.Goals.{in-Ok, in-Err}
 
--- what was written stands behind what was written before
+-- what was written follows what was written before
 pub loop-turn-preserved : goal.loop-turn-preserved
 loop-turn-preserved g c =
     let xs = c.args.bytes.now in

@@ -1,4 +1,4 @@
--- What was written so far is in the writer.
+-- The writer has what was written so far.
 use Rattle.std.proofs.Common.{◌≤◌, length, take}
 use Rattle.std.specs.Io.KnownBytes.{Appends}
 use Rattle.real_outside.proofs.sink.write_front.Given as goal
