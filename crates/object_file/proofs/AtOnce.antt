@@ -1,4 +1,4 @@
--- An instruction whose bytes are all there, read at once.
+-- An instruction whose 16 bytes are all there, read at once.
 use Rattle.std.proofs.Common.{◌≡◌, ℕ, ◌+◌, ◌-◌, ◌≤◌, ltb, List, length, take, drop, get_or, slice_index, Some, Ok, refl, ap, subst₂, ◌∙◌, arith}
 use Rattle.std.specs.Int.{w32, w64, cast_signed}
 use Rattle.std.proofs.lemmas.Bool.{le-ltb}
@@ -76,13 +76,13 @@ module _ (all : ℕ) (bytes : List ℕ) where
         field_there 8 8 (limits_of banks kind).constant (omega (arith, long)) constant,
       ) refl
 
-  -- the rest of the bytes, as a slice to their end
+  -- a slice of the bytes from a place to their end has the same numbers as the bytes from that place on
   sliced : (n place : ℕ)
       → little_number n (take (length bytes - place) (drop place bytes)) ≡ little_number n (drop place bytes)
   sliced n place =
       ap (little_number n) (take_all (length bytes - place) (drop place bytes) (omega (arith, length-drop place bytes)))
 
-  -- the same with the numbers as they were found
+  -- the whole instruction is read, given the values of its fields
   pub whole_read : (banks : ℕ) (kind : Kind) (instr : Instr) (most : Limits) (a b c offset constant : ℕ)
       → 16 ≤ length bytes → kind_named (little_number 1 (drop 0 bytes)) ≡ Some kind
       → most ≡ limits_of banks kind
@@ -102,7 +102,7 @@ module _ (all : ℕ) (bytes : List ℕ) where
       (subst₂ (λ x (l : Limits). x ≤ l.c) ec m lc)
       (subst₂ (λ x (l : Limits). x ≤ l.offset) o m lo) (subst₂ (λ x (l : Limits). x ≤ l.constant) k m lk))
 
--- the bytes behind an instruction, as a slice to their end
+-- the bytes after an instruction, as a slice to their end
 pub behind_whole : (all banks : ℕ) (bytes : List ℕ) (instr : Instr)
     → instruction_at banks all bytes ≡ Ok (instr, drop 16 bytes)
     → instruction_at banks all bytes ≡ Ok (instr, take (length bytes - 16) (drop 16 bytes))

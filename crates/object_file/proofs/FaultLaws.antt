@@ -1,4 +1,4 @@
--- The first fault that reading meets is the first fault of the file, as people read it.
+-- The first error that reading meets is the first error of the file, as people read it.
 use Rattle.std.proofs.Common.{◌≡◌, ◌≢◌, ℕ, ◌+◌, ◌<◌, ◌≤◌, Bool, true, false, cond, eqb, ltb, List, [], ◌∷◌, ◌++◌, length, take, drop, Result, Ok, Err, MatchResult, refl, sym, ap, subst, ◌∙◌, append_assoc, arith}
 use Rattle.std.proofs.Math.Seq.{take-append_seam, take-add}
 use Rattle.std.proofs.lemmas.Bool.{ltb-false, ltb-true, le-ltb, lt-ltb}
@@ -18,7 +18,7 @@ use Rattle.object_file.proofs.Numbers.{IsBytes}
 use Rattle.object_file.proofs.ObjectLaws.{parts_read, parts_again}
 use Rattle.object_file.proofs.FieldLaws.{reading, parts_same}
 
--- what the parts of a file and the bytes behind them make
+-- the object of the parts of a file, if no bytes are left after them
 abbrev closed : ℕ → Read Parts → Result Parts DecodeError
 closed all r = r >>= (λ x. ended all x.0 x.1)
 
@@ -48,7 +48,7 @@ cut_read : {X : Type 0} (field : Field) (next : List ℕ → Fields X) (all : �
     → reading (FieldThen field next) all rest ≡ Err (Truncated (place all rest))
 cut_read field next all rest short = let cut : ltb (length rest) field.size ≡ true = lt-ltb _ _ short in rw cut refl
 
--- what fills some fields is read, and what is left of the fields is read behind it
+-- after bytes that fill some fields, reading continues with the fields that are left
 fills-read : {X : Type 0} (fields : Fields X) (front : List ℕ) (left : Fields X) → Fills fields front left
     → (all : ℕ) (rest : List ℕ) → reading fields all (front ++ rest) ≡ reading left all rest
 fills-read fields front left Nothing all rest = refl
@@ -57,7 +57,7 @@ fills-read fields front left (OneMore before text field next filled size allowed
     ∙ fills-read fields before (FieldThen field next) filled all (text ++ rest)
     ∙ filled_read field next all text rest size allowed
 
--- a field behind a front that is filled
+-- a field after bytes that fill those before it
 
 module _ (front : List ℕ) (field : Field) (next : List ℕ → Fields Parts)
     (filled : Fills object_fields front (FieldThen field next)) where
@@ -81,7 +81,7 @@ module _ (front : List ℕ) (field : Field) (next : List ℕ → Fields Parts)
       decoded_behind (text ++ rest) _
       (refused_read field next _ text rest size refused ∙ ap (λ p. Err (told field.telling p text)) at)
 
--- what people read is what is decoded
+-- from the definition that people read to reading
 
 cut-decoded : (bytes : List ℕ) (p : ℕ) → IsCutShort bytes p → decoded bytes ≡ Err (Truncated p)
 cut-decoded bytes p h =
@@ -93,7 +93,7 @@ cut-decoded bytes p h =
     ∙ cut_decoded (take p bytes) b.field b.next b.before (drop p bytes) (omega (arith, rest, h.short, b.inside))
     ∙ ap (λ k. Err (Truncated k)) front
 
--- whatever stands behind a field that is refused
+-- a field that isn't allowed is reported with any bytes after it
 pub stays_refused : (bytes other : List ℕ) (e : DecodeError) (h : IsRefused bytes e)
     → decoded (take (end_of_field h) bytes ++ other) ≡ Err e
 stays_refused bytes other e h =
@@ -115,7 +115,7 @@ refused-decoded : (bytes : List ℕ) (e : DecodeError) → IsRefused bytes e →
 refused-decoded bytes e h =
     ap decoded (sym (take-append-drop (end_of_field h) bytes)) ∙ stays_refused bytes (drop (end_of_field h) bytes) e h
 
--- bytes behind an object
+-- bytes after an object
 
 some_left : (rest : List ℕ) → eqb (length rest) 0 ≡ false → 1 ≤ length rest
 some_left [] e = absurd cc
@@ -156,7 +156,7 @@ more-decoded bytes p h =
     decoded-closed bytes ∙ ap (closed all) read
     ∙ trailing_by all p h.object rest (omega (arith, size, h.more)) (omega (arith, size))
 
--- a file's first fault is the one that is read
+-- a file's first error is the one that reading meets
 pub first-decoded : (bytes : List ℕ) (e : DecodeError) → IsFirstObjectFault bytes e → decoded bytes ≡ Err e
 first-decoded bytes (Truncated p) h = cut-decoded bytes p h
 first-decoded bytes (TrailingBytes p) h = more-decoded bytes p h
@@ -165,9 +165,9 @@ first-decoded bytes (BadVersion version) h = refused-decoded bytes (BadVersion v
 first-decoded bytes (BadField p) h = refused-decoded bytes (BadField p) h
 first-decoded bytes Memory h = absurd h
 
--- what is decoded is what people read
+-- from reading to the definition that people read
 
--- a first fault within the fields of a file
+-- the first error is within the fields of a file
 abbrev IsInField : List ℕ → DecodeError → Type 0
 IsInField bytes (Truncated p) = IsCutShort bytes p
 IsInField bytes (TrailingBytes p) = ⊥
@@ -193,7 +193,7 @@ told-in_field bytes Place p text h = h
 err_is : {X : Type 0} (e f : DecodeError) → ◌≡◌ {A = Result X DecodeError} (Err e) (Err f) → e ≡ f
 err_is e f same = cc
 
--- a field begins behind a front that is filled
+-- a field begins after bytes that fill those before it
 abbrev begins_behind : (bytes front rest : List ℕ) (field : Field) (next : List ℕ → Fields Parts)
     → bytes ≡ front ++ rest → Fills object_fields front (FieldThen field next) → FieldBegins bytes (length front)
 begins_behind bytes front rest field next whole filled =
@@ -280,7 +280,7 @@ first_by bytes (Ok x) h fault e is = by_rest (eqb (length x.1) 0) refl is where
       subst (IsFirstObjectFault bytes) same (has_more bytes x found.0 found.1 (some_left x.1 some))
 first_by bytes (Err f) h fault e is = in_field-first bytes e (fault e (ap Err (err_is {X = Parts} f e is)))
 
--- the fault that is read is the file's first
+-- the error that reading meets is the file's first
 pub decoded-first : (bytes : List ℕ) (e : DecodeError) → IsBytes bytes → decoded bytes ≡ Err e
     → IsFirstObjectFault bytes e
 decoded-first bytes e fits is =
@@ -290,13 +290,13 @@ decoded-first bytes e fits is =
     (parts_read all bytes fits))
     (λ f. found_in bytes object_fields [] bytes refl Nothing f) e (sym (decoded-closed bytes) ∙ is)
 
--- a call that gives what reading gives tells the first fault
+-- a function whose result is that of reading reports the first error
 pub is_exact : (bytes : List ℕ) (r : Result Parts DecodeError) → IsBytes bytes → Decodes (λ o. o) r (decoded bytes)
     → MatchResult r (λ o. decoded bytes ≡ Ok o) (λ e. e ≢ Memory → IsFirstObjectFault bytes e)
 is_exact bytes (Ok o) fits read = read
 is_exact bytes (Err e) fits read = λ known. decoded-first bytes e fits (read known)
 
--- each front of a file that ends too soon ends too soon
+-- each prefix of a truncated file is truncated
 
 record StopsShort {X : Type 0} (r : Read X) : Type 0 where
   stop : ℕ
@@ -354,7 +354,7 @@ closed_short all at (Ok x) is = by_rest (eqb (length x.1) 0) is where
   by_rest false is = absurd (let no : TrailingBytes (place all x.1) ≡ Truncated at = err_is {X = Parts} _ _ is in cc)
 closed_short all at (Err e) is = ap Err (err_is {X = Parts} e _ is)
 
--- a file that is cut shorter is truncated too
+-- a prefix of a truncated file is truncated
 pub front_truncated : (front more : List ℕ) (at : ℕ)
     → decoded (front ++ more) ≡ Err (Truncated at) → IsTruncated (decoded front)
 front_truncated front more at is =

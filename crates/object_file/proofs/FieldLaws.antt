@@ -1,4 +1,4 @@
--- Reading goes over the fields of the format: what a reader gives is what stands in its fields, or their first fault.
+-- Reading an object is reading the fields of the format in order.
 use Rattle.std.proofs.Common.{◌≡◌, ℕ, zero, suc, Bool, true, false, cond, eqb, ltb, List, [], ◌∷◌, ◌++◌, length, take, drop, Option, Some, None, is_some, Ok, Err, refl, sym, ap, ◌∙◌, arith, unwrap_or}
 use Rattle.std.specs.Prelude.{◌||◌, ◌==◌}
 use Rattle.byteorder.specs.Endian.{little_number}
@@ -19,7 +19,7 @@ use Rattle.object_file.specs.Reading.{Read, place, number_at, field_at, items_at
 use Rattle.object_file.specs.Fields.{Telling, NoObject, Version, Place, Fields, NoField, FieldThen, followed, number_told, number_field, items_fields, list_fields, magic_field, version_field, cycles_fields, window_fields, profile_fields, bank_fields, name_fields, symbol_fields, note_fields, operand_fields, instruction_fields, object_fields}
 use Rattle.object_file.specs.FirstFaults.{told}
 
--- what stands in some fields, and the bytes behind them
+-- the value of some fields and the bytes after them, or the first error
 abbrev pub reading : {X : Type 0} → Fields X → ℕ → List ℕ → Read X
 reading (NoField x) all bytes = Ok (x, bytes)
 reading (FieldThen field next) all bytes =
@@ -27,7 +27,7 @@ reading (FieldThen field next) all bytes =
     (cond (field.allowed (take field.size bytes)) (reading (next (take field.size bytes)) all (drop field.size bytes))
     (Err (told field.telling (place all bytes) (take field.size bytes))))
 
--- fields behind fields
+-- fields and then others
 
 pushed : {X Y : Type 0} (b c : Bool) (e f : DecodeError) (r : Read Y) (s : Read X) (l : X × List ℕ → Read Y)
     → r ≡ s >>= l → cond b (Err e) (cond c r (Err f)) ≡ (cond b (Err e) (cond c s (Err f))) >>= l
@@ -106,7 +106,7 @@ list_same n all allowed read item one bytes =
     same_then _ _ all bytes _ _ (field_same n all allowed bytes)
     (λ count. items_same all read item one count.0 [] count.1)
 
--- the fields in front of the symbols
+-- the fields before the symbols
 
 module _ (all : ℕ) where
   magic_then : {Y : Type 0} (bytes : List ℕ) (l : List ℕ → Read Y) (others : ℕ → Fields Y)
@@ -236,7 +236,7 @@ module _ (all : ℕ) where
 
   -- the whole file
 
-  -- reading an object reads its fields
+  -- reading an object is reading its fields
   pub parts_same : (bytes : List ℕ) → parts_at all bytes ≡ reading object_fields all bytes
   unfolding parts_at banks_at symbols_at notes_at code_at object_fields
   parts_same bytes =

@@ -1,4 +1,4 @@
--- The laws of reading the fields in front of the symbols.
+-- The laws of reading the fields before the symbols.
 use Rattle.std.proofs.Common.{◌≡◌, ℕ, ◌+◌, ◌-◌, ◌≤◌, Bool, true, false, cond, List, [], ◌++◌, length, Ok, refl, sym, ap, subst, ◌∙◌, ⊎_elim, append_assoc, arith}
 use Rattle.std.specs.Prelude.{IsTrue, ◌||◌, ◌==◌}
 use Rattle.std.proofs.lemmas.Bool.{eqb-true, eq-eqb}
@@ -19,12 +19,12 @@ use Rattle.gr_base.proofs.Results.{IfRead, read_ok, read_then, read_if, read_wea
 use Rattle.object_file.proofs.Readers.{Takes, Takes-then, Found, IsReader, number_read, number_again, range}
 use Rattle.object_file.proofs.ListLaws.{list}
 
--- the bytes GRLT are those of the number that is looked for
+-- the bytes GRLT are the bytes of the number that is expected
 pub magic_is : number 4 (little_number 4 magic) ≡ magic
 unfolding number
 magic_is = refl
 
--- the magic that is read stands in front
+-- after a successful read of the magic bytes, the bytes begin with them
 pub magic_read : (all : ℕ) (bytes : List ℕ) → IsBytes bytes
     → IfRead (magic_at all bytes) (λ rest. Takes bytes magic rest)
 unfolding magic_at
@@ -34,7 +34,7 @@ magic_read all bytes fits =
     let text : number 4 x.0 ≡ magic = ap (number 4) e ∙ magic_is in
     rw text at found.0))
 
--- the magic is read again
+-- bytes that begin with the magic bytes are read
 pub magic_again : (all : ℕ) (rest : List ℕ) → magic_at all (magic ++ rest) ≡ Ok rest
 unfolding magic_at
 magic_again all rest =
@@ -124,7 +124,7 @@ window_again all before p rest h long =
       (range 4 all (p.opens + 1) p.period (omega (arith, h.period))).again p.closes _ h.closes,
     ) refl)
 
--- how a profile is spelled by its window
+-- the encoding of a profile, by its window
 profile-open : (p : Profile) → HasUnitPeriod p → profile p ≡ number 2 1 ++ cycles p
 unfolding profile
 profile-open p whole = rw (eq-eqb _ _ whole.period) (append-nil (number 2 1 ++ cycles p))
@@ -137,7 +137,7 @@ same_cycles : (before p : Profile) → IsWindowed before p → cycles before ≡
 unfolding cycles
 same_cycles before p window = ap cycles (sym window.is)
 
--- a profile is read as it is spelled, and only so
+-- a profile is read from its encoding, and from nothing else
 pub profiles : (all : ℕ) → IsReader (profile_at all) profile ProfileFits
 unfolding profile_at
 profiles all = record {
@@ -203,7 +203,7 @@ bank_reader all before =
           simp append_assoc (rw (block_count.again b.blocks _ h.blocks, latencies.again b.latency _ h.latency) refl);
     }
 
--- banks are read as they are spelled, and only so
+-- banks are read from their encoding, and from nothing else
 pub banks : (all : ℕ)
     → IsReader (banks_at all) (listed 1 bank) (λ bs. Within 2 10 (length bs) × EachAfter BankFits [] bs)
 unfolding banks_at

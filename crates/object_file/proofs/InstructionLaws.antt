@@ -45,7 +45,7 @@ kind_again all kind rest =
 
 -- operands
 
--- the operand fields keep to the limits of a kind
+-- the operand fields are within the limits of a kind
 record AreOperands (banks : ℕ) (kind : Kind) (a b c offset constant : ℕ) : Type 0 where
   pub a_fits : a ≤ (limits_of banks kind).a
   pub b_fits : b ≤ (limits_of banks kind).b
@@ -124,7 +124,7 @@ kind_of-made Jmp x = refl
 kind_of-made (Alu op) x = refl
 kind_of-made (Br cmp) x = refl
 
--- what is said of an instruction's fields
+-- the fields of an instruction are in their ranges
 record AreFields (banks : ℕ) (kind : Kind) (f : Operands) : Type 0 where
   pub offset_fits : FitsSigned w32 f.offset
   pub constant_fits : FitsSigned w64 f.constant
@@ -363,7 +363,7 @@ module _ (banks all : ℕ) (some : 2 ≤ banks) (few : banks ≤ 10) where
   pub instructions : IsReader (instruction_at banks all) instruction (InstrFits banks)
   instructions = record { reads = instruction_reads; again = instruction_again }
 
-  -- code is read as it is spelled, and only so
+  -- code is read from its encoding, and from nothing else
   pub codes : (low : ℕ) → IsReader (code_at banks low all) (listed 4 instruction)
       (λ code. Within low 1048576 (length code) × All (InstrFits banks) code)
   unfolding code_at

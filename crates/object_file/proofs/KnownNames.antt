@@ -1,4 +1,4 @@
--- What a set of the names of symbols gains by one more.
+-- A set of the names of symbols after one more name.
 use Rattle.std.proofs.Common.{◌≡◌, ℕ, Bool, true, false, not, ◌&&◌, cond, List, [], ◌∷◌, ◌++◌, refl, sym, ap, ◌∙◌}
 use Rattle.std.specs.Prelude.{bytes_eq}
 use Rattle.std.specs.Borrow.{Bor}
@@ -13,7 +13,7 @@ use Rattle.lt_isa.specs.declared.symbols.Symbol.{Symbol}
 use Rattle.object_file.specs.FieldRules.{is_new_name}
 use Rattle.object_file.specs.KnownNames.{has_name, GainsName, AreNamesOf}
 
--- a name that was put in
+-- a name that was added
 pub gains_name : (m n : BTreeSet (Bor (List ℕ))) (k : Bor (List ℕ))
     → ((q : Bor (List ℕ)) → contains key_cmp n q ≡ cond (is_at (key_cmp k) q) true (contains key_cmp m q))
     → GainsName m n k.now
@@ -42,7 +42,7 @@ and_true : (x y r : Bool) → x ≡ true → r ≡ y → r ≡ (x && y)
 and_true true y r e same = same
 and_true false y r e same = absurd cc
 
--- a name that isn't in the set of the names of some symbols is new behind them
+-- a name that isn't in the set of the symbols' names is new
 pub new_where_unknown : (set : BTreeSet (Bor (List ℕ))) (symbols : List Symbol) (name : List ℕ) (r : Bool)
     → AreNamesOf set symbols → is_name name ≡ true → r ≡ not (has_name set name) → r ≡ is_new_name symbols name
 unfolding is_new_name

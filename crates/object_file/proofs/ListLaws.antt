@@ -1,4 +1,4 @@
--- The laws of reading items one behind the other, from those of reading one.
+-- The laws of reading items in sequence, from the laws of reading one.
 use Rattle.std.proofs.Common.{◌≡◌, ℕ, zero, suc, ◌^◌, ◌<◌, List, [], ◌∷◌, ◌++◌, length, flat_map, Ok, refl, ap, sym, ◌∙◌, append_assoc}
 use Rattle.std.specs.Prelude.{All}
 use Rattle.std.proofs.lemmas.List.{append-nil}
@@ -10,7 +10,7 @@ use Rattle.object_file.proofs.Numbers.{IsBytes}
 use Rattle.gr_base.proofs.Results.{IfRead, read_ok, read_then}
 use Rattle.object_file.proofs.Readers.{Takes, Takes-then, IsReader, range}
 
--- the items that were read behind others, what stands in the bytes, and that each fits
+-- the items that were read after others, their encoding, and that each fits
 pub record AreItems {X : Type 0} (text : X → List ℕ) (Fits : List X → X → Type 0) (n : ℕ) (before : List X)
     (bytes : List ℕ) (x : List X × List ℕ) : Type 0 where
   pub items : List X
@@ -21,7 +21,7 @@ pub record AreItems {X : Type 0} (text : X → List ℕ) (Fits : List X → X �
 
 module _ {X : Type 0} (read : List X → List ℕ → Read X) (text : X → List ℕ) (Fits : List X → X → Type 0)
     (one : (before : List X) → IsReader (read before) text (Fits before)) where
-  -- items that are read stand in front, each in range
+  -- items that are read are in the bytes, and each is in range
   pub items_read : (n : ℕ) (before : List X) (bytes : List ℕ) → IsBytes bytes
       → IfRead (items_at read n before bytes) (AreItems text Fits n before bytes)
   unfolding items_at
@@ -47,7 +47,7 @@ module _ {X : Type 0} (read : List X → List ℕ → Read X) (text : X → List
             };
       })
 
-  -- items in range are read again
+  -- the encoding of items in range is read
   pub items_again : (items before : List X) (rest : List ℕ) → EachAfter Fits before items
       → items_at read (length items) before (flat_map text items ++ rest) ≡ Ok (before ++ items, rest)
   unfolding items_at
@@ -60,7 +60,7 @@ module _ {X : Type 0} (read : List X → List ℕ → Read X) (text : X → List
       ap (items_at read (suc (length items)) before) bytes
       ∙ rw first (others ∙ ap (λ (xs : List X). Ok (xs, rest)) (append_assoc before (x ∷ []) items))
 
-  -- a list of items behind its length
+  -- a list of items after its length
   pub list : (n all low high : ℕ) → high < 256 ^ n → IsReader (list_at n all (is_within low high) read) (listed n text)
       (λ items. Within low high (length items) × EachAfter Fits [] items)
   unfolding list_at listed
@@ -81,12 +81,12 @@ module _ {X : Type 0} (read : List X → List ℕ → Read X) (text : X → List
         (items_again items [] rest h.1);
   }
 
--- a rule that doesn't ask for the items before
+-- if each item follows a rule that doesn't depend on the items before, all items follow it
 pub All-EachAfter : {X : Type 0} (P : X → Type 0) (before xs : List X) → EachAfter (λ _. P) before xs → All P xs
 All-EachAfter P before [] each = All-nil P
 All-EachAfter P before (x ∷ xs) each = All-cons P x xs each.0 (All-EachAfter P (before ++ x ∷ []) xs each.1)
 
--- what holds of each item holds of each behind those before
+-- if all items follow a rule that doesn't depend on the items before, each item does
 pub EachAfter-All : {X : Type 0} (P : X → Type 0) (before xs : List X) → All P xs → EachAfter (λ _. P) before xs
 EachAfter-All P before [] all = tt
 EachAfter-All P before (x ∷ xs) all = (All-head P x xs all, EachAfter-All P (before ++ x ∷ []) xs (All-tail P x xs all))

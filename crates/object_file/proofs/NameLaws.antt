@@ -14,7 +14,7 @@ use Rattle.object_file.proofs.Numbers.{IsBytes, IsBytes-drop}
 use Rattle.gr_base.proofs.Results.{IfRead, read_then, read_if, read_unless}
 use Rattle.object_file.proofs.Readers.{Takes, Takes-then, IsReader, range}
 
--- a name that no symbol of these has
+-- a name that none of these symbols has
 pub record IsNewName (before : List Symbol) (text : List ℕ) : Type 0 where
   pub name : IsTrue (is_name text)
   pub new : All (λ s. s.name ≢ text) before
@@ -52,7 +52,7 @@ name_bytes_again all before text rest new =
     (enough, take_at text rest (length text) refl, drop_at text rest (length text) refl, test-IsNewName before text new)
     refl
 
--- a new name is read as it is spelled, and only so
+-- a new name is read from its encoding, and from nothing else
 pub names : (all : ℕ) (before : List Symbol) → IsReader (name_at all before) name (IsNewName before)
 unfolding name_at name
 names all before =

@@ -63,7 +63,7 @@ module _ (banks all : ℕ) (few : banks ≤ 10) where
             refl);
       }
 
-  -- notes are read as they are spelled, and only so
+  -- notes are read from their encoding, and from nothing else
   pub notes : IsReader (notes_at banks all) (listed 4 note)
       (λ ns. Within 0 262144 (length ns) × EachAfter (NoteFits banks) [] ns)
   unfolding notes_at

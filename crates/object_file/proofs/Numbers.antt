@@ -1,4 +1,4 @@
--- Numbers and their bytes: a number's bytes read back as it, and no other bytes do.
+-- Numbers and their bytes: only a number's own bytes are read as that number.
 use Rattle.std.proofs.Common.{◌≡◌, ℕ, zero, suc, ◌+◌, ◌^◌, ◌<◌, List, [], ◌∷◌, ◌++◌, length, get_or, take, drop, refl, sym, ap, ◌∙◌, arith, inl, inr}
 use Rattle.std.specs.Prelude.{All}
 use Rattle.std.proofs.lemmas.Bool.{cases_lt}
@@ -7,7 +7,7 @@ use Rattle.std.specs.Int.{byte_at, bytes_low_first}
 use Rattle.byteorder.specs.Endian.{little_from, little_number, little_bytes}
 use Rattle.byteorder.specs.Numbers.{little_from-cons, little_from-lt, little_number-reads_back, length-bytes_low_first}
 
--- each is below 256
+-- all of them are bytes
 abbrev pub IsBytes : List ℕ → Type 0
 IsBytes bytes = (i : ℕ) → get_or bytes i 0 < 256
 
@@ -19,11 +19,11 @@ IsBytes-All bytes all i =
       | inr past ↦ rw (get_or_past bytes i 0 past) (omega arith)
     ]
 
--- what is left of bytes is bytes
+-- bytes without the first n are bytes
 pub IsBytes-drop : (n : ℕ) (bytes : List ℕ) → IsBytes bytes → IsBytes (drop n bytes)
 IsBytes-drop n bytes h i = rw get_or-drop (h (n + i))
 
--- the front of bytes is bytes
+-- the first n bytes are bytes
 pub IsBytes-take : (n : ℕ) (bytes : List ℕ) → IsBytes bytes → IsBytes (take n bytes)
 IsBytes-take n bytes h i =
     elim (cases_lt i n) [
@@ -40,7 +40,7 @@ IsBytes-bytes_low_first i zero x k = omega arith
 IsBytes-bytes_low_first i (suc n) x zero = byte_at-lt i x
 IsBytes-bytes_low_first i (suc n) x (suc k) = IsBytes-bytes_low_first (suc i) n x k
 
--- two lists of bytes of one length that read as one number are one
+-- two lists of bytes of the same length that are read as the same number are equal
 same_bytes : (xs ys : List ℕ) → length xs ≡ length ys → IsBytes xs → IsBytes ys
     → little_from 0 (length xs) xs ≡ little_from 0 (length ys) ys → xs ≡ ys
 same_bytes [] [] len h k e = refl
@@ -56,7 +56,7 @@ same_bytes (x ∷ xs) (y ∷ ys) len h k e =
     let rest : xs ≡ ys = same_bytes xs ys (omega arith) (λ i. h (suc i)) (λ i. k (suc i)) others in
     cc
 
--- no other bytes read as a number than the number's own
+-- the bytes of the number that is read are the bytes that were read
 pub little_bytes-little_number : (n : ℕ) (bytes : List ℕ) → length bytes ≡ n → IsBytes bytes
     → little_bytes n (little_number n bytes) ≡ bytes
 little_bytes-little_number n bytes len fits =

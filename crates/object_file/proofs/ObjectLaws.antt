@@ -1,4 +1,4 @@
--- An object is what its spelling is read as, and no other bytes are.
+-- An object is read from its encoding, and from no other bytes.
 use Rattle.std.proofs.Common.{◌≡◌, ◌≢◌, ℕ, ◌^◌, max, List, [], ◌++◌, length, Result, Ok, Err, IfOk, MatchResult, refl, sym, ap, ◌∙◌, append_assoc, arith}
 use Rattle.std.proofs.Math.Nat.{pow-le-pow_right}
 use Rattle.std.proofs.lemmas.Bool.{eqb-true}
@@ -31,7 +31,7 @@ memory_of log bs size count each =
       blocks = blocks_in-banks bs each;
     }
 
--- the parts that are read stand in front, in range
+-- the bytes begin with the encoding of the parts that are read, which are in range
 pub parts_read : (all : ℕ) (bytes : List ℕ) → IsBytes bytes
     → IfRead (parts_at all bytes) (λ x. (bytes ≡ spelling x.0 ++ x.1) × IsInRange x.0)
 unfolding parts_at spelling
@@ -60,7 +60,7 @@ parts_read all bytes fits =
       },
     )))))))
 
--- an object that is read is the whole file, in range
+-- the file is the encoding of the object that is read, which is in range
 pub object_read : (all : ℕ) (bytes : List ℕ) → IsBytes bytes
     → IfRead (object_at all bytes) (λ o. (bytes ≡ spelling o) × IsInRange o)
 unfolding object_at
@@ -70,7 +70,7 @@ object_read all bytes fits =
     let none : x.1 ≡ [] = nil_from_length x.1 (eqb-true _ _ nothing_left) in
     (h.0 ∙ ap (λ (rest : List ℕ). spelling x.0 ++ rest) none ∙ append-nil (spelling x.0), h.1)))
 
--- the spelling of an object is read again, whatever stands behind
+-- the encoding of an object is read, with any bytes after it
 pub parts_again : (all : ℕ) (o : Parts) (rest : List ℕ) → IsInRange o → parts_at all (spelling o ++ rest) ≡ Ok (o, rest)
 unfolding parts_at spelling
 parts_again all o rest h =
@@ -94,18 +94,18 @@ object_again all o h =
     ap (λ (t : List ℕ). parts_at all t >>= (λ x. ended all x.0 x.1)) (sym (append-nil (spelling o)))
     ∙ rw (parts_again all o [] h) refl
 
--- what is spelled is read
+-- the encoding of an object is decoded to the object
 pub decoded-spelling : (o : Parts) → IsInRange o → decoded (spelling o) ≡ Ok o
 unfolding decoded
 decoded-spelling o h = object_again (length (spelling o)) o h
 
--- what is read is spelled so, and in range
+-- bytes that are decoded to an object are its encoding, and the object is in range
 pub spelling-decoded : (bytes : List ℕ) (o : Parts) → IsBytes bytes → decoded bytes ≡ Ok o
     → (bytes ≡ spelling o) × IsInRange o
 unfolding decoded
 spelling-decoded bytes o fits e = (object_read (length bytes) bytes fits).then o e
 
--- two objects with one spelling are one
+-- two objects with the same encoding are equal
 pub spelling-injective : (o p : Parts) → IsInRange o → IsInRange p → spelling o ≡ spelling p → o ≡ p
 spelling-injective o p ho hp same =
     let left : decoded (spelling o) ≡ Ok o = decoded-spelling o ho in
@@ -113,9 +113,9 @@ spelling-injective o p ho hp same =
     let both : Ok o ≡ Ok p = sym left ∙ ap decoded same ∙ right in
     cc
 
--- what a call that gives what reading gives found
+-- a function whose result is that of reading
 
--- what is found is spelled so
+-- an object that is found is in range, and the bytes are its encoding
 pub is_found : (bytes : List ℕ) (r : Result Parts DecodeError) → IsBytes bytes → Decodes (λ o. o) r (decoded bytes)
     → IfOk r (λ o. IsInRange o × (bytes ≡ spelling o))
 is_found bytes (Ok o) fits gives = let h = spelling-decoded bytes o fits gives in (h.1, h.0)
@@ -130,7 +130,7 @@ no_fault (BadVersion version) o read here fails = absurd (let bad = fails (λ sa
 no_fault (BadField at) o read here fails = absurd (let bad = fails (λ same. cc) in cc)
 no_fault (TrailingBytes at) o read here fails = absurd (let bad = fails (λ same. cc) in cc)
 
--- what is spelled so is found
+-- an object whose encoding the bytes are is found
 pub is_only : (bytes : List ℕ) (r : Result Parts DecodeError) (o : Parts) → IsInRange o → bytes ≡ spelling o
     → Decodes (λ p. p) r (decoded bytes) → MatchResult r (λ p. p ≡ o) (λ e. e ≡ Memory)
 is_only bytes (Ok p) o h same gives = let here : decoded bytes ≡ Ok o = ap decoded same ∙ decoded-spelling o h in cc

@@ -1,4 +1,4 @@
--- The two laws of a reader: what it reads is spelled in front of what it leaves, and what is spelled so it reads.
+-- The two laws of a reader: it only reads a value from the value's encoding, and it reads each encoding.
 use Rattle.std.proofs.Common.{◌≡◌, ℕ, ◌^◌, ◌<◌, ◌≤◌, Bool, true, false, ltb, List, ◌++◌, length, take, drop, Ok, refl, sym, ap, ◌∙◌, append_assoc, arith}
 use Rattle.std.proofs.lemmas.Bool.{ltb-false, le-ltb}
 use Rattle.std.proofs.lemmas.List.{drop_at, take-append-drop, length-append, length-take-le}
@@ -11,17 +11,17 @@ use Rattle.gr_base.proofs.Results.{IfRead, read_ok, read_then, read_if, read_unl
 use Rattle.object_file.specs.Reading.{Read, number_at, field_at}
 use Rattle.object_file.proofs.Numbers.{IsBytes, IsBytes-drop, IsBytes-take, little_bytes-little_number}
 
--- the bytes are this text and the rest
+-- the bytes are this text and then the rest
 pub record Takes (bytes text rest : List ℕ) : Type 0 where
   pub parts : bytes ≡ text ++ rest
   pub rest_fits : IsBytes rest
 
--- what is taken twice is taken at once
+-- two texts that are taken in sequence are taken together
 pub Takes-then : {a x b y c : List ℕ} → Takes a x b → Takes b y c → Takes a (x ++ y) c
 Takes-then {x = x} {y = y} {c = c} p q =
     record { parts = p.parts ∙ ap (λ (t : List ℕ). x ++ t) q.parts ∙ sym (append_assoc x y c); rest_fits = q.rest_fits }
 
--- what was read stands in front of what is left, and fits
+-- the bytes begin with the encoding of the value that was read, and the value fits
 abbrev pub Found : {X : Type 0} → (X → List ℕ) → (X → Type 0) → List ℕ → X × List ℕ → Type 0
 Found text Fits bytes x = Takes bytes (text x.0) x.1 × Fits x.0
 
@@ -32,7 +32,7 @@ pub record IsReader {X : Type 0} (read : List ℕ → Read X) (text : X → List
 
 -- numbers
 
--- a number that is read stands in front
+-- the bytes begin with a number that is read
 pub number_read : (n all : ℕ) (bytes : List ℕ) → IsBytes bytes
     → IfRead (number_at n all bytes) (Found (number n) (λ x. x < 256 ^ n) bytes)
 unfolding number_at number
@@ -46,7 +46,7 @@ number_read n all bytes fits = read_unless _ _ _ _ (λ enough.
     sym (take-append-drop n bytes) ∙ ap (λ (t : List ℕ). t ++ drop n bytes) (sym text) in
     read_ok _ _ (record { parts = whole; rest_fits = IsBytes-drop n bytes fits }, little_from-lt 0 n bytes fits))
 
--- a number is read again
+-- the encoding of a number is read
 pub number_again : (n all x : ℕ) (rest : List ℕ) → x < 256 ^ n → number_at n all (number n x ++ rest) ≡ Ok (x, rest)
 unfolding number_at number
 number_again n all x rest lt =
@@ -55,20 +55,20 @@ number_again n all x rest lt =
     le-ltb _ _ (omega (arith, length-append (little_bytes n x) rest, len)) in
     rw (long, little_number-reads_back n x rest lt, drop_at (little_bytes n x) rest n len) refl
 
--- a number is read as it is spelled, and only so
+-- a number is read from its encoding, and from nothing else
 pub numbers : (n all : ℕ) → IsReader (number_at n all) (number n) (λ x. x < 256 ^ n)
 numbers n all = record { reads = number_read n all; again = number_again n all }
 
 -- numbers in a range
 
--- a field that is read stands in front, and is allowed
+-- the bytes begin with a field that is read, and the field is allowed
 pub field_read : (n all : ℕ) (allowed : ℕ → Bool) (bytes : List ℕ) → IsBytes bytes
     → IfRead (field_at n all allowed bytes) (Found (number n) (λ x. (x < 256 ^ n) × (allowed x ≡ true)) bytes)
 unfolding field_at
 field_read n all allowed bytes fits =
     read_then _ _ _ _ (number_read n all bytes fits) (λ x found. read_if _ _ _ _ (λ ok. (found.0, (found.1, ok))))
 
--- an allowed field is read again
+-- the encoding of an allowed field is read
 pub field_again : (n all : ℕ) (allowed : ℕ → Bool) (x : ℕ) (rest : List ℕ) → x < 256 ^ n → allowed x ≡ true
     → field_at n all allowed (number n x ++ rest) ≡ Ok (x, rest)
 unfolding field_at

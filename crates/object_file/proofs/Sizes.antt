@@ -1,4 +1,4 @@
--- How long spellings are.
+-- The lengths of encodings.
 use Rattle.std.proofs.Common.{◌≡◌, ℕ, ◌+◌, ◌*◌, ◌≤◌, Bool, true, false, cond, List, [], ◌∷◌, ◌++◌, length, flat_map, refl, arith}
 use Rattle.std.specs.Prelude.{◌==◌}
 use Rattle.std.proofs.lemmas.List.{length-append}
@@ -82,7 +82,7 @@ length-listed : {X : Type 0} (n : ℕ) (text : X → List ℕ) (xs : List X)
 unfolding listed
 length-listed n text xs = simp (length-append, length-number)
 
--- no object's spelling is longer than this
+-- no object's encoding is longer than this
 pub short_spelling : (o : Parts) → IsInRange o → length (spelling o) ≤ 33554432
 unfolding spelling
 short_spelling o h =

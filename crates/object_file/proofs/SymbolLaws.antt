@@ -20,7 +20,7 @@ use Rattle.object_file.proofs.Readers.{Takes, Takes-then, Found, IsReader, range
 use Rattle.object_file.proofs.ListLaws.{list}
 use Rattle.object_file.proofs.NameLaws.{names}
 
--- the memory in which symbols lie: blocks of w words, and banks of few blocks
+-- the memory of symbols: blocks of w words, and banks of few blocks
 pub record IsMemory (w : ℕ) (banks : List BankSpec) : Type 0 where
   pub words : Within 1 512 w
   pub count : Within 2 10 (length banks)
@@ -170,7 +170,7 @@ module _ (w : ℕ) (banks : List BankSpec) (all : ℕ) (before : List Symbol) (m
   pub symbol_reader : IsReader (symbol_at w banks all before) symbol (SymbolFits w banks before)
   symbol_reader = record { reads = symbol_reads; again = symbol_again }
 
--- symbols are read as they are spelled, and only so
+-- symbols are read from their encoding, and from nothing else
 pub symbols : (w : ℕ) (banks : List BankSpec) (all : ℕ) → IsMemory w banks → IsReader (symbols_at w banks all)
     (listed 2 symbol) (λ ss. Within 0 1024 (length ss) × EachAfter (SymbolFits w banks) [] ss)
 unfolding symbols_at

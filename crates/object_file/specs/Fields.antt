@@ -1,5 +1,5 @@
--- The fields of an object file, one behind the other: how many bytes each has, what is allowed in it, and what is told
--- where it isn't. Which fields follow depends on what stands in those before. (This project's profile.)
+-- The fields of an object file in order: how many bytes each has, what is allowed in it, and what is reported if
+-- something else is there. Which fields follow depends on the contents of those before. (This project's profile.)
 use Rattle.std.specs.Prelude.{ℕ, zero, suc, ◌+◌, ◌-◌, ◌*◌, ◌^◌, max, Bool, true, ◌||◌, ◌==◌, if◌then◌else◌, List, [], ◌∷◌, ◌++◌, length, is_some}
 use Rattle.std.specs.Option.{unwrap_or}
 use Rattle.std.specs.Int.{w32, w64, cast_signed}
@@ -20,7 +20,7 @@ use Rattle.object_file.specs.Spelling.{magic}
 use Rattle.gr_base.specs.Lists.{is_within}
 use Rattle.object_file.specs.FieldRules.{is_new_name, label_numbered, shape_numbered, most_length_behind}
 
--- what is told of a field that isn't allowed: that the file isn't an object, its version, or the field's place
+-- what is reported of a field that isn't allowed: that the file isn't an object, its version, or the field's place
 pub data Telling : Type 0 where
   NoObject : Telling
   Version : Telling
@@ -31,12 +31,13 @@ pub record Field : Type 0 where
   pub allowed : List ℕ → Bool
   pub telling : Telling
 
--- no field, but what those before have made; or a field, and then those that follow what stands in it
+-- fields in order: none are left, and the value of those before is this; or there is a field, and its contents
+-- determine the fields after it
 pub data Fields (X : Type 0) : Type 0 where
   NoField : X → Fields X
   FieldThen : (field : Field) → (next : List ℕ → Fields X) → Fields X
 
--- some fields, and behind them those that follow what these make
+-- some fields, and then others that depend on their value
 unfoldable pub followed : {X Y : Type 0} → Fields X → (X → Fields Y) → Fields Y
 followed (NoField x) others = others x
 followed (FieldThen field next) others = FieldThen field (λ text. followed (next text) others)
@@ -45,7 +46,7 @@ infixl 10 ◌>>=◌
 abbrev pub ◌>>=◌ : {X Y : Type 0} → Fields X → (X → Fields Y) → Fields Y
 fields >>= others = followed fields others
 
--- a number in so many bytes
+-- a number of n bytes
 abbrev pub number_told : Telling → ℕ → (ℕ → Bool) → Fields ℕ
 number_told telling n allowed =
     FieldThen (record { size = n; allowed = λ text. allowed (little_number n text); telling = telling })
@@ -54,7 +55,7 @@ number_told telling n allowed =
 abbrev pub number_field : ℕ → (ℕ → Bool) → Fields ℕ
 number_field n allowed = number_told Place n allowed
 
--- so many items, each with those before it in view
+-- n items, where the fields of each may depend on the items before it
 unfoldable pub items_fields : {X : Type 0} → (List X → Fields X) → ℕ → List X → Fields (List X)
 items_fields item zero before = NoField before
 items_fields item (suc n) before = do
@@ -93,7 +94,7 @@ cycles_fields = do
     closes = 1;
   })
 
--- a profile with the window that stands behind it
+-- the window of a profile
 unfoldable pub window_fields : Profile → Fields Profile
 window_fields p = do
   period ← number_field 4 (is_within 2 most_period)
@@ -101,7 +102,7 @@ window_fields p = do
   closes ← number_field 4 (is_within (opens + 1) period)
   NoField (record p { period = period; opens = opens; closes = closes })
 
--- version 2 has a window
+-- the version and a profile; version 2 has a window
 unfoldable pub profile_fields : Fields Profile
 profile_fields = do
   version ← version_field
@@ -114,7 +115,7 @@ bank_fields before = do
   latency ← number_field 4 (is_within 1 most_latency)
   NoField (record { blocks = blocks; latency = latency })
 
--- a length, and so many bytes that are a name and no earlier symbol's
+-- a length and as many bytes, which are a name that no earlier symbol has
 unfoldable pub name_fields : List Symbol → Fields (List ℕ)
 name_fields before = do
   n ← number_field 1 (is_within 1 32)
@@ -147,7 +148,7 @@ note_fields banks before = do
   slots ← items_fields (λ earlier. number_field 1 (is_slot_claim banks)) 8 []
   NoField (record { pc = pc; secrets = secrets; slots = slots })
 
--- the operands of a kind of instruction: a field that isn't used is 0
+-- the operands of a kind of instruction; a field that isn't used is 0
 unfoldable pub operand_fields : ℕ → Kind → Fields Instr
 operand_fields banks kind = do
   a ← number_field 1 (is_within 0 (limits_of banks kind).a)
@@ -158,13 +159,13 @@ operand_fields banks kind = do
   NoField (instruction_of kind
       (record { a = a; b = b; c = c; offset = cast_signed w32 offset; constant = cast_signed w64 constant }))
 
--- an opcode that names a kind of instruction, and the operands
+-- an opcode that names a kind of instruction, and then the operands
 unfoldable pub instruction_fields : ℕ → Fields Instr
 instruction_fields banks = do
   opcode ← number_field 1 (λ n. is_some (kind_named n))
   operand_fields banks (unwrap_or (kind_named opcode) Nop)
 
--- the whole file: the code is longer than the place of the last note
+-- the whole file; the code extends past the place of the last note
 unfoldable pub object_fields : Fields Parts
 object_fields = do
   begins ← magic_field

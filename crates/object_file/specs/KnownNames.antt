@@ -15,6 +15,6 @@ has_name set name = contains_by (λ k. slice_cmp nat_cmp name k.now) set
 pub record GainsName (before after : BTreeSet (Bor (List ℕ))) (name : List ℕ) : Type 0 where
   pub at : (other : List ℕ) → has_name after other ≡ (if bytes_eq name other then true else has_name before other)
 
--- A set has the names of some symbols: a name isn't there where each symbol has another.
+-- A set has the names of some symbols: it lacks a name exactly if each symbol has another.
 pub record AreNamesOf (set : BTreeSet (Bor (List ℕ))) (symbols : List Symbol) : Type 0 where
   pub at : (name : List ℕ) → not (has_name set name) ≡ list_all (λ s. not (bytes_eq s.name name)) symbols

@@ -1,6 +1,5 @@
--- Reading an object from left to right, with the first fault that is met: the computing form of the first fault. A
--- fault names the place of the first byte of its field; `all` is the number of bytes of the whole file. (This project's
--- profile.)
+-- Reading an object from left to right, up to the first error: the computing form of the first error. An error names
+-- the place of the first byte of its field; `all` is the number of bytes of the whole file. (This project's profile.)
 use Rattle.std.specs.Prelude.{◌≡◌, ◌≢◌, ℕ, zero, suc, ◌+◌, ◌-◌, ◌*◌, ◌^◌, max, Bool, ◌||◌, nat_lt, ◌==◌, if◌then◌else◌, List, [], ◌∷◌, ◌++◌, length, take, drop, Option, Some, None, Result, Ok, Err}
 use Rattle.std.specs.Int.{w32, w64, cast_signed}
 use Rattle.byteorder.specs.Endian.{little_number}
@@ -22,7 +21,7 @@ use Rattle.object_file.specs.Spelling.{magic}
 use Rattle.gr_base.specs.Lists.{is_within}
 use Rattle.object_file.specs.FieldRules.{is_new_name, label_numbered, shape_numbered, most_length_behind}
 
--- What a function returned, seen by view, is what reading gives, unless memory ran out.
+-- The result of a function, after `view` was applied to its value, is the result of reading, unless memory ran out.
 abbrev pub Fails : {Y : Type 0} → DecodeError → Result Y DecodeError → Type 0
 Fails e read = e ≢ Memory → read ≡ Err e
 
@@ -30,11 +29,11 @@ abbrev pub Decodes : {X Y : Type 0} → (X → Y) → Result X DecodeError → R
 Decodes view (Ok x) read = read ≡ Ok (view x)
 Decodes view (Err e) read = Fails e read
 
--- What is read is a value and the bytes behind it.
+-- Reading yields a value and the bytes after it.
 abbrev pub Read : Type 0 → Type 0
 Read X = Result (X × List ℕ) DecodeError
 
--- the place of the first of the bytes that are left
+-- the place of the first of the remaining bytes
 abbrev pub place : ℕ → List ℕ → ℕ
 place all bytes = all - length bytes
 
@@ -49,7 +48,7 @@ field_at n all allowed bytes = do
   x ← number_at n all bytes
   if allowed x.0 then Ok x else Err (BadField (place all bytes))
 
--- so many items, each read with those before it in view
+-- n items, where reading each may depend on the items before it
 unfoldable pub items_at : {X : Type 0} → (List X → List ℕ → Read X) → ℕ → List X → List ℕ → Read (List X)
 items_at read zero before bytes = Ok (before, bytes)
 items_at read (suc n) before bytes = do
@@ -95,7 +94,7 @@ cycles_at all bytes = do
     taken.1,
   )
 
--- the profile with the window that is read
+-- a profile with the window that is read
 unfoldable pub window_at : ℕ → Profile → List ℕ → Read Profile
 window_at all p bytes = do
   period ← field_at 4 all (is_within 2 most_period) bytes
@@ -103,7 +102,7 @@ window_at all p bytes = do
   closes ← field_at 4 all (is_within (opens.0 + 1) period.0) opens.1
   Ok (record p { period = period.0; opens = opens.0; closes = closes.0 }, closes.1)
 
--- the version and a profile: version 2 has a window
+-- the version and a profile; version 2 has a window
 unfoldable pub profile_at : ℕ → List ℕ → Read Profile
 profile_at all bytes = do
   version ← version_at all bytes
@@ -162,7 +161,7 @@ note_at banks all before bytes = do
   slots ← slots_at banks all secrets.1
   Ok (record { pc = pc.0; secrets = secrets.0; slots = slots.0 }, slots.1)
 
--- what an opcode names, or the fault that it names nothing
+-- the kind that an opcode names, or the error that it names none
 abbrev pub known : ℕ → List ℕ → Option Kind → Read Kind
 known at rest None = Err (BadField at)
 known at rest (Some kind) = Ok (kind, rest)
@@ -204,11 +203,11 @@ unfoldable pub code_at : ℕ → ℕ → ℕ → List ℕ → Read (List Instr)
 code_at banks fewest all bytes =
     list_at 4 all (is_within fewest most_instructions) (λ before. instruction_at banks all) bytes
 
--- the object, where no bytes are left
+-- the object, if no bytes are left
 abbrev pub ended : ℕ → Parts → List ℕ → Result Parts DecodeError
 ended all o rest = if length rest == 0 then Ok o else Err (TrailingBytes (place all rest))
 
--- the parts of an object, and the bytes behind them
+-- the parts of an object, and the bytes after them
 unfoldable pub parts_at : ℕ → List ℕ → Read Parts
 parts_at all bytes = do
   behind_magic ← magic_at all bytes
@@ -222,6 +221,6 @@ parts_at all bytes = do
 unfoldable pub object_at : ℕ → List ℕ → Result Parts DecodeError
 object_at all bytes = parts_at all bytes >>= (λ parts. ended all parts.0 parts.1)
 
--- the object that a file spells, or the file's first fault
+-- the object that a file encodes, or the file's first error
 unfoldable pub decoded : List ℕ → Result Parts DecodeError
 decoded bytes = object_at (length bytes) bytes

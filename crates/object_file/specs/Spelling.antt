@@ -1,5 +1,5 @@
--- The one spelling of an object (this project's profile). Numbers have their lowest byte first, and fields stand
--- without gaps.
+-- The one encoding of an object (this project's profile). Numbers have their lowest byte first, and there are no gaps
+-- between fields.
 use Rattle.std.specs.Prelude.{ℕ, if◌then◌else◌, List, [], ◌++◌, length, codes, flat_map}
 use Rattle.std.specs.Int.{w32, w64, cast_unsigned}
 use Rattle.byteorder.specs.Endian.{little_bytes}
@@ -17,19 +17,19 @@ use Rattle.lt_isa.specs.InstructionTable.{opcode_of, kind_of, operands_of}
 use Rattle.lt_isa.specs.Object.{Parts}
 use Rattle.lt_isa.specs.Windows.{has_unit_period}
 
--- a number as so many bytes
+-- a number in n bytes
 unfoldable pub number : ℕ → ℕ → List ℕ
 number n x = little_bytes n x
 
--- a number of items in so many bytes, and then the items
+-- the number of items in n bytes, and then the items
 unfoldable pub listed : {X : Type 0} → ℕ → (X → List ℕ) → List X → List ℕ
 listed n text items = number n (length items) ++ flat_map text items
 
--- with these bytes each object file begins
+-- the bytes with which every object file begins
 abbrev pub magic : List ℕ
 magic = codes "GRLT"
 
--- the version of the format: an object is spelled in version 1 exactly where its period is one cycle
+-- the version of the format in which an object is encoded: 1 exactly if its period is one cycle
 abbrev pub version_of : Profile → ℕ
 version_of p = if has_unit_period p then 1 else 2
 
@@ -56,7 +56,7 @@ abbrev pub shape_code : Shape → ℕ
 shape_code Scalar = 0
 shape_code Array = 1
 
--- a length and so many bytes
+-- a length and as many bytes
 unfoldable pub name : List ℕ → List ℕ
 name bytes = number 1 (length bytes) ++ bytes
 

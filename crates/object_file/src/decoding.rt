@@ -15,7 +15,7 @@ use lt_isa::ranges::next_place;
 use lt_isa::{BankSpec, Instr, Note, Object, Profile, Symbol};
 use std::alloc::Global;
 
-/// The parts of an object, as they were read.
+/// The five parts of an object, as they were read.
 #[derive(Drop)]
 struct Sections {
     profile: Profile,
@@ -72,20 +72,20 @@ fn read_object(alloc: Global, bytes: &[u8]) -> Result<Object, DecodeError>
     Ok(Object::of_parts(profile, banks, symbols, notes, code))
 }
 
-/// The object that the bytes of a file spell, at most 33,554,432 bytes, or the file's first fault: fields are read in
-/// the order of the file, and the first that isn't wholly there, or isn't allowed, is named by the place of its first
-/// byte. Want of memory says nothing of the file.
+/// The object that a file's bytes encode, or the file's first error; the file has at most 33,554,432 bytes. Fields are
+/// read in the order of the file. The first error is a field that is incomplete or isn't allowed, or bytes that follow
+/// the object. Out of memory says nothing about the file.
 pub fn decode(alloc: Global, bytes: &[u8]) -> Result<Object, DecodeError>
     requires { length bytes.now ≤ 33554432 }
 
-    // An object that is found is in range, and the bytes are its spelling.
+    // An object that is found is in range, and the bytes are its encoding.
     ensures found { IfOk result (λ o. IsInRange o × (bytes.now ≡ spelling o)) }
 
-    // Where the bytes are the spelling of an object in range, that one is found, unless memory runs out.
+    // If the bytes encode an object in range, that object is found, unless memory runs out.
     ensures only { (o : Parts)
         → IsInRange o → bytes.now ≡ spelling o → MatchResult result (λ p. p ≡ o) (λ e. e ≡ DecodeError.Memory) }
 
-    // The object is the one that reading the bytes gives, and a fault is the file's first.
+    // The object is the one that reading the bytes yields, and an error is the file's first.
     ensures exact { MatchResult result (λ o. decoded bytes.now ≡ Ok o)
         (λ e. e ≢ DecodeError.Memory → IsFirstObjectFault bytes.now e) }
 {

@@ -233,7 +233,7 @@ fn put_object(out: &mut Vec<u8>, o: &Object) -> Result<(), Memory>
     put_code(out, o.code())
 }
 
-/// Room for an object's spelling.
+/// Room for an object's encoding, which may need less.
 fn room_for(o: &Object) -> usize {
     let symbols = SYMBOL_BYTES * o.symbols().len();
     let notes = NOTE_BYTES * o.notes().len();
@@ -241,12 +241,12 @@ fn room_for(o: &Object) -> usize {
     HEADER_BYTES + symbols + notes + code
 }
 
-/// The one spelling of an object, which [`decode`](crate::decode) reads as the same object.
+/// The one encoding of an object, which [`decode`](crate::decode) reads as the same object.
 #[tactic(auto, using(crate::proofs::Sizes::short_spelling))]
 pub fn encode(alloc: Global, o: &Object) -> Result<Vec<u8>, Memory>
     ensures spelled { IfOk result (λ bytes. bytes.items ≡ spelling o.now) }
 
-    // No longer than `decode` takes.
+    // No longer than what `decode` accepts.
     ensures short { IfOk result (λ bytes. length bytes.items ≤ 33554432) }
 {
     let mut out = Vec::with_capacity(alloc, room_for(o))?;

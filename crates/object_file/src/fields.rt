@@ -6,14 +6,14 @@ ghost use Rattle.object_file.specs.Reading.{Decodes, place, number_at, field_at}
 use crate::errors::DecodeError;
 use byteorder::{ByteOrder, LittleEndian};
 
-/// The place of the first of the bytes that are left of a file of `all` bytes.
+/// The place of the first of the remaining bytes of a file, which has `all` bytes.
 pub fn offset_of(all: u32, bytes: &[u8]) -> u32
     ensures { result ≡ place all bytes.now }
 {
     (all as usize).saturating_sub(bytes.len()) as u32
 }
 
-/// A number of one byte, and the bytes behind it.
+/// A number of one byte, and the bytes after it.
 #[tactic(auto, unfolding(crate::specs::Reading::number_at))]
 pub fn u8_at(all: u32, bytes: &[u8]) -> Result<(u8, &[u8]), DecodeError>
     ensures { Decodes (λ x. (x.0, x.1.now)) result (number_at 1 all bytes.now) }
@@ -24,7 +24,7 @@ pub fn u8_at(all: u32, bytes: &[u8]) -> Result<(u8, &[u8]), DecodeError>
     }
 }
 
-/// A number of two bytes, and the bytes behind it.
+/// A number of two bytes, and the bytes after it.
 #[tactic(auto, unfolding(crate::specs::Reading::number_at))]
 pub fn u16_at(all: u32, bytes: &[u8]) -> Result<(u16, &[u8]), DecodeError>
     ensures { Decodes (λ x. (x.0, x.1.now)) result (number_at 2 all bytes.now) }
@@ -35,7 +35,7 @@ pub fn u16_at(all: u32, bytes: &[u8]) -> Result<(u16, &[u8]), DecodeError>
     Ok((LittleEndian::read_u16(bytes), &bytes[2..]))
 }
 
-/// A number of four bytes, and the bytes behind it.
+/// A number of four bytes, and the bytes after it.
 #[tactic(auto, unfolding(crate::specs::Reading::number_at))]
 pub fn u32_at(all: u32, bytes: &[u8]) -> Result<(u32, &[u8]), DecodeError>
     ensures { Decodes (λ x. (x.0, x.1.now)) result (number_at 4 all bytes.now) }
@@ -46,7 +46,7 @@ pub fn u32_at(all: u32, bytes: &[u8]) -> Result<(u32, &[u8]), DecodeError>
     Ok((LittleEndian::read_u32(bytes), &bytes[4..]))
 }
 
-/// A number of eight bytes, and the bytes behind it.
+/// A number of eight bytes, and the bytes after it.
 #[tactic(auto, unfolding(crate::specs::Reading::number_at))]
 fn u64_at(all: u32, bytes: &[u8]) -> Result<(u64, &[u8]), DecodeError>
     ensures { Decodes (λ x. (x.0, x.1.now)) result (number_at 8 all bytes.now) }
@@ -57,7 +57,7 @@ fn u64_at(all: u32, bytes: &[u8]) -> Result<(u64, &[u8]), DecodeError>
     Ok((LittleEndian::read_u64(bytes), &bytes[8..]))
 }
 
-/// A field of one byte, from `low` to `high`, and the bytes behind it.
+/// A field of one byte, from `low` to `high`, and the bytes after it.
 #[tactic(auto, unfolding(crate::specs::Reading::field_at, gr_base::specs::Lists::is_within))]
 pub fn u8_field(all: u32, low: u64, high: u64, bytes: &[u8]) -> Result<(u8, &[u8]), DecodeError>
     ensures read { Decodes (λ x. (x.0, x.1.now)) result (field_at 1 all (is_within low high) bytes.now) }
@@ -70,7 +70,7 @@ pub fn u8_field(all: u32, low: u64, high: u64, bytes: &[u8]) -> Result<(u8, &[u8
     Ok((number, rest))
 }
 
-/// A field of two bytes, from `low` to `high`, and the bytes behind it.
+/// A field of two bytes, from `low` to `high`, and the bytes after it.
 #[tactic(auto, unfolding(crate::specs::Reading::field_at, gr_base::specs::Lists::is_within))]
 pub fn u16_field(all: u32, low: u64, high: u64, bytes: &[u8]) -> Result<(u16, &[u8]), DecodeError>
     ensures read { Decodes (λ x. (x.0, x.1.now)) result (field_at 2 all (is_within low high) bytes.now) }
@@ -83,7 +83,7 @@ pub fn u16_field(all: u32, low: u64, high: u64, bytes: &[u8]) -> Result<(u16, &[
     Ok((number, rest))
 }
 
-/// A field of four bytes, from `low` to `high`, and the bytes behind it.
+/// A field of four bytes, from `low` to `high`, and the bytes after it.
 #[tactic(auto, unfolding(crate::specs::Reading::field_at, gr_base::specs::Lists::is_within))]
 pub fn u32_field(all: u32, low: u64, high: u64, bytes: &[u8]) -> Result<(u32, &[u8]), DecodeError>
     ensures read { Decodes (λ x. (x.0, x.1.now)) result (field_at 4 all (is_within low high) bytes.now) }
@@ -96,7 +96,7 @@ pub fn u32_field(all: u32, low: u64, high: u64, bytes: &[u8]) -> Result<(u32, &[
     Ok((number, rest))
 }
 
-/// A field of eight bytes, from `low` to `high`, and the bytes behind it.
+/// A field of eight bytes, from `low` to `high`, and the bytes after it.
 #[tactic(auto, unfolding(crate::specs::Reading::field_at, gr_base::specs::Lists::is_within))]
 pub fn u64_field(all: u32, low: u64, high: u64, bytes: &[u8]) -> Result<(u64, &[u8]), DecodeError>
     ensures read { Decodes (λ x. (x.0, x.1.now)) result (field_at 8 all (is_within low high) bytes.now) }

@@ -11,19 +11,19 @@ use lt_isa::limits::{
 use lt_isa::{BankSpec, Profile};
 use std::alloc::Global;
 
-/// The bytes `GRLT`, with which each object file begins, as a number.
+/// The bytes `GRLT`, with which every object file begins, as a number.
 pub const MAGIC: u32 = 0x544c_5247;
 
-/// The version of the format that tells no window: the period is one cycle.
+/// The version of the format without a window: the period is one cycle.
 pub const ALWAYS_OPEN: u16 = 1;
 
-/// The version of the format in which memory is open in a window of each period.
+/// The version of the format with a window of each period in which memory is open.
 pub const WINDOWED: u16 = 2;
 
-/// The most bytes of all fields that aren't of a symbol, a note or an instruction.
+/// The most bytes of all fields other than those of symbols, notes and instructions.
 pub const HEADER_BYTES: usize = 114;
 
-/// The bytes behind the magic bytes.
+/// The bytes after the magic bytes.
 #[tactic(auto, unfolding(crate::specs::Reading::magic_at))]
 pub fn behind_magic(all: u32, bytes: &[u8]) -> Result<&[u8], DecodeError>
     ensures { Decodes (λ x. x.now) result (magic_at all bytes.now) }
@@ -41,7 +41,7 @@ fn is_version(version: u16) -> bool
     version == ALWAYS_OPEN || version == WINDOWED
 }
 
-/// The version, and the bytes behind it.
+/// The version, and the bytes after it.
 #[tactic(auto, unfolding(crate::specs::Reading::version_at))]
 fn version(all: u32, bytes: &[u8]) -> Result<(u16, &[u8]), DecodeError>
     ensures { Decodes (λ x. (x.0, x.1.now)) result (version_at all bytes.now) }
@@ -53,7 +53,7 @@ fn version(all: u32, bytes: &[u8]) -> Result<(u16, &[u8]), DecodeError>
     Ok((version, rest))
 }
 
-/// The size of blocks and the cycles of instructions, and the bytes behind them.
+/// The size of blocks and the cycles of instructions, and the bytes after them.
 #[tactic(auto, unfolding(crate::specs::Reading::cycles_at))]
 fn cycles(all: u32, bytes: &[u8]) -> Result<(Profile, &[u8]), DecodeError>
     ensures read { Decodes (λ x. (x.0, x.1.now)) result (cycles_at all bytes.now) }
@@ -82,7 +82,7 @@ fn cycles(all: u32, bytes: &[u8]) -> Result<(Profile, &[u8]), DecodeError>
     Ok((profile, rest))
 }
 
-/// The profile with the window that is read, and the bytes behind it.
+/// The profile with the window that is read, and the bytes after it.
 #[tactic(auto, unfolding(crate::specs::Reading::window_at))]
 fn window(all: u32, profile: Profile, bytes: &[u8]) -> Result<(Profile, &[u8]), DecodeError>
     ensures read { Decodes (λ x. (x.0, x.1.now)) result (window_at all profile bytes.now) }
@@ -100,7 +100,7 @@ fn window(all: u32, profile: Profile, bytes: &[u8]) -> Result<(Profile, &[u8]), 
     Ok((profile, rest))
 }
 
-/// The version and the profile, and the bytes behind them.
+/// The version and the profile, and the bytes after them.
 #[tactic(auto, unfolding(crate::specs::Reading::profile_at))]
 pub fn profile(all: u32, bytes: &[u8]) -> Result<(Profile, &[u8]), DecodeError>
     ensures read { Decodes (λ x. (x.0, x.1.now)) result (profile_at all bytes.now) }
@@ -114,7 +114,7 @@ pub fn profile(all: u32, bytes: &[u8]) -> Result<(Profile, &[u8]), DecodeError>
     window(all, profile, rest)
 }
 
-/// A bank that stands behind others, and the bytes behind it.
+/// The next bank after the banks `before`, and the bytes after it.
 #[tactic(auto, unfolding(crate::specs::Reading::bank_at))]
 fn bank<'a>(
     all: u32,
@@ -147,7 +147,7 @@ fn bank_list(
     Ok((banks, rest))
 }
 
-/// The banks: their number, and so many of them. The bytes behind them are given too.
+/// The banks: their number, and then as many banks. The bytes after them are returned too.
 #[tactic(auto, unfolding(crate::specs::Reading::banks_at, crate::specs::Reading::list_at))]
 pub fn banks(alloc: Global, all: u32, bytes: &[u8]) -> Result<(Vec<BankSpec>, &[u8]), DecodeError>
     ensures read { Decodes (λ x. (x.0.items, x.1.now)) result (banks_at all bytes.now) }

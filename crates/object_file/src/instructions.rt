@@ -11,7 +11,7 @@ use lt_isa::instruction_table::{Kind, Operands, instruction_of, kind_named, limi
 use lt_isa::limits::MOST_INSTRUCTIONS;
 use std::alloc::Global;
 
-/// The bytes of an instruction.
+/// The number of bytes of an instruction.
 pub const INSTRUCTION_BYTES: usize = 16;
 
 /// The byte at a place.
@@ -34,7 +34,7 @@ fn kind(all: u32, bytes: &[u8]) -> Result<(Kind, &[u8]), DecodeError>
     }
 }
 
-/// The instruction of a kind, whose operands these 16 bytes hold, if each is in its range.
+/// The instruction of a kind whose operands are in these 16 bytes, if each is in its range.
 #[inline(always)]
 fn instruction_with(banks: u8, kind: Kind, bytes: &[u8]) -> Option<Instr>
     requires long { 16 ≤ length bytes.now }
@@ -60,8 +60,8 @@ fn instruction_with(banks: u8, kind: Kind, bytes: &[u8]) -> Option<Instr>
     Some(instruction_of(kind, operands))
 }
 
-/// The instruction that the first 16 bytes are, if they are one: all its fields at once. Each kind has an arm, so that
-/// its ranges are constants there and no second look at the kind is needed.
+/// The instruction that the first 16 bytes encode, if they encode one; all fields are tested together. Each kind has an
+/// arm of its own, so that its ranges are constants there and the kind isn't examined again.
 fn whole_instruction(banks: u8, bytes: &[u8]) -> Option<Instr>
     ensures there { IfSome result (λ i. 16 ≤ length bytes.now) }
     ensures read { IfSome result (λ i. (all : ℕ) → instruction_at banks all bytes.now ≡ Ok (i, drop 16 bytes.now)) }
@@ -84,7 +84,7 @@ fn whole_instruction(banks: u8, bytes: &[u8]) -> Option<Instr>
     }
 }
 
-/// An instruction field by field, which names the first fault.
+/// An instruction, read field by field to find the first error.
 #[cold]
 #[inline(never)]
 #[tactic(auto, unfolding(crate::specs::Reading::instruction_at))]
@@ -108,7 +108,7 @@ fn instruction_by_fields(all: u32, banks: u8, bytes: &[u8]) -> Result<(Instr, &[
     Ok((instruction_of(kind, operands), rest))
 }
 
-/// So many instructions. Room is made once, for no more than the bytes can spell.
+/// `count` instructions. Room is reserved once, for no more than the bytes can encode.
 fn instruction_list(
     alloc: Global,
     all: u32,
@@ -138,7 +138,8 @@ fn instruction_list(
     Ok((code, rest))
 }
 
-/// The instructions: their number, at least `fewest`, and so many of them. The bytes behind them are given too.
+/// The instructions: their number, at least `fewest`, and then as many instructions. The bytes after them are returned
+/// too.
 #[tactic(auto, unfolding(crate::specs::Reading::code_at, crate::specs::Reading::list_at))]
 pub fn code(
     alloc: Global,

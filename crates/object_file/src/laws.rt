@@ -7,12 +7,11 @@ ghost use Rattle.object_file.specs.FirstFaults.{HasMore, IsCutShort, IsFirstObje
 
 use crate::errors::DecodeError;
 
-/// Does nothing; its clauses are the laws of the format. Each object has one spelling, and none has another's. What
-/// [`encode`](crate::encode) writes is decoded to the same object, and what [`decode`](crate::decode) accepts is
-/// encoded to the same bytes. A fault is told exactly where it is the file's first: the file ends within a field, and
-/// all that stands before it is allowed; or the bytes spell an object and more follow; or a field isn't allowed, and
-/// all that stands before it is, where it doesn't matter what stands behind the field. Each front of a file that ends
-/// too soon ends too soon.
+/// Does nothing; its clauses are the laws of the format. Each object has one encoding, and no two objects have the same
+/// one. What [`encode`](crate::encode) writes is decoded to the same object, and what [`decode`](crate::decode) accepts
+/// is encoded to the same bytes. An error is reported exactly if it is the file's first: the file ends within a field,
+/// and all before the field is allowed; or the bytes encode an object and more follow; or a field isn't allowed and all
+/// before it is, with any bytes after it. Each prefix of a truncated file is truncated.
 pub fn format_laws()
     ensures one_spelling { (o p : Parts) → IsInRange o → IsInRange p → spelling o ≡ spelling p → o ≡ p }
     ensures encoded_again { (o : Parts) → IsInRange o → decoded (spelling o) ≡ Ok o }

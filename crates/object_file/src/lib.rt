@@ -1,9 +1,8 @@
 //! Objects as bytes: the object file.
 //!
-//! [`decode`] gives the object that the bytes of a file spell, or the first fault in the file with its place;
-//! [`encode`] gives the one spelling of an object. `specs/Spelling.antt` says how an object is spelled,
-//! `specs/Fields.antt` which fields a file has and what is allowed in each, and `specs/FirstFaults.antt` which fault
-//! comes first.
+//! [`decode`] returns the object that a file's bytes encode, or the file's first error and its place. [`encode`]
+//! returns the one encoding of an object. `specs/Spelling.antt` defines the encoding of an object, `specs/Fields.antt`
+//! which fields a file has and what is allowed in each, and `specs/FirstFaults.antt` which error comes first.
 #![tactic(auto)]
 
 mod decoding;

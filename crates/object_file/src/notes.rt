@@ -9,10 +9,10 @@ use lt_isa::limits::MOST_NOTES;
 use lt_isa::ranges::{is_slot_claim, next_place};
 use std::alloc::Global;
 
-/// The bytes of a note.
+/// The number of bytes of a note.
 pub const NOTE_BYTES: usize = 16;
 
-/// The slots of the scratchpad.
+/// The number of slots of the scratchpad.
 const SLOTS: usize = 8;
 
 #[tactic(auto, unfolding(crate::specs::Reading::field_at))]
@@ -55,7 +55,7 @@ fn note<'a>(
     Ok((Note { pc, secrets, slots }, rest))
 }
 
-/// So many notes. Room is made once, for no more than the bytes can spell.
+/// `count` notes. Room is reserved once, for no more than the bytes can encode.
 fn note_list(
     alloc: Global,
     all: u32,
@@ -76,7 +76,7 @@ fn note_list(
     Ok((notes, rest))
 }
 
-/// The notes: their number, and so many of them. The bytes behind them are given too.
+/// The notes: their number, and then as many notes. The bytes after them are returned too.
 #[tactic(auto, unfolding(crate::specs::Reading::notes_at, crate::specs::Reading::list_at))]
 pub fn notes(
     alloc: Global,

@@ -22,7 +22,8 @@ pub const SYMBOL_BYTES: usize = 46;
 /// The names of some symbols.
 type Names<'a> = BTreeSet<&'a [u8]>;
 
-/// Whether the bytes are a name, and no symbol's so far. Then `names`, those of the symbols so far, have it too.
+/// Whether the bytes are a name that no symbol has so far. `names` has the names of the symbols so far, and gains the
+/// new one.
 #[tactic(auto, unfolding(crate::specs::FieldRules::is_new_name))]
 fn is_new_name<'a>(
     before: &[Symbol],
@@ -44,7 +45,7 @@ fn is_new_name<'a>(
     }
 }
 
-/// The bytes of a name, so many.
+/// The `count` bytes of a name.
 #[tactic(auto, unfolding(crate::specs::Reading::name_bytes_at))]
 fn name_bytes<'a>(
     all: u32,
@@ -105,8 +106,8 @@ fn shape_of(code: u8) -> Shape
     }
 }
 
-// The most words of a symbol from word number `start` of a bank on, where so many words are left of those that all
-// symbols have together.
+// The most words of a symbol from word number `start` of a bank on, if `room` words are left of those that all symbols
+// may have together.
 #[tactic(auto, unfolding(crate::specs::FieldRules::most_length_behind))]
 fn most_length_behind(
     words: u32,
@@ -124,8 +125,8 @@ fn most_length_behind(
     most_length(words, banks, shape, bank, start).min(u64::from(room))
 }
 
-/// A symbol behind others, whose names are `names`, where a block has `words` words, and `room` words are left of those
-/// that all symbols have together. Then `names` has its name too.
+/// The next symbol after the symbols `before`, and the bytes after it. `names` has the names of the symbols before, and
+/// gains the new one. A block has `words` words, and `room` words are left of those that all symbols may have together.
 #[tactic(auto, unfolding(crate::specs::Reading::symbol_at), using(crate::proofs::KnownNames::names_of_more))]
 fn symbol<'a>(
     alloc: Global,
@@ -192,7 +193,8 @@ fn symbol_list<'a>(
     Ok((symbols, rest))
 }
 
-/// The symbols: their number, and so many of them. The bytes behind them are given too. A block has `words` words.
+/// The symbols: their number, and then as many symbols. The bytes after them are returned too. A block has `words`
+/// words.
 #[tactic(auto, unfolding(crate::specs::Reading::symbols_at, crate::specs::Reading::list_at))]
 pub fn symbols<'a>(
     alloc: Global,
