@@ -1,4 +1,4 @@
--- Nodes are the same exactly where they compare as equal.
+-- Nodes are equal exactly if they compare as equal.
 use Rattle.std.proofs.Common.{◌≡◌, true, rules}
 use denote.Enum.Bare.{same_true}
 use Rattle.std.proofs.lemmas.Bool.{false≢true}
@@ -12,7 +12,7 @@ use Rattle.symbolic_values.specs.contracts.nodes.NodePartialEq.TheImpl.{ghosts}
 same_op : (op oq : Op) → operations.eq op oq ≡ true → op ≡ oq
 same_op op oq e = same_true the_type (search rules) op oq e
 
--- nodes that the derived test finds equal are the same
+-- nodes that the derived test finds equal are equal
 pub same_node : (m n : Node) → ghosts.eq m n ≡ true → m ≡ n
 same_node (Const a) (Const b) e = grind rules
 same_node (Reg a) (Reg b) e = grind rules

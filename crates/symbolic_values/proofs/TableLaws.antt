@@ -15,7 +15,7 @@ use Rattle.symbolic_values.specs.Trees.{Value, built, trees_of, tree_of, NamesBe
 use Rattle.symbolic_values.specs.Tables.{IsTable, IsNumber, KeepsTrees, PlacedAt}
 use Rattle.symbolic_values.proofs.TreeLaws.{tree_of-append, tree_of-push, tree_of-node, built-injective, names_below-more}
 
--- an item at a place stands among the others
+-- an item at a place of a list is contained in the list
 Contains-from_slice_get : {K : Type 0} (xs : List K) (i : ℕ) (x : K) → slice_get xs i ≡ Some x → Contains xs x
 Contains-from_slice_get xs i x at =
     subst (Contains xs) (get_or_from_slice_get xs i x x at) (Contains-get_or xs i x (slice_get_within xs i x at))
@@ -35,7 +35,7 @@ push_cases {K} xs y i x at =
     inr (last, sym (get_or-append_seam xs y [] x) ∙ ap (λ (j : ℕ). get_or (xs ++ y ∷ []) j x) (sym last) ∙ here))
     (cases_lt i (length xs))
 
--- what an insertion into a set of keys says, where keys that compare as equal are the same
+-- the result of an insertion into a set of keys, if keys that compare as equal are equal
 pub inserted : (eq : Node → Node → Bool) → IsEquivalence eq → ((x y : Node) → eq x y ≡ true → x ≡ y)
     → (old new : List Node) (n : Node) (i : ℕ) (stored : Node) → new ≡ insert_key eq old n
     → slice_get new i ≡ Some stored → eq n stored ≡ true → PlacedAt old n i new
@@ -64,7 +64,7 @@ pub number-same : (nodes : List Node) (i j : ℕ) (t : Value) → IsTable nodes 
 number-same nodes i j t table first second =
     table.distinct i j first.inside second.inside (first.tree ∙ sym second.tree)
 
--- what a node that is placed in a table makes of it
+-- the table after a node was placed in it
 module _ (old : List Node) (table : IsTable old) (n : Node) (names : NamesBelow (length old) n) where
   more : List Node
   more = old ++ n ∷ []
@@ -75,7 +75,7 @@ module _ (old : List Node) (table : IsTable old) (n : Node) (names : NamesBelow 
   last_tree : (i : ℕ) → i ≡ length old → tree_of (old ++ n ∷ []) i ≡ built (trees_of old) n
   last_tree i last = ap (tree_of (old ++ n ∷ [])) last ∙ tree_of-push old n
 
-  -- no number has the tree of a node that isn't there
+  -- no number has the tree of a node that isn't in the table
   fresh : (Contains old n → ⊥) → (i : ℕ) → i < length old → tree_of old i ≡ built (trees_of old) n → ⊥
   fresh absent i inside same =
       let m = get_or old i n in
@@ -119,7 +119,7 @@ module _ (old : List Node) (table : IsTable old) (n : Node) (names : NamesBelow 
   keeps_more i t h =
       record { inside = omega (arith, size, h.inside); tree = tree_of-append old (n ∷ []) i h.inside ∙ h.tree }
 
-  -- the node's number, what it leaves of other numbers, and the table afterwards
+  -- the number of the node has its tree
   pub placed_number : (i : ℕ) (new : List Node) → PlacedAt old n i new → IsNumber new i (built (trees_of old) n)
   placed_number i new placed =
       ⊎_elim
@@ -131,7 +131,7 @@ module _ (old : List Node) (table : IsTable old) (n : Node) (names : NamesBelow 
       (record { inside = omega (arith, size, h.1); tree = last_tree i h.1 }))
       placed
 
-  -- a node that is placed keeps what the table had
+  -- each number that the table had keeps its tree
   pub placed_keeps : (i : ℕ) (new : List Node) → PlacedAt old n i new → KeepsTrees old new
   placed_keeps i new placed =
       ⊎_elim
@@ -148,13 +148,13 @@ module _ (old : List Node) (table : IsTable old) (n : Node) (names : NamesBelow 
       (table_more h.0 room))
       placed
 
-  -- the same of an answer, where a refusal leaves the table
+  -- a table stays a table in a call that places a node, or fails and leaves it as it was
   pub answered_table : {E : Type 0} (r : Result ℕ E) (new : List Node) → length old < 2 ^ 32 - 1
       → IfOk r (λ i. PlacedAt old n i new) → OnErr r (new ≡ old) → IsTable new
   answered_table (Ok i) new room placed kept = placed_table room i new placed
   answered_table (Err e) new room placed kept = subst IsTable (sym kept) table
 
--- the first nodes of a table alone
+-- the first nodes of a table
 module _ (nodes : List Node) (count : ℕ) where
   first_size : length (take count nodes) ≤ length nodes
   first_size =
@@ -184,7 +184,7 @@ module _ (nodes : List Node) (count : ℕ) where
     few = omega (arith, first_size, table.few);
   }
 
-  -- a number among the first nodes stands for the same tree
+  -- a number among the first nodes keeps its tree
   pub number-first : (i : ℕ) (t : Value) → i < length (take count nodes) → IsNumber nodes i t
       → IsNumber (take count nodes) i t
   number-first i t inside h = record { inside = inside; tree = sym (first_tree i inside) ∙ h.tree }

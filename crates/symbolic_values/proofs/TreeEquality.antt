@@ -1,4 +1,4 @@
--- The test of trees says exactly whether they are the same.
+-- The test of trees decides whether they are equal.
 use Rattle.std.proofs.Common.{◌≡◌, ℕ, true, ◌&&◌, ◌==◌, refl, ap, ◌∙◌, subst}
 use Rattle.std.specs.Bool.{Decides}
 use Rattle.std.proofs.lemmas.Bool.{false≢true, and_parts, and_from, eqb-true, eq-eqb}
@@ -8,7 +8,7 @@ use Rattle.gr_word.specs.declared.operations.Op.TheVariants.{Add, Sub, Mul, Div,
 use Rattle.symbolic_values.specs.Trees.{Value, Const, Reg, SlotAt, SlotWord, MemWord, Apply}
 use Rattle.symbolic_values.specs.Sameness.{same_op, same_tree}
 
--- operations that the test finds equal are the same
+-- operations that the test finds equal are equal
 pub same_op-true : (op oq : Op) → same_op op oq ≡ true → op ≡ oq
 unfolding same_op
 same_op-true Add Add e = refl
@@ -39,7 +39,7 @@ same_op-own Xor = refl
 same_op-own Shl = refl
 same_op-own Shr = refl
 
--- trees that the test finds equal are the same
+-- trees that the test finds equal are equal
 pub same_tree-true : (t u : Value) → same_tree t u ≡ true → t ≡ u
 unfolding same_tree
 same_tree-true (Const a) (Const b) e = ap Const ((Decides-int_eq a b).0 e)

@@ -1,4 +1,4 @@
--- Laws of the trees that a list of nodes makes.
+-- Laws of the trees of a list of nodes.
 use Rattle.std.proofs.Common.{◌≡◌, ℕ, zero, suc, ◌+◌, ◌<◌, ◌≤◌, pos, List, [], ◌∷◌, ◌++◌, length, slice_get, Option, Some, None, refl, sym, ap, ◌∙◌, subst, arith, length-append}
 use Rattle.std.proofs.lemmas.List.{get_or_append_left}
 use Rattle.std.proofs.Math.Seq.{get_or-append_seam}
@@ -31,13 +31,13 @@ length-trees_onto trees (n ∷ nodes) =
 pub length-trees_of : (nodes : List Node) → length (trees_of nodes) ≡ length nodes
 length-trees_of nodes = omega (arith, length-trees_onto [] nodes)
 
--- one more node makes one more tree
+-- one more node adds one tree
 pub trees_of-push : (nodes : List Node) (n : Node)
     → trees_of (nodes ++ n ∷ []) ≡ trees_of nodes ++ built (trees_of nodes) n ∷ []
 unfolding trees_onto
 trees_of-push nodes n = trees_onto-append [] nodes (n ∷ [])
 
--- more nodes leave the trees
+-- more nodes keep the given trees
 pub tree_at-onto : (trees : List Value) (nodes : List Node) (i : ℕ) → i < length trees
     → tree_at (trees_onto trees nodes) i ≡ tree_at trees i
 unfolding trees_onto
@@ -46,7 +46,7 @@ tree_at-onto trees (n ∷ nodes) i inside =
     tree_at-onto (trees ++ built trees n ∷ []) nodes i (omega (arith, length-append trees (built trees n ∷ [])))
     ∙ get_or_append_left trees (built trees n ∷ []) (Const (pos 0)) i inside
 
--- more nodes change no earlier tree
+-- more nodes keep each earlier tree
 pub tree_of-append : (nodes more : List Node) (i : ℕ) → i < length nodes → tree_of (nodes ++ more) i ≡ tree_of nodes i
 tree_of-append nodes more i inside =
     ap (λ (trees : List Value). tree_at trees i) (trees_onto-append [] nodes more)
@@ -59,7 +59,7 @@ tree_of-push nodes n =
     ∙ subst (λ (i : ℕ). tree_at (trees_of nodes ++ built (trees_of nodes) n ∷ []) i ≡ built (trees_of nodes) n)
     (length-trees_of nodes) (get_or-append_seam (trees_of nodes) (built (trees_of nodes) n) [] (Const (pos 0)))
 
--- what a node makes depends on the trees that it names alone
+-- the tree of a node depends only on the trees that it names
 pub built-alike : (count : ℕ) (trees more : List Value) (n : Node) → NamesBelow count n
     → ((i : ℕ) → i < count → tree_at trees i ≡ tree_at more i) → built trees n ≡ built more n
 built-alike count trees more (node.Const word) names same = refl
@@ -72,7 +72,7 @@ built-alike count trees more (node.MemWord block place) names same =
 built-alike count trees more (node.Apply op a b) names same =
     ap (λ (t : Value). Apply op t (tree_at trees b)) (same a names.0) ∙ ap (Apply op (tree_at more a)) (same b names.1)
 
--- a node that stands behind some trees and names trees before it makes its own tree
+-- a node among others that names only trees before it has the tree that is made of these
 onto_node : (trees : List Value) (nodes : List Node) (i : ℕ) (n : Node) → slice_get nodes i ≡ Some n
     → ((j : ℕ) (m : Node) → slice_get nodes j ≡ Some m → NamesBelow (length trees + j) m)
     → tree_at (trees_onto trees nodes) (length trees + i) ≡ built (trees_onto trees nodes) n
@@ -96,17 +96,17 @@ onto_node trees (m ∷ nodes) (suc i) n at earlier =
     subst (λ (k : ℕ). tree_at all k ≡ built all n) (omega arith)
     (onto_node next nodes i n at (λ j p e. subst (λ (k : ℕ). NamesBelow k p) (omega arith) (earlier (suc j) p e)))
 
--- each number's tree is that of its node over the trees that it names
+-- the tree of a number is made of the trees that its node names
 pub tree_of-node : (nodes : List Node) (i : ℕ) (n : Node) → slice_get nodes i ≡ Some n
     → ((j : ℕ) (m : Node) → slice_get nodes j ≡ Some m → NamesBelow j m) → tree_of nodes i ≡ built (trees_of nodes) n
 tree_of-node nodes i n at earlier =
     subst (λ (k : ℕ). tree_of nodes k ≡ built (trees_of nodes) n) (omega arith)
     (onto_node [] nodes i n at (λ j m e. subst (λ (k : ℕ). NamesBelow k m) (omega arith) (earlier j m e)))
 
--- where different numbers have different trees, nodes that name them make the same tree only where they are the same
+-- if different numbers have different trees, different nodes have different trees
 module _ (count : ℕ) (trees : List Value)
     (distinct : (i j : ℕ) → i < count → j < count → tree_at trees i ≡ tree_at trees j → i ≡ j) where
-  -- nodes that build the same tree over distinct trees are the same
+  -- nodes with the same tree are equal, if the trees that they name are distinct
   pub built-injective : (m n : Node) → NamesBelow count m → NamesBelow count n → built trees m ≡ built trees n → m ≡ n
   built-injective (node.Const a) (node.Const b) hm hn e = let f : ◌≡◌ {A = Value} (Const a) (Const b) = e in cc
   built-injective (node.Reg a) (node.Reg b) hm hn e = let f : ◌≡◌ {A = Value} (Reg a) (Reg b) = e in cc

@@ -1,11 +1,11 @@
--- The word by which a table of values looks for a node: how long a look-up takes depends on it, and no answer (this
--- project's profile).
+-- The word by which a table of values looks for a node. It determines how long a look-up takes, but not its result.
+-- (This project's profile.)
 use Rattle.std.specs.Prelude.{ℕ, ◌+◌, ◌*◌, ◌%◌, ◌^◌, bit_or, bit_xor}
 use Rattle.std.specs.Int.{w64, bit_not, cast_unsigned}
 use Rattle.symbolic_values.specs.declared.nodes.Node.{Node}
 use Rattle.symbolic_values.specs.declared.nodes.Node.TheVariants.{Const, Reg, SlotAt, SlotWord, MemWord, Apply}
 
--- two halves of a word
+-- a word of two halves
 abbrev pub pair_word : ℕ → ℕ → ℕ
 pair_word high low = bit_or ((high * 2 ^ 32) % 2 ^ 64) low
 

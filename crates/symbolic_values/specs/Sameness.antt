@@ -1,4 +1,4 @@
--- Whether two trees are the same, as they stand: nothing is calculated (this project's profile).
+-- Whether two trees are equal as they are written: nothing is calculated (this project's profile).
 use Rattle.std.specs.Prelude.{Bool, true, false, ◌&&◌, ◌==◌}
 use Rattle.std.specs.Ordering.{int_eq}
 use Rattle.gr_word.specs.declared.operations.Op.{Op}

@@ -1,11 +1,11 @@
--- What a tree stands for: the word that it names in a run that entered a stretch of code in a given state.
+-- The value of a tree: the word that it represents in a run that entered a stretch of code in a given state.
 -- (GhostRider, ASPLOS 2015: the symbolic values of the type system of L_T; their forms are this project's profile.)
 use Rattle.std.specs.Prelude.{ℕ, ℤ, pos, negsuc}
 use Rattle.gr_word.specs.Words.{applied}
 use Rattle.lt_isa.specs.Machine.{State, register, slot, block_at, word_in, slot_words, slot_block}
 use Rattle.symbolic_values.specs.Trees.{Value, Const, Reg, SlotAt, SlotWord, MemWord, Apply}
 
--- a word read as the number of a block or of a place
+-- a word, read as the number of a block or of a place in a block
 abbrev pub as_number : ℤ → ℕ
 as_number (pos n) = n
 as_number (negsuc n) = 0

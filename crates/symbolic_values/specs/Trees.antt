@@ -1,12 +1,12 @@
--- Values as trees over the state at the entry of a stretch of code, and which tree a list of nodes makes of a number.
+-- Values as trees over the state at the entry of a stretch of code, and the tree that a number has in a list of nodes.
 -- (GhostRider, ASPLOS 2015: the symbolic values of the type system of L_T; their forms are this project's profile.)
 use Rattle.std.specs.Prelude.{ℕ, ◌<◌, ℤ, pos, List, [], ◌∷◌, ◌++◌, slice_index_or}
 use Rattle.gr_word.specs.declared.operations.Op.{Op}
 use Rattle.symbolic_values.specs.declared.nodes.Node.{Node}
 use Rattle.symbolic_values.specs.declared.nodes.Node.TheVariants as node
 
--- a constant; at the entry what a register holds, the block to which a slot is bound, a word of a slot and a word of
--- plain memory (its block and its place in it); an operation on two values
+-- a constant; at the entry, the contents of a register, the number of the block to which a slot is bound, a word of a
+-- slot, or a word of plain memory (its block and its place there); an operation on two values
 pub data Value : Type 0 where
   Const : (word : ℤ) → Value
   Reg : (register : ℕ) → Value
@@ -15,11 +15,11 @@ pub data Value : Type 0 where
   MemWord : (block place : Value) → Value
   Apply : (op : Op) (left right : Value) → Value
 
--- the tree with a number among some trees
+-- tree number i of some trees
 abbrev pub tree_at : List Value → ℕ → Value
 tree_at trees i = slice_index_or trees i (Const (pos 0))
 
--- the tree that a node makes of those that it names
+-- the tree of a node, made of the trees that it names
 abbrev pub built : List Value → Node → Value
 built trees (node.Const word) = Const word
 built trees (node.Reg r) = Reg r
@@ -28,12 +28,12 @@ built trees (node.SlotWord k place) = SlotWord k (tree_at trees place)
 built trees (node.MemWord block place) = MemWord (tree_at trees block) (tree_at trees place)
 built trees (node.Apply op a b) = Apply op (tree_at trees a) (tree_at trees b)
 
--- the trees of some nodes behind those that are there already, each made of the trees before it
+-- the trees of some nodes after given ones, each made of the trees before it
 unfoldable pub trees_onto : List Value → List Node → List Value
 trees_onto trees [] = trees
 trees_onto trees (n ∷ nodes) = trees_onto (trees ++ built trees n ∷ []) nodes
 
--- the trees of a list of nodes, and the one that a number stands for
+-- the trees of a list of nodes, and the tree of a number
 abbrev pub trees_of : List Node → List Value
 trees_of nodes = trees_onto [] nodes
 

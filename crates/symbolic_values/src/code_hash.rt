@@ -6,15 +6,16 @@ use lt_isa::Instr;
 use lt_isa::instruction_table::{Kind, opcode_of};
 use std::hash::{BuildHasher, FoldHasher, Hasher};
 
-// How the nodes of an object's values are hashed: between two keys that the object's whole code gives. So nobody can
-// choose constants that meet in a table without changing both keys by the choice. It decides how long a look-up takes,
-// and no answer.
+// Hashes the nodes of an object's values, with two keys that are computed from all of the object's code. So nobody can
+// choose constants that collide in a table, since the choice changes both keys. The hash determines how long a look-up
+// takes, but not its result.
 #[derive(Clone, Copy)]
 pub(crate) struct CodeHash {
     keyed: NodeHasher,
 }
 
-// A hasher that is fast, behind one key and before another: who doesn't know both can't tell which words meet.
+// A fast hasher, with one key before the words and another after them. Without both keys one can't predict which words
+// collide.
 #[derive(Clone, Copy)]
 pub(crate) struct NodeHasher {
     behind_key: FoldHasher,
@@ -22,8 +23,9 @@ pub(crate) struct NodeHasher {
 }
 
 impl CodeHash {
-    // The hash that has the keys of some code. Each instruction is read once: two heads at a time, and behind them what
-    // has no room there.
+    // The hash with the keys of some code. Each instruction is read once. The opcodes and the operands of two
+    // instructions are read together as one word. Their constants and offsets, which don't fit in it, are read after
+    // it.
     pub(crate) fn of(code: &[Instr]) -> CodeHash {
         let mut digest = Digest::new();
         for pair in code.chunks(2) {
@@ -52,7 +54,7 @@ impl CodeHash {
     }
 }
 
-// The opcode and the operands of an instruction, without its offset and its constant: four bytes.
+// The opcode and the operands of an instruction, without its offset and its constant, in four bytes.
 fn head_of(instruction: Instr) -> u64 {
     match instruction {
         Instr::Nop => packed(Kind::Nop, 0, 0, 0),
@@ -74,8 +76,8 @@ fn packed(kind: Kind, a: u8, b: u8, c: u8) -> u64 {
     u64::from(opcode_of(kind)) | u64::from(a) << 8 | u64::from(b) << 16 | u64::from(c) << 24
 }
 
-// SipHash-1-3 of words, with an answer of 128 bits and both keys 0. It reads a word in a third of the steps of the
-// library's, which takes any number of bytes at a time.
+// SipHash-1-3 of words, with a result of 128 bits; both keys are 0. It reads a word in a third of the steps of the
+// library's hash, which takes any number of bytes at a time.
 #[derive(Clone, Copy)]
 struct Digest {
     v0: u64,
@@ -100,7 +102,7 @@ impl Digest {
         self.v0 ^= word;
     }
 
-    // An instruction's constant or offset, where it has one.
+    // Reads an instruction's constant or offset, if it has one.
     #[inline(always)]
     fn read_rest(&mut self, instruction: Instr) {
         match instruction {
@@ -124,7 +126,7 @@ impl Digest {
         self.v2 = self.v2.rotate_left(32);
     }
 
-    // Both halves of the answer.
+    // Both halves of the result.
     fn keys(self) -> (u64, u64) {
         let mut digest = self;
         digest.v2 ^= 0xee;

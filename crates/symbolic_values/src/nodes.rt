@@ -7,18 +7,18 @@ ghost use Rattle.std.specs.Cmp.Rules.{hashing};
 use gr_word::Op;
 use std::hash::{Hash, Hasher};
 
-/// Marks the word of a constant.
+/// A bit that marks the word of a constant.
 const CONST_MARK: u64 = 1 << 62;
 
-/// Marks the words of what is read at the entry.
+/// A bit that marks the words of values that are read at the entry.
 const ENTRY_MARK: u32 = 1 << 31;
 
-/// One node of a tree. What is below it is named by the numbers of earlier nodes of one table.
+/// One node of a tree. It names the nodes below it by their numbers, which are lower, in one table.
 #[derive(Clone, Copy, Debug, PartialEq, Eq)]
 pub enum Node {
     /// A word that is known.
     Const(i64),
-    /// What a register, 0 to 31, holds at the entry.
+    /// The contents of a register, 0 to 31, at the entry.
     Reg(u8),
     /// The number of the block to which a slot of the scratchpad, 0 to 7, is bound at the entry.
     SlotAt(u8),
@@ -40,8 +40,8 @@ impl Hash for Node {
     }
 }
 
-// The word by which a table looks for a node. Operations on the same values share one, and hardly other nodes do: the
-// marks stand where the numbers of smaller tables, and constants of usual size, have no bit.
+// The word by which a table looks for a node. Different operations on the same values share a word. Other nodes hardly
+// ever do, since the marks are bits that the numbers of smaller tables and constants of usual size don't have.
 fn node_word(node: Node) -> u64
     ensures { result ≡ node_word node }
 {
@@ -55,7 +55,7 @@ fn node_word(node: Node) -> u64
     }
 }
 
-// Two halves of a word.
+// A word of two halves.
 fn pair_word(high: u32, low: u32) -> u64
     ensures { result ≡ pair_word high low }
 {

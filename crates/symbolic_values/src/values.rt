@@ -10,12 +10,12 @@ use lt_isa::Instr;
 use std::alloc::Global;
 use std::marker::Model;
 
-/// A table of nodes in which each tree has one number. Seen as the list of its nodes.
+/// A table of nodes in which each tree has one number. Contracts see it as the list of its nodes.
 #[derive(Drop)]
 pub struct Values {
     nodes: IndexSet<Node, CodeHash>,
-    // The number behind that which was found last. Arms that do the same look for the same nodes in the same order, so
-    // it is tried before the node is hashed.
+    // The number after the one that was found last. Arms that do the same look for the same nodes in the same order, so
+    // this number is tried before the node is hashed.
     next: u32,
 }
 
@@ -32,7 +32,7 @@ impl Model for Values {
 }
 
 impl Values {
-    /// A table without nodes, for values of no code.
+    /// An empty table, for values of no code.
     pub fn new(alloc: Global) -> Values
         ensures empty { result ≡ [] }
         ensures table { IsTable result }
@@ -40,8 +40,8 @@ impl Values {
         Values::for_code(alloc, &[])
     }
 
-    /// A table without nodes, for values of some code. Its look-ups take as long whatever constants the code has: a
-    /// node is hashed behind the whole code, which is read once here.
+    /// An empty table, for values of some code. Look-ups take the same time for any constants in the code, since the
+    /// keys of the hash are computed from the whole code, which is read once here.
     pub fn for_code(alloc: Global, code: &[Instr]) -> Values
         ensures empty { result ≡ [] }
         ensures table { IsTable result }
@@ -52,7 +52,7 @@ impl Values {
         }
     }
 
-    /// How many nodes there are. The numbers of the table are those below it.
+    /// The number of nodes. The numbers of the table are those below it.
     pub fn len(&self) -> u32
         ensures len { result ≡ length self.now }
         ensures table { IsTable self.now }
@@ -70,8 +70,8 @@ impl Values {
         self.nodes.as_slice()[i as usize]
     }
 
-    /// The number of the tree that a node makes of those that it names: the one that it has already, or else that of a
-    /// new node. Earlier numbers keep their trees. Want of memory leaves the table as it was.
+    /// The number of the tree of a node. If the table doesn't have the node, it is added. Earlier numbers keep their
+    /// trees. Out of memory leaves the table as it was.
     #[inline(always)]
     pub fn add(&mut self, node: Node) -> Result<u32, Memory>
         requires names { NamesBelow (length self.old) node }
@@ -85,7 +85,7 @@ impl Values {
         put(&mut self.nodes, &mut self.next, node)
     }
 
-    /// Keeps so many nodes, the first ones, and the room that the others took.
+    /// Keeps the first `count` nodes, and the room that the others took.
     pub fn keep(&mut self, count: u32)
         ensures first { self.new ≡ take count self.old }
         ensures table { IsTable self.new }
@@ -94,8 +94,8 @@ impl Values {
     }
 }
 
-// The place of a node among others, where it goes last if it isn't there. The place `next` is tried first, and becomes
-// the one behind.
+// The place of a node among others; if it isn't there, it is added at the end. The place `next` is tried first, and
+// `next` becomes the place after the node's.
 #[inline(always)]
 fn put(nodes: &mut IndexSet<Node, CodeHash>, next: &mut u32, node: Node) -> Result<u32, Memory>
     requires { length nodes.old.keys < 2 ^ 32 - 1 }
@@ -116,7 +116,7 @@ fn put(nodes: &mut IndexSet<Node, CodeHash>, next: &mut u32, node: Node) -> Resu
     }
 }
 
-// Whether a node stands at a place.
+// Whether a node is at a place.
 #[inline(always)]
 fn stands_at(nodes: &[Node], place: u32, node: Node) -> bool
     ensures { result ≡ true → slice_get nodes.now place ≡ Some node }
@@ -127,8 +127,8 @@ fn stands_at(nodes: &[Node], place: u32, node: Node) -> bool
     }
 }
 
-// The same by the hash of the node. It stays a function of its own, so that a node that stands at the place that is
-// tried costs no room for this.
+// The same by the hash of the node. It is a function of its own, so that a call that finds the node at the place `next`
+// doesn't need its stack.
 #[inline(never)]
 fn insert(nodes: &mut IndexSet<Node, CodeHash>, node: Node) -> Result<u32, Memory>
     requires { length nodes.old.keys < 2 ^ 32 - 1 }
