@@ -1,4 +1,4 @@
--- The first refusal is unique, and there is one exactly where an object isn't accepted; what is known is unique too.
+-- An object has at most one first refusal, and it has one exactly if it isn't accepted; and what is known is unique.
 use Rattle.std.proofs.Common.{◌≡◌, ℕ, zero, suc, ◌<◌, ◌≤◌, Bool, true, false, MatchBool, length, ◌⊎◌, inl, inr, Option, Some, None, refl, sym, ap, ◌∙◌, subst, ⊎_elim, arith}
 use Rattle.std.proofs.lemmas.Bool.{cases_lt, true≢false}
 use Rattle.lt_isa.specs.Object.{Parts}
@@ -12,18 +12,18 @@ use Rattle.lt_checker.specs.ByPlace.{Arrival, Here, refusal_at, NoneBelow, IsFir
 use Rattle.lt_checker.proofs.PlaceRelations.{comes-here}
 use Rattle.lt_checker.proofs.Refusals.{accepted-not_refused, accepts-none, none_is_accepted, lowest-found, found_is_first}
 
--- a refused object isn't accepted
+-- an object with a refusal isn't accepted
 refused_by : (o : Parts) (place : ℕ) (reason : Reason) (found : Bool) → has_secret_in_ram o ≡ found
     → MatchBool found ((place ≡ 0) × (reason ≡ SecretSymbolInRam)) (IsLowestRefusal o place reason) → Accepts o → ⊥
 refused_by o place reason true is refusal accepts = true≢false (sym is ∙ accepts.symbols)
 refused_by o place reason false is refusal accepts =
     accepted-not_refused o accepts refusal.at place reason refusal.inside refusal.refused
 
--- what is refused isn't accepted
+-- an object with a first refusal isn't accepted
 pub refused_is_not_accepted : (o : Parts) (place : ℕ) (reason : Reason) → FirstRefusal o place reason → ¬ Accepts o
 refused_is_not_accepted o place reason refusal = refused_by o place reason (has_secret_in_ram o) refl refusal
 
--- the first place below some that is refused, if there is one
+-- none of some places is refused, or there is a lowest one that is
 search_below : (o : Parts) (n : ℕ) → n ≤ length o.code
     → NoneBelow o n ⊎ ((place : ℕ) × (reason : Reason) × IsFirstFound o place reason)
 search_below o zero le = inl (λ q lt. absurd (omega arith))
@@ -46,7 +46,7 @@ refused_in_ram o is = first 0 refl
         subst (λ (b : Bool). MatchBool b ((p ≡ 0) × (SecretSymbolInRam ≡ SecretSymbolInRam))
         (IsLowestRefusal o p SecretSymbolInRam)) (sym is) (at, refl)
 
--- each object is accepted or refused
+-- each object is accepted or has a first refusal
 pub accepted-or-refused : (o : Parts) → Accepts o ⊎ ((place : ℕ) × (reason : Reason) × FirstRefusal o place reason)
 accepted-or-refused o = by (has_secret_in_ram o) refl
   where
@@ -60,7 +60,7 @@ accepted-or-refused o = by (has_secret_in_ram o) refl
         (found.0, found.1, found_is_first o found.0 found.1 is found.2))
         (search_below o (length o.code) (omega arith))
 
--- the refusals that are found first are one
+-- at most one refusal is found first
 found_once : (o : Parts) (p q : ℕ) (r u : Reason) → IsFirstFound o p r → IsFirstFound o q u → (p ≡ q) × (r ≡ u)
 found_once o p q r u one two =
     ⊎_elim
@@ -85,19 +85,19 @@ once_by : (o : Parts) (p q : ℕ) (r u : Reason) (found : Bool)
 once_by o p q r u true one two = (one.0 ∙ sym two.0, one.1 ∙ sym two.1)
 once_by o p q r u false one two = found_once o p q r u (lowest-found o p r one) (lowest-found o q u two)
 
--- the first refusal is one
+-- an object has at most one first refusal
 pub first_refusal-once : (o : Parts) (p q : ℕ) (r u : Reason) → FirstRefusal o p r → FirstRefusal o q u
     → (p ≡ q) × (r ≡ u)
 first_refusal-once o p q r u one two = once_by o p q r u (has_secret_in_ram o) one two
 
--- one thing is known at a place of an accepted object that is visited
+-- a place has at most one claim
 claimed_once : (o : Parts) (p : ℕ) (j k : Known) → claimed_at o p ≡ Some j → claimed_at o p ≡ Some k → j ≡ k
 claimed_once o p j k first second = let e : ◌≡◌ {A = Option Known} (Some j) (Some k) = sym first ∙ second in cc
 
 claimed_or_not : {A : Type 0} (o : Parts) (p : ℕ) (k : Known) → claimed_at o p ≡ None → claimed_at o p ≡ Some k → A
 claimed_or_not o p k none some = absurd (let e : ◌≡◌ {A = Option Known} None (Some k) = sym none ∙ some in cc)
 
--- one thing is known at a visited place
+-- what is known at a visited place of an accepted object is unique
 pub known-once : (o : Parts) → Accepts o → (p : ℕ) (j k : Known) → p < length o.code → VisitedAt o p j → VisitedAt o p k
     → j ≡ k
 known-once o accepts p j k inside (Noted q claimed at) (Noted q' claimed' at') = claimed_once o p j k at at'

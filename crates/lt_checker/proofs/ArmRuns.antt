@@ -1,4 +1,4 @@
--- An arm runs to its end, and a region to its join, and shows its pattern, whichever way its branches go.
+-- The machine runs an arm to its end and a region to its join, and shows its pattern on either way.
 use Rattle.std.proofs.Common.{◌≡◌, ℕ, ◌+◌, ◌-◌, Bool, true, false, ℤ, Some, None, refl, sym, ap, ◌∙◌, subst, ⊎_elim, arith}
 use Rattle.std.specs.Prelude.{slice_get, if◌then◌else◌}
 use Rattle.std.proofs.lemmas.Bool.{cases_Bool}
@@ -23,11 +23,11 @@ use Rattle.lt_checker.proofs.PatternValues.{played}
 use Rattle.lt_checker.proofs.Described.{Describes, describes_moved, describes_left, describes_right}
 use Rattle.lt_checker.proofs.ArmSteps.{Runs, runs_then, quiet, single_runs}
 
--- a gap behind a pattern
+-- a gap after a pattern
 gap_behind : (p : Shown TreeEvent) (n : ℕ) → joined p (gap n) ≡ with_gap p n
 gap_behind p n = joined-gap p no_events n ∙ ap (λ (q : Shown TreeEvent). with_gap q n) (joined-no_events p)
 
--- from every state at a place that is described, the machine runs to another place
+-- from every state at a place, if what is known describes it, the machine runs to another place
 abbrev pub RunsFrom : Parts → State → ℕ → SymState → ℕ → Shown TreeEvent → SymState → Type 0
 RunsFrom o e p known q pattern after =
     (s : State) → s.place ≡ p → IsShaped o s → Describes e known s → Runs o e s q pattern after
@@ -38,7 +38,7 @@ runs_shaped : (o : Parts) → IsInRange o
 runs_shaped o fits e s q pattern known one shaped =
     reaches-shaped o fits s (played o e s.cycle pattern.parts) one.last one.reached shaped
 
--- less is known, and the same pattern
+-- the same run, of which less is known
 runs_less : (o : Parts) (e s : State) (q : ℕ) (pattern same : Shown TreeEvent) (known less : SymState) → pattern ≡ same
     → ((u : State) → Describes e known u → Describes e less u) → Runs o e s q pattern known → Runs o e s q same less
 runs_less o e s q pattern same known less is weaker one = subst (λ (x : Shown TreeEvent). Runs o e s q x less) is
@@ -60,7 +60,7 @@ module _ (o : Parts) (fits : IsInRange o) (e : State) where
       (ap (slice_get o.code) place ∙ at) refl (ap (λ (q : ℕ). target_of o q back) place ∙ joins) refl
       (describes_moved e known s _ _ h)
 
-  -- a branch that is taken, and one that isn't
+  -- a branch that is taken; and one that isn't
   taken_runs : (p : ℕ) (known : SymState) (cmp : Cmp) (ra rb : ℕ) (offset : ℤ) (second : ℕ)
       → slice_get o.code p ≡ Some (Br cmp ra rb offset) → target_of o p offset ≡ second → (s : State) → s.place ≡ p
       → compared cmp (register s ra) (register s rb) ≡ true → Describes e known s
@@ -113,7 +113,7 @@ module _ (o : Parts) (fits : IsInRange o) (e : State) where
 
   -- an arm, and a region in it
   mutual
-    -- an arm that is walked is run, and shows its pattern
+    -- a run of an arm that is walked shows the arm's pattern
     pub arm_runs : (depth q p : ℕ) (known : SymState) (pattern : Shown TreeEvent) (after : SymState)
         → WalksTo o depth q p known pattern after → RunsFrom o e p known q pattern after
     arm_runs depth q p known pattern after (AtEnd d end k) s place shaped h =

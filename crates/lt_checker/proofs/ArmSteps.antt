@@ -1,5 +1,5 @@
--- One instruction of an arm: the machine goes on to the next place, shows the pattern of the instruction, and is
--- described by what the walk knows behind it.
+-- One instruction of an arm: the machine continues to the next place and shows the instruction's pattern, and what the
+-- walk knows after the instruction describes the machine.
 use Rattle.std.proofs.Common.{◌≡◌, ℕ, ◌+◌, ◌<◌, Bool, false, ◌||◌, ℤ, pos, List, [], ◌∷◌, ◌++◌, length, get_or, set, Option, Some, None, refl, sym, ap, ◌∙◌, subst, arith}
 use Rattle.std.specs.Prelude.{slice_get, if◌then◌else◌}
 use Rattle.std.proofs.lemmas.Bool.{eqb-true, eqb-false, or_parts}
@@ -30,7 +30,8 @@ use Rattle.lt_checker.proofs.Singles.{OnSingle, on_single, on_if, on_tree, on_bo
 use Rattle.lt_checker.proofs.Described.{Holds, HoldsEram, HoldsOram, Describes, describes_moved, describes_register, describes_words, describes_slot, describes_block}
 use Rattle.lt_checker.proofs.NamedPlaces.{named_block-value, applied_trees-value, found_by, rebound_by}
 
--- a run from a state to a place that shows a pattern, valued at the entry, with what is known at its end
+-- a run from a state to a place that shows a pattern, whose trees are evaluated at the entry, with what is known at its
+-- end
 pub record Runs (o : Parts) (e s : State) (place : ℕ) (pattern : Shown TreeEvent) (known : SymState) : Type 0 where
   pub last : State
   pub reached : Reaches o s (played o e s.cycle pattern.parts) last
@@ -38,7 +39,7 @@ pub record Runs (o : Parts) (e s : State) (place : ℕ) (pattern : Shown TreeEve
   pub cycle : last.cycle ≡ ends o s.cycle pattern
   pub described : Describes e known last
 
--- one behind the other
+-- two runs in sequence
 pub runs_then : (o : Parts) (e s : State) (p q : ℕ) (first rest : Shown TreeEvent) (known after : SymState)
     → (one : Runs o e s p first known) → Runs o e one.last q rest after → Runs o e s q (joined first rest) after
 runs_then o e s p q first rest known after one two = record {
@@ -240,7 +241,7 @@ module _ (o : Parts) (fits : IsInRange o) (e s : State) (shaped : IsShaped o s) 
       (sym (eqb-true b 1 eram)) (λ more is. ldb_eram k r t inside more held is) exists at))
       (λ not_eram. ldb_oram k b r inside not_ram not_eram at))
 
-  -- a block is stored, but none of plain memory
+  -- a block is stored, but not in plain memory
   writes : (k b a : ℕ) (words : List ℤ) (shown : TreeEvent) → slice_get o.code s.place ≡ Some (Stb k)
       → slot s k ≡ Bound b a words → (0 ≡ b → ⊥) → b ≡ accessed_bank shown → write_event b a words ≡ shown_by e shown
       → Runs o e s (s.place + 1) (event shown) known
@@ -288,7 +289,7 @@ module _ (o : Parts) (fits : IsInRange o) (e s : State) (shaped : IsShaped o s) 
   instr_runs (Jmp offset) operands at = tt
   instr_runs (Br cmp ra rb offset) operands at = tt
 
-  -- one instruction of an arm is run, and shows its pattern
+  -- a run of one instruction of an arm shows the instruction's pattern
   pub single_runs : (i : Instr) (shown : Shown TreeEvent) (after : SymState) → slice_get o.code s.place ≡ Some i
       → single o known i ≡ walked.Goes shown after → Runs o e s (s.place + 1) shown after
   single_runs i shown after at goes =

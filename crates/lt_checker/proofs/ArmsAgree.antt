@@ -1,5 +1,5 @@
--- Two entries of a region that are alike where trees name them: all that a walk knows, and all that it shows, has the
--- same values at both.
+-- Two entries of a region that agree where trees read them: everything that a walk knows, and everything that it shows,
+-- has the same values at both.
 use Rattle.std.proofs.Common.{◌≡◌, ℕ, ◌+◌, ◌-◌, ℤ, pos, List, [], ◌∷◌, ◌++◌, get_or, set, Option, Some, None, refl, sym, ap, ◌∙◌, subst, ⊎_elim, get_or-set_other}
 use Rattle.std.proofs.lemmas.Bool.{cases_eq}
 use Rattle.gr_word.specs.declared.operations.Op.{Op}
@@ -29,24 +29,24 @@ use Rattle.lt_checker.proofs.Singles.{OnSingle, on_single, on_if, on_tree, on_bo
 abbrev pub TreeAgrees : State → State → Value → Type 0
 TreeAgrees e f t = value_of e t ≡ value_of f t
 
--- so have the words that a slot was loaded from
+-- the words that a slot had at the entry are the same at both entries
 abbrev pub OriginAgrees : State → State → Origin → Type 0
 OriginAgrees e f (Entry j) = slot_words (slot e j) ≡ slot_words (slot f j)
 OriginAgrees e f Loaded = Unit {0}
 
--- so has what is known of a slot
+-- what is known of a slot is the same at both entries
 abbrev pub SlotAgrees : State → State → SymSlot → Type 0
 SlotAgrees e f AnySlot = Unit {0}
 SlotAgrees e f (RamSlot block origin) = TreeAgrees e f block × OriginAgrees e f origin
 SlotAgrees e f (EramSlot block) = TreeAgrees e f block
 SlotAgrees e f (OramSlot bank) = Unit {0}
 
--- all trees that are held have the same values
+-- each tree that is held has the same value at both entries
 pub record Agrees (e f : State) (known : SymState) : Type 0 where
   pub trees : (r : ℕ) (t : Value) → tree_held known r ≡ Some t → TreeAgrees e f t
   pub slots : (j : ℕ) → SlotAgrees e f (slot_held known j)
 
--- a pattern shows the same
+-- a pattern shows the same at both entries
 abbrev pub ShowsAlike : Parts → State → State → Shown TreeEvent → Type 0
 ShowsAlike o e f pattern = (cycle : ℕ) → played o e cycle pattern.parts ≡ played o f cycle pattern.parts
 
@@ -61,7 +61,7 @@ joined_alike o e f p q first rest = λ cycle.
     ∙ ap (λ (l : List Stamped). played o f cycle p.parts ++ l) (rest (ends o cycle p))
     ∙ sym (played-joined o f cycle p q)
 
--- the way that isn't taken shows the same at both entries
+-- the way on which the branch isn't taken shows the same at both entries
 pub untaken_alike : (o : Parts) (e f : State) (one : Shown TreeEvent) → ShowsAlike o e f one
     → ShowsAlike o e f (untaken_way o one)
 untaken_alike o e f one h = joined_alike o e f (gap 1) one (λ cycle. refl) h
@@ -70,7 +70,7 @@ event_alike : (o : Parts) (e f : State) (shown : TreeEvent) → shown_by e shown
     → ShowsAlike o e f (event shown)
 event_alike o e f shown same = λ cycle. ap (λ (x : Observed). seen_at (access_start o.profile (cycle + 0)) x ∷ []) same
 
--- a register with another tree, and a slot
+-- the state with another register or slot
 module _ (e f : State) (known : SymState) (h : Agrees e f known) where
   agrees_tree : (r : ℕ) (value : Option Value) → ((t : Value) → value ≡ Some t → TreeAgrees e f t)
       → Agrees e f (hold_tree known r value)
@@ -96,7 +96,7 @@ module _ (e f : State) (known : SymState) (h : Agrees e f known) where
         (cases_eq j k);
   }
 
--- what both arms leave alike
+-- what two arms leave alike agrees if what one of them leaves does
 pub agrees_common : (e f : State) (left right : SymState) → Agrees e f left → Agrees e f (common left right)
 agrees_common e f left right h = record {
   trees = λ r t held.
@@ -117,7 +117,7 @@ agrees_common e f left right h = record {
       (common_slot-cases (slot_held left j) (slot_held right j));
 }
 
--- trees that are made of trees with the same values
+-- an operation on trees with the same values
 apply_agrees : (e f : State) (op : Op) (a b : Value) → TreeAgrees e f a → TreeAgrees e f b
     → TreeAgrees e f (Apply op a b)
 apply_agrees e f op a b ha hb = ap (λ (x : ℤ). applied op x (value_of e b)) ha ∙ ap (applied op (value_of f a)) hb

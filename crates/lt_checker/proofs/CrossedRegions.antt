@@ -1,4 +1,4 @@
--- Two runs that come to a branch on a secret whose region is crossed show the same and meet at its join, whichever arm
+-- Two runs that reach a branch on a secret whose region is crossed show the same and meet at its join, whichever arm
 -- each of them takes.
 use Rattle.std.proofs.Common.{◌≡◌, ℕ, ◌+◌, ◌-◌, ◌≤◌, ℤ, List, length, Some, refl, sym, ap, ◌∙◌, subst, arith}
 use Rattle.std.specs.Prelude.{slice_get}
@@ -25,12 +25,12 @@ use Rattle.lt_checker.proofs.ArmRuns.{region_runs, arm_runs}
 use Rattle.lt_checker.proofs.ArmsAgree.{ShowsAlike, Agrees, untaken_alike, agrees_common, arm_agrees}
 use Rattle.lt_checker.proofs.RegionEnds.{entry_first, entry_second, entry_agrees, related_after}
 
--- two states stand at one place, related under what is known there
+-- two states are at one place, related by what is known there
 pub record MeetAt (join : ℕ) (k : Known) (s t : State) : Type 0 where
   pub place : s.place ≡ join
   pub related : Related k s t
 
--- a run through a region takes a cycle at least
+-- a run through a region takes at least one cycle
 region_later : (o : Parts) → IsInRange o
     → (e s : State) (q : ℕ) (one : Shown TreeEvent) (known : SymState) (run : Runs o e s q (untaken_way o one) known)
     → s.cycle + 1 ≤ run.last.cycle
@@ -64,7 +64,7 @@ meets o fits k join one known s t shape_s shape_t related shows agrees first sec
       };
     }
 
--- Each run takes a step at least. No step up to the join is a fault, since each leads on to the next.
+-- A region that is crossed, from two related states at its branch.
 module _ (o : Parts) (fits : IsInRange o) (k : Known) (cmp : Cmp) (ra rb : ℕ) (offset : ℤ) (s t : State)
     (at : slice_get o.code s.place ≡ Some (Br cmp ra rb offset)) (shape_s : IsShaped o s) (shape_t : IsShaped o t)
     (related : Related k s t) where
@@ -88,7 +88,7 @@ module _ (o : Parts) (fits : IsInRange o) (k : Known) (cmp : Cmp) (ra rb : ℕ) 
       meets o fits k join one (common left right) s t shape_s shape_t related (untaken_alike o s t one arm.shows)
       (agrees_common s t left right arm.agrees) one_run other_run
 
-  -- two runs that are related meet again behind a region
+  -- two related runs meet again at the join of a region
   pub crossed_alike : (pattern : Shown TreeEvent) (join : ℕ) (state : SymState)
       → CrossesFrom o s.place offset k pattern join state → Meets o (MeetAt join (known_after state)) s t
   crossed_alike pattern join state crosses =

@@ -1,5 +1,5 @@
--- What the state of a walk through a region says of the machine: it tells registers and slots by the state at the
--- entry.
+-- What the state of a walk through a region says about the machine: it describes registers and slots by the state at
+-- the entry.
 use Rattle.std.proofs.Common.{◌≡◌, ℕ, ◌<◌, Bool, true, false, ℤ, pos, List, [], length, get_or, set, Option, Some, None, ◌⊎◌, inl, inr, refl, sym, ap, ◌∙◌, subst, ⊎_elim, get_or-set_same, get_or-set_other}
 use Rattle.std.specs.Prelude.{if◌then◌else◌}
 use Rattle.std.proofs.lemmas.Bool.{cases_eq, eqb-true, or_from}
@@ -18,7 +18,7 @@ abbrev pub origin_words : State → ℕ → Origin → List ℤ
 origin_words e block (Entry j) = slot_words (slot e j)
 origin_words e block Loaded = block_at e 0 block
 
--- a slot is bound to the block of plain memory, or of encrypted memory, that a tree names, or to an oblivious bank
+-- a slot is bound to the block of plain memory that a tree names
 pub record HoldsRam (e : State) (block : Value) (origin : Origin) (x : Slot) : Type 0 where
   pub at : ℕ
   pub value : value_of e block ≡ pos at
@@ -38,20 +38,21 @@ pub record HoldsOram (bank : ℕ) (x : Slot) : Type 0 where
   pub bound : x ≡ Bound bank at words
   pub hidden : shows_block bank ≡ false
 
--- a slot holds what is known of it
+-- a slot holds what is known about it
 abbrev pub Holds : State → SymSlot → Slot → Type 0
 Holds e AnySlot x = Unit {0}
 Holds e (RamSlot block origin) x = HoldsRam e block origin x
 Holds e (EramSlot block) x = HoldsEram e block x
 Holds e (OramSlot bank) x = HoldsOram bank x
 
--- a register with a tree holds its value at the entry, slots are bound as is known, and plain memory is as at the entry
+-- a register with a tree holds the tree's value at the entry, slots are bound as is known, and plain memory is as at
+-- the entry
 pub record Describes (e : State) (known : SymState) (s : State) : Type 0 where
   pub registers : (r : ℕ) (t : Value) → tree_held known r ≡ Some t → register s r ≡ value_of e t
   pub slots : (j : ℕ) → Holds e (slot_held known j) (slot s j)
   pub ram : bank_blocks s 0 ≡ bank_blocks e 0
 
--- place and cycle don't matter
+-- what describes a state describes it at any place and cycle
 pub describes_moved : (e : State) (known : SymState) (s : State) (place cycle : ℕ) → Describes e known s
     → Describes e known (record s { place = place; cycle = cycle })
 describes_moved e known s place cycle h = record { registers = h.registers; slots = h.slots; ram = h.ram }
@@ -75,7 +76,7 @@ describes_register e known s r value word inside h is = record {
   ram = h.ram;
 }
 
--- a slot is bound anew
+-- a slot is bound to another block
 set_held : (e : State) (known : SymState) (s : State) (k : ℕ) (x : Slot) → k < length s.slots
     → ((j : ℕ) → Holds e (slot_held known j) (slot s j)) → Holds e (slot_held known k) x → (j : ℕ)
     → Holds e (slot_held known j) (slot (set_slot s k x) j)
@@ -88,7 +89,7 @@ set_held e known s k x inside slots h j =
     (slots j))
     (cases_eq j k)
 
--- other words in a slot, of the same block
+-- other words in a slot that stays bound to its block
 pub describes_words : (e : State) (known : SymState) (s : State) (k : ℕ) (x : Slot) → k < length s.slots
     → Describes e known s → Holds e (slot_held known k) x → Describes e known (set_slot s k x)
 describes_words e known s k x inside h held =
@@ -115,7 +116,7 @@ describes_slot e known s k bound x inside h held = record {
   ram = h.ram;
 }
 
--- a block of another bank than plain memory is written
+-- a block of a bank other than plain memory is written
 pub describes_block : (e : State) (known : SymState) (s : State) (b a : ℕ) (words : List ℤ) → (0 ≡ b → ⊥)
     → Describes e known s → Describes e known (set_block s b a words)
 describes_block e known s b a words other h = record {
@@ -124,7 +125,7 @@ describes_block e known s b a words other h = record {
   ram = get_or-set_other s.banks b 0 (set (bank_blocks s b) a words) [] other ∙ h.ram;
 }
 
--- what both arms leave alike describes whatever one of them describes
+-- a state that knows less describes all that the other one describes
 describes_less : (e : State) (known less : SymState) (s : State)
     → ((r : ℕ) → (tree_held less r ≡ None) ⊎ (tree_held less r ≡ tree_held known r))
     → ((j : ℕ) → (slot_held less j ≡ AnySlot) ⊎ (slot_held less j ≡ slot_held known j)) → Describes e known s
@@ -144,7 +145,7 @@ describes_less e known less s trees slots h = record {
   ram = h.ram;
 }
 
--- what is known after both ways is known after the first
+-- what is known at a join describes what the first arm leaves
 pub describes_left : (e : State) (left right : SymState) (s : State) → Describes e left s
     → Describes e (common left right) s
 describes_left e left right s h = describes_less e left (common left right) s
@@ -160,7 +161,7 @@ describes_left e left right s h = describes_less e left (common left right) s
     (common_slot-cases (slot_held left j) (slot_held right j)))
     h
 
--- and after the second
+-- what is known at a join describes what the second arm leaves
 pub describes_right : (e : State) (left right : SymState) (s : State) → Describes e right s
     → Describes e (common left right) s
 describes_right e left right s h = describes_less e right (common left right) s
@@ -176,7 +177,7 @@ describes_right e left right s h = describes_less e right (common left right) s
     (slot-common left right j ∙ both.1 ∙ both.0)) (common_slot-cases (slot_held left j) (slot_held right j)))
     h
 
--- at the entry slots are bound to the banks that are known
+-- a slot is bound to a bank
 pub record IsBoundTo (bank : ℕ) (x : Slot) : Type 0 where
   pub at : ℕ
   pub words : List ℤ
@@ -210,7 +211,7 @@ holds_entry : (e : State) (j : ℕ) (known : Option ℕ) → ((bank : ℕ) → k
 holds_entry e j None bound = tt
 holds_entry e j (Some bank) bound = holds_bank e j bank (is_ram bank) (is_eram bank) refl refl (bound bank refl)
 
--- what is known at an entry is so
+-- the state at the entry of a region describes the machine there
 pub describes_entry : (k : Known) (e : State) → ((j bank : ℕ) → bank_known k j ≡ Some bank → IsBoundTo bank (slot e j))
     → Describes e (at_entry k) e
 describes_entry k e bound = record {

@@ -1,4 +1,4 @@
--- One instruction of an accepted object that opens no region takes two runs that stand at one place to such runs again,
+-- One instruction of an accepted object that opens no region leads two runs that are alike to states that are alike,
 -- and shows the same.
 use Rattle.std.proofs.Common.{◌≡◌, ℕ, ◌+◌, ◌<◌, Bool, true, false, not, ◌&&◌, ◌||◌, ℤ, pos, List, [], get_or, set, Option, Some, None, refl, sym, ap, ◌∙◌, subst, ⊎_elim}
 use Rattle.std.specs.Prelude.{if◌then◌else◌}
@@ -26,7 +26,7 @@ abbrev pub OpensNone : Known → Instr → Type 0
 OpensNone k (Br cmp ra rb offset) = (is_secret k ra || is_secret k rb) ≡ false
 OpensNone k i = Unit {0}
 
--- two steps are alike: both go on, show the same and stand at one place again, or both stop
+-- two steps are alike: both continue, show the same and lead to one visited place again, or both stop
 abbrev pub StepsAlike : Parts → StepResult → StepResult → Type 0
 StepsAlike o (Goes e s) (Goes f t) = (e ≡ f) × Stand o s t
 StepsAlike o (Goes e s) (Stops t) = ⊥
@@ -36,7 +36,7 @@ StepsAlike o (Stops s) (Goes f t) = ⊥
 StepsAlike o (Stops s) Faults = ⊥
 StepsAlike o Faults t = ⊥
 
--- an access shows the same
+-- an access shows the same in both runs
 event_alike : (e : ℕ → List ℤ → Observed) (f : ℕ → Observed) (g : Observed) (ram eram : Bool) (a1 a2 : ℕ)
     (words1 words2 : List ℤ) → ((ram || eram) ≡ true → a1 ≡ a2) → (ram ≡ true → words1 ≡ words2)
     → ◌≡◌ {A = Observed} (if ram then e a1 words1 else (if eram then f a1 else g))
@@ -56,7 +56,7 @@ write_alike : (b a1 a2 : ℕ) (words1 words2 : List ℤ) → BoundAlike b a1 a2 
 write_alike b a1 a2 words1 words2 h =
     event_alike RamWrite EncWrite (Oram b) (is_ram b) (is_eram b) a1 a2 words1 words2 h.block h.words
 
--- what is done with two slots that are alike
+-- the same action on two slots that are alike
 bound_alike : (o : Parts) (b : ℕ) (x y : Slot) (f g : ℕ → ℕ → List ℤ → StepResult) → SlotsAlike b x y
     → ((a1 a2 : ℕ) (words1 words2 : List ℤ) → x ≡ Bound b a1 words1 → y ≡ Bound b a2 words2
     → BoundAlike b a1 a2 words1 words2 → StepsAlike o (f b a1 words1) (g b a2 words2))
@@ -69,7 +69,7 @@ bound_alike o b (Bound b1 a1 words1) (Bound b2 a2 words2) f g alike h =
     (h a1 a2 words1 words2 (ap (λ (c : ℕ). Bound c a1 words1) alike.0)
     (ap (λ (c : ℕ). Bound c a2 words2) alike.1) alike.2))
 
--- either of two ways, the same in both
+-- a choice that both runs make alike
 either_alike : (o : Parts) (c d : Bool) (x y u v : StepResult) → c ≡ d → StepsAlike o x y → StepsAlike o u v
     → StepsAlike o (if c then x else u) (if d then y else v)
 either_alike o true true x y u v same first second = first
@@ -82,7 +82,7 @@ module _ (o : Parts) (accepts : Accepts o) (k : Known) (s t : State) (visited : 
   next : s.place + 1 ≡ t.place + 1
   next = ap (λ (p : ℕ). p + 1) rel.place
 
-  -- behind an instruction that falls through
+  -- after an instruction that falls through
   behind : (after : Known) (u v : State) (e f : Option Observed) → Made o accepts s.place k visited (Falls after)
       → u.place ≡ s.place + 1 → e ≡ f → Related after u v → StepsAlike o (Goes e u) (Goes f v)
   behind after u v e f made at same h =
@@ -117,7 +117,7 @@ module _ (o : Parts) (accepts : Accepts o) (k : Known) (s t : State) (visited : 
       behind (set_secret k rd (is_secret k ra || is_secret k rb)) _ _ None None made refl refl
       (register_alike k _ _ rd (is_secret k ra || is_secret k rb) _ _ (went (Alu op rd ra rb) 0) result)
 
-  -- a block of one bank
+  -- a block of one bank, loaded in both runs
   load_alike : (b a1 a2 : ℕ) → (shows_block b ≡ true → a1 ≡ a2) → BoundAlike b a1 a2 (block_at s b a1) (block_at t b a2)
   load_alike b a1 a2 block = record {
     block = block;
@@ -211,7 +211,7 @@ module _ (o : Parts) (accepts : Accepts o) (k : Known) (s t : State) (visited : 
       (words_alike k _ _ j at.bank (Bound at.bank a1 first) (Bound at.bank a2 second) fits at.is (went (Stw rs j ro) 0)
       (refl, refl, bound)))
 
-  -- a jump that both take
+  -- a jump that both runs take
   taken_alike : (i : Instr) (offset : ℤ) → LandsAt o (target_of o s.place offset) k
       → Stand o (passed o i true 0 (target_of o s.place offset) s) (passed o i true 0 (target_of o t.place offset) t)
   taken_alike i offset lands =
@@ -243,7 +243,7 @@ module _ (o : Parts) (accepts : Accepts o) (k : Known) (s t : State) (visited : 
       either_alike o _ _ _ _ _ _ same (refl, taken_alike (Br cmp ra rb offset) offset jump.lands)
       (behind k _ _ None None jump.made refl refl (went (Br cmp ra rb offset) 0))
 
-  -- any instruction but a branch on a secret
+  -- any instruction other than a branch on a secret
   pub instr_alike : (banks : ℕ) (i : Instr) → InstrFits banks i → OpensNone k i
       → Made o accepts s.place k visited (ruling_of o s.place k i) → StepsAlike o (executed o s i) (executed o t i)
   instr_alike banks Nop fits none made = nop_alike made

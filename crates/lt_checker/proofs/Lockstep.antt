@@ -1,5 +1,5 @@
--- Two runs of an accepted object stay alike, over each instruction of public code and over each region that they cross,
--- however many steps they take.
+-- Two runs of an accepted object stay alike over each instruction of public code and over each region that they cross,
+-- in any number of steps.
 use Rattle.std.proofs.Common.{◌≡◌, ℕ, zero, suc, ◌+◌, ◌-◌, ◌≤◌, Bool, true, false, ◌||◌, ℤ, List, [], length, get_or, Option, Some, ◌⊎◌, inl, inr, refl, sym, ap, ◌∙◌, subst, ⊎_elim, arith}
 use Rattle.std.specs.Prelude.{slice_get, if◌then◌else◌}
 use Rattle.std.proofs.lemmas.Option.{slice_get-get_or}
@@ -30,13 +30,13 @@ use Rattle.lt_checker.proofs.Stands.{Stand, stand_behind}
 use Rattle.lt_checker.proofs.Keeps.{OpensNone, StepsAlike, instr_alike}
 use Rattle.lt_checker.proofs.CrossedRegions.{crossed_alike}
 
--- what is ruled where they stand
+-- the ruling on the instruction at a place
 ruled_at : (o : Parts) (p : ℕ) (i : Instr) (k : Known) → slice_get o.code p ≡ Some i
     → ruling_at o p k ≡ ruling_of o p k i
 unfolding ruling_at
 ruled_at o p i k at = ap (ruling_if o p k) at
 
--- an instruction opens no region, or is a branch on a secret
+-- a branch on a secret
 record IsSecretBranch (k : Known) (i : Instr) : Type 0 where
   cmp : Cmp
   ra : ℕ
@@ -65,7 +65,7 @@ opens_or_none k (Stw rs j ro) = inl tt
 opens_or_none k (Jmp offset) = inl tt
 opens_or_none k (Br cmp ra rb offset) = branch_by k cmp ra rb offset (is_secret k ra || is_secret k rb) refl
 
--- the region of a branch on a secret is crossed, and its join is reached
+-- the ruling on a branch on a secret opens its region
 opens_region : (o : Parts) (p : ℕ) (offset : ℤ) (k : Known) (cmp : Cmp) (ra rb : ℕ)
     → (is_secret k ra || is_secret k rb) ≡ true → ruling_of o p k (Br cmp ra rb offset) ≡ Opens offset
 unfolding ruling_of
@@ -82,7 +82,7 @@ join_reached o p offset k pattern join state visited opens crosses = record {
 }
 
 module _ (o : Parts) (range : IsInRange o) (accepts : Accepts o) where
-  -- steps that are alike lead on, or both stop
+  -- two steps that are alike lead to states that are alike, or both stop
   steps_meet : (s t : State) (x y : StepResult) → s.place ≡ t.place → s.cycle ≡ t.cycle → IsShaped o s → IsShaped o t
       → step o s ≡ x → step o t ≡ y → StepsAlike o x y → Meets o (Stand o) s t ⊎ StopsAlike o s t
   steps_meet s t (Goes e u) (Goes f v) place cycle shape_s shape_t is_s is_t alike =
@@ -120,7 +120,7 @@ module _ (o : Parts) (range : IsInRange o) (accepts : Accepts o) where
   steps_meet s t (Stops u) Faults place cycle shape_s shape_t is_s is_t alike = absurd alike
   steps_meet s t Faults y place cycle shape_s shape_t is_s is_t alike = absurd alike
 
-  -- a region that both cross
+  -- a region that both runs cross
   region_met : (s t : State) (h : Stand o s t) (i : Instr) → slice_get o.code s.place ≡ Some i
       → IsSecretBranch h.known i → IsShaped o s → IsShaped o t → Meets o (Stand o) s t
   region_met s t h i at branch shape_s shape_t =
@@ -158,18 +158,18 @@ module _ (o : Parts) (range : IsInRange o) (accepts : Accepts o) where
       (λ (branch : IsSecretBranch h.known i). inl (region_met s t h i at branch shape_s shape_t))
       (opens_or_none h.known i)
 
-  -- equal traces, at every number of cycles
+  -- the traces are equal, at every number of cycles
   pub traces_alike : (s t : State) → Stand o s t → IsShaped o s → IsShaped o t → (n : ℕ)
       → trace_from o s n ≡ trace_from o t n
   traces_alike s t h shape_s shape_t n = lockstep_over o range (Stand o) keeps s t h shape_s shape_t n
 
-  -- no step leads on from a fault or a stop
+  -- no steps follow a fault or a stop
   stuck : (s u : State) (es : List Stamped) → Reaches o s es u
       → ((event : Option Observed) (t : State) → step o s ≡ Goes event t → ⊥) → s ≡ u
   stuck s u es (Here s') ends = refl
   stuck s u es (Then s' e t more u' goes rest) ends = absurd (ends e t goes)
 
-  -- states that one stretch leads to at one cycle are one state
+  -- two states at one cycle, one of which leads to the other, are one state
   one_state : (u v : State) (es : List Stamped) → IsShaped o u → u.cycle ≡ v.cycle → Reaches o u es v → u ≡ v
   one_state u v es shaped same (Here u') = refl
   one_state u v es shaped same (Then u' e t more v' goes rest) =
@@ -195,7 +195,7 @@ module _ (o : Parts) (range : IsInRange o) (accepts : Accepts o) where
       stuck u t es reaches (λ event v goes. absurd
       (let f : ◌≡◌ {A = StepResult} (Goes event v) Faults = sym goes ∙ faults in cc))
 
-  -- a fault behind a stretch lies behind each stretch to a place where the run stands again
+  -- a run that leads to a fault leads there from each state of the run on the way
   on_way : (s u v : State) (es fs : List Stamped) → Reaches o s es u → step o u ≡ Faults → Reaches o s fs v
       → (gs : List Stamped) × Reaches o v gs u
   on_way s u v es fs reaches faults met =
@@ -217,7 +217,7 @@ module _ (o : Parts) (range : IsInRange o) (accepts : Accepts o) where
       absurd (let f : ◌≡◌ {A = StepResult} Faults (Stops ends.first_last) = sym faults ∙ ap (step o) (sym same)
       ∙ ends.first_stops in cc)
 
-  -- a run by itself meets no fault
+  -- a run never meets a fault
   no_fault : (k : ℕ) (s u : State) (es : List Stamped) → Stand o s s → IsShaped o s → Reaches o s es u
       → u.cycle ≤ s.cycle + k → step o u ≡ Faults → ⊥
   no_fault zero s u es h shaped reaches by faults =
@@ -238,6 +238,6 @@ module _ (o : Parts) (range : IsInRange o) (accepts : Accepts o) where
       (stopped s u es reaches faults)
       (keeps s s h shaped shaped)
 
-  -- a run that stands where the check came never faults
+  -- a run from a visited place never meets a fault
   pub never_faults : (s : State) → Stand o s s → IsShaped o s → NeverFaults o s
   never_faults s h shaped es u reaches = no_fault u.cycle s u es h shaped reaches (omega arith)

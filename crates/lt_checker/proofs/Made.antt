@@ -1,4 +1,4 @@
--- What follows from what is ruled at a place that is visited in an accepted object: no test refused it.
+-- What follows from the ruling on a visited place of an accepted object: no test refuses it.
 use Rattle.std.proofs.Common.{◌≡◌, ℕ, ◌+◌, ◌<◌, Bool, true, false, not, nat_lt, length, Option, Some, None, refl}
 use Rattle.std.proofs.lemmas.Bool.{not-false, ltb-true}
 use Rattle.lt_isa.specs.Object.{Parts}
@@ -15,7 +15,7 @@ pub record Reached (o : Parts) (p : ℕ) (k : Known) : Type 0 where
   pub inside : p < length o.code
   pub comes : ComesTo o p k
 
--- a jump leads to a place of the code with a note that what is known fits
+-- a jump leads to a place of the code with a note, and what is known fits the note
 pub record LandsAt (o : Parts) (q : ℕ) (k : Known) : Type 0 where
   pub inside : q < length o.code
   pub claimed : Known
@@ -23,16 +23,16 @@ pub record LandsAt (o : Parts) (q : ℕ) (k : Known) : Type 0 where
   pub fits : FitsClaim k claimed
 
 module _ (o : Parts) (accepts : Accepts o) (p : ℕ) (k : Known) (visited : VisitedAt o p k) where
-  -- this is ruled there
+  -- this is the ruling on the place
   abbrev pub Made : Ruling → Type 0
   Made r = ruling_at o p k ≡ r
 
-  -- a test that refuses failed
+  -- a test doesn't refuse the place
   pub record Passed (test : Bool) (r : Ruling) : Type 0 where
     pub failed : test ≡ false
     pub made : Made r
 
-  -- a ruling that an accepted object has passed its test
+  -- no test refuses a place of an accepted object
   pub made_unless : (test : Bool) (reason : Reason) (r : Ruling) → Made (refused_if test reason r) → Passed test r
   made_unless true reason r h = absurd (accepts.allowed p k reason visited h)
   made_unless false reason r h = record { failed = refl; made = h }
@@ -43,7 +43,7 @@ module _ (o : Parts) (accepts : Accepts o) (p : ℕ) (k : Known) (visited : Visi
     pub is : known ≡ Some bank
     pub made : Made (go bank)
 
-  -- and knows the bank that it needs
+  -- a slot's bank is known if an instruction of an accepted object needs it
   pub made_bank : (known : Option ℕ) (go : ℕ → Ruling) → Made (at_bank known go) → BankIs known go
   made_bank None go h = absurd (accepts.allowed p k UnboundSlot visited h)
   made_bank (Some b) go h = record { bank = b; is = refl; made = h }

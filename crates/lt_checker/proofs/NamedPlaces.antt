@@ -17,7 +17,7 @@ use Rattle.symbolic_values.specs.TreeValues.{as_number, value_of}
 use Rattle.lt_checker.proofs.Singles.{IsKnown, IsHidden}
 use Rattle.lt_checker.proofs.Described.{origin_words, Holds}
 
--- the block that a tree names by its value
+-- the value of the tree of a block's number
 pub named_block-value : (o : Parts) → IsInRange o → (e : State) (b : ℕ) (t : Value) (word : ℤ) → b < length o.banks
     → word ≡ value_of e t → value_of e (named_block o b t) ≡ pos (block_named o b word)
 named_block-value o fits e b t word exists is =
@@ -31,7 +31,7 @@ named_word-value o fits e t word is =
     let few = pow_below o.profile.block_log 63 (omega (arith, fits.profile.block_log.1)) in
     remu_small (value_of e t) (block_words o) (omega arith) few ∙ ap (λ (v : ℤ). pos (word_named o v)) (sym is)
 
--- the value of an operation, where both operands have trees
+-- the value of the tree of an operation, if both operands have trees
 pub applied_trees-value : (e : State) (op : Op) (x y : Option Value) (a b : ℤ)
     → ((t : Value) → x ≡ Some t → a ≡ value_of e t) → ((t : Value) → y ≡ Some t → b ≡ value_of e t) → (t : Value)
     → applied_trees op x y ≡ Some t → applied op a b ≡ value_of e t
@@ -41,7 +41,8 @@ applied_trees-value e op (Some x) (Some y) a b left right t is =
 applied_trees-value e op None y a b left right t is = no_tree t is
 applied_trees-value e op (Some x) None a b left right t is = no_tree t is
 
--- a slot of which something is known is bound; a tree of its block's number, or of a word of it, has that value
+-- a slot about which something is known is bound; the trees of its block's number and of its words have the right
+-- values
 pub record Found (o : Parts) (e : State) (known : SymSlot) (x : Slot) : Type 0 where
   pub bank : ℕ
   pub at : ℕ
@@ -70,7 +71,7 @@ ram_word o fits e block origin at value (Some place) a is t held =
     let same : word_tree origin block (named_word o place) ≡ t = cc in
     origin_word o fits e block origin at place a value (is place refl) ∙ ap (value_of e) same
 
--- a slot that is known is found
+-- a slot about which something is known is bound
 pub found_by : (o : Parts) → IsInRange o → (e : State) (known : SymSlot) (x : Slot) → IsKnown known → Holds e known x
     → Found o e known x
 found_by o fits e AnySlot x is h = absurd is
@@ -99,7 +100,7 @@ found_by o fits e (OramSlot bank) x is h = record {
   word = λ place a value t held. no_tree t held;
 }
 
--- a slot that isn't bound to plain memory stays described with other words
+-- a slot that isn't bound to plain memory is described with any words
 pub record Rebound (e : State) (known : SymSlot) (x : Slot) : Type 0 where
   pub bank : ℕ
   pub at : ℕ
@@ -107,7 +108,7 @@ pub record Rebound (e : State) (known : SymSlot) (x : Slot) : Type 0 where
   pub bound : x ≡ Bound bank at words
   pub holds : (others : List ℤ) → Holds e known (Bound bank at others)
 
--- a slot that may be stored is stored
+-- a slot whose block an arm may store is described with any words
 pub rebound_by : (e : State) (known : SymSlot) (x : Slot) → IsHidden known → Holds e known x → Rebound e known x
 rebound_by e AnySlot x is h = absurd is
 rebound_by e (RamSlot block origin) x is h = absurd is

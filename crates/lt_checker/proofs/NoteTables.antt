@@ -1,4 +1,4 @@
--- A table of notes is made from the last note to the first, and no note stands behind it.
+-- A table of notes is made from the last note to the first, and no note is at a place past it.
 use Rattle.std.proofs.Common.{◌≡◌, ℕ, ◌+◌, ◌<◌, ◌≤◌, ◌==◌, List, [], ◌∷◌, length, get_or, set, drop, Option, Some, None, refl, sym, ap, ◌∙◌, subst, ⊎_elim, get_or-set_same, get_or-set_other, arith}
 use Rattle.std.specs.Prelude.{slice_get, All}
 use Rattle.std.proofs.lemmas.List.{drop_more}
@@ -9,14 +9,14 @@ use Rattle.lt_isa.specs.declared.symbols.Note.{Note}
 use Rattle.trace_patterns.specs.Rules.{note_of_place}
 use Rattle.lt_checker.specs.Tables.{IsEntry}
 
--- an entry depends on the note that is found alone
+-- an entry depends only on the note that is found
 entry_as : (all some more : List Note) (p : ℕ) (e : Option ℕ) → note_of_place more p ≡ note_of_place some p
     → IsEntry all some p e
     → IsEntry all more p e
 entry_as all some more p None same h = same ∙ h
 entry_as all some more p (Some i) same h = (h.0, same ∙ h.1)
 
--- one more note in front
+-- one more note at the beginning
 pub entry_more : (notes : List Note) (i next : ℕ) → next ≡ i + 1 → (table : List (Option ℕ)) (d : Note)
     → i < length notes → (get_or notes i d).pc < length table
     → ((p : ℕ) → p < length table → IsEntry notes (drop next notes) p (get_or table p None)) → (p : ℕ)
@@ -45,7 +45,7 @@ entry_more notes i next after table d inside fits before p within =
     (entry_as notes (drop next notes) (drop i notes) p (get_or table p None) other (before p within)))
     (cases_eq p n.pc)
 
--- where all notes stand before a place, none is found behind it
+-- if all notes are before a place, none is found from there on
 pub none_behind : (notes : List Note) (count p : ℕ) → All (λ n. n.pc < count) notes → count ≤ p
     → note_of_place notes p ≡ None
 none_behind [] count p before behind = refl

@@ -1,4 +1,4 @@
--- What events and patterns stand for in a run that entered a region in a given state.
+-- The events and the cycles of patterns, in a run that entered a region in a given state.
 use Rattle.std.proofs.Common.{◌≡◌, ℕ, ◌+◌, ◌≤◌, List, [], ◌∷◌, ◌++◌, refl, sym, ap, ◌∙◌, arith, add_assoc}
 use Rattle.std.proofs.lemmas.List.{append-nil}
 use Rattle.lt_isa.specs.Object.{Parts, latency_of}
@@ -26,11 +26,11 @@ accessed_bank (EncRead block) = 1
 accessed_bank (EncWrite block) = 1
 accessed_bank (Oram bank) = bank
 
--- the cycle behind an event that comes so many cycles after another cycle
+-- the cycle after an event, with the gap before it
 abbrev pub behind_event : Parts → ℕ → ℕ × TreeEvent → ℕ
 behind_event o cycle part = access_start o.profile (cycle + part.0) + latency_of o (accessed_bank part.1)
 
--- the events of a pattern that begins at a cycle, each stamped, and the cycle at its end
+-- the events of a pattern that begins at a cycle, each with its stamp, and the cycle at its end
 abbrev pub played : Parts → State → ℕ → List (ℕ × TreeEvent) → List Stamped
 played o e cycle [] = []
 played o e cycle (part ∷ parts) =
@@ -40,11 +40,11 @@ abbrev pub behind : Parts → ℕ → List (ℕ × TreeEvent) → ℕ
 behind o cycle [] = cycle
 behind o cycle (part ∷ parts) = behind o (behind_event o cycle part) parts
 
--- the cycle behind a pattern
+-- the cycle after a pattern
 abbrev pub ends : Parts → ℕ → Shown TreeEvent → ℕ
 ends o cycle p = behind o cycle p.parts + p.last
 
--- two lists of parts one behind the other
+-- two lists of parts in sequence
 pub played-append : (o : Parts) (e : State) (cycle : ℕ) (ps qs : List (ℕ × TreeEvent))
     → played o e cycle (ps ++ qs) ≡ played o e cycle ps ++ played o e (behind o cycle ps) qs
 played-append o e cycle [] qs = refl
@@ -57,7 +57,7 @@ pub behind-append : (o : Parts) (cycle : ℕ) (ps qs : List (ℕ × TreeEvent))
 behind-append o cycle [] qs = refl
 behind-append o cycle (part ∷ ps) qs = behind-append o (behind_event o cycle part) ps qs
 
--- a first gap that grows is a later cycle
+-- a first gap that is longer is a later beginning
 played-wider : (o : Parts) (e : State) (cycle more : ℕ) (part : ℕ × TreeEvent) (parts : List (ℕ × TreeEvent))
     → played o e cycle ((more + part.0, part.1) ∷ parts) ≡ played o e (cycle + more) (part ∷ parts)
 played-wider o e cycle more part parts =
@@ -70,7 +70,7 @@ behind-wider o cycle more part parts =
     ap (λ (at : ℕ). behind o (access_start o.profile at + latency_of o (accessed_bank part.1)) parts)
     (sym (add_assoc cycle more part.0))
 
--- two patterns one behind the other
+-- two patterns in sequence
 pub played-joined : (o : Parts) (e : State) (cycle : ℕ) (p q : Shown TreeEvent)
     → played o e cycle (joined p q).parts ≡ played o e cycle p.parts ++ played o e (ends o cycle p) q.parts
 played-joined o e cycle p q = by q.parts q.last
@@ -84,7 +84,7 @@ played-joined o e cycle p q = by q.parts q.last
         ∙ ap (λ (l : List Stamped). played o e cycle p.parts ++ l)
         (played-wider o e (behind o cycle p.parts) p.last part parts)
 
--- the cycle behind two patterns
+-- the cycle after two patterns
 pub ends-joined : (o : Parts) (cycle : ℕ) (p q : Shown TreeEvent)
     → ends o cycle (joined p q) ≡ ends o (ends o cycle p) q
 ends-joined o cycle p q = by q.parts q.last

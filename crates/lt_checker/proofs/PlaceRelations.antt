@@ -1,4 +1,4 @@
--- What the check finds place by place is what the relations say: which places are visited, and what is known there.
+-- The results of the check, place by place, satisfy the relations: which places are visited, and what is known there.
 use Rattle.std.proofs.Common.{◌≡◌, ℕ, zero, suc, ◌+◌, ◌-◌, ◌<◌, ◌≤◌, ◌==◌, Bool, true, false, ℤ, length, ◌⊎◌, inl, inr, Option, Some, None, Result, Ok, Err, refl, sym, ap, ◌∙◌, subst, arith, add-one}
 use Rattle.std.specs.Prelude.{if◌then◌else◌}
 use Rattle.std.proofs.lemmas.Bool.{eqb-true, eqb-false, ne_eqb}
@@ -21,7 +21,7 @@ use Rattle.region_walk.proofs.WalkRelations.{CrossingIs, crossing-is, crosses-cr
 use Rattle.lt_checker.specs.ByPlace.{Effect, Refused, Falls, Leaves, Joins, Stuck, joined_at, crossing_at, effect_of, effect_at, entered, on_entry, Arrival, Unreached, Here, Inside, effect_from, arrival_at, reached_at, refusal_in, refusal_at, NoneBelow}
 use Rattle.lt_checker.proofs.Reached.{reached_at-zero, reached_at-next, reached-inside, reached-join}
 
--- what the relations say of the effect of a place where this is known
+-- the place opens a region that is crossed, with this join and this known there
 pub record Crossed (o : Parts) (p : ℕ) (k : Known) (join : ℕ) (after : Known) : Type 0 where
   pub offset : ℤ
   pub pattern : Shown TreeEvent
@@ -31,7 +31,7 @@ pub record Crossed (o : Parts) (p : ℕ) (k : Known) (join : ℕ) (after : Known
   pub after_is : after ≡ known_after state
   pub behind : p < join
 
--- an effect is what the relation says
+-- what the relations state about each effect of a place
 abbrev pub EffectIs : Parts → ℕ → Known → Effect → Type 0
 EffectIs o p k (Refused reason) =
     (ruling_at o p k ≡ rule.Refused reason) ⊎
@@ -43,7 +43,7 @@ EffectIs o p k (Stuck place reason) =
     (offset : ℤ) × (ruling_at o p k ≡ rule.Opens offset) × BlockedAt o 0 (length o.code - 1) p offset
     (at_entry k) place reason
 
--- what is made of a ruling
+-- the effect of a ruling
 module _ (o : Parts) (p : ℕ) (k : Known) where
   falls_is : (next : Known) (last : Bool) → (p + 1 == length o.code) ≡ last → ruling_at o p k ≡ rule.Falls next
       → EffectIs o p k (if last then Refused RunsOffEnd else Falls next)
@@ -73,17 +73,17 @@ module _ (o : Parts) (p : ℕ) (k : Known) where
       joins_is offset (crossing_at o p offset k) is
       (crossing-is o 0 (length o.code - 1) p offset (at_entry k) (omega arith))
 
-  -- the computed effect is
+  -- the computed effect satisfies the relations
   pub effect-is : EffectIs o p k (effect_at o p k)
   unfolding effect_at
   effect-is = effect_is (ruling_at o p k) refl
 
-  -- the other way round
+  -- the computed effect is that of the ruling
   pub effect-ruled : (r : Ruling) → ruling_at o p k ≡ r → effect_at o p k ≡ effect_of o p k r
   unfolding effect_at
   effect-ruled r is = ap (effect_of o p k) is
 
--- a place that lies in a region which joins at a place where this is known
+-- a place is inside a region with this join and this known there
 pub record Lies (o : Parts) (p join : ℕ) (after : Known) : Type 0 where
   pub branch : ℕ
   pub known : Known
@@ -92,7 +92,7 @@ pub record Lies (o : Parts) (p join : ℕ) (after : Known) : Type 0 where
   pub behind : branch < p
   pub before : p < join
 
--- what the relations say of what comes to a place
+-- what the relations state about how a place is reached
 abbrev pub ArrivalIs : Parts → ℕ → Arrival → Type 0
 ArrivalIs o p Unreached = Unit {0}
 ArrivalIs o p (Here k) = ComesTo o p k
@@ -122,7 +122,7 @@ module _ (o : Parts) where
             (arith, eqb-false p join is);
       }
 
-  -- what comes to the next place from a place that is visited
+  -- how the next place is reached from a visited one
   next_is : (p : ℕ) (k : Known) (e : Effect) → VisitedAt o p k → EffectIs o p k e
       → ArrivalIs o (p + 1) (arrival_at (p + 1) e)
   next_is p k (Refused reason) visited h = tt
@@ -145,7 +145,7 @@ module _ (o : Parts) where
   fit_visited p claimed true at k e = ok_is claimed k k p e (Noted p claimed at)
   fit_visited p claimed false at k e = absurd cc
 
-  -- what is known at a place that is visited
+  -- what is known after a place is entered is known there as the relations have it
   entered_visited : (p : ℕ) (claimed reached : Option Known) → claimed_at o p ≡ claimed
       → ((k : Known) → reached ≡ Some k → ComesTo o p k) → (k : Known) → entered claimed reached ≡ Ok k
       → VisitedAt o p k
@@ -165,29 +165,29 @@ module _ (o : Parts) where
       arrives_if h.branch h.known (p + 1) join k (p + 1 == join) h.visited h.crossed (omega (arith, h.behind))
       (omega (arith, h.before)) refl
 
-  -- what comes to a place is what the relations say
+  -- how a place is reached satisfies the relations
   pub arrival-is : (p : ℕ) → ArrivalIs o p (reached_at o p)
   arrival-is zero = subst (ArrivalIs o 0) (sym (reached_at-zero o)) Starts
   arrival-is (suc p) =
       subst (λ (q : ℕ). ArrivalIs o q (reached_at o q)) (add-one p)
       (subst (ArrivalIs o (p + 1)) (sym (reached_at-next o p)) (from_arrival p (reached_at o p) (arrival-is p)))
 
-  -- a place that is reached is come to
+  -- what reaches a place in the computation reaches it in the relations
   pub here-comes : (p : ℕ) (k : Known) → reached_at o p ≡ Here k → ComesTo o p k
   here-comes p k e = subst (ArrivalIs o p) e (arrival-is p)
 
-  -- a place within a region lies in it
+  -- a place inside a region in the computation is inside it in the relations
   pub inside-lies : (p join : ℕ) (k : Known) → reached_at o p ≡ Inside join k → Lies o p join k
   inside-lies p join k e = subst (ArrivalIs o p) e (arrival-is p)
 
-  -- no note stands in a region
+  -- no place inside a region has a note
   pub no_note-inside : (p join : ℕ) (k : Known) → Lies o p join k → claimed_at o p ≡ None
   no_note-inside p join k h =
       let region = crosses-region o 0 (length o.code - 1) h.branch h.crossed.offset
       (at_entry h.known) h.crossed.pattern join h.crossed.state h.crossed.crosses in
       claimed_at-inside o h.branch join p region.1.no_note h.behind h.before
 
-  -- what lies between a branch and its join lies inside
+  -- a place between a branch and its join is inside the region
   pub lies-inside : (p join : ℕ) (k : Known) → Lies o p join k → LiesInside o p
   lies-inside p join k h = record {
     branch = h.branch;
@@ -203,7 +203,7 @@ module _ (o : Parts) where
     before = h.before;
   }
 
--- the check makes of a place what it makes of it where this is known
+-- the result for a place is the result for a visited place at which this is known
 abbrev pub KnownAt : Parts → ℕ → Known → Type 0
 KnownAt o p k = effect_from o p (reached_at o p) ≡ effect_at o p k
 
@@ -212,7 +212,7 @@ abbrev pub FitsHere : Parts → ℕ → Type 0
 FitsHere o p = (k claimed : Known) → reached_at o p ≡ Here k → claimed_at o p ≡ Some claimed → fits k claimed ≡ true
 
 module _ (o : Parts) (p : ℕ) where
-  -- a refusal where none is
+  -- a refusal isn't `None`
   pub no_refusal : {A : Type 0} (r : ℕ × Reason) → ◌≡◌ {A = Option (ℕ × Reason)} (Some r) None → A
   no_refusal r e = absurd cc
 
@@ -246,16 +246,16 @@ module _ (o : Parts) (p : ℕ) where
   unnoted_known k at here =
       ap (effect_from o p) here ∙ ap (λ (c : Option Known). on_entry (entered c (Some k)) (effect_at o p)) at
 
--- before the end of the code the next place follows
+-- a place before the last one falls through to the next
 pub falls_on : (o : Parts) (p : ℕ) (next : Known) → p + 1 < length o.code
     → ◌≡◌ {A = Effect} (if p + 1 == length o.code then Refused RunsOffEnd else Falls next) (Falls next)
 falls_on o p next lt =
     ap (λ (b : Bool). let e : Effect = if b then Refused RunsOffEnd else Falls next in e)
     (ne_eqb (p + 1) (length o.code) (λ e. absurd (omega arith)))
 
--- what the relations say, as long as no place before is refused
+-- what the relations state is computed, as long as no place before is refused
 mutual
-  -- a place that is come to is reached
+  -- what reaches a place in the relations reaches it in the computation
   pub comes-here : (o : Parts) (p : ℕ) (k : Known) → ComesTo o p k → NoneBelow o p → p < length o.code
       → reached_at o p ≡ Here k
   comes-here o p k Starts none inside = reached_at-zero o
@@ -274,14 +274,14 @@ mutual
       ∙ ap joined_at (crosses-crossing o 0 (length o.code - 1) q offset
       (at_entry known) pattern join state crosses)) behind
 
-  -- a visited place is known
+  -- what is known at a visited place in the relations is known there in the computation
   pub visited-known : (o : Parts) (p : ℕ) (k : Known) → VisitedAt o p k → NoneBelow o p → FitsHere o p
       → p < length o.code → KnownAt o p k
   visited-known o p k (Noted q claimed at) none fit inside = noted_known o p (reached_at o p) k refl at fit
   visited-known o p k (Unnoted q known at comes) none fit inside =
       unnoted_known o p k at (comes-here o p k comes none inside)
 
--- a place in a region that is crossed is passed
+-- a place inside a region that is crossed is passed over
 pub lies-reached : (o : Parts) (p : ℕ) (h : LiesInside o p) → NoneBelow o p → p < length o.code
     → reached_at o p ≡ Inside h.join (known_after h.state)
 lies-reached o p h none inside =
@@ -293,7 +293,7 @@ lies-reached o p h none inside =
     ∙ ap joined_at (crosses-crossing o 0 (length o.code - 1) h.branch h.offset
     (at_entry h.known) h.pattern h.join h.state h.crosses)) p h.behind h.before
 
--- what the walk of a region answers is what the check makes of it
+-- a region that is crossed joins in the computation
 pub crossed-joins : (o : Parts) (p : ℕ) (offset : ℤ) (k : Known) (join : ℕ) (after : Known)
     → IsCrossed o p offset k join after → Joins join after ≡ joined_at (crossing_at o p offset k)
 crossed-joins o p offset k join after h =
@@ -301,7 +301,7 @@ crossed-joins o p offset k join after h =
     ∙ ap joined_at (sym (crosses-crossing o 0 (length o.code - 1) p offset
     (at_entry k) h.pattern join h.state h.crosses))
 
--- a region that is blocked is refused there
+-- a region that is refused is refused in the computation
 pub blocked-stuck : (o : Parts) (p : ℕ) (offset : ℤ) (k : Known) (place : ℕ) (reason : Reason)
     → BlockedAt o 0 (length o.code - 1) p offset (at_entry k) place reason
     → Stuck place reason ≡ joined_at (crossing_at o p offset k)

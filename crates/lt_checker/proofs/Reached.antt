@@ -1,4 +1,4 @@
--- What comes to each place of public code, and past the places of a region.
+-- How each place of public code is reached, and the places inside a region.
 use Rattle.std.proofs.Common.{◌≡◌, ℕ, zero, suc, ◌+◌, ◌-◌, ◌<◌, ◌≤◌, Bool, refl, ap, ◌∙◌, subst, arith, add-one}
 use Rattle.std.specs.Prelude.{if◌then◌else◌}
 use Rattle.std.proofs.lemmas.Bool.{eq-eqb, ne_eqb}
@@ -28,9 +28,9 @@ arrival-before p join k lt =
 arrival-join : (p join : ℕ) (k : Known) → p ≡ join → arrival_at p (Joins join k) ≡ Here k
 arrival-join p join k e = ap (λ (b : Bool). if b then Here k else Inside join k) (eq-eqb p join e)
 
--- behind a branch at p that a region joins
+-- after a branch at p whose region joins
 module _ (o : Parts) (p join : ℕ) (k : Known) (joins : effect_from o p (reached_at o p) ≡ Joins join k) where
-  -- the places before the join lie inside the region
+  -- each place before the join is inside the region
   inside_by : (n : ℕ) → p + n + 1 < join → reached_at o (p + n + 1) ≡ Inside join k
   inside_by zero lt =
       subst (λ (q : ℕ). reached_at o q ≡ Inside join k) (omega arith)
@@ -42,12 +42,12 @@ module _ (o : Parts) (p join : ℕ) (k : Known) (joins : effect_from o p (reache
       (reached_at-next o q ∙ ap (λ (a : Arrival). arrival_at (q + 1) (effect_from o q a)) before
       ∙ ap (arrival_at (q + 1)) (effect_from-inside o q join k) ∙ arrival-before (q + 1) join k (omega arith))
 
-  -- each place between a branch and its join is inside
+  -- each place between a branch and its join is inside the region
   pub reached-inside : (q : ℕ) → p < q → q < join → reached_at o q ≡ Inside join k
   reached-inside q after before =
       subst (λ (r : ℕ). reached_at o r ≡ Inside join k) (omega arith) (inside_by (q - p - 1) (omega arith))
 
-  -- what the effect is there
+  -- the result at each place from the branch to the join
   effect_inside : (q : ℕ) → p ≤ q → q < join → effect_from o q (reached_at o q) ≡ Joins join k
   effect_inside q low high = at (q - p) (omega arith)
     where
@@ -55,7 +55,7 @@ module _ (o : Parts) (p join : ℕ) (k : Known) (joins : effect_from o p (reache
       at zero e = subst (λ (r : ℕ). effect_from o r (reached_at o r) ≡ Joins join k) (omega arith) joins
       at (suc n) e = ap (effect_from o q) (reached-inside q (omega arith) high) ∙ effect_from-inside o q join k
 
-  -- and the join is reached with what is known there
+  -- the join is reached with what is known there
   pub reached-join : p < join → reached_at o join ≡ Here k
   reached-join lt =
       let q = join - 1 in

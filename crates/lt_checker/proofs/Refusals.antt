@@ -1,5 +1,5 @@
--- The refusals that the check finds place by place are those of the relations, and an object is accepted exactly where
--- it finds none.
+-- The refusals that the check finds place by place are those of the relations, and an object is accepted exactly if the
+-- check finds none.
 use Rattle.std.proofs.Common.{◌≡◌, ℕ, zero, suc, ◌+◌, ◌-◌, ◌<◌, ◌≤◌, Bool, true, false, MatchBool, ℤ, length, ◌⊎◌, inl, inr, Option, Some, None, Result, Ok, Err, refl, sym, ap, ◌∙◌, subst, ⊎_elim, arith}
 use Rattle.std.specs.Prelude.{if◌then◌else◌}
 use Rattle.std.proofs.lemmas.Option.{slice_get_past}
@@ -19,7 +19,7 @@ use Rattle.region_walk.proofs.WalkRelations.{CrossingIs, crossing-is, crosses-cr
 use Rattle.lt_checker.specs.ByPlace.{Effect, Refused, Falls, Leaves, Joins, Stuck, joined_at, crossing_at, effect_of, effect_at, entered, on_entry, Arrival, Unreached, Here, Inside, effect_from, reached_at, refusal_in, refusal_at, NoneBelow, IsFirstFound}
 use Rattle.lt_checker.proofs.PlaceRelations.{EffectIs, effect-is, effect-ruled, here-comes, inside-lies, lies-inside, FitsHere, no_refusal, fits-here, comes-here, visited-known, lies-reached}
 
--- what reaches a place fits its note, by the relations and by the test
+-- if what reaches a place fits its note in the relations, it passes the test
 pub fits_tested : (o : Parts) (p : ℕ) → FitsNote o p → FitsHere o p
 fits_tested o p fitting k claimed here at =
     (fits-claim o p k claimed at).1 (fitting k claimed (here-comes o p k here) at)
@@ -28,13 +28,13 @@ fits_noted : (o : Parts) (p : ℕ) → NoneBelow o p → p < length o.code → F
 fits_noted o p none inside fit k claimed comes at =
     (fits-claim o p k claimed at).0 (fit k claimed (comes-here o p k comes none inside) at)
 
--- what comes to a place is visited, or its note is
+-- a place that something reaches is visited
 comes_visited : (o : Parts) (p : ℕ) (k : Known) (claimed : Option Known) → claimed_at o p ≡ claimed → ComesTo o p k
     → IsVisited o p
 comes_visited o p k None at comes = (k, Unnoted p k at comes)
 comes_visited o p k (Some c) at comes = (c, Noted p c at)
 
--- a ruling that doesn't leave is one of a place of the code
+-- the ruling outside the code falls through to no place
 ruled_outside : (o : Parts) (p : ℕ) (k : Known) → length o.code ≤ p → ruling_at o p k ≡ rule.Leaves
 unfolding ruling_at
 ruled_outside o p k le = ap (rule.ruling_if o p k) (slice_get_past o.code p le)
@@ -91,7 +91,7 @@ module _ (o : Parts) (p : ℕ) (none : NoneBelow o p) (inside : p < length o.cod
       ∙ ap (λ (c : Crossing). refusal_in p (joined_at c))
       (blocked-crossing o 0 (length o.code - 1) p offset (at_entry k) place reason blocked)
 
-  -- each refusal that is found is one of the relations
+  -- each refusal that is found is a refusal of the relations
   abbrev RefusalIs : Option (ℕ × Reason) → Type 0
   RefusalIs None = Unit {0}
   RefusalIs (Some r) = RefusedAt o p r.0 r.1
@@ -116,7 +116,7 @@ module _ (o : Parts) (p : ℕ) (none : NoneBelow o p) (inside : p < length o.cod
   at_known : (k : Known) → FitsNote o p → VisitedAt o p k → RefusalIs (refusal_in p (effect_at o p k))
   at_known k fitting visited = effect_refusal k (effect_at o p k) fitting visited (effect-is o p k)
 
-  -- nothing comes to a place that isn't reached
+  -- if a place isn't reached in the computation, nothing reaches it in the relations
   nothing_comes : reached_at o p ≡ Unreached → (k : Known) → ¬ ComesTo o p k
   nothing_comes here k comes =
       let e : ◌≡◌ {A = Arrival} Unreached (Here k) = sym here ∙ comes-here o p k comes none inside in absurd cc
@@ -167,7 +167,7 @@ module _ (o : Parts) (p : ℕ) (none : NoneBelow o p) (inside : p < length o.cod
   pub found-refused : (place : ℕ) (reason : Reason) → refusal_at o p ≡ Some (place, reason) → RefusedAt o p place reason
   found-refused place reason e = subst RefusalIs e (found_by (reached_at o p) (claimed_at o p) refl refl)
 
--- an accepted object has no refusal
+-- an accepted object has no refusal in the relations
 pub accepted-not_refused : (o : Parts) → Accepts o → (p place : ℕ) (reason : Reason) → p < length o.code
     → ¬ RefusedAt o p place reason
 accepted-not_refused o accepts p place reason inside (Missed q unvisited apart) =
@@ -184,7 +184,7 @@ accepted-not_refused o accepts p place reason inside (InRegion q k offset at r f
     (crosses-crossing o 0 (length o.code - 1) p offset (at_entry k) by.0 by.1 by.2 by.3)
     ∙ blocked-crossing o 0 (length o.code - 1) p offset (at_entry k) place reason blocked in cc)
 
--- a refusal of which the relations know nothing isn't found
+-- if the relations refuse nothing at a place, no refusal is found there
 none_if : (o : Parts) (p : ℕ) → NoneBelow o p → p < length o.code
     → ((place : ℕ) (reason : Reason) → ¬ RefusedAt o p place reason) → refusal_at o p ≡ None
 none_if o p none inside apart = by (refusal_at o p) refl
@@ -193,7 +193,7 @@ none_if o p none inside apart = by (refusal_at o p) refl
     by None e = refl
     by (Some r) e = absurd (apart r.0 r.1 (found-refused o p none inside r.0 r.1 e))
 
--- places of which the relations refuse none have no refusal
+-- if the relations refuse nothing at some places, no refusal is found there
 pub none_up_to : (o : Parts) (n : ℕ) → n ≤ length o.code
     → ((p place : ℕ) (reason : Reason) → p < n → ¬ RefusedAt o p place reason) → NoneBelow o n
 none_up_to o zero le apart = λ q lt. absurd (omega arith)
@@ -208,12 +208,12 @@ none_up_to o (suc n) le apart =
     (none_if o n before (omega arith) (λ place reason. apart n place reason (omega arith))))
     (cases_lt q n)
 
--- an accepted object has no refusal
+-- the check finds no refusal in an accepted object
 pub accepts-none : (o : Parts) → Accepts o → NoneBelow o (length o.code)
 accepts-none o accepts =
     none_up_to o (length o.code) (omega arith) (λ p place reason lt. accepted-not_refused o accepts p place reason lt)
 
--- an object without a refusal is accepted
+-- an object in which the check finds no refusal
 module _ (o : Parts) (none : NoneBelow o (length o.code)) where
   below : (p : ℕ) → p < length o.code → NoneBelow o p
   below p inside = λ q lt. none q (omega arith)
@@ -242,7 +242,7 @@ module _ (o : Parts) (none : NoneBelow o (length o.code)) where
   region_crossed p k offset (Blocked place reason) inside visited is h =
       absurd (not_refused p place reason inside (InRegion p k offset place reason (fitting p inside) visited is h))
 
-  -- an object without a refusal is accepted
+  -- such an object is accepted if no secret variable is in plain memory
   pub none_is_accepted : has_secret_in_ram o ≡ false → Accepts o
   none_is_accepted symbols = record {
     symbols = symbols;
@@ -264,7 +264,7 @@ module _ (o : Parts) (none : NoneBelow o (length o.code)) where
         (crossing-is o 0 (length o.code - 1) p offset (at_entry k) (omega arith));
   }
 
--- the refusal that is found first is that of the lowest place that is refused
+-- the refusal that is found first is the lowest of the relations
 pub found-lowest : (o : Parts) (place : ℕ) (reason : Reason) → IsFirstFound o place reason
     → IsLowestRefusal o place reason
 found-lowest o place reason h = record {
@@ -278,7 +278,7 @@ found-lowest o place reason h = record {
       ∙ h.none_below q lt);
 }
 
--- the lowest refusal is the first that is found
+-- the lowest refusal of the relations is found first
 pub lowest-found : (o : Parts) (place : ℕ) (reason : Reason) → IsLowestRefusal o place reason
     → IsFirstFound o place reason
 lowest-found o place reason h =
@@ -291,7 +291,7 @@ lowest-found o place reason h =
       none_below = none;
     }
 
--- the first that is found is the first refusal
+-- the refusal that is found first is the object's first
 pub found_is_first : (o : Parts) (place : ℕ) (reason : Reason) → has_secret_in_ram o ≡ false
     → IsFirstFound o place reason → FirstRefusal o place reason
 found_is_first o place reason symbols h =

@@ -1,4 +1,4 @@
--- Two runs at the entry of a region, and at its join: what public code says of them, and what the walk says.
+-- Two runs at the entry of a region, and at its join: from public code to the walk, and back.
 use Rattle.std.proofs.Common.{◌≡◌, ℕ, ◌<◌, Bool, true, false, ◌||◌, ℤ, pos, List, [], get_or, Option, Some, None, refl, sym, ap, ◌∙◌, subst, ⊎_elim}
 use Rattle.std.specs.Prelude.{if◌then◌else◌, is_none}
 use Rattle.std.proofs.lemmas.Bool.{or_left, true≢false, false≢true}
@@ -33,11 +33,11 @@ in_common b (Bound b1 a1 words1) (Bound b2 a2 words2) h = record {
 }
 
 module _ (k : Known) (s t : State) (related : Related k s t) where
-  -- the first run at the entry is described
+  -- the state of the walk at the entry describes the first run
   pub entry_first : Describes s (at_entry k) s
   entry_first = describes_entry k s (λ j b known. (in_common b (slot s j) (slot t j) (related.slots j b known)).first)
 
-  -- so is the second
+  -- the state of the walk at the entry describes the second run
   pub entry_second : Describes t (at_entry k) t
   entry_second = describes_entry k t (λ j b known. (in_common b (slot s j) (slot t j) (related.slots j b known)).second)
 
@@ -56,7 +56,7 @@ module _ (k : Known) (s t : State) (related : Related k s t) where
   slot_agrees j None is = tt
   slot_agrees j (Some b) is = bank_agrees j b (is_ram b) (is_eram b) refl refl (related.slots j b is)
 
-  -- both agree on what is known there
+  -- both runs agree on all trees of that state
   pub entry_agrees : Agrees s t (at_entry k)
   entry_agrees = record {
     trees = λ r tree held.
@@ -113,7 +113,7 @@ held_alike s t ram (OramSlot bank) x y b hx hy agrees is =
       words = λ in_ram. absurd (true≢false (sym (or_left (is_ram bank) (is_eram bank) in_ram) ∙ hx.hidden));
     }))
 
--- a register that is public has a tree
+-- a public register has a tree
 record HasTree (x : Option Value) : Type 0 where
   tree : Value
   is : x ≡ Some tree
@@ -122,7 +122,7 @@ has_tree : (x : Option Value) → is_none x ≡ false → HasTree x
 has_tree None e = absurd (true≢false e)
 has_tree (Some t) e = record { tree = t; is = refl }
 
--- both are related behind the region
+-- both runs are related after the region
 pub related_after : (o : Parts) (s t : State) (known : SymState) (u v : State) → bank_blocks s 0 ≡ bank_blocks t 0
     → Agrees s t known → Describes s known u → Describes t known v → IsShaped o u → IsShaped o v → u.place ≡ v.place
     → u.cycle ≡ v.cycle → Related (known_after known) u v

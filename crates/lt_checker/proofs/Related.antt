@@ -1,5 +1,5 @@
--- Two runs that may differ in secrets alone, under what is known where they stand; and the changes of their states that
--- keep them so.
+-- Two runs that may differ only in secrets, given what is known at their place; and the changes of their states that
+-- keep them related.
 use Rattle.std.proofs.Common.{◌≡◌, ℕ, ◌+◌, ◌<◌, ◌≤◌, Bool, true, false, ℤ, pos, List, [], length, get_or, set, Option, Some, None, sym, ap, ◌∙◌, subst, ⊎_elim, arith, length-set, get_or-set_same, get_or-set_other}
 use Rattle.std.proofs.lemmas.List.{get_or_past, set-get_or}
 use Rattle.std.proofs.lemmas.Bool.{cases_eq, cases_lt, true≢false, eq-eqb, or_left}
@@ -11,19 +11,19 @@ use Rattle.lt_isa.specs.Step.{start_of, passed}
 use Rattle.trace_patterns.specs.Known.{Known, is_secret, bank_known, set_secret, set_bank}
 use Rattle.trace_patterns.specs.Rules.{shows_block}
 
--- what two slots that are bound to bank b have alike: in plain memory the block and its words, in encrypted memory the
--- block, in an oblivious bank nothing more
+-- how two slots bound to bank b are alike: in plain memory in the block and its words, in encrypted memory in the
+-- block, and in an oblivious bank in nothing more
 pub record BoundAlike (b a1 a2 : ℕ) (words1 words2 : List ℤ) : Type 0 where
   pub block : shows_block b ≡ true → a1 ≡ a2
   pub words : is_ram b ≡ true → words1 ≡ words2
 
--- slots of two runs that hold the same block, where it is shown
+-- slots of two runs that are bound to bank b and are alike
 abbrev pub SlotsAlike : ℕ → Slot → Slot → Type 0
 SlotsAlike b Unbound t = ⊥
 SlotsAlike b (Bound b1 a1 words1) Unbound = ⊥
 SlotsAlike b (Bound b1 a1 words1) (Bound b2 a2 words2) = (b1 ≡ b) × (b2 ≡ b) × BoundAlike b a1 a2 words1 words2
 
--- what two states have alike where k is known
+-- how two states are alike if k is known
 pub record Related (k : Known) (s t : State) : Type 0 where
   pub place : s.place ≡ t.place
   pub cycle : s.cycle ≡ t.cycle
@@ -35,7 +35,7 @@ pub record Related (k : Known) (s t : State) : Type 0 where
   pub second_slots : length t.slots ≡ 8
   pub bank_count : length s.banks ≡ length t.banks
 
--- one entry is set in two lists of one size
+-- one entry is set to the same item in two lists of the same length
 set_alike : {X : Type 0} (xs ys : List X) (i : ℕ) (x y d : X) → length xs ≡ length ys → x ≡ y
     → get_or (set xs i x) i d ≡ get_or (set ys i y) i d
 set_alike xs ys i x y d sizes same =
@@ -46,7 +46,7 @@ set_alike xs ys i x y d sizes same =
     ∙ sym (get_or_past (set ys i y) i d (omega (arith, length-set ys i y))))
     (cases_lt i (length xs))
 
--- an instruction that leads to one place in both
+-- an instruction that leads both runs to one place
 pub passed_alike : (o : Parts) (i : Instr) (taken : Bool) (bank p q : ℕ) (k : Known) (s t : State) → p ≡ q
     → Related k s t → Related k (passed o i taken bank p s) (passed o i taken bank q t)
 passed_alike o i taken bank p q k s t same h = record {
@@ -61,7 +61,7 @@ passed_alike o i taken bank p q k s t same h = record {
   bank_count = h.bank_count;
 }
 
--- a register is set, to one word in both where it is then public
+-- a register is set; if it is public then, to the same word in both
 pub register_alike : (k : Known) (s t : State) (rd : ℕ) (secret : Bool) (x y : ℤ) → Related k s t
     → (secret ≡ false → x ≡ y) → Related (set_secret k rd secret) (set_register s rd x) (set_register t rd y)
 register_alike k s t rd secret x y h same = record {
@@ -95,7 +95,7 @@ register_alike k s t rd secret x y h same = record {
         (omega (arith, length-set k.secret rd secret))) ∙ public')))
         (cases_lt rd (length k.secret))
 
--- a slot is bound to one bank in both
+-- a slot is bound to the same bank in both
 pub slot_alike : (k : Known) (s t : State) (j b : ℕ) (x y : Slot) → j < 8 → Related k s t → SlotsAlike b x y
     → Related (set_bank k j b) (set_slot s j x) (set_slot t j y)
 slot_alike k s t j b x y inside h alike = record {
@@ -147,7 +147,7 @@ slot_alike k s t j b x y inside h alike = record {
         (sym (get_or-set_other t.slots j i y Unbound ne))
         (h.slots i c (sym (get_or-set_other k.banks j i (Some b) None ne) ∙ known)))
 
--- the words of a slot change that stays bound to its bank
+-- a slot's words change, and it stays bound to its bank
 pub words_alike : (k : Known) (s t : State) (j b : ℕ) (x y : Slot) → j < 8 → bank_known k j ≡ Some b → Related k s t
     → SlotsAlike b x y → Related k (set_slot s j x) (set_slot t j y)
 words_alike k s t j b x y inside known h alike =
@@ -156,7 +156,7 @@ words_alike k s t j b x y inside known h alike =
     (ap (set k.banks j) (sym known) ∙ set-get_or k.banks j None) in
     subst (λ (q : Known). Related q (set_slot s j x) (set_slot t j y)) same (slot_alike k s t j b x y inside h alike)
 
--- a block is written, one block with the same words where it is of plain memory
+-- a block is written; in plain memory the same block with the same words in both
 pub block_alike : (k : Known) (s t : State) (b a1 a2 : ℕ) (words1 words2 : List ℤ) → Related k s t
     → BoundAlike b a1 a2 words1 words2 → Related k (set_block s b a1 words1) (set_block t b a2 words2)
 block_alike k s t b a1 a2 words1 words2 h alike = record {

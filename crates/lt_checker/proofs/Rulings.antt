@@ -1,4 +1,4 @@
--- An offset that opens a region is one of an instruction.
+-- The offset of a ruling that opens a region is an instruction's offset.
 use Rattle.std.proofs.Common.{ℕ, Bool, true, false, ◌||◌, ◌&&◌, not, nat_lt, ℤ, length, Option, Some, None}
 use Rattle.std.specs.Prelude.{if◌then◌else◌}
 use Rattle.lt_isa.specs.declared.instructions.Instr.{Instr}

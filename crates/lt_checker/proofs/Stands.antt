@@ -1,4 +1,4 @@
--- Two runs of an accepted object stand at one place that is visited, related under what is known there.
+-- Two runs of an accepted object are at one visited place, related by what is known there.
 use Rattle.std.proofs.Common.{◌≡◌, ◌<◌, length, Option, Some, None, refl}
 use Rattle.lt_isa.specs.Object.{Parts}
 use Rattle.lt_isa.specs.Machine.{State}
@@ -10,7 +10,7 @@ use Rattle.lt_checker.proofs.Related.{Related}
 use Rattle.lt_checker.proofs.Weaker.{weaker}
 use Rattle.lt_checker.proofs.Made.{LandsAt, Reached}
 
--- two runs stand at a visited place, related by what is known there
+-- two runs are at a visited place, related by what is known there
 pub record Stand (o : Parts) (s t : State) : Type 0 where
   pub known : Known
   pub inside : s.place < length o.code
@@ -29,11 +29,11 @@ behind_by o k s t (Some claimed) at accepts reached h = record {
   related = weaker k claimed s t (accepts.fitting s.place reached.inside k claimed reached.comes at) h;
 }
 
--- two related runs stand where they come
+-- two related runs at a place that is reached
 pub stand_behind : (o : Parts) (k : Known) (s t : State) → Accepts o → Reached o s.place k → Related k s t → Stand o s t
 stand_behind o k s t accepts reached h = behind_by o k s t (claimed_at o s.place) refl accepts reached h
 
--- a place that a jump leads to
+-- two related runs at the target of a jump
 pub stand_at : (o : Parts) (k : Known) (s t : State) → LandsAt o s.place k → Related k s t → Stand o s t
 stand_at o k s t lands h = record {
   known = lands.claimed;

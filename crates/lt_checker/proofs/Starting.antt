@@ -1,4 +1,4 @@
--- Two runs on inputs that agree on what is public begin alike, where no secret lies in plain memory.
+-- Two runs on inputs that agree on what is public begin alike, if no secret variable is in plain memory.
 use Rattle.std.proofs.Common.{◌≡◌, ℕ, ◌<◌, Bool, true, false, ◌&&◌, ℤ, List, [], ◌∷◌, length, get_or, Option, Some, None, refl, sym, ◌∙◌, subst, arith}
 use Rattle.std.specs.Prelude.{All}
 use Rattle.std.proofs.lemmas.Bool.{true≢false, false≢true, eq-eqb, false_from_ne_true}
@@ -18,7 +18,7 @@ use Rattle.lt_checker.proofs.Related.{Related}
 use Rattle.lt_checker.proofs.Made.{Reached}
 use Rattle.lt_checker.proofs.Stands.{Stand, stand_behind}
 
--- a symbol of plain memory that isn't secret is public
+-- a symbol in plain memory that isn't secret is public
 public_label : (label : Label) (ram : Bool) → (ram && is_secret_label label) ≡ false → ram ≡ true → label ≡ Public
 public_label Public ram none e = refl
 public_label Secret true none e = absurd (true≢false none)
@@ -51,7 +51,7 @@ start_related o d e range none agree =
       bank_count = first.bank_count ∙ sym second.bank_count;
     }
 
--- both runs stand at the first place
+-- both runs are at the first place
 pub starts_alike : (o : Parts) (d e : List (List ℤ)) → IsInRange o → Accepts o → Agree o d e
     → Stand o (start_state o d) (start_state o e)
 starts_alike o d e range accepts agree =
@@ -67,7 +67,7 @@ agrees_with_itself [] d = tt
 agrees_with_itself (s ∷ symbols) [] = tt
 agrees_with_itself (s ∷ symbols) (x ∷ d) = (λ e. refl, agrees_with_itself symbols d)
 
--- inputs that agree with others agree with themselves
+-- the first of two inputs that agree agrees with itself
 pub agree_first : (o : Parts) (d e : List (List ℤ)) → Agree o d e → Agree o d d
 agree_first o d e agree =
     record {
@@ -77,7 +77,7 @@ agree_first o d e agree =
           d;
     }
 
--- so do the others
+-- the second of two inputs that agree agrees with itself
 pub agree_second : (o : Parts) (d e : List (List ℤ)) → Agree o d e → Agree o e e
 agree_second o d e agree =
     record {

@@ -1,11 +1,11 @@
--- Runs that are related under what is known are related under each claim that it fits.
+-- Runs that are related by what is known are related by each claim that it fits.
 use Rattle.std.proofs.Common.{sym, ◌∙◌}
 use Rattle.std.proofs.lemmas.Bool.{true≢false, false_from_ne_true}
 use Rattle.lt_isa.specs.Machine.{State}
 use Rattle.trace_patterns.specs.Known.{Known, is_secret, FitsClaim}
 use Rattle.lt_checker.proofs.Related.{Related}
 
--- runs that are related by what is known are related by a note that it fits
+-- runs that are related by what is known are related by a claim that it fits
 pub weaker : (k claimed : Known) (s t : State) → FitsClaim k claimed → Related k s t → Related claimed s t
 weaker k claimed s t fit h = record {
   place = h.place;

@@ -1,6 +1,6 @@
--- Acceptance as the check computes it, from each place to the next. Only proofs need it; what people read is `Accepts`
--- of trace_patterns, and both are proved equal.
--- (GhostRider, ASPLOS 2015: the type system of L_T; the order of refusals is this project's profile.)
+-- For the proofs and for private clauses only: acceptance as the check computes it, from each place to the next. What
+-- people read is `Accepts` of trace_patterns; both are proved equal. (GhostRider, ASPLOS 2015: the type system of L_T;
+-- the order of refusals is this project's profile.)
 use Rattle.std.specs.Prelude.{◌≡◌, ℕ, zero, suc, ◌+◌, ◌-◌, ◌<◌, ◌==◌, if◌then◌else◌, ℤ, length, Option, Some, None, Result, Ok, Err}
 use Rattle.lt_isa.specs.Object.{Parts}
 use Rattle.trace_patterns.specs.declared.reasons.Reason.{Reason}
@@ -11,8 +11,8 @@ use Rattle.trace_patterns.specs.Rules as rule
 use Rattle.trace_patterns.specs.Rules.{Ruling, claimed_at, ruling_at}
 use Rattle.region_walk.specs.FuelWalk.{Crossing, Crosses, Blocked, crossing, walk}
 
--- A place is refused; or the next place is reached from it; or it isn't; or a region is crossed, and its join is the
--- next place that is reached; or the region is refused at one of its places.
+-- A place is refused; or it falls through to the next place; or it doesn't; or it opens a region that is crossed, and
+-- the next place that is reached is the join; or it opens a region that is refused at one of its places.
 pub data Effect : Type 0 where
   Refused : (reason : Reason) → Effect
   Falls : (known : Known) → Effect
@@ -20,7 +20,7 @@ pub data Effect : Type 0 where
   Joins : (join : ℕ) (known : Known) → Effect
   Stuck : (place : ℕ) (reason : Reason) → Effect
 
--- what comes of a branch on a secret, whose join may be at the last place at most
+-- the result for a branch on a secret; its join is at the last place at the latest
 abbrev pub joined_at : Crossing → Effect
 joined_at (Crosses pattern join state) = Joins join (known_after state)
 joined_at (Blocked place reason) = Stuck place reason
@@ -28,11 +28,11 @@ joined_at (Blocked place reason) = Stuck place reason
 abbrev pub crossing_at : Parts → ℕ → ℤ → Known → Crossing
 crossing_at o p offset k = crossing o (walk o) 0 (length o.code - 1) p offset (at_entry k)
 
--- behind the last place nothing is reached
+-- the last place must not fall through
 abbrev pub falls_to : Parts → ℕ → Known → Effect
 falls_to o p next = if p + 1 == length o.code then Refused RunsOffEnd else Falls next
 
--- what the check makes of a ruling at place p, where k is known
+-- the check's result for a ruling on place p, if k is known there
 abbrev pub effect_of : Parts → ℕ → Known → Ruling → Effect
 effect_of o p k (rule.Refused reason) = Refused reason
 effect_of o p k (rule.Falls next) = falls_to o p next
@@ -42,8 +42,8 @@ effect_of o p k (rule.Opens offset) = joined_at (crossing_at o p offset k)
 unfoldable pub effect_at : Parts → ℕ → Known → Effect
 effect_at o p k = effect_of o p k (ruling_at o p k)
 
--- What is known at a place: what its note claims, which what reaches the place must fit; without a note what reaches
--- it, and then something must.
+-- What is known at a place. If the place has a note, it is what the note claims, and what reaches the place must fit
+-- it. Otherwise it is what reaches the place, and something must.
 abbrev pub entered : Option Known → Option Known → Result Known Reason
 entered None None = Err NoNote
 entered None (Some reached) = Ok reached
@@ -54,24 +54,24 @@ abbrev pub on_entry : Result Known Reason → (Known → Effect) → Effect
 on_entry (Err reason) go = Refused reason
 on_entry (Ok k) go = go k
 
--- What comes to a place: nothing from the place before it; or what is known there; or the place lies in a region that
--- was crossed, and isn't visited.
+-- How a place is reached: not from the place before it; or from there, with what is known; or the place is inside a
+-- region that was crossed, and isn't visited.
 pub data Arrival : Type 0 where
   Unreached : Arrival
   Here : (known : Known) → Arrival
   Inside : (join : ℕ) (known : Known) → Arrival
 
--- a place that is visited, given what reaches it; a region is left at its join
+-- the result for a visited place, from what reaches it; a place inside a region passes on what is known at the join
 abbrev pub visited : Arrival → (Option Known → Effect) → Effect
 visited Unreached go = go None
 visited (Here k) go = go (Some k)
 visited (Inside join k) go = Joins join k
 
--- what the check makes of a place, given what comes to it
+-- the check's result for a place, from how it is reached
 unfoldable pub effect_from : Parts → ℕ → Arrival → Effect
 effect_from o p arrival = visited arrival (λ reached. on_entry (entered (claimed_at o p) reached) (effect_at o p))
 
--- what comes to a place from the place before it
+-- how a place is reached, from the result for the place before it
 abbrev pub arrival_at : ℕ → Effect → Arrival
 arrival_at p (Refused reason) = Unreached
 arrival_at p (Falls k) = Here k
@@ -83,8 +83,8 @@ unfoldable pub reached_at : Parts → ℕ → Arrival
 reached_at o zero = Here start_known
 reached_at o (suc p) = arrival_at (suc p) (effect_from o p (reached_at o p))
 
--- which place is refused when place p is visited, and why, if one is: p, or a place of the region that a
--- branch at p opens
+-- the refusal that a visit to place p finds, if it finds one: of p, or of a place of the region that a branch at p
+-- opens
 abbrev pub refusal_in : ℕ → Effect → Option (ℕ × Reason)
 refusal_in p (Refused reason) = Some (p, reason)
 refusal_in p (Falls k) = None
@@ -95,7 +95,7 @@ refusal_in p (Stuck place reason) = Some (place, reason)
 abbrev pub refusal_at : Parts → ℕ → Option (ℕ × Reason)
 refusal_at o p = refusal_in p (effect_from o p (reached_at o p))
 
--- no place below one is refused, and the refusal at the lowest place where a visit finds one
+-- no place below one is refused; and the refusal at the lowest place at which a visit finds one
 abbrev pub NoneBelow : Parts → ℕ → Type 0
 NoneBelow o p = (q : ℕ) → q < p → refusal_at o q ≡ None
 

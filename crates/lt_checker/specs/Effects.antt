@@ -1,5 +1,5 @@
--- What the check finds at a place, in the words of the definitions. What is known beside it is told once, in place.
--- For the contracts of private functions, and for proofs.
+-- For the proofs and for private clauses only: the check's results for a place as the definitions have them. In the
+-- code what is known is stored separately, once.
 use Rattle.std.specs.Prelude.{ℕ}
 use Rattle.lt_isa.specs.Ranges.{IsOffset}
 use Rattle.trace_patterns.specs.declared.reasons.Reason.{Reason}
@@ -16,34 +16,34 @@ use Rattle.lt_checker.specs.declared.effects.Effect.TheVariants.{Refused, Falls,
 use Rattle.lt_checker.specs.declared.effects.Arrival.{Arrival}
 use Rattle.lt_checker.specs.declared.effects.Arrival.TheVariants.{Unreached, Here, Inside}
 
--- what is ruled of an instruction, where this is known behind it
+-- the ruling on an instruction after which this is known
 abbrev pub ruled : Ruling → Known → rule.Ruling
 ruled (told.Refused reason) k = rule.Refused reason
 ruled told.Falls k = rule.Falls k
 ruled told.Leaves k = rule.Leaves
 ruled (told.Opens offset) k = rule.Opens offset
 
--- a claim of a branch on a secret
+-- a claim about a branch on a secret
 abbrev pub WhereItOpens : Ruling → Type 0 → Type 0
 WhereItOpens (told.Refused reason) claim = Unit {0}
 WhereItOpens told.Falls claim = Unit {0}
 WhereItOpens told.Leaves claim = Unit {0}
 WhereItOpens (told.Opens offset) claim = claim
 
--- an offset that opens a region is one of an instruction
+-- the offset of a ruling that opens a region is an instruction's offset
 abbrev pub OffsetFits : rule.Ruling → Type 0
 OffsetFits (rule.Refused reason) = Unit {0}
 OffsetFits (rule.Falls k) = Unit {0}
 OffsetFits rule.Leaves = Unit {0}
 OffsetFits (rule.Opens offset) = IsOffset offset
 
--- what is made of a place that was entered, given what is made of one that is visited where this is known
+-- the result for a place that was entered, from the result for a visited place at which this is known
 abbrev pub on_entered : Entry → Known → (Known → place.Effect) → place.Effect
 on_entered (entry.Refused reason) k go = place.Refused reason
 on_entered (entry.Passes join) k go = place.Joins join k
 on_entered entry.Enters k go = go k
 
--- what is made of a place, where this is known at the next one that is reached
+-- the result for a place, if this is known at the next place that is reached
 abbrev pub made : Effect → Known → place.Effect
 made (Refused reason) k = place.Refused reason
 made Falls k = place.Falls k
@@ -51,7 +51,7 @@ made Leaves k = place.Leaves
 made (Joins join) k = place.Joins join k
 made (Stuck at reason) k = place.Stuck at reason
 
--- what comes to a place, where this is known there, or at the join of its region
+-- how a place is reached, if this is known there or at the join of its region
 abbrev pub arrived : Arrival → Known → place.Arrival
 arrived Unreached k = place.Unreached
 arrived Here k = place.Here k

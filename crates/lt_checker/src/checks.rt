@@ -16,10 +16,10 @@ use std::alloc::Global;
 use std::marker::Model;
 use trace_patterns::Reason;
 
-/// Why a check has no accepted object. Both hand the object back as it was.
+/// Why a check has no accepted object. Both variants return the object as it was.
 #[derive(Debug, Drop)]
 pub enum CheckError {
-    /// The first place that a rule refuses, and why.
+    /// The place of the first refusal, and its reason.
     Refused {
         pc: u32,
         reason: Reason,
@@ -31,7 +31,8 @@ pub enum CheckError {
     },
 }
 
-/// An object that is accepted, and so oblivious. It is seen as the object, and [`check`] alone makes one.
+/// An object that the check accepted, and that is therefore oblivious. Contracts see it as the object. Only [`check`]
+/// makes one.
 #[derive(Debug, Drop)]
 pub struct Accepted {
     object: Object,
@@ -60,7 +61,7 @@ impl Accepted {
         &self.object
     }
 
-    /// The object, no longer known to be accepted.
+    /// The object, which is then no longer known to be accepted.
     pub fn into_object(self) -> Object
         ensures object { result ≡ self }
         ensures accepts { Accepts self }
@@ -70,10 +71,10 @@ impl Accepted {
     }
 }
 
-/// Checks an object: it is accepted exactly where no rule refuses it, unless memory runs out, and else the first
-/// refusal is told: the lowest place of public code that is refused, or the place of the region there that blocks it.
-/// The object is handed on as it was. Room is taken for one number a place of code with notes, and for the values of
-/// one region at a time, and each place is looked at once.
+/// Checks an object. It is accepted exactly if no rule refuses it. Otherwise the result is the first refusal: the
+/// lowest place of public code that is refused or, if its region is refused, the place in the region. Either way the
+/// object is returned as it was. Out of memory says nothing about the object. The check takes memory for one number for
+/// each place, if there are notes, and for the values of one region at a time. It examines each place once.
 #[tactic(auto, using(crate::proofs::Soundness::accepted_is_oblivious, crate::proofs::AcceptanceLaws::refused_is_not_accepted))]
 pub fn check(alloc: Global, object: Object) -> Result<Accepted, CheckError>
     ensures object { IfOk result (λ accepted. accepted ≡ object) }
@@ -93,7 +94,7 @@ pub fn check(alloc: Global, object: Object) -> Result<Accepted, CheckError>
     }
 }
 
-// The first refusal of an object, if it is refused.
+// The first refusal of an object, or `None` if the object is accepted.
 #[tactic(auto, using(crate::proofs::Refusals::none_is_accepted, crate::proofs::Refusals::found_is_first))]
 fn first_refusal(alloc: Global, object: &Object) -> Result<Option<Refusal>, Memory>
     ensures accepted { IfOk result (λ found. IfNone found (Accepts object.now)) }
@@ -110,7 +111,7 @@ fn first_refusal(alloc: Global, object: &Object) -> Result<Option<Refusal>, Memo
     lowest_refusal(alloc, object, &table)
 }
 
-// Whether a secret variable lies in plain memory.
+// Whether a secret variable is in plain memory.
 fn has_secret_in_ram(symbols: &[Symbol]) -> bool
     ensures { result ≡ list_any (λ s. is_ram s.bank && is_secret_label s.label) symbols.now }
 {

@@ -5,40 +5,40 @@ ghost use Rattle.lt_checker.specs.Effects.{made, arrived, refused};
 
 use trace_patterns::Reason;
 
-/// What the check makes of a place. What is known at the next place that is reached stands beside it.
+/// The check's result for a place. What is known at the next place that is reached is stored separately.
 #[derive(Clone, Copy, Debug)]
 pub enum Effect {
-    /// It is refused.
+    /// The place is refused.
     Refused(Reason),
-    /// The next place is reached from it.
+    /// The place falls through to the next one.
     Falls,
-    /// The next place isn't reached from it.
+    /// The place doesn't fall through to the next one.
     Leaves,
-    /// A region is crossed. Its join is the next place that is reached.
+    /// The place opens a region that is crossed. The next place that is reached is its join.
     Joins(u32),
-    /// The region that it opens is refused at one of its places.
+    /// The place opens a region that is refused at one of its places.
     Stuck { place: u32, reason: Reason },
 }
 
-/// What comes to a place from the place before it. What is known there, or at the join, stands beside it.
+/// How the place before one reaches it. What is known there, or at the join, is stored separately.
 #[derive(Clone, Copy, Debug)]
 pub enum Arrival {
-    /// Nothing.
+    /// The place before doesn't reach it.
     Unreached,
-    /// The place is reached.
+    /// The place before reaches it.
     Here,
-    /// The place lies in a region that was crossed and joins at a place. It isn't visited.
+    /// The place is inside a region that was crossed, with this join. It isn't visited.
     Inside(u32),
 }
 
-/// What comes of entering a place.
+/// The result of entering a place.
 #[derive(Clone, Copy, Debug)]
 pub enum Entry {
-    /// It is refused.
+    /// The place is refused.
     Refused(Reason),
-    /// It isn't visited, and its region joins at a place.
+    /// The place isn't visited, since it is inside a region with this join.
     Passes(u32),
-    /// It is visited.
+    /// The place is visited.
     Enters,
 }
 
@@ -50,7 +50,7 @@ pub struct Refusal {
 }
 
 impl Effect {
-    /// Which place is refused where the effect is that of a place, and why, if one is.
+    /// The refusal, if this is the effect of `place` and something is refused.
     pub fn refusal(self, place: u32) -> Option<Refusal>
         ensures { (k : Known) → option_map refused result ≡ refusal_in place (made self k) }
     {
@@ -63,7 +63,7 @@ impl Effect {
         }
     }
 
-    /// What comes to the next place, where the effect is that of the place before it.
+    /// How the place before `next` reaches it, if this is the effect of the place before.
     pub fn arrival(self, next: usize) -> Arrival
         ensures { (k : Known) → arrived result k ≡ arrival_at next (made self k) }
     {

@@ -7,10 +7,10 @@ ghost use Rattle.trace_patterns.specs.Rules.{claimed_at};
 ghost use Rattle.trace_patterns.specs.Visits.{VisitedAt};
 ghost use Rattle.trace_patterns.specs.Accepts.{Accepts, FirstRefusal};
 
-/// Does nothing; its clauses are the laws of acceptance. Each object is accepted or has a first refusal, and not both,
-/// and it has one first refusal at most. One thing is known at a place of an accepted object that is visited. What is
-/// known fits a claim exactly where it does so register by register and slot by slot; and what two arms have in common
-/// is said register by register and slot by slot too.
+/// Does nothing; its clauses are the laws of acceptance. Each object is either accepted or has a first refusal, and it
+/// has at most one first refusal. What is known at a visited place of an accepted object is unique. What is known fits
+/// a note's claim exactly if it does so for each register and each slot. What is known at a join is also stated for
+/// each register and each slot.
 pub fn acceptance_laws()
     ensures decided { (o : Parts) → Accepts o ⊎ ((place : ℕ) × (reason : Why) × FirstRefusal o place reason) }
     ensures refused { (o : Parts) (place : ℕ) (reason : Why) → FirstRefusal o place reason → ¬ Accepts o }

@@ -1,8 +1,8 @@
-//! The check of objects: what is accepted, and that every accepted object is oblivious.
+//! The check of objects: which objects are accepted, and that every accepted object is oblivious.
 //!
-//! [`check`] answers an [`Accepted`] object exactly where no rule refuses it, and else the first refusal with the
-//! object handed back. Whatever object is accepted, any two inputs that agree on what is public show the same events at
-//! the same cycles, and no run meets a fault, also where it branches on a secret.
+//! [`check`] returns an [`Accepted`] object exactly if no rule refuses it. Otherwise it returns the first refusal and
+//! the object. For every accepted object, any two inputs that agree on what is public show the same events at the same
+//! cycles, and no run meets a fault, even if it branches on secrets.
 #![tactic(auto)]
 
 mod checks;

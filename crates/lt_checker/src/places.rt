@@ -15,8 +15,8 @@ use region_walk::{Crossing, RegionValues, cross};
 use std::alloc::Global;
 use trace_patterns::{Known, Reason};
 
-/// The refusal at the lowest place of public code where one is found, and none where no place is refused. The table
-/// tells the notes of the object. Each place of public code is looked at once, and each region is walked once.
+/// The first refusal, that of the lowest place of public code that has one, or `None` if no place is refused. `table`
+/// gives the object's note at a place. Each place of public code is examined once, and each region is walked once.
 pub fn lowest_refusal(
     alloc: Global,
     object: &Object,
@@ -51,7 +51,7 @@ pub fn lowest_refusal(
     Ok(None)
 }
 
-// What the check makes of a place, given what comes to it. What is known becomes that of the next place that is
+// The check's result for a place, from how it is reached. `known` becomes what is known at the next place that is
 // reached.
 #[tactic(auto, unfolding(crate::specs::ByPlace::effect_from))]
 fn effect_from(
@@ -75,8 +75,8 @@ fn effect_from(
     }
 }
 
-// Enters a place, given what comes to it, unless it lies in a region that was crossed. What is known becomes what its
-// note claims, if one stands there.
+// Enters a place, from how it is reached, unless it is inside a region that was crossed. If the place has a note,
+// `known` becomes what the note claims.
 fn enter(
     object: &Object,
     table: &[Option<u32>],
@@ -97,7 +97,7 @@ fn enter(
     }
 }
 
-// Enters a place that is visited, given what its note claims and whether it is reached.
+// Enters a visited place, from what its note claims and whether the place before reaches it.
 fn enter_visited(claimed: Option<Known>, is_reached: bool, known: &mut Known) -> Entry
     ensures { (go : Labels → OneEffect)
         → on_entered result known.new go ≡ on_entry (entered claimed (if is_reached then Some known.old else None)) go }
@@ -120,7 +120,8 @@ fn enter_visited(claimed: Option<Known>, is_reached: bool, known: &mut Known) ->
     }
 }
 
-// What the check makes of a place where this is known. Room is taken where a branch on a secret opens a region.
+// The check's result for a place at which `known` is known. It takes memory only if a branch on a secret opens a
+// region.
 #[tactic(auto, unfolding(crate::specs::ByPlace::effect_at))]
 fn effect_at(
     alloc: Global,
@@ -143,7 +144,7 @@ fn effect_at(
     }
 }
 
-// What is ruled at a place. What is known becomes that of the next place, where it is reached.
+// The ruling on a place. If the place falls through, `known` becomes what is known at the next place.
 #[tactic(auto, unfolding(trace_patterns::specs::Rules::ruling_at))]
 fn rule_at(object: &Object, table: &[Option<u32>], place: usize, known: &mut Known) -> Ruling
     requires table { IsTableOf object.now.notes table.now }
@@ -156,7 +157,7 @@ fn rule_at(object: &Object, table: &[Option<u32>], place: usize, known: &mut Kno
     rule_of(object, table, place, known, object.code()[place])
 }
 
-// Behind the last place nothing is reached.
+// The last place must not fall through.
 fn falls(object: &Object, place: usize) -> Effect
     requires { place < length object.now.code }
     ensures { (k : Labels) → made result k ≡ falls_to object.now place k }
@@ -168,8 +169,8 @@ fn falls(object: &Object, place: usize) -> Effect
     Effect::Falls
 }
 
-// A branch on a secret: the region that it opens is crossed, or refused at one of its places. What is known becomes
-// that of the join. It is called seldom.
+// A branch on a secret: the region that it opens is crossed, or refused at one of its places. `known` becomes what is
+// known at the join. Such branches are rare.
 #[inline(never)]
 fn opened(
     alloc: Global,

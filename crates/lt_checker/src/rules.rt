@@ -12,21 +12,21 @@ use lt_isa::instruction_table::target_of;
 use lt_isa::{BankKind, Instr, Object, bank_kind};
 use trace_patterns::{Known, Reason};
 
-/// What is ruled of an instruction. What is known behind it stands beside it.
+/// The ruling on an instruction. What is known after the instruction is stored separately.
 #[derive(Clone, Copy, Debug)]
 pub enum Ruling {
-    /// It is refused.
+    /// The instruction is refused.
     Refused(Reason),
-    /// The next place is reached from it.
+    /// The instruction falls through to the next place.
     Falls,
-    /// The next place isn't reached from it.
+    /// The instruction doesn't fall through to the next place.
     Leaves,
-    /// It is a branch on a secret. It leads on by an offset, and opens a region.
+    /// The instruction is a branch on a secret with this offset, and opens a region.
     Opens(i32),
 }
 
-/// Rules of an instruction at a place, where `known` is known, which becomes what is known behind it. A branch on a
-/// secret leaves it. The table tells the notes of the object.
+/// The ruling on an instruction at a place at which `known` is known. `known` becomes what is known after it; a branch
+/// on a secret leaves it as it is. `table` gives the object's note at a place.
 #[tactic(auto, unfolding(trace_patterns::specs::Rules::ruling_of))]
 pub fn rule_of(
     object: &Object,
@@ -74,7 +74,7 @@ pub fn rule_of(
     }
 }
 
-// A load of a block: where the block's number is seen, it must be public.
+// A load of a block: if the observer sees the block's number, the number must be public.
 fn load_block(known: &mut Known, slot: u8, bank: u8, register: u8) -> Ruling
     requires slot { slot < 8 }
     requires bank { bank < 255 }
@@ -101,7 +101,7 @@ fn stored_block(known: &Known, slot: u8) -> Ruling
     }
 }
 
-// A block's number, which is public where the observer sees it.
+// The number of a block, which is public if the observer sees it.
 fn name_block(known: &mut Known, register: u8, slot: u8) -> Ruling
     requires register { register < 32 }
     requires slot { slot < 8 }
@@ -118,7 +118,7 @@ fn name_block(known: &mut Known, register: u8, slot: u8) -> Ruling
     }
 }
 
-// A load of a word: it is public where it is one of plain memory that is named by no secret.
+// A load of a word: it is public if it is in plain memory and its place there isn't secret.
 fn load_word(known: &mut Known, register: u8, slot: u8, offset: u8) -> Ruling
     requires register { register < 32 }
     requires slot { slot < 8 }
@@ -157,7 +157,8 @@ fn stored_word(known: &Known, register: u8, slot: u8, offset: u8) -> Ruling
     }
 }
 
-// A jump: its target is a place of the code where a note stands that what is known fits. A branch may fall through.
+// A jump: its target must be a place of the code with a note, and what is known must fit the note. A branch may fall
+// through.
 fn jumped(
     object: &Object,
     table: &[Option<u32>],
@@ -184,7 +185,7 @@ fn jumped(
     }
 }
 
-/// What the note at a place of the code claims, if one stands there.
+/// What the note at a place of the code claims, or `None` if the place has no note.
 #[tactic(auto, unfolding(trace_patterns::specs::Rules::claimed_at))]
 pub fn claimed_at(object: &Object, table: &[Option<u32>], place: usize) -> Option<Known>
     requires table { IsTableOf object.now.notes table.now }
@@ -194,7 +195,7 @@ pub fn claimed_at(object: &Object, table: &[Option<u32>], place: usize) -> Optio
     tables::claimed_at(object.notes(), table, place)
 }
 
-/// Whether the observer sees the number of the block where this bank is accessed.
+/// Whether the observer sees the number of the block in an access to this bank.
 pub fn shows_block(bank: u8) -> bool
     ensures { result ≡ shows_block bank }
 {

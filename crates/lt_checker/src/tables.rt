@@ -7,8 +7,8 @@ use lt_isa::Note;
 use std::alloc::{AllocError, Global};
 use trace_patterns::Known;
 
-/// Makes a table that tells for each of so many places which note stands there, or an empty one where there is no note.
-/// Where two notes stand at one place it tells the first.
+/// Makes a table with an entry for each of `places` places: the number of the note there, if there is one, or of the
+/// first if there are two. If there are no notes, the table is empty.
 pub fn table_of(
     alloc: Global,
     notes: &[Note],
@@ -26,7 +26,7 @@ pub fn table_of(
     Ok(table)
 }
 
-// How many of so many places a table has. Most code has no note, and pays for no place then.
+// The number of places that the table has. Most code has no notes, and then the table needs no memory.
 fn room_for(notes: &[Note], places: usize) -> usize
     requires { All (λ n. n.pc < places) notes.now }
     ensures { All (λ n. n.pc < result) notes.now }
@@ -37,7 +37,7 @@ fn room_for(notes: &[Note], places: usize) -> usize
     }
 }
 
-/// What the note at a place claims, if one stands there.
+/// What the note at a place claims, or `None` if the place has no note.
 pub fn claimed_at(notes: &[Note], table: &[Option<u32>], place: usize) -> Option<Known>
     requires table { IsTableOf notes.now table.now }
     requires inside { All (λ n. n.pc < length table.now) notes.now }
@@ -49,7 +49,7 @@ pub fn claimed_at(notes: &[Note], table: &[Option<u32>], place: usize) -> Option
     }
 }
 
-// Which note stands at a place. None stands behind the table, and the clauses alone read the notes.
+// The number of the note at a place. No note is at a place past the table. Only the clauses use the notes.
 #[tactic(auto, using(crate::proofs::NoteTables::none_behind))]
 fn told_at(notes: &[Note], table: &[Option<u32>], place: usize) -> Option<u32>
     requires table { IsTableOf notes.now table.now }
