@@ -1,4 +1,4 @@
--- The walk that only carries a state: one place of it, and a region.
+-- The walk that only carries a state: over one place, and over a region.
 use Rattle.std.proofs.Common.{◌≡◌, ℕ, ◌+◌, ◌-◌, ◌<◌, ◌≤◌, ℤ, true, false, List, [], length, slice_get, Some, sym, ap, ◌∙◌, subst, arith}
 use Rattle.lt_isa.specs.declared.symbols.Note.{Note}
 use Rattle.lt_isa.specs.declared.instructions.Instr.{Instr}
@@ -45,7 +45,7 @@ leads-then o depth end p q r a b c s t u one two = record {
   alone = λ x h. two.alone x (one.alone x h);
 }
 
--- behind an instruction that only goes on
+-- after an instruction that only continues to the next place
 along-alone : (o : Parts) (depth end p : ℕ) (s t : SymState) (i : Instr) → CarriesTo o depth end p s t → p < end
     → slice_get o.code p ≡ Some i → only_goes_on i ≡ true → CarriesTo o depth end (p + 1) (held_behind o s i) t
 along-alone o depth end p s t i (Arrived d e p' s' at) lt here goes = absurd (omega arith)
@@ -72,7 +72,7 @@ along-leads o depth end p old new s behind i ready lt here goes h = record {
       (along-alone o depth end p (sym_of old s) t i c lt here goes);
 }
 
--- nothing is carried behind a halt or a jump
+-- no state is carried over a halt or a jump
 pub halt-nowhere : (o : Parts) (depth end p : ℕ) (s t : SymState) (i : Instr) → p < end → slice_get o.code p ≡ Some i
     → i ≡ Halt → CarriesTo o depth end p s t → ⊥
 halt-nowhere o depth end p s t i lt here is (Arrived d e p' s' at) = absurd (omega arith)
@@ -89,7 +89,7 @@ jump-nowhere o depth end p s t i back lt here is (Along d e p' s' j t' before at
 jump-nowhere o depth end p s t i back lt here is (Through d e p' s' cmp ra rb offset join u t' before at over rest) =
     let f : Jmp back ≡ Br cmp ra rb offset = sym is ∙ instr-once o p i (Br cmp ra rb offset) here at in absurd cc
 
--- at a branch
+-- a state is carried over a branch and its region, and then on
 record IsThrough (o : Parts) (depth end p : ℕ) (offset : ℤ) (s t : SymState) : Type 0 where
   join : ℕ
   state : SymState
@@ -138,11 +138,11 @@ branch-leads o depth end p offset old new s behind Unshaped lt b h = record {
 }
 branch-leads o depth end p offset old new s behind Memory lt b h = tt
 
--- an object without notes is itself
+-- an object without notes is the same without its notes
 pub bare-same : (o : Parts) → o.notes ≡ [] → without_notes o ≡ o
 bare-same o bare = ap (λ (n : List Note). let r : Parts = record o { notes = n } in r) (sym bare)
 
--- a region without a shape
+-- no state is carried over a region without a shape
 pub unshaped-over : (o : Parts) (depth end p : ℕ) (offset : ℤ) (s : SymState) (place : ℕ) (reason : Reason)
     → o.notes ≡ [] → shape o depth end p offset ≡ BadShape place reason → (join : ℕ) (t : SymState)
     → CarriesOver o depth end p offset s join t → ⊥
@@ -152,7 +152,7 @@ unshaped-over o depth end p offset s place reason bare bad join t
     sym bad ∙ ap (λ (a : Parts). shape a depth end p offset) (sym (bare-same o bare)) ∙ arms in
     absurd cc
 
--- a region with a shape
+-- a state is carried over a region with a shape
 module _ (o : Parts) (depth end p : ℕ) (offset : ℤ) (s : SymState) (second join : ℕ) (bare : o.notes ≡ [])
     (arms : shape o depth end p offset ≡ Arms second join) where
   bare_arms : shape (without_notes o) depth end p offset ≡ Arms second join
@@ -176,13 +176,13 @@ module _ (o : Parts) (depth end p : ℕ) (offset : ℤ) (s : SymState) (second j
   both-over left right first behind =
       ByBoth depth end p offset s second join left right bare_arms first behind
 
--- what is carried to the end of an arm
+-- a state that is carried to the end of an arm
 pub arm-carries : (o : Parts) (depth end p next : ℕ) (old new : List Node) (s t : RegionState)
     → LeadsOn o depth end p old s next new t → next ≡ end → CarriesTo o depth end p (sym_of old s) (sym_of new t)
 arm-carries o depth end p next old new s t h at =
     h.carries (sym_of new t) (Arrived depth end next (sym_of new t) at)
 
--- a state is in order at a later place, and over a table that has grown
+-- a state that is in order at a place is in order at a later one
 pub ready-more : (p q : ℕ) (nodes : List Node) (s : RegionState) → p ≤ q → StateIsReady p nodes s
     → StateIsReady q nodes s
 ready-more p q nodes s le h = record { table = h.table; few = omega (arith, h.few); state = h.state }
@@ -195,7 +195,7 @@ ready-grown p q old new s t keeps before now = record {
   state = state_fits-more (length old) (length new) s (keeps-longer old new keeps) before.state;
 }
 
--- what both arms leave alike
+-- what both arms leave alike is in order
 pub alike-ready : (q : ℕ) (nodes : List Node) (s t u : RegionState) → StateIsReady q nodes s → IsCommon s t u
     → StateIsReady q nodes u
 alike-ready q nodes s t u h common = record {

@@ -1,4 +1,4 @@
--- What two states have in common, over numbers and over trees.
+-- What two states know in common, over numbers and over trees.
 use Rattle.std.proofs.Common.{◌≡◌, ℕ, List, length, Option, Some, None, refl, sym, ap, ◌∙◌, subst, ⊎_elim}
 use Rattle.std.proofs.lemmas.List.{ext_get_or, length-map}
 use Rattle.symbolic_values.specs.declared.nodes.Node.{Node}
@@ -16,7 +16,7 @@ use Rattle.region_walk.specs.Slots.{known_tree, origin_of, slot_of, NumberFits, 
 use Rattle.region_walk.specs.States.{number_in, slot_at, sym_of, StateFits, IsCommon}
 use Rattle.region_walk.proofs.Numbered.{tree_held-sym, slot_held-sym, state-same}
 
--- the numbers of what is in common are those of both
+-- what is known in common has the numbers of one of the states
 common-fits : {X : Type 0} (Fits : X → Type 0) (nothing x y z : X) → Fits nothing → Fits x → IsCommonOf nothing x y z
     → Fits z
 common-fits Fits nothing x y z none hx h =
@@ -25,7 +25,7 @@ common-fits Fits nothing x y z none hx h =
     (λ (differs : (x ≡ y → ⊥) × (z ≡ nothing)). subst Fits (sym differs.1) none)
     h
 
--- the join of states that fit fits
+-- what two states know in common fits if the first state fits
 pub state_fits-common : (n : ℕ) (s t u : RegionState) → StateFits n s → IsCommon s t u → StateFits n u
 state_fits-common n s t u hs h = record {
   register_count = h.register_count ∙ hs.register_count;
@@ -118,7 +118,7 @@ module _ (nodes : List Node) (table : IsTable nodes) where
     slots = length-map s.slots (slot_of nodes) ∙ h.slot_count;
   }
 
-  -- the join of numbered states stands for the join
+  -- what two states over numbers know in common represents the join of the states over trees
   pub sym_of-common : (s t u : RegionState) → StateFits (length nodes) s → StateFits (length nodes) t → IsCommon s t u
       → sym_of nodes u ≡ common (sym_of nodes s) (sym_of nodes t)
   sym_of-common s t u hs ht h =

@@ -16,7 +16,7 @@ use Rattle.region_walk.specs.Crossings.{IsCrossed}
 use Rattle.region_walk.proofs.Numbered.{known_after-sym}
 use Rattle.region_walk.proofs.WalkRelations.{CrossingIs, crossing-is}
 
--- what the relations say of the region of a branch in public code
+-- the outcome of the region of a branch in public code, as the relations have it
 from_entry : (o : Parts) (p : ℕ) (offset : ℤ) (k : Known) (u : SymState) (c : Crossing) → u ≡ at_entry k
     → crossing o (walk o) 0 (length o.code - 1) p offset u ≡ c
     → CrossingIs o 0 (length o.code - 1) p offset (at_entry k) c
@@ -25,7 +25,7 @@ from_entry o p offset k u c entry is =
     (ap (crossing o (walk o) 0 (length o.code - 1) p offset) (sym entry) ∙ is)
     (crossing-is o 0 (length o.code - 1) p offset (at_entry k) (omega arith))
 
--- a region that the walk crosses is crossed
+-- a region that the walk crosses is crossed as the relations have it
 pub crossed-in_code : (o : Parts) (end p : ℕ) (offset : ℤ) (k : Known) (nodes new : List Node) (s : RegionState)
     (join : ℕ)
     (way : Way) (known : Known) → end ≡ length o.code - 1 → p < length o.code → sym_of nodes s ≡ at_entry k
@@ -41,7 +41,7 @@ crossed-in_code o end p offset k nodes new s join way known last inside entry h 
   inside = omega (arith, h.within);
 }
 
--- a region that the walk can't cross is blocked
+-- a region that the walk doesn't cross is blocked as the relations have it
 pub blocked-in_code : (o : Parts) (end p : ℕ) (offset : ℤ) (k : Known) (nodes : List Node) (s : RegionState) (place : ℕ)
     (reason : Reason) → end ≡ length o.code - 1 → sym_of nodes s ≡ at_entry k
     → crossing o (walk o) 0 end p offset (sym_of nodes s) ≡ Blocked place reason

@@ -1,4 +1,4 @@
--- What is known at the entry of a region, place by place, and back in public code.
+-- What is known at the entry of a region, item by item, and after the region in public code.
 use Rattle.std.proofs.Common.{◌≡◌, ℕ, zero, suc, ◌+◌, ◌<◌, Bool, true, false, List, length, get_or, map, Option, None, refl, sym, ap, ◌∙◌, subst, arith, length-set}
 use Rattle.std.specs.Prelude.{is_none, replicate}
 use Rattle.std.proofs.lemmas.List.{ext_get_or, get_or_past}
@@ -73,18 +73,18 @@ at_entry-from k nodes s t u h b = record {
     register : (r : ℕ) → r < 32 → known_tree nodes (number_in u r) ≡ entry_tree k r
     register r lt = ap (known_tree nodes) (same r) ∙ h.held_are r lt
 
--- nothing is known at the start
+-- a list of equal items
 get_or-replicate : {X : Type 0} (n : ℕ) (x : X) (i : ℕ) → get_or (replicate n x) i x ≡ x
 get_or-replicate zero x i = get_or_past (replicate zero x) i x (omega arith)
 get_or-replicate (suc n) x zero = refl
 get_or-replicate (suc n) x (suc i) = get_or-replicate n x i
 
--- no register is known at first
+-- at first no register is known
 pub nothing-replicate : (v : Option ℕ) → v ≡ None → (r : ℕ) → get_or (replicate 32 v) r None ≡ None
 nothing-replicate v none r = subst (λ (w : Option ℕ). get_or (replicate 32 w) r None ≡ None) (sym none)
     (get_or-replicate 32 None r)
 
--- no slot is known at first
+-- at first no slot is known
 pub any-replicate : (k : ℕ) → get_or (replicate 8 Any) k Any ≡ Any
 any-replicate k = get_or-replicate 8 Any k
 
@@ -110,12 +110,12 @@ pub start-banks : length start_known.banks ≡ 8
 unfolding start_known
 start-banks = length-replicated 8 (let v : Option ℕ = None in v)
 
--- nothing is known of a slot at the start
+-- at the start no slot's bank is known
 pub start-bank : (j : ℕ) → bank_known start_known j ≡ None
 unfolding start_known
 start-bank j = get_or-replicate 8 None j
 
--- what is known back in public code, place by place
+-- what is known after a region, item by item
 pub known_of-same : (k : Known) (s : RegionState) → length k.secret ≡ 32 → length k.banks ≡ 8 → length s.registers ≡ 32
     → length s.slots ≡ 8 → ((q : ℕ) → q < 32 → is_secret k q ≡ is_none (number_in s q))
     → ((q : ℕ) → q < 8 → bank_known k q ≡ bank_of (slot_at s q)) → k ≡ known_of s

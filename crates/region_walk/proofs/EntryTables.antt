@@ -1,4 +1,4 @@
--- Tables that begin with the values of the entry.
+-- Tables whose first nodes are the values of an entry.
 use Rattle.std.proofs.Common.{◌≡◌, ℕ, ◌+◌, ◌<◌, List, [], length, get_or, take, set, sym, ap, ◌∙◌, subst, arith, length-take-le}
 use Rattle.symbolic_values.specs.declared.nodes.Node.{Node}
 use Rattle.symbolic_values.specs.Trees.{Value, Reg, SlotAt}
@@ -10,12 +10,12 @@ use Rattle.region_walk.specs.Entries.{Numbers, HasEntries, BeginsWithEntries}
 use Rattle.region_walk.proofs.TableGrowth.{gains-own, gains-then, keeps-longer}
 use Rattle.region_walk.proofs.Numbered.{known_more}
 
--- no number yet, and one more
+-- no numbers
 pub numbers-none : (tree : ℕ → Value) (nodes : List Node) (numbers : List ℕ) → IsTable nodes
     → Numbers 0 tree nodes nodes numbers
 numbers-none tree nodes numbers table = record { gains = gains-own nodes table; are = λ i h. absurd (omega arith) }
 
--- one number of an entry more
+-- one more number
 pub numbers-more : (n : ℕ) (tree : ℕ → Value) (old mid new : List Node) (numbers : List ℕ) (found : ℕ)
     → Numbers n tree old mid numbers → n < length numbers → FindsNumber 1 mid new (tree n) found
     → Numbers (n + 1) tree old new (set numbers n found)
@@ -38,7 +38,7 @@ entries-from old mid new registers slots empty first second =
       slots = second.are;
     }
 
--- a table that grows still begins with them, and its first nodes alone have them
+-- a table that grows still begins with the values of an entry
 pub begins-grown : (t : EntryTable) (new : List Node) → HasEntries t → KeepsTrees t.values new
     → BeginsWithEntries (length t.values) (record t { values = new })
 begins-grown t new h keeps = record {
@@ -50,7 +50,7 @@ begins-grown t new h keeps = record {
   slots = λ k lt. keeps _ (SlotAt k) (h.slots k lt);
 }
 
--- the entries are the first values of a table
+-- the first nodes of such a table are a table with the values of an entry
 pub entries-first : (count : ℕ) (t : EntryTable) (kept : List Node) → kept ≡ take count t.values → IsTable kept
     → BeginsWithEntries count t → HasEntries (record t { values = kept })
 entries-first count t kept first table h =

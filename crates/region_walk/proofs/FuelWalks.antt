@@ -13,7 +13,7 @@ use Rattle.trace_patterns.specs.Walk.{untaken_way, taken_way}
 use Rattle.trace_patterns.proofs.Shapes.{shape-arms}
 use Rattle.region_walk.specs.FuelWalk.{WalkFound, Walked, Stops, Crossing, Crosses, Blocked, Walk, same_shown, compared_arms, walked_arms, crossing, after_pattern, after_crossing, after_single, from_place, walk_within, walk}
 
--- a region joins behind its branch, and at an end at most
+-- a region joins after its branch, and at `end` at the latest
 abbrev JoinsWithin : (p end : ℕ) → Crossing → Type 0
 JoinsWithin p end (Crosses pattern join state) = (p < join) × (join ≤ end)
 JoinsWithin p end (Blocked place reason) = Unit {0}
@@ -29,7 +29,7 @@ compared_within o p end join (Walked a s) (Walked b t) behind within = by (same_
     by true = (behind, within)
     by false = tt
 
--- what comes of a place depends on walks from later places up to the same end or an earlier one alone
+-- the result of a place depends only on walks from later places up to the same end or an earlier one
 module _ (o : Parts) (v w : Walk) (end p : ℕ)
     (same : (depth e q : ℕ) (s : SymState) → p < q → e ≤ end → v depth e q s ≡ w depth e q s) where
   record Alike (depth : ℕ) (offset : ℤ) (s : SymState) (made : RegionShape) : Type 0 where
@@ -76,7 +76,7 @@ if_before p end x y lt = ap (λ (b : Bool). if b then x else y) (lt-ltb p end lt
 unless_before : {A : Type 0} (p end : ℕ) (x y : A) → end ≤ p → (if nat_lt p end then x else y) ≡ y
 unless_before p end x y le = ap (λ (b : Bool). if b then x else y) (le-ltb p end le)
 
--- nothing is left to walk
+-- a walk from its end or later shows nothing, with any number of steps left
 within-end : (steps : ℕ) (o : Parts) (depth end p : ℕ) (s : SymState) → end ≤ p
     → walk_within (suc steps) o depth end p s ≡ Walked no_events s
 unfolding walk_within
@@ -87,7 +87,7 @@ within-next : (steps : ℕ) (o : Parts) (depth end p : ℕ) (s : SymState) → p
 unfolding walk_within
 within-next steps o depth end p s lt = if_before p end _ _ lt
 
--- more steps than places make no difference
+-- as many steps as there are places left are enough; more make no difference
 enough : (m n : ℕ) (o : Parts) (depth end p : ℕ) (s : SymState) → end ≤ p + m → end ≤ p + n
     → walk_within (suc m) o depth end p s ≡ walk_within (suc n) o depth end p s
 enough zero n o depth end p s hm hn =
@@ -104,12 +104,12 @@ enough (suc m) (suc n) o depth end p s hm hn =
     (λ (le : end ≤ p). within-end (suc m) o depth end p s le ∙ sym (within-end (suc n) o depth end p s le))
     (cases_lt p end)
 
--- at its end a walk has nothing left
+-- a walk from its end or later shows nothing
 pub walk-end : (o : Parts) (depth end p : ℕ) (s : SymState) → end ≤ p → walk o depth end p s ≡ Walked no_events s
 unfolding walk
 walk-end o depth end p s le = within-end (end - p) o depth end p s le
 
--- before it, a walk is what comes of its first place
+-- before its end, a walk is determined by its first place
 pub walk-next : (o : Parts) (depth end p : ℕ) (s : SymState) → p < end
     → walk o depth end p s ≡ from_place o (walk o) depth end p s (slice_get o.code p)
 unfolding walk

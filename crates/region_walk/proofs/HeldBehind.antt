@@ -1,4 +1,4 @@
--- What is known behind one instruction, over numbers and over trees.
+-- What is known after one instruction, over numbers and over trees.
 use Rattle.std.proofs.Common.{◌≡◌, ℕ, ◌<◌, ◌≤◌, ◌==◌, Bool, true, false, ℤ, List, length, Option, Some, None, refl, sym, ap, ◌∙◌, subst, arith}
 use Rattle.std.specs.Prelude.{Result, Ok, Err, IfOk, OnOk, OnErr, IsErr}
 use Rattle.std.proofs.lemmas.Bool.{ne_eqb, eqb-false, eq-eqb}
@@ -23,7 +23,7 @@ use Rattle.region_walk.specs.Carrying.{HoldsBehind}
 use Rattle.region_walk.proofs.TableGrowth.{gains-own, gains-more, keeps-longer}
 use Rattle.region_walk.proofs.Numbered.{tree_held-sym, slot_held-sym, sym_of-keeps, sym_of-register, sym_of-slot, state_fits-more, state_fits-register, state_fits-slot}
 
--- nothing has changed
+-- nothing is changed
 pub same-behind : (o : Parts) (nodes : List Node) (s : RegionState) (i : Instr) → IsTable nodes
     → StateFits (length nodes) s → held_behind o (sym_of nodes s) i ≡ sym_of nodes s → HoldsBehind o nodes s i nodes s
 same-behind o nodes s i table fits e = record {
@@ -83,7 +83,7 @@ module _ (o : Parts) (old new : List Node) (s : RegionState) (fits : StateFits (
             (state_fits-more (length old) (length new) s (keeps-longer old new gains.keeps) fits) hb;
       }
 
--- what each instruction holds
+-- the tree that each instruction writes to its register
 pub li-behind : (o : Parts) (s : SymState) (rd : ℕ) (value : ℤ)
     → held_behind o s (Li rd value) ≡ hold_tree s rd (Some (Const value))
 unfolding held_behind
@@ -165,7 +165,7 @@ eram-behind o nodes s k bank r i one reads =
     let eram : bank == 1 ≡ true = eq-eqb bank 1 one in
     rw (ram, eram, t) refl
 
--- the others change nothing
+-- the other instructions change nothing
 pub nop-behind : (o : Parts) (s : SymState) → held_behind o s Nop ≡ s
 unfolding held_behind
 nop-behind o s = refl

@@ -3,7 +3,7 @@ use Rattle.std.proofs.Common.{ℕ, ◌<◌, ◌≤◌, ◌-◌, ◌^◌, Option,
 use Rattle.std.specs.Prelude.{IfSome}
 use Rattle.region_walk.specs.Slots.{NumberFits}
 
--- numbers below a count have room in a word
+-- numbers below a count fit in a word
 pub held-small : (count : ℕ) (number : Option ℕ) → count ≤ 2 ^ 32 - 1 → NumberFits count number
     → IfSome number (λ n. n < 2 ^ 32 - 1)
 held-small count None le h = tt

@@ -1,4 +1,4 @@
--- Notes rise in place, so those behind a place are found by halving.
+-- Notes are in rising order of place, so those after a place are found by bisection.
 use Rattle.std.proofs.Common.{◌≡◌, ℕ, ◌+◌, ◌<◌, ◌≤◌, Bool, true, false, ◌&&◌, nat_lt, nat_le, List, length, get_or, take, sym, ap, ◌∙◌, subst, ⊎_elim, refl, arith}
 use Rattle.std.specs.List.{list_any}
 use Rattle.std.specs.List.Sorted.{IsNonDecreasingBy, IsPartitionedBy, IsPartitionPoint}
@@ -24,7 +24,7 @@ behind_fails : (low high pc : ℕ) → high ≤ pc → (nat_lt low pc && nat_lt 
 behind_fails low high pc le =
     ap (λ (b : Bool). nat_lt low pc && b) (le-ltb pc high le) ∙ and_false (nat_lt low pc)
 
--- the first note behind a place tells whether one stands before another
+-- the first note after a place decides whether there is one before another place
 module _ (notes : List Note) (low high next : ℕ)
     (before : (k : ℕ) (d : Note) → k < next → (get_or notes k d).pc ≤ low) where
   pub between-first : (d : Note) → next < length notes → low < (get_or notes next d).pc
@@ -53,7 +53,7 @@ module _ (notes : List Note) (low high next : ℕ)
       sym (list_any_none (λ n. nat_lt low n.pc && nat_lt n.pc high) notes
       (λ k e lt. before_fails low high (get_or notes k e).pc (before k e (omega arith))))
 
--- the notes of an object rise in place
+-- the notes of an object are in rising order of place
 notes-rise : (o : Parts) → IsInRange o → IsNonDecreasingBy (λ n. n.pc) o.notes
 notes-rise o range = IsNonDecreasingBy-from_all_adjacent (λ (n : Note). n.pc) o.notes (λ k d lt. up k d lt)
   where
@@ -71,15 +71,15 @@ module _ (o : Parts) (range : IsInRange o) (notes : List Note) (same : notes ≡
   rises : IsNonDecreasingBy (λ n. n.pc) notes
   rises = subst (λ (l : List Note). IsNonDecreasingBy (λ n. n.pc) l) (sym same) (notes-rise o range)
 
-  -- those that stand at a place at most come first
+  -- the notes up to a place come first
   pub notes-parted : IsPartitionedBy (λ n. nat_le n.pc low) notes
   notes-parted = IsPartitionedBy-leb (λ (n : Note). n.pc) notes low rises
 
-  -- the place up to which they stand
+  -- the index of the first note after the place
   module _ (high next : ℕ)
       (point : IsPartitionPoint (λ (n : Note). nat_le n.pc low ≡ true) (λ (n : Note). nat_le n.pc low ≡ false) notes
       next) where
-    -- a note that is found between two places
+    -- whether that note is before another place
     pub between-found : (d : Note) → next < length notes
         → nat_lt (get_or notes next d).pc high ≡ has_note_between o low high
     between-found d inside =
@@ -88,7 +88,7 @@ module _ (o : Parts) (range : IsInRange o) (notes : List Note) (same : notes ≡
         (leb-false (get_or notes next d).pc low (point.1 next d (omega arith) inside)) rises
         ∙ ap (list_any (λ n. nat_lt low n.pc && nat_lt n.pc high)) same
 
-    -- no note is left between two places
+    -- if there is no such note, no note is between two places
     pub between-missed : length notes ≤ next → nat_lt next (length notes) ≡ has_note_between o low high
     between-missed le =
         le-ltb next (length notes) le

@@ -1,4 +1,4 @@
--- States over numbers and the states over trees that they stand for.
+-- States over numbers and the states over trees that they represent.
 use Rattle.std.proofs.Common.{◌≡◌, ℕ, suc, ◌+◌, ◌<◌, ◌≤◌, List, [], ◌∷◌, length, get_or, set, map, Option, Some, None, refl, sym, ap, ◌∙◌, subst, ⊎_elim, arith, length-set, get_or-set_same, get_or-set_other}
 use Rattle.std.specs.Prelude.{is_none}
 use Rattle.std.proofs.lemmas.Bool.{cases_eq, cases_lt}
@@ -16,7 +16,7 @@ use Rattle.region_walk.specs.Slots.{known_tree, origin_of, slot_of, bank_of, Num
 use Rattle.region_walk.specs.States.{number_in, slot_at, with_number, with_known_slot, sym_of, known_of, StateFits}
 use Rattle.region_walk.proofs.TableGrowth.{keeps-tree}
 
--- numbers and slots in a table that grows
+-- numbers and slots keep what they represent in a table that grows
 pub held-keeps : (old new : List Node) → KeepsTrees old new → (v : Option ℕ) → NumberFits (length old) v
     → known_tree new v ≡ known_tree old v
 held-keeps old new keeps None h = refl
@@ -40,7 +40,7 @@ slot_fits-more m n (Ram block origin) le h = omega arith
 slot_fits-more m n (Eram block) le h = omega arith
 slot_fits-more m n (Oram bank) le h = h
 
--- numbers of a table fit a longer one
+-- a state whose numbers are below a count has them below a greater one
 pub state_fits-more : (m n : ℕ) (s : RegionState) → m ≤ n → StateFits m s → StateFits n s
 state_fits-more m n s le h = record {
   register_count = h.register_count;
@@ -49,19 +49,19 @@ state_fits-more m n s le h = record {
   slots = λ k. slot_fits-more m n (slot_at s k) le (h.slots k);
 }
 
--- what the state over trees holds
+-- a register of the state over trees
 pub tree_held-sym : (nodes : List Node) (s : RegionState) (r : ℕ) → tree_held (sym_of nodes s) r
     ≡ known_tree nodes (number_in s r)
 unfolding sym_of
 tree_held-sym nodes s r = get_or-map (known_tree nodes) s.registers r None
 
--- a slot of a numbered state
+-- a slot of the state over trees
 pub slot_held-sym : (nodes : List Node) (s : RegionState) (k : ℕ) → slot_held (sym_of nodes s) k
     ≡ slot_of nodes (slot_at s k)
 unfolding sym_of
 slot_held-sym nodes s k = get_or-map (slot_of nodes) s.slots k Any
 
--- lists that are mapped alike at each place
+-- lists are mapped alike if each item is
 mapped_alike : {X Y : Type 0} (f g : X → Y) (d : X) (xs : List X) → ((i : ℕ) → f (get_or xs i d) ≡ g (get_or xs i d))
     → map f xs ≡ map g xs
 mapped_alike f g d [] h = refl
@@ -70,11 +70,11 @@ mapped_alike f g d (x ∷ xs) h =
     let rest = mapped_alike f g d xs (λ i. h (suc i)) in
     λ i. first i ∷ rest i
 
--- states with the same registers and slots are the same
+-- states with equal registers and slots are equal
 pub state-same : (s t : SymState) → s.registers ≡ t.registers → s.slots ≡ t.slots → s ≡ t
 state-same s t registers slots = λ i. record { registers = registers i; slots = slots i }
 
--- more nodes change no state that names earlier ones
+-- a state represents the same in a table that has grown
 pub sym_of-keeps : (old new : List Node) → KeepsTrees old new → (s : RegionState) → StateFits (length old) s
     → sym_of new s ≡ sym_of old s
 unfolding sym_of
@@ -83,19 +83,19 @@ sym_of-keeps old new keeps s h =
     (λ r. held-keeps old new keeps (number_in s r) (h.registers r)))
     (mapped_alike (slot_of new) (slot_of old) Any s.slots (λ k. slot_of-keeps old new keeps (slot_at s k) (h.slots k)))
 
--- a register or a slot is changed
+-- a register is changed
 pub sym_of-register : (nodes : List Node) (s : RegionState) (r : ℕ) (v : Option ℕ)
     → hold_tree (sym_of nodes s) r (known_tree nodes v) ≡ sym_of nodes (with_number s r v)
 unfolding sym_of
 sym_of-register nodes s r v = state-same _ _ (sym (map-set (known_tree nodes) s.registers r v)) refl
 
--- another block in a slot
+-- a slot is changed
 pub sym_of-slot : (nodes : List Node) (s : RegionState) (k : ℕ) (b : Slot)
     → hold_slot (sym_of nodes s) k (slot_of nodes b) ≡ sym_of nodes (with_known_slot s k b)
 unfolding sym_of
 sym_of-slot nodes s k b = state-same _ _ refl (sym (map-set (slot_of nodes) s.slots k b))
 
--- what holds of an item where one was changed
+-- a property of each item after one was changed
 pub set_cases : {X : Type 0} (P : X → Type 0) (xs : List X) (i j : ℕ) (y d : X) → P y → P d → P (get_or xs j d)
     → P (get_or (set xs i y) j d)
 set_cases P xs i j y d here none other =
@@ -108,7 +108,7 @@ set_cases P xs i j y d here none other =
     (λ (ne : j ≡ i → ⊥). subst P (sym (get_or-set_other xs i j y d ne)) other)
     (cases_eq j i)
 
--- what is known of each item up to one that is set
+-- a property of one more item, which was changed
 pub known_more : {X : Type 0} (P : ℕ → X → Type 0) (xs : List X) (n : ℕ) (v d : X) → n < length xs
     → ((r : ℕ) → r < n → P r (get_or xs r d)) → P n v → (r : ℕ) → r < n + 1 → P r (get_or (set xs n v) r d)
 known_more P xs n v d inside below here r lt =
@@ -118,7 +118,7 @@ known_more P xs n v d inside below here r lt =
     (λ (other : r ≡ n → ⊥). subst (P r) (sym (get_or-set_other xs n r v d other)) (below r (omega arith)))
     (cases_eq r n)
 
--- another number in a register
+-- a register with a number below the count
 pub state_fits-register : (n : ℕ) (s : RegionState) (r : ℕ) (v : Option ℕ) → StateFits n s → NumberFits n v
     → StateFits n (with_number s r v)
 state_fits-register n s r v h hv = record {
@@ -128,7 +128,7 @@ state_fits-register n s r v h hv = record {
   slots = h.slots;
 }
 
--- another block in a slot fits
+-- a slot with numbers below the count
 pub state_fits-slot : (n : ℕ) (s : RegionState) (k : ℕ) (b : Slot) → StateFits n s → NumberedSlotFits n b
     → StateFits n (with_known_slot s k b)
 state_fits-slot n s k b h hb = record {
@@ -138,7 +138,7 @@ state_fits-slot n s k b h hb = record {
   slots = λ q. set_cases (NumberedSlotFits n) s.slots k q b Any hb tt (h.slots q);
 }
 
--- back in public code
+-- the bank of a slot
 bank-same : (nodes : List Node) (b : Slot) → slot_bank (slot_of nodes b) ≡ bank_of b
 bank-same nodes Any = refl
 bank-same nodes (Ram block origin) = refl
@@ -157,7 +157,7 @@ mapped_twice f g h (x ∷ xs) same =
     let rest = mapped_twice f g h xs same in
     λ i. first i ∷ rest i
 
--- what is known behind a region
+-- what is known after a region
 pub known_after-sym : (nodes : List Node) (s : RegionState) → known_after (sym_of nodes s) ≡ known_of s
 unfolding sym_of known_of
 known_after-sym nodes s =

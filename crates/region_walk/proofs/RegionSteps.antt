@@ -29,7 +29,7 @@ use Rattle.region_walk.proofs.Numbered.{sym_of-keeps, state_fits-more}
 use Rattle.region_walk.proofs.CommonStates.{sym_of-common, state_fits-common}
 use Rattle.region_walk.proofs.WayLaws.{WalksOn, after-walked, after-stops, going-is, going-end, gaps-none}
 
--- a way that begins with some cycles
+-- a way that begins with some cycles and no event is in order
 pub ready-from : (q : ℕ) (nodes : List Node) (way : Way) (n : ℕ) (s : RegionState) → IsTable nodes → length nodes
     ≤ 40 + 4 * q
     → StateFits (length nodes) s → way.pattern ≡ with_gap no_events n → way.state ≡ s → n ≤ 128 * q
@@ -42,7 +42,7 @@ ready-from q nodes way n s table few fits pattern state le = record {
   gaps = subst (GapsWithin (128 * q)) (sym pattern) (gaps-none (128 * q) n le);
 }
 
--- a walk of an arm, where some cycles come first
+-- a walk of an arm, after some cycles
 module _ (o : Parts) (depth end start : ℕ) (nodes : List Node) (way : Way) (n : ℕ) (s : SymState)
     (pattern : way.pattern ≡ with_gap no_events n) (state : sym_of nodes way.state ≡ s) where
   arm-is : going o depth end start nodes way ≡ after_pattern (gap n) (walk o depth end start s)
@@ -52,12 +52,12 @@ module _ (o : Parts) (depth end start : ℕ) (nodes : List Node) (way : Way) (n 
       (walk o depth end start (sym_of nodes way.state))) pattern
       ∙ ap (λ (u : SymState). after_pattern (gap n) (walk o depth end start u)) state
 
-  -- an arm that stops
+  -- an arm whose walk stops
   pub arm-stops : (q : ℕ) (reason : Reason) → going o depth end start nodes way ≡ Stops q reason
       → walk o depth end start s ≡ Stops q reason
   arm-stops q reason e = after-stops (gap n) (walk o depth end start s) q reason (sym arm-is ∙ e)
 
-  -- an arm that is walked
+  -- an arm whose walk reaches its end
   pub arm-walks : (next : ℕ) (new : List Node) (behind : Way) → GoesTo o depth end start nodes way next new behind
       → next ≡ end → WalksOn (gap n) (walk o depth end start s) (over_trees new behind.pattern)
       (sym_of new behind.state)
@@ -65,7 +65,7 @@ module _ (o : Parts) (depth end start : ℕ) (nodes : List Node) (way : Way) (n 
       after-walked (gap n) (walk o depth end start s) (over_trees new behind.pattern) (sym_of new behind.state)
       (sym arm-is ∙ h.same ∙ going-end o depth end next new behind (omega arith))
 
--- a region of which an arm stops
+-- a region of which one arm stops
 module _ (o : Parts) (depth end p : ℕ) (offset : ℤ) (s : SymState) (t join : ℕ)
     (arms : shape o depth end p offset ≡ Arms t join) where
   compared-is : (f g : WalkFound) → walk o (depth + 1) (t - 1) (p + 1) s ≡ f → walk o (depth + 1) join t s ≡ g
@@ -86,7 +86,7 @@ module _ (o : Parts) (depth end p : ℕ) (offset : ℤ) (s : SymState) (t join :
       → crossing o (walk o) depth end p offset s ≡ Blocked q reason
   second-blocks a u q reason first e = compared-is (Walked a u) (Stops q reason) first e
 
-  -- both arms come to their ends
+  -- the walks of both arms reach their ends
   module _ (a b : Shown TreeEvent) (u v : SymState) (first : walk o (depth + 1) (t - 1) (p + 1) s ≡ Walked a u)
       (second : walk o (depth + 1) join t s ≡ Walked b v) where
     choice : Bool → Crossing
@@ -108,7 +108,7 @@ module _ (o : Parts) (depth end p : ℕ) (offset : ℤ) (s : SymState) (t join :
         both ∙ ap choice (false_from_ne_true (same_shown (untaken_way o a) (taken_way o b))
         (λ e. differs ((decides_shown (untaken_way o a) (taken_way o b)).0 e)))
 
--- what the comparison of the two ways over numbers says
+-- the comparison of the two ways over numbers
 module _ (o : Parts) (depth end p : ℕ) (offset : ℤ) (t join : ℕ) (arms : shape o depth end p offset ≡ Arms t join)
     (old mid new : List Node) (s : RegionState) (one two : Way) (first_keeps : KeepsTrees old mid)
     (second_keeps : KeepsTrees mid new)
@@ -132,7 +132,7 @@ module _ (o : Parts) (depth end p : ℕ) (offset : ℤ) (t join : ℕ) (arms : s
   longer : length mid ≤ length new
   longer = keeps-longer mid new second_keeps
 
-  -- two ways that were compared make the region
+  -- two ways that were compared decide the outcome of the region
   pub ways-compared : (made : Region) → p + 1 < join → join ≤ end → GapsWithin (128 * (join - p)) two.pattern
       → IsCompared p join o.profile.taken one two made → IsRegionWalk o depth end p offset old s made new
   unfolding jump

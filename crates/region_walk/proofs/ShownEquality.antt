@@ -1,4 +1,4 @@
--- Patterns of trees are the same exactly where they compare as equal.
+-- Patterns over trees are equal exactly if they compare as equal.
 use Rattle.std.proofs.Common.{◌≡◌, true, ◌==◌, refl, ap, subst}
 use Rattle.std.specs.Bool.{Decides}
 use Rattle.std.specs.Cmp.Lexicographic.{pointwise}
@@ -27,7 +27,7 @@ same_event-own (Oram b) = eq-eqb b b refl
 decides_event : (a b : TreeEvent) → Decides (same_event a b) (a ≡ b)
 decides_event a b = (same_event-true a b, λ e. subst (λ (x : TreeEvent). same_event a x ≡ true) e (same_event-own a))
 
--- what the comparison of two patterns of trees says
+-- the comparison of two patterns over trees decides whether they are equal
 pub decides_shown : (p q : Shown TreeEvent) → Decides (same_shown p q) (p ≡ q)
 unfolding same_shown
 decides_shown p q = (

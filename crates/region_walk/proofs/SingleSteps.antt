@@ -35,7 +35,7 @@ use Rattle.region_walk.specs.Stores.{IsStore, IsWordStore}
 use Rattle.region_walk.proofs.TableGrowth.{gains-own, gains-more, keeps-longer}
 use Rattle.region_walk.proofs.Numbered.{tree_held-sym, slot_held-sym, sym_of-keeps, sym_of-register, sym_of-slot, state_fits-more, state_fits-register, state_fits-slot}
 
--- what an instruction without an event costs
+-- an operation takes fewer than 128 cycles
 operation-few : (p : Profile) → ProfileFits p → (op : Op) → operation_cost p op < 128
 operation-few p fits Add = omega arith
 operation-few p fits Sub = omega arith
@@ -49,15 +49,15 @@ operation-few p fits Xor = omega arith
 operation-few p fits Shl = omega arith
 operation-few p fits Shr = omega arith
 
--- an operation takes few cycles
+-- an instruction with an operation takes fewer than 128 cycles
 pub alu-few : (o : Parts) → IsInRange o → (op : Op) (rd ra rb : ℕ) → cost_of o (Alu op rd ra rb) false 0 < 128
 alu-few o range op rd ra rb = operation-few o.profile range.profile op
 
--- so does an access to a word
+-- a read or a write of a word takes fewer than 128 cycles
 pub word-few : (o : Parts) → IsInRange o → o.profile.word < 128
 word-few o range = let h = range.profile.word in omega arith
 
--- nothing has changed
+-- an instruction that changes nothing
 module _ (o : Parts) (nodes : List Node) (table : IsTable nodes) (s : RegionState) (fits : StateFits (length nodes) s)
   where
     pub goes-same : (i : Instr) (shown : Shown TreeEvent)
@@ -68,7 +68,7 @@ module _ (o : Parts) (nodes : List Node) (table : IsTable nodes) (s : RegionStat
       fits = fits;
     }
 
-    -- an instruction that does nothing
+    -- an instruction without any effect
     pub nop-single : IsSingle o nodes s Nop (Quiet 1) nodes s
     unfolding single
     nop-single = record { on = goes-same Nop (gap 1) refl; few = omega arith }
@@ -118,7 +118,7 @@ module _ (o : Parts) (nodes : List Node) (table : IsTable nodes) (s : RegionStat
         (ap (λ (b : SymSlot). if_stored b (quietly o (Stw rs k ro) (sym_of nodes s)))
         (slot_held-sym nodes s k ∙ ap (slot_of nodes) (sym at))) is
 
-    -- a load to an oblivious bank
+    -- a load from an oblivious bank
     pub oram-single : (k bank r : ℕ) → 2 ≤ bank → bank < 255
         → IsSingle o nodes s (Ldb k bank r) (Shows (number.Oram bank)) nodes (with_known_slot s k (slot.Oram bank))
     unfolding single
@@ -134,7 +134,7 @@ module _ (o : Parts) (nodes : List Node) (table : IsTable nodes) (s : RegionStat
           number = tt;
         }
 
--- a register becomes a value that was found
+-- a register gets a value that was found
 module _ (o : Parts) (old new : List Node) (s : RegionState) (fits : StateFits (length old) s) (i : Instr) where
   pub goes-register : (rd most : ℕ) (shown : Shown TreeEvent) (t : Option Value) (v : Option ℕ)
       → single o (sym_of old s) i ≡ whole.Goes shown (hold_tree (sym_of old s) rd t) → most ≤ 4
@@ -180,7 +180,7 @@ module _ (o : Parts) (old new : List Node) (s : RegionState) (fits : StateFits (
             (state_fits-more (length old) (length new) s (keeps-longer old new gains.keeps) fits) hb;
       }
 
-  -- a block that was found is loaded
+  -- a block whose number was found is loaded
   pub goes-found : (k found : ℕ) (block : Value) (shows : Value → TreeEvent) (holds : Value → SymSlot) (b : Slot)
       → FindsNumber 2 old new block found
       → single o (sym_of old s) i ≡ whole.Goes (event (shows block)) (hold_slot (sym_of old s) k (holds block))
@@ -191,7 +191,7 @@ module _ (o : Parts) (old new : List Node) (s : RegionState) (fits : StateFits (
       (e ∙ ap (λ (t : Value). whole.Goes (event (shows t)) (hold_slot (sym_of old s) k (holds block)))
       (sym h.number.tree)) (omega arith) h.gains (is ∙ ap holds h.number.tree) hb
 
--- instructions over trees, by what they read
+-- the results of instructions over trees, by what they read
 pub li-goes : (o : Parts) (s : SymState) (rd : ℕ) (value : ℤ)
     → single o s (Li rd value) ≡ whole.Goes (gap 1) (hold_tree s rd (Some (Const value)))
 unfolding single
@@ -213,7 +213,7 @@ alu-goes o nodes s op rd ra rb a b left right =
     ∙ ap (λ (t : Option Value). whole.Goes (gap (operation_cost o.profile op))
     (hold_tree (sym_of nodes s) rd (applied_trees op (known_tree nodes a) t))) second
 
--- the number of a slot's block
+-- a read of the number of a slot's block
 pub idb-single : (o : Parts) (nodes : List Node) (s : RegionState) (rd k : ℕ) (b : Slot) → b ≡ slot_at s k
     → single o (sym_of nodes s) (Idb rd k) ≡ if_bound (slot_of nodes b)
     (whole.Goes (gap 1) (hold_tree (sym_of nodes s) rd (block_held (slot_of nodes b))))
@@ -239,7 +239,7 @@ ldw-single o nodes s rd k ro b v at reads =
     ∙ ap (λ (t : Option Value). if_bound (slot_of nodes b)
     (whole.Goes (gap o.profile.word) (hold_tree (sym_of nodes s) rd (word_held o (slot_of nodes b) t)))) place
 
--- a slot that is bound
+-- an instruction with a slot that is bound
 pub bound-goes : (nodes : List Node) (b : Slot) (go : whole.Single) → (b ≡ slot.Any → ⊥)
     → if_bound (slot_of nodes b) go ≡ go
 bound-goes nodes slot.Any go some = absurd (some refl)
@@ -247,7 +247,7 @@ bound-goes nodes (slot.Ram block origin) go some = refl
 bound-goes nodes (slot.Eram block) go some = refl
 bound-goes nodes (slot.Oram bank) go some = refl
 
--- a load of a block whose number is seen
+-- a load of a block of plain memory
 pub ram-goes : (o : Parts) (nodes : List Node) (s : RegionState) (k bank r i : ℕ) → bank ≡ 0 → Some i ≡ number_in s r
     → single o (sym_of nodes s) (Ldb k bank r) ≡ whole.Goes (event (RamRead (named_block o bank (tree_of nodes i))))
     (hold_slot (sym_of nodes s) k (RamSlot (named_block o bank (tree_of nodes i)) Loaded))
@@ -275,7 +275,7 @@ loads_none o s k bank r none true eram is is' lt = rw (is, none) refl
 loads_none o s k bank r none false true is is' lt = rw (is, is', none) refl
 loads_none o s k bank r none false false is is' lt = absurd (omega (arith, eqb-false bank 0 is, eqb-false bank 1 is'))
 
--- a load by a secret address is refused
+-- a load from a secret address is refused
 pub secret-refuses : (o : Parts) (nodes : List Node) (s : RegionState) (k bank r : ℕ) → bank < 2 → None ≡ number_in s r
     → single o (sym_of nodes s) (Ldb k bank r) ≡ whole.Refuses SecretAddress
 unfolding single
@@ -283,18 +283,18 @@ secret-refuses o nodes s k bank r lt reads =
     let t : tree_held (sym_of nodes s) r ≡ None = tree_held-sym nodes s r ∙ ap (known_tree nodes) (sym reads) in
     loads_none o (sym_of nodes s) k bank r t (bank == 0) (bank == 1) refl refl lt
 
--- instructions that are refused, and branches
+-- an instruction that is refused, or is a branch
 pub halt-refuses : (o : Parts) (s : SymState) → single o s Halt ≡ whole.Refuses HaltInSecret
 unfolding single
 halt-refuses o s = refl
 
--- a jump alone is refused
+-- a jump is refused
 pub jump-refuses : (o : Parts) (s : SymState) (offset : ℤ)
     → single o s (Jmp offset) ≡ whole.Refuses (jump_refused offset)
 unfolding single
 jump-refuses o s offset = refl
 
--- a branch branches
+-- a branch opens a region
 pub br-branches : (o : Parts) (s : SymState) (cmp : Cmp) (ra rb : ℕ) (offset : ℤ)
     → single o s (Br cmp ra rb offset) ≡ whole.Branches offset
 unfolding single

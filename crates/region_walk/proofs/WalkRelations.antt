@@ -1,4 +1,5 @@
--- What a walk finds, step by step, is what the relations say, and a region is crossed or blocked as they say.
+-- The results of a walk, step by step, satisfy the relations, and a region is crossed or blocked as the relations have
+-- it.
 use Rattle.std.proofs.Common.{◌≡◌, ℕ, zero, suc, ◌+◌, ◌-◌, ◌<◌, ◌≤◌, Bool, true, false, ℤ, length, get_or, Some, refl, sym, ap, ◌∙◌, subst, ⊎_elim, arith}
 use Rattle.std.specs.Prelude.{slice_get, if◌then◌else◌}
 use Rattle.std.proofs.lemmas.Bool.{cases_lt, false_from_ne_true, false≢true}
@@ -21,12 +22,12 @@ use Rattle.region_walk.specs.FuelWalk.{WalkFound, Walked, Stops, Crossing, Cross
 use Rattle.region_walk.proofs.ShownEquality.{decides_shown}
 use Rattle.region_walk.proofs.FuelWalks.{walk-end, walk-next}
 
--- what the relations say of a result
+-- what the relations state about the result of a walk
 abbrev pub FoundIs : Parts → (depth end p : ℕ) → SymState → WalkFound → Type 0
 FoundIs o depth end p s (Walked pattern u) = WalksTo o depth end p s pattern u
 FoundIs o depth end p s (Stops place reason) = StopsAt o depth end p s place reason
 
--- a crossing is what the relations say
+-- what the relations state about the outcome of a region
 abbrev pub CrossingIs : Parts → (depth end p : ℕ) → ℤ → SymState → Crossing → Type 0
 CrossingIs o depth end p offset s (Crosses pattern join u) =
     CrossesTo o depth end p offset s pattern join u × (p < join) × (join ≤ end)
@@ -57,7 +58,7 @@ module _ (o : Parts) (depth end p : ℕ) (offset : ℤ) (s : SymState) (t join :
           Differ depth end p offset s t join a u b v arms first second
           (λ ways. false≢true (sym is ∙ (decides_shown (untaken_way o a) (taken_way o b)).1 ways))
 
--- one place, where the walks from later places find what the relations say
+-- one place, if the walks from later places satisfy the relations
 module _ (o : Parts) (end p : ℕ) (inside : end ≤ length o.code)
     (go : (depth e q : ℕ) (s : SymState) → p < q → q ≤ e → e ≤ end → FoundIs o depth e q s (walk o depth e q s)) where
   arms_is : (depth : ℕ) (offset : ℤ) (s : SymState) (made : RegionShape) → shape o depth end p offset ≡ made
@@ -128,18 +129,18 @@ found_within (suc steps) o depth end p s inside le few =
     (ended o depth end p s (omega arith)))
     (cases_lt p end)
 
--- what a walk finds is what the relations say
+-- the result of a walk satisfies the relations
 pub walk-is : (o : Parts) (depth end p : ℕ) (s : SymState) → end ≤ length o.code → p ≤ end
     → FoundIs o depth end p s (walk o depth end p s)
 walk-is o depth end p s inside le = found_within (end - p) o depth end p s inside le (omega arith)
 
--- the computed crossing is
+-- the computed outcome of a region satisfies the relations
 pub crossing-is : (o : Parts) (depth end p : ℕ) (offset : ℤ) (s : SymState) → end ≤ length o.code
     → CrossingIs o depth end p offset s (crossing o (walk o) depth end p offset s)
 crossing-is o depth end p offset s inside =
     crossing_is o end p inside (λ d e q t after low high. walk-is o d e q t (omega arith) low) depth offset s
 
--- what the relations say is what a walk finds
+-- what the relations state is computed
 compared_crosses : (o : Parts) (p join : ℕ) (a b : Shown TreeEvent) (s t : SymState) → untaken_way o a ≡ taken_way o b
     → compared_arms o p join (Walked a s) (Walked b t) ≡ Crosses (untaken_way o a) join (common s t)
 compared_crosses o p join a b s t ways =
@@ -154,7 +155,7 @@ compared_differs o p join a b s t differ =
     (false_from_ne_true (same_shown (untaken_way o a) (taken_way o b))
     (λ e. differ ((decides_shown (untaken_way o a) (taken_way o b)).0 e)))
 
--- the place that a walk begins with, and the arms of a region
+-- the first place of a walk, and the arms of a region
 module _ (o : Parts) (depth end p : ℕ) (s : SymState) where
   begins : (i : Instr) (made : Single) → p < end → slice_get o.code p ≡ Some i → single o s i ≡ made
       → walk o depth end p s ≡ after_single o (walk o) depth end p s made
@@ -184,7 +185,7 @@ mutual
       (crosses-crossing o depth end p offset s shown join t crosses)
       ∙ ap (after_pattern shown) (walks-walk o depth end join t rest u walks)
 
-  -- what crosses by the relation is computed so
+  -- a region that is crossed by the relations is crossed in the computation
   pub crosses-crossing : (o : Parts) (depth end p : ℕ) (offset : ℤ) (s : SymState) (pattern : Shown TreeEvent)
       (join : ℕ) (u : SymState)
       → CrossesTo o depth end p offset s pattern join u
@@ -213,7 +214,7 @@ mutual
       (crosses-crossing o depth end p offset s shown join t crosses)
       ∙ ap (after_pattern shown) (stops-walk o depth end join t place reason stops)
 
-  -- what is blocked by the relation is computed so
+  -- a region that is blocked by the relations is blocked in the computation
   pub blocked-crossing : (o : Parts) (depth end p : ℕ) (offset : ℤ) (s : SymState) (place : ℕ) (reason : Reason)
       → BlockedAt o depth end p offset s place reason → crossing o (walk o) depth end p offset s ≡ Blocked place reason
   blocked-crossing o depth end p offset s place reason (ByShape d e p' f s' q r bad) =

@@ -1,4 +1,4 @@
--- A walk goes on at a later place as it would have gone on before.
+-- A walk continues at a later place exactly as it would have continued before.
 use Rattle.std.proofs.Common.{◌≡◌, ℕ, ◌+◌, ◌-◌, ◌*◌, ◌<◌, ◌≤◌, ℤ, List, length, get_or, Some, refl, sym, ap, ◌∙◌, subst, arith}
 use Rattle.std.specs.Prelude.{slice_get}
 use Rattle.std.proofs.lemmas.Option.{slice_get-get_or}
@@ -25,7 +25,7 @@ use Rattle.region_walk.specs.declared.walks.Found.TheVariants.{Reaches, Stops as
 use Rattle.region_walk.proofs.TableGrowth.{keeps-then, keeps-longer}
 use Rattle.region_walk.proofs.WayLaws.{gaps-more, gaps-gap, gaps-event, gaps-joined, after-both, after-gap, after-event, going-is, going-next}
 
--- nothing was walked yet
+-- before the first step
 pub goes_to-own : (o : Parts) (depth end place : ℕ) (nodes : List Node) (way : Way) → place ≤ end
     → WayIsReady place nodes way → GoesTo o depth end place nodes way place nodes way
 goes_to-own o depth end place nodes way le ready = record {
@@ -37,7 +37,7 @@ goes_to-own o depth end place nodes way le ready = record {
   same = refl;
 }
 
--- one way behind another
+-- two ways in sequence
 pub goes_to-then : (o : Parts) (depth end a b c : ℕ) (x y z : List Node) (u v w : Way) → GoesTo o depth end a x u b y v
     → GoesTo o depth end b y v c z w → GoesTo o depth end a x u c z w
 goes_to-then o depth end a b c x y z u v w first second = record {
@@ -71,12 +71,12 @@ module _ (o : Parts) (depth end place : ℕ) (old new : List Node) (way : Way) (
       (after_pattern shown (walk o depth end (place + 1) (sym_of new behind))))
       (sym (over_trees-keeps old new way.pattern on.gains.keeps ready.numbers))
 
-  -- the table and the state behind it are in order
+  -- the table has few values after the instruction
   few : (shown : Shown TreeEvent) (behind : RegionState) → ShowsSingle o old way.state i shown new behind
       → length new ≤ 40 + 4 * (place + 1)
   few shown behind on = let room = on.gains.room in let held = ready.few in omega arith
 
-  -- an instruction that shows this, where the gaps grow by 128 cycles at most
+  -- an instruction that shows a pattern and makes gaps at most 128 cycles longer
   steps_on : (shown : Shown TreeEvent) (pattern : Shown SymEvent) (behind : RegionState)
       → ShowsSingle o old way.state i shown new behind → NumbersBelow (length new) pattern
       → ((m n : ℕ) → m + 128 ≤ n → GapsWithin m way.pattern → GapsWithin n pattern)
@@ -100,7 +100,7 @@ module _ (o : Parts) (depth end place : ℕ) (old new : List Node) (way : Way) (
         ∙ sym (going-is o depth end (place + 1) new (record { pattern = pattern; state = behind }));
   }
 
-  -- the numbers of the way so far
+  -- the numbers of the pattern so far are in the table
   numbers_on : (shown : Shown TreeEvent) (behind : RegionState) → ShowsSingle o old way.state i shown new behind
       → NumbersBelow (length new) way.pattern
   numbers_on shown behind on =
@@ -197,7 +197,7 @@ pub read-at : (o : Parts) (code : List Instr) (place : ℕ) → code ≡ o.code 
 read-at o code place same inside =
     slice_get-get_or o.code place Nop inside ∙ ap (λ (l : List Instr). Some (get_or l place Nop)) (sym same)
 
--- what comes of a place where a region was crossed, or where memory ran out
+-- the result of a place whose region was crossed, or at which memory ran out
 pub crossed-next : (o : Parts) (depth end place : ℕ) (old new : List Node) (way before crossed after : Way) (i : Instr)
     (offset : ℤ) (join : ℕ) (found : Found') → WayIsReady place old way → place < end → slice_get o.code place ≡ Some i
     → single o (sym_of old way.state) i ≡ whole.Branches offset

@@ -18,28 +18,28 @@ use Rattle.region_walk.specs.declared.walks.Way.{Way}
 use Rattle.region_walk.specs.States.{sym_of}
 use Rattle.region_walk.specs.Ways.{GapsWithin, going}
 
--- gaps
+-- a greater bound for the gaps of a pattern
 pub gaps-more : (m n : ℕ) (p : Shown SymEvent) → m ≤ n → GapsWithin m p → GapsWithin n p
 gaps-more m n p le h = record {
   parts = λ k d lt. let small = h.parts k d lt in omega arith;
   last = let small = h.last in omega arith;
 }
 
--- a gap more
+-- a longer last gap
 pub gaps-gap : (m n : ℕ) (p : Shown SymEvent) → GapsWithin m p → GapsWithin (m + n) (with_gap p n)
 gaps-gap m n p h = record {
   parts = λ k d lt. let small = h.parts k d lt in omega arith;
   last = let small = h.last in omega arith;
 }
 
--- an event more
+-- one more event
 pub gaps-event : (m : ℕ) (p : Shown SymEvent) (e : SymEvent) → GapsWithin m p → GapsWithin m (with_event p e)
 gaps-event m p e h = record {
   parts = All-push (λ (part : ℕ × SymEvent). part.0 ≤ m) p.parts (p.last, e) h.parts h.last;
   last = omega arith;
 }
 
--- a pattern more
+-- two patterns in sequence
 pub gaps-joined : (m n : ℕ) (p q : Shown SymEvent) → GapsWithin m p → GapsWithin n q → GapsWithin (m + n) (joined p q)
 gaps-joined m n p q hp hq = by q.parts q.last hq.parts hq.last
   where
@@ -66,24 +66,24 @@ gaps-first m p h = by p.parts p.last h.parts h.last
     by [] last h le = le
     by (part ∷ parts) last h le = h 0 part (omega arith)
 
--- a gap alone
+-- a pattern of one gap
 pub gaps-none : (m n : ℕ) → n ≤ m → GapsWithin m (with_gap no_events n)
 gaps-none m n le = record { parts = λ k d lt. absurd (omega arith); last = omega (arith, zero-add n) }
 
--- what is shown and then found
+-- two patterns before the rest of a walk
 pub after-both : (p q : Shown TreeEvent) (f : WalkFound)
     → after_pattern p (after_pattern q f) ≡ after_pattern (joined p q) f
 after-both p q (Walked pattern state) = ap (λ (r : Shown TreeEvent). Walked r state) (sym (joined-assoc p q pattern))
 after-both p q (Stops place reason) = refl
 
--- what is found behind a gap
+-- a gap before the rest of a walk
 pub after-gap : (p : Shown TreeEvent) (n : ℕ) (f : WalkFound)
     → after_pattern p (after_pattern (gap n) f) ≡ after_pattern (with_gap p n) f
 after-gap p n f =
     after-both p (gap n) f ∙ ap (λ (r : Shown TreeEvent). after_pattern r f)
     (joined-gap p no_events n ∙ ap (λ (r : Shown TreeEvent). with_gap r n) (joined-no_events p))
 
--- what is found behind an event
+-- an event before the rest of a walk
 pub after-event : (p : Shown TreeEvent) (e : TreeEvent) (f : WalkFound)
     → after_pattern p (after_pattern (event e) f) ≡ after_pattern (with_event p e) f
 after-event p e f =
@@ -91,13 +91,13 @@ after-event p e f =
     ∙ ap (λ (r : Shown TreeEvent). after_pattern r f)
     (joined-event p no_events e ∙ ap (λ (r : Shown TreeEvent). with_event r e) (joined-no_events p))
 
--- what comes of a walk that has shown some pattern first
+-- a walk reaches its end, after a pattern that was shown before
 pub record WalksOn (first : Shown TreeEvent) (f : WalkFound) (whole : Shown TreeEvent) (state : SymState) : Type 0 where
   pub rest : Shown TreeEvent
   pub walked : f ≡ Walked rest state
   pub whole_is : whole ≡ joined first rest
 
--- a walk behind a pattern
+-- if a pattern and then a walk reach an end, the walk does
 pub after-walked : (p : Shown TreeEvent) (f : WalkFound) (q : Shown TreeEvent) (s : SymState)
     → after_pattern p f ≡ Walked q s → WalksOn p f q s
 after-walked p (Walked rest state) q s e =
@@ -108,22 +108,22 @@ after-walked p (Walked rest state) q s e =
 after-walked p (Stops place reason) q s e = absurd (let f : ◌≡◌ {A = WalkFound} (Stops place reason) (Walked q s) = e
     in cc)
 
--- a stop behind a pattern
+-- if a pattern and then a walk stop, the walk does
 pub after-stops : (p : Shown TreeEvent) (f : WalkFound) (at : ℕ) (reason : Reason) → after_pattern p f ≡ Stops at reason
     → f ≡ Stops at reason
 after-stops p (Walked rest state) at reason e =
     absurd (let f : ◌≡◌ {A = WalkFound} (Walked (joined p rest) state) (Stops at reason) = e in cc)
 after-stops p (Stops place why) at reason e = e
 
--- the walk goes on
+-- the walk continues
 module _ (o : Parts) (depth end place : ℕ) (nodes : List Node) (way : Way) where
-  -- what is to come from here on
+  -- what is shown so far, and then the walk from here
   pub going-is : going o depth end place nodes way ≡ after_pattern (over_trees nodes way.pattern)
       (walk o depth end place (sym_of nodes way.state))
   unfolding going
   going-is = refl
 
-  -- nothing is to come at the end
+  -- at the end nothing more is shown
   pub going-end : end ≤ place
       → going o depth end place nodes way ≡ Walked (over_trees nodes way.pattern) (sym_of nodes way.state)
   going-end le =
@@ -132,7 +132,7 @@ module _ (o : Parts) (depth end place : ℕ) (nodes : List Node) (way : Way) whe
       ∙ ap (λ (p : Shown TreeEvent). Walked p (sym_of nodes way.state))
       (joined-no_events (over_trees nodes way.pattern))
 
-  -- what is to come over one instruction
+  -- the walk over one instruction
   pub going-next : (i : Instr) (made : Single) → place < end → slice_get o.code place ≡ Some i
       → single o (sym_of nodes way.state) i ≡ made
       → going o depth end place nodes way ≡ after_pattern (over_trees nodes way.pattern)

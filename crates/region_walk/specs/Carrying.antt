@@ -1,7 +1,6 @@
--- What the walk that only carries a state answers, over the numbers of a table of values. For the contracts of private
--- functions, and for proofs; `IsCarried` is what callers read.
--- (GhostRider, ASPLOS 2015: the rule for secret conditionals of L_T; that nothing but the shape of a region is refused
--- here is this project's profile.)
+-- For the proofs and for private clauses only: the results of the walk that only carries a state, over the numbers of a
+-- table of values. Callers read `IsCarried`. (GhostRider, ASPLOS 2015: the rule for secret conditionals of L_T; that
+-- only a region's shape is refused here is this project's profile.)
 use Rattle.std.specs.Prelude.{◌≡◌, ℕ, ◌+◌, ◌*◌, ◌<◌, ◌≤◌, ℤ, List, length}
 use Rattle.lt_isa.specs.declared.instructions.Instr.{Instr}
 use Rattle.lt_isa.specs.Object.{Parts}
@@ -19,21 +18,21 @@ use Rattle.region_walk.specs.declared.regions.Carried.TheVariants as carried
 use Rattle.region_walk.specs.States.{sym_of, StateFits}
 use Rattle.region_walk.specs.Tables.{TableGains}
 
--- this is known behind an instruction that only goes on
+-- this is known after an instruction that only continues to the next place
 pub record HoldsBehind (o : Parts) (old : List Node) (s : RegionState) (i : Instr) (new : List Node)
     (behind : RegionState) : Type 0 where
   pub is : sym_of new behind ≡ held_behind o (sym_of old s) i
   pub gains : TableGains 4 old new
   pub fits : StateFits (length new) behind
 
--- A state is in order at a place: its numbers are those of the table, which has 40 values for what is known at the
--- entry and 4 more a place at most.
+-- A state is in order at a place: its numbers are in the table, which has at most 40 values for the entry and 4 more
+-- for each place.
 pub record StateIsReady (place : ℕ) (nodes : List Node) (s : RegionState) : Type 0 where
   pub table : IsTable nodes
   pub few : length nodes ≤ 40 + 4 * place
   pub state : StateFits (length nodes) s
 
--- what is carried from a place is carried from a later one
+-- a state is carried from a place exactly as it is carried from a later one
 pub record LeadsOn (o : Parts) (depth end place : ℕ) (nodes : List Node) (s : RegionState) (next : ℕ)
     (nodes' : List Node) (s' : RegionState) : Type 0 where
   pub onward : place ≤ next
@@ -45,13 +44,14 @@ pub record LeadsOn (o : Parts) (depth end place : ℕ) (nodes : List Node) (s : 
   pub alone : (t : SymState)
       → CarriesTo o depth end place (sym_of nodes s) t → CarriesTo o depth end next (sym_of nodes' s') t
 
--- nothing is carried from a place, and the numbers of the table keep their trees
+-- no state is carried from a place, and the numbers of the table keep their trees
 pub record LeadsNowhere (o : Parts) (depth end place : ℕ) (nodes : List Node) (s : RegionState) (nodes' : List Node)
     : Type 0 where
   pub nothing : (t : SymState) → CarriesTo o depth end place (sym_of nodes s) t → ⊥
   pub keeps : KeepsTrees nodes nodes'
 
--- up to an end, and over one place; where a region isn't shaped nothing is carried, and want of memory says nothing
+-- up to an end, and over one place; if a region doesn't have the shape of two arms, nothing is carried; out of memory
+-- says nothing
 abbrev pub IsLed : Parts → ℕ → ℕ → ℕ → List Node → RegionState → Led → List Node → RegionState → Type 0
 IsLed o depth end place nodes s (Reaches next) nodes' s' =
     LeadsOn o depth end place nodes s next nodes' s' × (next ≡ end)
@@ -86,8 +86,8 @@ IsLedOver o depth end place offset nodes s (Reaches join) nodes' s' =
 IsLedOver o depth end place offset nodes s Unshaped nodes' s' = LeadsOverNone o depth end place offset nodes s nodes'
 IsLedOver o depth end place offset nodes s Memory nodes' s' = Unit {0}
 
--- The state k is carried over the region of a branch at p in public code to its join, where next is known then; or no
--- state is. Want of memory says nothing.
+-- What is known, k, is carried over the region of a branch at p in public code to its join, where next is known then;
+-- or nothing is carried. Out of memory says nothing.
 pub record IsCarriedTo (o : Parts) (p : ℕ) (offset : ℤ) (k : Known) (join : ℕ) (next : Known) : Type 0 where
   pub joins : JoinsIn o p offset k join next
   pub behind : p + 1 < join

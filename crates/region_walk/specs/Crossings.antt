@@ -1,5 +1,5 @@
--- What the walk of a region answers.
--- (GhostRider, ASPLOS 2015: the rule for secret conditionals of L_T; the order of refusals is this project's profile.)
+-- The outcome of the walk of a region. (GhostRider, ASPLOS 2015: the rule for secret conditionals of L_T; the order of
+-- refusals is this project's profile.)
 use Rattle.std.specs.Prelude.{◌≡◌, ℕ, ℤ, ◌+◌, ◌-◌, ◌<◌, length}
 use Rattle.lt_isa.specs.Object.{Parts}
 use Rattle.trace_patterns.specs.Patterns.{Shown}
@@ -11,7 +11,7 @@ use Rattle.trace_patterns.specs.Visits.{CrossesFrom}
 use Rattle.region_walk.specs.declared.regions.Crossing.{Crossing}
 use Rattle.region_walk.specs.declared.regions.Crossing.TheVariants.{Crosses, Blocked, Memory}
 
--- the region of a branch at p is crossed, where k is known: its join lies behind the branch in the code, and this is
+-- the region of a branch at p is crossed, if k is known there: its join is after the branch in the code, and this is
 -- known there
 pub record IsCrossed (o : Parts) (p : ℕ) (offset : ℤ) (k : Known) (join : ℕ) (known : Known) : Type 0 where
   pub pattern : Shown TreeEvent
@@ -21,7 +21,7 @@ pub record IsCrossed (o : Parts) (p : ℕ) (offset : ℤ) (k : Known) (join : �
   pub behind : p + 1 < join
   pub inside : join < length o.code
 
--- a region is crossed, or blocked at a place; want of memory says nothing
+-- a region is crossed, or blocked at a place; out of memory says nothing
 abbrev pub IsCrossing : Parts → ℕ → ℤ → Known → Crossing → Type 0
 IsCrossing o p offset k (Crosses join known) = IsCrossed o p offset k join known
 IsCrossing o p offset k (Blocked place reason) = BlockedAt o 0 (length o.code - 1) p offset (at_entry k) place reason

@@ -1,5 +1,5 @@
--- The walk of an arm as steps are counted, and what comes of a region by it: what the code computes. Only proofs need
--- it; the relation that people read is `Walk` of trace_patterns, and both are proved equal.
+-- For the proofs and for private clauses only: the walk of an arm with a bound on its steps, and the outcome of a
+-- region, as the code computes them. The relation that people read is `Walk` of trace_patterns; both are proved equal.
 -- (GhostRider, ASPLOS 2015: the rule for secret conditionals of L_T; the order of refusals is this project's profile.)
 use Rattle.std.specs.Prelude.{ℕ, zero, suc, ◌+◌, ◌-◌, ℤ, Bool, ◌&&◌, ◌==◌, false, if◌then◌else◌, nat_lt, slice_get, Option, Some, None}
 use Rattle.std.specs.Cmp.Lexicographic.{pointwise}
@@ -15,8 +15,7 @@ use Rattle.trace_patterns.specs.Single.{Single, Refuses, Goes, Branches, single}
 use Rattle.trace_patterns.specs.Shape.{RegionShape, BadShape, Arms, shape}
 use Rattle.trace_patterns.specs.Walk.{untaken_way, taken_way}
 
--- A walk comes to its end, with what the code shows and what is known behind it; or it stops at a place that is
--- refused.
+-- A walk reaches its end, with what the code shows and what is known there; or it stops at a place that is refused.
 pub data WalkFound : Type 0 where
   Walked : (pattern : Shown TreeEvent) (state : SymState) → WalkFound
   Stops : (place : ℕ) (reason : Reason) → WalkFound
@@ -26,11 +25,11 @@ pub data Crossing : Type 0 where
   Crosses : (pattern : Shown TreeEvent) (join : ℕ) (state : SymState) → Crossing
   Blocked : (place : ℕ) (reason : Reason) → Crossing
 
--- a walk of code that so many regions lie around: up to an end, from a place where a state is known
+-- a walk of code inside `depth` regions, from a place up to an end, with what is known at the place
 abbrev pub Walk : Type 0
 Walk = (depth end place : ℕ) → SymState → WalkFound
 
--- events, and patterns, that are the same as they stand
+-- events and patterns are equal as they are written
 unfoldable pub same_event : TreeEvent → TreeEvent → Bool
 same_event (RamRead a) (RamRead b) = same_tree a b
 same_event (EncRead a) (EncRead b) = same_tree a b
@@ -58,7 +57,7 @@ walked_arms o walk depth p s (BadShape place reason) = Blocked place reason
 walked_arms o walk depth p s (Arms t join) =
     compared_arms o p join (walk (depth + 1) (t - 1) (p + 1) s) (walk (depth + 1) join t s)
 
--- what comes of the region of a branch at p, where s is known
+-- the outcome of the region of a branch at p, if s is known there
 abbrev pub crossing : Parts → Walk → ℕ → ℕ → ℕ → ℤ → SymState → Crossing
 crossing o walk depth end p offset s = walked_arms o walk depth p s (shape o depth end p offset)
 
@@ -71,20 +70,20 @@ abbrev pub after_crossing : Crossing → (ℕ → SymState → WalkFound) → Wa
 after_crossing (Crosses pattern join state) rest = after_pattern pattern (rest join state)
 after_crossing (Blocked place reason) rest = Stops place reason
 
--- the walk goes on behind an instruction, or at the join of the region that it opens
+-- the walk continues after an instruction, or at the join of the region that it opens
 abbrev pub after_single : Parts → Walk → ℕ → ℕ → ℕ → SymState → Single → WalkFound
 after_single o walk depth end p s (Refuses reason) = Stops p reason
 after_single o walk depth end p s (Goes pattern state) = after_pattern pattern (walk depth end (p + 1) state)
 after_single o walk depth end p s (Branches offset) =
     after_crossing (crossing o walk depth end p offset s) (walk depth end)
 
--- no arm has a place behind the code
+-- no arm has a place after the code
 abbrev pub from_place : Parts → Walk → ℕ → ℕ → ℕ → SymState → Option Instr → WalkFound
 from_place o walk depth end p s None = Stops p RunsOffEnd
 from_place o walk depth end p s (Some i) = after_single o walk depth end p s (single o s i)
 
--- The walk from a place up to an end, in so many steps at most. Each walk within it has fewer places before it, so one
--- step more than there are places before the end is enough; a walk without steps has not come to its end.
+-- The walk from a place up to an end, in at most this many steps. Each walk inside it has fewer places ahead, so one
+-- more step than there are places up to the end is enough. A walk without steps hasn't reached its end.
 unfoldable pub walk_within : ℕ → Parts → Walk
 walk_within zero o depth end p s = Stops p RunsOffEnd
 walk_within (suc fuel) o depth end p s =

@@ -1,10 +1,9 @@
--- How one word stands for a number that may not be known. For the contracts of private functions, and for proofs.
--- (This project's profile.)
+-- For the proofs and for private clauses only: one word for a number that may not be known. (This project's profile.)
 use Rattle.std.specs.Prelude.{◌≡◌, ℕ, ◌^◌, ◌-◌, ◌==◌, Bool, true, false, if◌then◌else◌, Option, Some, None}
 use Rattle.std.proofs.Common.{refl, sym}
 use Rattle.std.proofs.lemmas.Bool.{eqb-true}
 
--- the greatest word stands for none
+-- the greatest word represents no number
 abbrev pub number_in_word : ℕ → Option ℕ
 number_in_word word = if word == 2 ^ 32 - 1 then None else Some word
 
@@ -12,7 +11,7 @@ abbrev pub word_with : Option ℕ → ℕ
 word_with None = 2 ^ 32 - 1
 word_with (Some number) = number
 
--- a word is got back from what it stands for
+-- a word is determined by what it represents
 pub word-back : (word : ℕ) → word_with (number_in_word word) ≡ word
 word-back word = by (word == 2 ^ 32 - 1) (λ e. eqb-true word (2 ^ 32 - 1) e)
   where

@@ -1,4 +1,4 @@
--- Where an instruction leads, and nothing else of it. (This project's profile.)
+-- Where an instruction leads, and nothing else about it. (This project's profile.)
 use Rattle.std.specs.Prelude.{◌≡◌, ℕ, ℤ, true, slice_get, Some}
 use Rattle.gr_word.specs.declared.operations.Cmp.{Cmp}
 use Rattle.lt_isa.specs.Object.{Parts}
@@ -14,7 +14,7 @@ IsNextStep i Halts = i ≡ Halt
 IsNextStep i (Jumps offset) = i ≡ Jmp offset
 IsNextStep i (Branches offset) = (cmp : Cmp) × (ra : ℕ) × (rb : ℕ) × (i ≡ Br cmp ra rb offset)
 
--- a branch stands at a place, whatever it compares
+-- a branch is at a place, with any comparison
 pub record BranchStands (o : Parts) (place : ℕ) (offset : ℤ) : Type 0 where
   pub cmp : Cmp
   pub ra : ℕ

@@ -1,6 +1,5 @@
--- What one instruction of an arm does to a state over numbers, and to the table of values. For the contracts of
--- private functions, and for proofs.
--- (GhostRider, ASPLOS 2015: the type system of L_T; the order of refusals is this project's profile.)
+-- For the proofs and for private clauses only: what one instruction of an arm does to a state over numbers, and to the
+-- table of values. (GhostRider, ASPLOS 2015: the type system of L_T; the order of refusals is this project's profile.)
 use Rattle.std.specs.Prelude.{◌≡◌, ℕ, ◌<◌, ℤ, List, length, slice_get, Some}
 use Rattle.lt_isa.specs.declared.instructions.Instr.{Instr}
 use Rattle.lt_isa.specs.Object.{Parts}
@@ -16,7 +15,7 @@ use Rattle.region_walk.specs.declared.singles.Single.TheVariants.{Refuses, Quiet
 use Rattle.region_walk.specs.Tables.{TableGains}
 use Rattle.region_walk.specs.States.{sym_of, StateFits}
 
--- an instruction shows a pattern, and this is known behind it
+-- an instruction shows a pattern, and this is known after it
 pub record ShowsSingle (o : Parts) (old : List Node) (s : RegionState) (i : Instr) (shown : Shown TreeEvent)
     (new : List Node)
     (behind : RegionState) : Type 0 where
@@ -24,7 +23,7 @@ pub record ShowsSingle (o : Parts) (old : List Node) (s : RegionState) (i : Inst
   pub gains : TableGains 4 old new
   pub fits : StateFits (length new) behind
 
--- it shows none, and takes some cycles; or it shows an event
+-- an instruction shows no event, and takes some cycles; or it shows an event
 pub record GoesQuietly (o : Parts) (old : List Node) (s : RegionState) (i : Instr) (cycles : ℕ) (new : List Node)
     (behind : RegionState) : Type 0 where
   pub on : ShowsSingle o old s i (whole.gap cycles) new behind
@@ -35,7 +34,7 @@ pub record GoesShowing (o : Parts) (old : List Node) (s : RegionState) (i : Inst
   pub on : ShowsSingle o old s i (whole.event (tree_event new event)) new behind
   pub number : NumberBelow (length new) event
 
--- it is a branch, and nothing has changed
+-- an instruction is a branch, and changes nothing
 pub record IsBranch (o : Parts) (old : List Node) (s : RegionState) (i : Instr) (offset : ℤ) (new : List Node)
     (behind : RegionState) : Type 0 where
   pub branches : whole.single o (sym_of old s) i ≡ whole.Branches offset
@@ -43,13 +42,13 @@ pub record IsBranch (o : Parts) (old : List Node) (s : RegionState) (i : Instr) 
   pub nodes : new ≡ old
   pub state : behind ≡ s
 
--- a branch stands at a place
+-- a place has a branch
 pub record BranchesAt (o : Parts) (place : ℕ) (nodes : List Node) (s : RegionState) (offset : ℤ) : Type 0 where
   pub instr : Instr
   pub at : slice_get o.code place ≡ Some instr
   pub branches : whole.single o (sym_of nodes s) instr ≡ whole.Branches offset
 
--- the answer of one instruction; want of memory says nothing
+-- the result of one instruction; out of memory says nothing
 abbrev pub IsSingle : Parts → List Node → RegionState → Instr → Single → List Node → RegionState → Type 0
 IsSingle o old s i (Refuses reason) new behind = whole.single o (sym_of old s) i ≡ whole.Refuses reason
 IsSingle o old s i (Quiet cycles) new behind = GoesQuietly o old s i cycles new behind

@@ -1,5 +1,4 @@
--- What is made of a store in an arm, by what its slot is bound to. For the contracts of private functions, and for
--- proofs.
+-- For the proofs and for private clauses only: the result of a store in an arm, by what its slot is bound to.
 -- (GhostRider, ASPLOS 2015: the type system of L_T; the order of refusals is this project's profile.)
 use Rattle.std.specs.Prelude.{◌≡◌, ℕ}
 use Rattle.trace_patterns.specs.declared.reasons.Reason.TheVariants.{UnboundSlot, RamStoreInSecret}
@@ -9,7 +8,7 @@ use Rattle.region_walk.specs.declared.states.Slot.TheVariants.{Any, Ram, Eram, O
 use Rattle.region_walk.specs.declared.singles.Single.{Single}
 use Rattle.region_walk.specs.declared.singles.Single.TheVariants.{Refuses, Quiet, Shows}
 
--- a block is stored, or a word: never to plain memory, and a slot must be bound
+-- a block is stored, or a word: never in plain memory, and the slot must be bound
 abbrev pub IsStore : Slot → Single → Type 0
 IsStore Any made = made ≡ Refuses UnboundSlot
 IsStore (Ram block origin) made = made ≡ Refuses RamStoreInSecret

@@ -1,11 +1,11 @@
--- What is added to a table of values (this project's profile).
+-- Additions to a table of values (this project's profile).
 use Rattle.std.specs.Prelude.{◌≡◌, ℕ, ◌+◌, ◌≤◌, List, length, Option}
 use Rattle.symbolic_values.specs.declared.nodes.Node.{Node}
 use Rattle.symbolic_values.specs.Trees.{Value}
 use Rattle.symbolic_values.specs.Tables.{IsTable, IsNumber, KeepsTrees}
 use Rattle.region_walk.specs.Slots.{known_tree, NumberFits}
 
--- a table gains so many nodes at most, and its numbers keep their trees
+-- a table gains at most `most` nodes, and its numbers keep their trees
 pub record TableGains (most : ℕ) (old new : List Node) : Type 0 where
   pub table : IsTable new
   pub keeps : KeepsTrees old new

@@ -1,6 +1,6 @@
--- What a walk has shown and what is known behind it, over the numbers of a table of values. For the contracts of
--- private functions, and for proofs.
--- (GhostRider, ASPLOS 2015: the rule for secret conditionals of L_T; the order of refusals is this project's profile.)
+-- For the proofs and for private clauses only: what a walk has shown and what is known after it, over the numbers of a
+-- table of values. (GhostRider, ASPLOS 2015: the rule for secret conditionals of L_T; the order of refusals is this
+-- project's profile.)
 use Rattle.std.specs.Prelude.{◌≡◌, ℕ, ◌+◌, ◌-◌, ◌*◌, ◌<◌, ◌≤◌, ℤ, List, length, All}
 use Rattle.lt_isa.specs.Object.{Parts}
 use Rattle.symbolic_values.specs.declared.nodes.Node.{Node}
@@ -17,17 +17,17 @@ use Rattle.region_walk.specs.declared.walks.Region.TheVariants as region
 use Rattle.region_walk.specs.declared.states.RegionState.{RegionState}
 use Rattle.region_walk.specs.States.{sym_of, StateFits}
 
--- the gaps of a pattern have so many cycles at most
+-- each gap of a pattern has at most `most` cycles
 pub record GapsWithin (most : ℕ) (p : Shown SymEvent) : Type 0 where
   pub parts : All (λ part. part.0 ≤ most) p.parts
   pub last : p.last ≤ most
 
--- a pattern gains so many cycles at most in each gap
+-- each gap of a pattern gains at most `more` cycles
 abbrev pub Widens : ℕ → Shown SymEvent → Shown SymEvent → Type 0
 Widens more p q = (most : ℕ) → GapsWithin most p → GapsWithin (most + more) q
 
--- A way is in order at a place: its numbers are those of the table. There are at most 40 values for what is known at
--- the entry and 4 more a place, and gaps of at most 128 cycles a place.
+-- A way is in order at a place: its numbers are in the table. The table has at most 40 values for the entry and 4 more
+-- for each place, and gaps have at most 128 cycles for each place.
 pub record WayIsReady (place : ℕ) (nodes : List Node) (way : Way) : Type 0 where
   pub table : IsTable nodes
   pub few : length nodes ≤ 40 + 4 * place
@@ -35,12 +35,12 @@ pub record WayIsReady (place : ℕ) (nodes : List Node) (way : Way) : Type 0 whe
   pub numbers : NumbersBelow (length nodes) way.pattern
   pub gaps : GapsWithin (128 * place) way.pattern
 
--- what was shown, and then what the walk shows that goes on at a place
+-- what was shown, and then what the walk from a place shows
 unfoldable pub going : Parts → ℕ → ℕ → ℕ → List Node → Way → whole.WalkFound
 going o depth end place nodes way =
     whole.after_pattern (over_trees nodes way.pattern) (whole.walk o depth end place (sym_of nodes way.state))
 
--- a walk goes on at a later place as it would have gone on before
+-- a walk continues at a later place exactly as it would have continued before
 pub record GoesTo (o : Parts) (depth end place : ℕ) (nodes : List Node) (way : Way) (next : ℕ) (nodes' : List Node)
     (way' : Way) : Type 0 where
   pub onward : place ≤ next
@@ -50,7 +50,7 @@ pub record GoesTo (o : Parts) (depth end place : ℕ) (nodes : List Node) (way :
   pub widens : Widens (128 * (next - place)) way.pattern way'.pattern
   pub same : going o depth end place nodes way ≡ going o depth end next nodes' way'
 
--- the answer of a walk up to its end, and of one place of it; want of memory says nothing
+-- the result of a walk up to its end, and of one place of it; out of memory says nothing
 abbrev pub IsWalk : Parts → ℕ → ℕ → ℕ → List Node → Way → Found → List Node → Way → Type 0
 IsWalk o depth end place nodes way (Reaches next) nodes' way' =
     GoesTo o depth end place nodes way next nodes' way' × (next ≡ end)
@@ -65,7 +65,7 @@ IsNext o depth end place nodes way (Stops at reason) nodes' way' =
     going o depth end place nodes way ≡ whole.Stops at reason
 IsNext o depth end place nodes way Memory nodes' way' = Unit {0}
 
--- the region of a branch is crossed, its join lies behind the branch, and this is shown and known there
+-- the region of a branch is crossed, its join is after the branch, and this is shown up to there and known there
 pub record IsCrossedBy (o : Parts) (depth end place : ℕ) (offset : ℤ) (nodes : List Node) (s : RegionState) (join : ℕ)
     (way : Way) (nodes' : List Node) : Type 0 where
   pub crosses : whole.crossing o (whole.walk o) depth end place offset (sym_of nodes s) ≡ whole.Crosses

@@ -11,7 +11,7 @@ use gr_word::Memory;
 use lt_isa::{Instr, Object};
 use symbolic_values::Values;
 
-/// What is known behind an instruction, whether or not the check refuses it. At most 4 values are new.
+/// `state` becomes what is known after an instruction, whether or not the check refuses it. It adds at most 4 values.
 pub fn hold_behind(
     object: &Object,
     values: &mut Values,
@@ -72,7 +72,8 @@ fn hold_found(
     }
 }
 
-// A slot is bound to a block; to any bank, where the block's number would be seen and isn't known.
+// A slot is bound to a block; if the observer would see the block's number and it isn't known, nothing is known of the
+// slot.
 fn bind_block(
     object: &Object,
     values: &mut Values,

@@ -10,19 +10,19 @@ use crate::states::RegionState;
 use lt_isa::Object;
 use symbolic_values::Values;
 
-/// Where a state is carried.
+/// How far a state is carried.
 #[derive(Clone, Copy, Debug, PartialEq, Eq)]
 pub enum Led {
-    /// To a place.
+    /// To this place.
     Reaches(u32),
-    /// Nowhere: a jump or a halt stands in an arm, or a region isn't shaped as two arms.
+    /// Nowhere: an arm has a jump or a halt, or a region doesn't have the shape of two arms.
     Unshaped,
     /// Memory ran out.
     Memory,
 }
 
-/// Carries a state over code that so many regions lie around, from a place up to an end, whether or not the check
-/// refuses it. The state becomes what is known there.
+/// Carries a state over code inside `depth` regions, from a place up to an end, whether or not the check refuses
+/// something there. The state becomes what is known at the end.
 #[cycle(carries)]
 pub fn carry_to(
     object: &Object,
@@ -51,7 +51,7 @@ pub fn carry_to(
     Led::Reaches(place)
 }
 
-// Carries a state over one instruction, and over the region that it opens where it is a branch.
+// Carries a state over one instruction and, if it is a branch, over the region that it opens.
 #[cycle(carries)]
 fn carry_on(
     object: &Object,
@@ -107,9 +107,8 @@ fn carry_branch(
     carry_over(object, values, state, depth, place, end, offset)
 }
 
-/// Carries a state over the region of a branch at a place that leads on by an offset, where so many regions lie around
-/// it and its join may be at the end at most: through both arms, the first arm first. The state becomes what both leave
-/// alike.
+/// Carries a state over the region of a branch at `place` with `offset`, inside `depth` regions, through both arms, the
+/// first arm first. Its join is at `end` at the latest. The state becomes what both arms leave alike.
 #[cycle(carries)]
 pub fn carry_over(
     object: &Object,

@@ -3,11 +3,11 @@ ghost use Rattle.region_walk.specs.Slots.{IsCommonOf};
 
 use std::marker::Model;
 
-/// The word that stands for no number.
+/// The word that represents no number.
 const NO_NUMBER: u32 = u32::MAX;
 
-/// The number of a value, where it is known, in one word. So a state has half the bytes, and two are compared word by
-/// word.
+/// The number of a value, if it is known, in one word. So a state has half the bytes, and two states are compared word
+/// by word.
 #[derive(Clone, Copy, Debug)]
 pub struct HeldNumber {
     word: u32,
@@ -46,7 +46,7 @@ impl HeldNumber {
         }
     }
 
-    /// The number, where it is known.
+    /// The number, if it is known.
     pub fn number(self) -> Option<u32>
         ensures { result ≡ self }
     {
@@ -57,7 +57,7 @@ impl HeldNumber {
         }
     }
 
-    /// The number that both have, and else none.
+    /// The number, if both have the same, and otherwise none.
     pub fn common(self, other: HeldNumber) -> HeldNumber
         ensures { IsCommonOf None self other result }
     {

@@ -1,8 +1,8 @@
-//! The walk of secret regions: what comes of a branch on a secret, whose two arms must show the same.
+//! The walk of secret regions: the outcome of a branch on a secret, whose two arms must show the same.
 //!
-//! [`cross`] answers exactly what the relations of the walk say, over trees: a region is crossed, and this is known at
-//! its join; or a place blocks it. [`carry`] carries what is known over a region, whatever the check refuses in it.
-//! Trees are numbers of one table, so trees that share parts cost their different parts alone.
+//! [`cross`] computes exactly what the relations of the walk state over trees: a region is crossed, with what is known
+//! at its join, or a place blocks it. [`carry`] carries what is known over a region, whether or not the check refuses
+//! something in it. Trees are numbers of one table, so that trees share the nodes of their common parts.
 #![tactic(auto)]
 
 mod behind;

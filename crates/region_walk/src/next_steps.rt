@@ -2,16 +2,16 @@ ghost use Rattle.region_walk.specs.NextSteps.{IsNextStep};
 
 use lt_isa::Instr;
 
-/// Where an instruction leads, and nothing else of it.
+/// Where an instruction leads, and nothing else about it.
 #[derive(Clone, Copy, Debug, PartialEq, Eq)]
 pub enum NextStep {
-    /// On to the next place alone.
+    /// Only to the next place.
     Goes,
     /// Nowhere.
     Halts,
-    /// To its target alone, by an offset.
+    /// Only to its target, which has this offset.
     Jumps(i32),
-    /// On to the next place, and to its target.
+    /// To the next place, and to its target, which has this offset.
     Branches(i32),
 }
 

@@ -6,7 +6,7 @@ ghost use Rattle.region_walk.specs.Tables.{FindsNumber};
 use gr_base::Memory;
 use symbolic_values::{Node, Values};
 
-/// The number of the tree that a node makes of those that it names. At most one value is new.
+/// The number of the tree of a node. It adds at most one value.
 #[inline(always)]
 pub fn number_for(values: &mut Values, node: Node) -> Result<u32, Memory>
     requires table { IsTable values.old }

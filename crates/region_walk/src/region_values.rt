@@ -10,8 +10,8 @@ use std::alloc::Global;
 use std::marker::Model;
 use symbolic_values::{Node, Values};
 
-/// A table of values with numbers for what is known at an entry: what each register holds there, and the block that
-/// each slot is bound to.
+/// A table of values with numbers for what is known at an entry: what each register holds there, and the block to which
+/// each slot is bound.
 #[derive(Drop)]
 pub struct EntryTable {
     pub values: Values,
@@ -19,9 +19,9 @@ pub struct EntryTable {
     pub slots: [u32; 8],
 }
 
-/// The table of values that serves the regions of an object, one after another, with its room. It is made where the
-/// first region is crossed, so an object without one doesn't pay for it. It changes no answer. It lies on the heap, so
-/// that a pointer alone is handed out and back.
+/// The table of values for the regions of an object, which use its memory in sequence. It is made when the first region
+/// is walked, so that an object without regions doesn't pay for it. It changes no result. It is on the heap, so that
+/// only a pointer is moved out and back.
 #[derive(Drop)]
 pub struct RegionValues {
     kept: Option<Box<EntryTable>>,
@@ -41,14 +41,14 @@ impl Model for RegionValues {
 }
 
 impl RegionValues {
-    /// There is no table yet.
+    /// No table yet.
     pub fn new() -> RegionValues
         ensures { result ≡ None }
     {
         RegionValues { kept: None }
     }
 
-    // Hands out the table, which has the values of an entry alone.
+    // Moves the table out. It has only the values of an entry.
     pub(crate) fn take(&mut self, alloc: Global, object: &Object) -> Result<Box<EntryTable>, Memory>
         ensures { IfOk result (λ table. HasEntries table.value) }
     {
@@ -67,7 +67,7 @@ impl RegionValues {
 }
 
 impl EntryTable {
-    // Keeps so many nodes, which are those of an entry.
+    // Keeps the first `count` nodes, which are those of an entry.
     pub(crate) fn keep_entries(&mut self, count: u32)
         requires { BeginsWithEntries count self.old }
         ensures { HasEntries self.new }
@@ -76,7 +76,7 @@ impl EntryTable {
     }
 }
 
-// A table with the values of an entry alone, for the regions of this object.
+// A table with only the values of an entry, for the regions of this object.
 fn entry_table(alloc: Global, object: &Object) -> Result<Box<EntryTable>, Memory>
     ensures { IfOk result (λ table. HasEntries table.value) }
 {
@@ -116,7 +116,7 @@ fn register_numbers(values: &mut Values) -> Result<[u32; 32], Memory>
     Ok(numbers)
 }
 
-// The numbers of the blocks that slots are bound to at the entry.
+// The numbers of the blocks to which slots are bound at the entry.
 fn slot_numbers(values: &mut Values) -> Result<[u32; 8], Memory>
     requires table { IsTable values.old }
     requires room { length values.old + 8 < 2 ^ 32 }

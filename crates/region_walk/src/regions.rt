@@ -12,21 +12,22 @@ use lt_isa::Object;
 use std::alloc::Global;
 use trace_patterns::{Known, Reason};
 
-/// What comes of the region that a branch on a secret opens in public code.
+/// The outcome of the region that a branch on a secret opens in public code.
 #[derive(Debug, Drop)]
 pub enum Crossing {
-    /// Both ways through it show the same. They meet at the join, a place behind the branch, and this is known there.
+    /// Both ways through the region show the same. They meet at the join, a place after the branch, and this is known
+    /// there.
     Crosses { join: u32, known: Known },
-    /// The region is refused, for a reason, at the place that blocks it first: by its shape, else where the walk of the
-    /// first arm stops, else that of the second, and else at the branch, where the two ways differ.
+    /// The region is refused, for a reason, at the place that blocks it first: for its shape; or where the walk of the
+    /// first arm stops; or where that of the second stops; or at the branch, if the two ways show different things.
     Blocked { place: u32, reason: Reason },
     /// Memory ran out.
     Memory,
 }
 
-/// Crosses the region of a branch on a secret that stands at a place of public code and leads on by an offset, where
-/// this is known at the branch. The join may be at the last place at most. Room is taken for the values and the pattern
-/// of the region, and each place of the region is looked at once. `shared` is kept from one region of the object to the
+/// Crosses the region that a branch on a secret opens in public code. The branch is at `place` and has `offset`, and
+/// `known` is known at it. The join is at the last place at the latest. The walk takes memory for the values and the
+/// pattern of the region, and examines each of its places once. `shared` is kept from one region of the object to the
 /// next.
 pub fn cross(
     alloc: Global,
@@ -56,7 +57,8 @@ pub fn cross(
     }
 }
 
-// Crosses the region, with a table that has the values of an entry alone, and has them alone again where it is crossed.
+// Crosses the region with a table that has only the values of an entry. If the region is crossed, the table has only
+// those again.
 fn cross_in(
     alloc: Global,
     object: &Object,
@@ -96,21 +98,22 @@ fn cross_in(
     }
 }
 
-/// Where what is known at a branch is carried over its region.
+/// The outcome of carrying what is known at a branch over its region.
 #[derive(Debug, Drop)]
 pub enum Carried {
-    /// To its join, a place behind the branch, where this is known then.
+    /// What is known reaches the join, a place after the branch, and this is known there.
     Joins { join: u32, known: Known },
-    /// Nowhere: the region isn't shaped as two arms, or one within it isn't, or a halt or a jump stands in an arm.
+    /// What is known can't be carried over: the region or one inside it doesn't have the shape of two arms, or an arm
+    /// has a halt or a jump.
     Unshaped,
     /// Memory ran out.
     Memory,
 }
 
-/// Carries what is known at a branch of public code over the region that it opens, of an object without notes, whether
-/// or not the check refuses the region: at the join is known what both arms leave alike. The join may be at the last
-/// place at most. Room is taken for the values of the region, and each place of it is looked at once. `shared` is kept
-/// from one region of the object to the next.
+/// Carries what is known at a branch of public code over the region that it opens, in an object without notes, whether
+/// or not the check refuses the region: what both arms leave alike is known at the join. The join is at the last place
+/// at the latest. This takes memory for the values of the region, and examines each of its places once. `shared` is
+/// kept from one region of the object to the next.
 pub fn carry(
     alloc: Global,
     object: &Object,
@@ -143,7 +146,7 @@ pub fn carry(
     }
 }
 
-// Carries over the region, with a table that has the values of an entry alone, and has them alone again behind it.
+// Carries over the region with a table that has only the values of an entry, and has only those again afterwards.
 fn carry_in(
     object: &Object,
     table: &mut EntryTable,

@@ -6,20 +6,20 @@ ghost use Rattle.region_walk.specs.Shapes.{region_shape_of, ended_by, joined_by}
 use lt_isa::{Instr, Object};
 use trace_patterns::Reason;
 
-/// How many regions may lie around a place.
+/// The number of regions that may be around a place.
 const MOST_REGIONS: u32 = 64;
 
 /// The shape of the region of a branch.
 #[derive(Clone, Copy, Debug, PartialEq, Eq)]
 pub enum RegionShape {
-    /// It has none: it is refused at a place.
+    /// It has none, and is refused at a place.
     BadShape { place: u32, reason: Reason },
-    /// Its second arm begins at a place, and both arms join at another.
+    /// Its second arm begins at one place, and both arms join at another.
     Arms { second: u32, join: u32 },
 }
 
-/// The shape of the region of a branch: the branch stands at `place` and leads on by `offset`, in `depth` regions, and
-/// the region's join is `end` at most.
+/// The shape of the region of a branch at `place` with `offset`, inside `depth` regions. Its join is at `end` at the
+/// latest.
 #[tactic(auto, unfolding(trace_patterns::specs::Shape::shape))]
 pub fn shape_at(object: &Object, depth: u32, place: u32, end: u32, offset: i32) -> RegionShape
     requires place { place < length object.now.code }
@@ -49,7 +49,7 @@ pub fn shape_at(object: &Object, depth: u32, place: u32, end: u32, offset: i32) 
     ended_by(object, place, end, second)
 }
 
-// The region whose second arm begins at a place: the instruction before it jumps to the join.
+// The region whose second arm begins at place `second`: the instruction before that jumps to the join.
 fn ended_by(object: &Object, place: u32, end: u32, second: u32) -> RegionShape
     requires second { second < length object.now.code }
     requires first { place + 1 < second }
@@ -71,7 +71,7 @@ fn bad_region(place: u32) -> RegionShape
     }
 }
 
-// The same, where the instruction before the second arm jumps by an offset.
+// The same, if the instruction before the second arm jumps by `offset`.
 fn joined_by(object: &Object, place: u32, end: u32, second: u32, offset: i32) -> RegionShape
     requires second { second < length object.now.code }
     requires first { place + 1 < second }
@@ -98,14 +98,14 @@ fn joined_by(object: &Object, place: u32, end: u32, second: u32, offset: i32) ->
     RegionShape::Arms { second, join }
 }
 
-// Whether an offset leads back, or nowhere.
+// Whether an offset leads back or to the same place.
 fn leads_back(offset: i32) -> bool
     ensures { result ≡ leads_back offset }
 {
     offset <= 0
 }
 
-// How many places an offset leads on that doesn't lead back.
+// How many places ahead an offset leads that leads forward.
 fn places_on(offset: i32) -> u32
     requires range { IsOffset offset }
     requires forward { leads_back offset ≡ false }
@@ -116,7 +116,7 @@ fn places_on(offset: i32) -> u32
     offset.unsigned_abs()
 }
 
-// Whether a note stands behind a place and before another. Notes rise in place.
+// Whether there is a note after one place and before another. Notes are in rising order of place.
 fn has_note_between(object: &Object, low: u32, high: u32) -> bool
     requires { IsInRange object.now }
     ensures { result ≡ has_note_between object.now low high }

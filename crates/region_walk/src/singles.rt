@@ -19,23 +19,23 @@ use lt_isa::{Instr, Object, latency};
 use symbolic_values::{Node, Values};
 use trace_patterns::{Reason, SymEvent};
 
-/// What is made of one instruction of an arm.
+/// The result of one instruction of an arm.
 #[derive(Clone, Copy, Debug, PartialEq, Eq)]
 pub enum Single {
     /// It is refused.
     Refuses(Reason),
-    /// It shows no event, and takes some cycles.
+    /// It shows no event, and takes this number of cycles.
     Quiet(u32),
     /// It shows an event.
     Shows(SymEvent),
-    /// It is a branch, which opens a region of its own, and leads on by an offset.
+    /// It is a branch with this offset, which opens another region.
     Branches(i32),
     /// Memory ran out.
     Memory,
 }
 
-/// What is made of an instruction where a state is known. The state becomes what is known behind it. At most 4 values
-/// are new, and an instruction without an event takes fewer than 128 cycles.
+/// The result of an instruction, if a state is known before it. The state becomes what is known after it. It adds at
+/// most 4 values. An instruction without an event takes fewer than 128 cycles.
 pub fn single_at(
     object: &Object,
     values: &mut Values,
@@ -70,7 +70,7 @@ pub fn single_at(
     }
 }
 
-// A register becomes a value that was found, without an event.
+// A register gets a value that was found, without an event.
 fn becomes(
     object: &Object,
     state: &mut RegionState,
@@ -94,7 +94,7 @@ fn becomes(
     }
 }
 
-/// The value of a word.
+/// The number of a constant.
 pub fn constant(values: &mut Values, word: i64) -> Result<Option<u32>, Memory>
     requires table { IsTable values.old }
     requires room { length values.old + 4 < 2 ^ 32 }
@@ -106,7 +106,7 @@ pub fn constant(values: &mut Values, word: i64) -> Result<Option<u32>, Memory>
     }
 }
 
-/// The value of an operation, where both operands are known.
+/// The number of an operation's value, if both operands are known.
 pub fn operation(
     values: &mut Values,
     op: Op,
@@ -131,7 +131,7 @@ pub fn operation(
     }
 }
 
-// A block is loaded: where its number is seen, it must be known.
+// A block is loaded: if the observer sees its number, the number must be known.
 fn loads_block(
     object: &Object,
     values: &mut Values,
@@ -168,7 +168,7 @@ fn loads_block(
     }
 }
 
-// A block is stored, but none of plain memory.
+// A block is stored, but not in plain memory.
 fn stores_block(bound: Slot) -> Single
     ensures { IsStore bound result }
 {
@@ -180,7 +180,7 @@ fn stores_block(bound: Slot) -> Single
     }
 }
 
-// A register becomes the number of a slot's block.
+// A register gets the number of a slot's block.
 fn names_block(object: &Object, state: &mut RegionState, rd: u8, slot: u8) -> Single
     requires range { IsInRange object.now }
     requires small { NumberedSlotFits (2 ^ 32 - 1) (slot_at state.old slot) }
@@ -200,7 +200,7 @@ fn names_block(object: &Object, state: &mut RegionState, rd: u8, slot: u8) -> Si
     }
 }
 
-/// The number of a slot's block, where it is known.
+/// The number of a slot's block, if it is known.
 pub fn block_number(bound: Slot) -> Option<u32>
     ensures held { (nodes : List OneNode) → known_tree nodes result ≡ block_held (slot_of nodes bound) }
     ensures fits { (count : ℕ) → NumberedSlotFits count bound → NumberFits count result }
@@ -213,7 +213,7 @@ pub fn block_number(bound: Slot) -> Option<u32>
     }
 }
 
-// A register becomes a word of a slot.
+// A register gets a word of a slot.
 fn loads_word(
     object: &Object,
     values: &mut Values,
@@ -238,7 +238,7 @@ fn loads_word(
     }
 }
 
-/// A slot's word, where it is one of plain memory and its place is known.
+/// A slot's word, if the slot is bound to plain memory and the word's place is known.
 pub fn word(
     object: &Object,
     values: &mut Values,
@@ -267,7 +267,7 @@ pub fn word(
     }
 }
 
-// A word of a slot of plain memory, at a place that is known.
+// A word of a slot that is bound to plain memory, at a place that is known.
 fn word_at(
     object: &Object,
     values: &mut Values,
@@ -292,7 +292,7 @@ fn word_at(
     }
 }
 
-/// The number that a value names among so many blocks or words.
+/// The number of a value's remainder by `count`, by which an address names one of `count` blocks or words.
 pub fn named(values: &mut Values, number: u32, count: u32) -> Result<u32, Memory>
     requires table { IsTable values.old }
     requires room { length values.old + 3 < 2 ^ 32 }
@@ -307,7 +307,7 @@ pub fn named(values: &mut Values, number: u32, count: u32) -> Result<u32, Memory
     }
 }
 
-// A word is stored, but none to plain memory.
+// A word is stored, but not in plain memory.
 fn stores_word(object: &Object, instr: Instr, bound: Slot) -> Single
     requires { IsInRange object.now }
     ensures { IsWordStore (cost_of object.now instr false 0) bound result }

@@ -8,16 +8,16 @@ use crate::kinds::{is_oblivious, is_plain};
 use crate::region_values::EntryTable;
 use trace_patterns::Known;
 
-/// Where the words of a slot of plain memory come from.
+/// The origin of the words of a slot that is bound to plain memory.
 #[derive(Clone, Copy, Debug, PartialEq, Eq)]
 pub enum Origin {
-    /// They are those of a slot at the entry.
+    /// A slot at the entry.
     Entry(u8),
-    /// They were loaded since.
+    /// A load since the entry.
     Loaded,
 }
 
-/// What is known of a slot. Numbers are those of one table of values.
+/// What is known about a slot. Numbers are those of one table of values.
 #[derive(Clone, Copy, Debug, PartialEq, Eq)]
 pub enum Slot {
     /// It may be bound to any bank, or to none.
@@ -30,8 +30,8 @@ pub enum Slot {
     Oram(u8),
 }
 
-/// What is known in a region: for each register the number of its value, where it is known, and for each slot what it
-/// is bound to.
+/// What is known in a region: for each register the number of its value, if it is known, and for each slot to what it
+/// is bound.
 #[derive(Clone, Copy, Debug)]
 pub struct RegionState {
     pub registers: [HeldNumber; 32],
@@ -41,7 +41,7 @@ pub struct RegionState {
 impl RegionState {
     ghost use Rattle.region_walk.specs.States.{with_number, with_known_slot, number_in, slot_at};
 
-    /// The number of a register's value, where it is known.
+    /// The number of a register's value, if it is known.
     pub fn number(&self, register: u8) -> Option<u32>
         requires { register < 32 }
         ensures { result ≡ number_in self.now register }
@@ -49,7 +49,7 @@ impl RegionState {
         self.registers[register as usize].number()
     }
 
-    /// What a slot is bound to.
+    /// What is known about a slot.
     pub fn slot(&self, slot: u8) -> Slot
         requires { slot < 8 }
         ensures { result ≡ slot_at self.now slot }
@@ -78,11 +78,11 @@ impl RegionState {
 impl RegionState {
     ghost use Rattle.region_walk.specs.States.{IsCommon};
 
-    /// Keeps what is known in another state too: the same values, and slots that are bound alike.
+    /// Keeps only what another state also knows: the same values, and slots that are bound alike.
     pub fn keep_common(&mut self, other: &RegionState)
         ensures { IsCommon self.old other.now self.new }
     {
-        // A copy that lies apart lets several registers be compared at once.
+        // A copy is apart from the state, so that several registers can be compared at once.
         let theirs = other.registers;
         for register in 0..32usize {
             self.registers[register] = self.registers[register].common(theirs[register]);
@@ -93,7 +93,7 @@ impl RegionState {
     }
 }
 
-// Keeps what is known of a slot, where the same is known of it in another state. A slot that is kept isn't written.
+// Keeps what is known of a slot only if another state knows the same of it. A slot that is kept isn't written.
 #[inline(always)]
 fn keep_common_slot(ours: &mut Slot, theirs: Slot)
     ensures { IsCommonOf Slot.Any ours.old theirs ours.new }
@@ -120,7 +120,7 @@ impl RegionState {
         state
     }
 
-    // Nothing is known.
+    // A state in which nothing is known.
     fn unknown() -> RegionState
         ensures registers { (r : ℕ) → number_in result r ≡ None }
         ensures slots { (k : ℕ) → slot_at result k ≡ Slot.Any }
@@ -160,7 +160,8 @@ impl RegionState {
         }
     }
 
-    /// What is known back in public code: a register whose value is known is public, and slots keep their banks.
+    /// What is known after the region, in public code: a register whose value is known is public, and slots keep their
+    /// banks.
     pub fn known_after(&self) -> Known
         requires { (k : ℕ) → IfSome (bank_of (slot_at self.now k)) (λ bank. bank < 255) }
         ensures { result ≡ known_of self.now }
@@ -181,7 +182,7 @@ impl RegionState {
 impl Slot {
     ghost use Rattle.region_walk.specs.Slots.{bank_of};
 
-    // The bank that the slot is bound to, where it is known.
+    // The bank to which the slot is bound, if it is known.
     fn bank(self) -> Option<u8>
         ensures { result ≡ bank_of self }
     {
@@ -194,7 +195,7 @@ impl Slot {
     }
 }
 
-// What a register holds at the entry, where it is public. The number is read in any case: then no branch is needed.
+// What a register holds at the entry, if it is public. The number is read in any case, so that no branch is needed.
 fn entry_number(table: &EntryTable, secret: bool, register: u8) -> Option<u32>
     requires entries { HasEntries table.now }
     requires register { register < 32 }
@@ -204,7 +205,7 @@ fn entry_number(table: &EntryTable, secret: bool, register: u8) -> Option<u32>
     if secret { None } else { Some(number) }
 }
 
-// What a slot is bound to at the entry, where its bank is known.
+// What a slot is bound to at the entry, if its bank is known.
 fn entry_slot(table: &EntryTable, bank: Option<u8>, slot: u8) -> Slot
     requires entries { HasEntries table.now }
     requires slot { slot < 8 }

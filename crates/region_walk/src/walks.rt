@@ -22,7 +22,7 @@ pub struct Way {
     pub state: RegionState,
 }
 
-/// What comes of a walk.
+/// The outcome of a walk.
 #[derive(Clone, Copy, Debug, PartialEq, Eq)]
 pub enum Found {
     /// It reaches a place.
@@ -33,10 +33,10 @@ pub enum Found {
     Memory,
 }
 
-/// What comes of a region.
+/// The outcome of a region.
 #[derive(Debug, Drop)]
 pub enum Region {
-    /// It is crossed: its join, and what is shown on the way there.
+    /// It is crossed: its join, and what is shown on the way there and known there.
     Crosses { join: u32, way: Way },
     /// A place blocks it.
     Blocked { place: u32, reason: Reason },
@@ -44,8 +44,8 @@ pub enum Region {
     Memory,
 }
 
-/// Walks code that so many regions lie around, from a place up to an end. The way becomes what is shown and known
-/// there.
+/// Walks code inside `depth` regions, from a place up to an end. `way` becomes what was shown up to there and what is
+/// known there.
 #[cycle(walks)]
 pub fn walk(
     alloc: Global,
@@ -74,8 +74,8 @@ pub fn walk(
     Found::Reaches(place)
 }
 
-// Walks one instruction, and the region that it opens where it is a branch. Each instruction of an arm passes here, so
-// it stands in the loop itself.
+// Walks one instruction and, if it is a branch, the region that it opens. Each instruction of an arm passes here, so
+// this is inlined into the loop.
 #[cycle(walks)]
 #[inline(always)]
 fn next_place(
@@ -116,8 +116,8 @@ fn next_place(
     }
 }
 
-// Walks the region of a branch at a place that leads on by an offset, and goes on at its join. It stays a function of
-// its own, since room for a region would be cleared at each instruction else.
+// Walks the region of a branch, and continues at its join. It is a function of its own, since otherwise the stack for a
+// region would be cleared at each instruction.
 #[cycle(walks)]
 #[inline(never)]
 fn beyond_region(
@@ -146,7 +146,7 @@ fn beyond_region(
     }
 }
 
-// Goes on at the join of a region that was crossed.
+// Continues at the join of a region that was crossed.
 fn go_on(way: &mut Way, crossed: Way, join: u32) -> Found
     requires { way.old.pattern.last + first_gap crossed.pattern < 2 ^ 63 }
     ensures { GoesOnAt way.old crossed join result way.new }
@@ -160,9 +160,9 @@ fn go_on(way: &mut Way, crossed: Way, join: u32) -> Found
     }
 }
 
-/// Crosses the region of a branch at a place that leads on by an offset, where so many regions lie around it and its
-/// join may be at the end at most: both arms are walked from one state, the first arm first, and must show the same.
-// Each arm of a match returns, since a way is large, and each match that has it as its value would copy it once more.
+/// Crosses the region of a branch at `place` with `offset`, inside `depth` regions; its join is at `end` at the latest.
+/// Both arms are walked from one state, the first arm first, and must show the same.
+// Each arm of a match returns, since a way is large and would be copied once more if it were the value of the match.
 #[cycle(walks)]
 pub fn region_of(
     alloc: Global,
@@ -213,7 +213,7 @@ pub fn region_of(
     }
 }
 
-// A way that begins with some cycles.
+// A way that begins with some cycles and no event.
 #[inline(always)]
 fn way_from(alloc: Global, cycles: u32, state: &RegionState) -> Way
     ensures pattern { result.pattern ≡ with_gap no_events cycles }
@@ -227,7 +227,8 @@ fn way_from(alloc: Global, cycles: u32, state: &RegionState) -> Way
     }
 }
 
-// Compares the two ways through the region of a branch at a place: the first ends with a jump of some cycles.
+// Compares the two ways through the region of a branch at `place`. The first way ends with a jump, which takes `jump`
+// cycles.
 #[inline(always)]
 fn compared(place: u32, join: u32, jump: u32, untaken: Way, taken: &Way) -> Region
     requires { untaken.pattern.last + jump < 2 ^ 63 }

@@ -48,7 +48,7 @@ carry_branch-returns t c =
     (subst (λ (z : ℤ). IsLedOver o c.args.depth c.args.end c.args.place z old s c.carry_over.result
     c.carry_over.new.values c.carry_over.new.state) (handed_on c.args.offset c.requires.offset) c.carry_over.ensures)
 
--- the arms that were found are those of the branch
+-- the arms that were found are the arms of the branch
 arms : (t : ℕ) (c : carry_over-In-Arms t)
     → shape c.args.object.now c.args.depth c.args.end c.args.place c.args.offset ≡ Arms c.in-Arms.second c.in-Arms.join
 arms t c =

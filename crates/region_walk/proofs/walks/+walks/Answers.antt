@@ -90,7 +90,7 @@ beyond_region-returns-in-Crosses t c =
     c.requires.branches.instr c.args.offset join c.go_on.result c.requires.ready c.requires.order
     c.requires.branches.at c.requires.branches.branches crosses refl c.go_on.ensures
 
--- the arms that were found are those of the branch
+-- the arms that were found are the arms of the branch
 arms : (t : ℕ) (c : region_of-In-Arms t)
     → shape c.args.object.now c.args.depth c.args.end c.args.place c.args.offset ≡ Arms c.in-Arms.second c.in-Arms.join
 arms t c =
