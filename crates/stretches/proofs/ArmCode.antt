@@ -1,4 +1,4 @@
--- Code of an arm, wherever it stands: it is walked from its first instruction to just behind its last, and what it
+-- Code of an arm, at any place: the check walks it from its first instruction to the place after its last. What it
 -- shows depends on the code and on what is known before it, not on the place.
 use Rattle.std.proofs.Common.{◌≡◌, ℕ, ◌+◌, ◌<◌, ◌≤◌, false, ◌&&◌, nat_lt, List, [], ◌∷◌, ◌++◌, length, refl, sym, ◌∙◌, subst, arith, length-append}
 use Rattle.std.specs.List.{list_any}
@@ -18,7 +18,7 @@ use Rattle.trace_patterns.specs.Walk.{WalksTo, AtEnd, Onward}
 use Rattle.stretches.proofs.ShowLaws.{pattern_of-append}
 use Rattle.trace_patterns.proofs.Walks.{walks-then}
 
--- no note stands where none stands around
+-- if no note is between two places, none is between two places within these
 fewer_notes : (notes : List Note) (low high from to : ℕ) → low ≤ from → to ≤ high
     → list_any (λ n. nat_lt low n.pc && nat_lt n.pc high) notes ≡ false
     → list_any (λ n. nat_lt from n.pc && nat_lt n.pc to) notes ≡ false
@@ -39,9 +39,9 @@ pub quiet_within : (o : Parts) (low high from to : ℕ) → low ≤ from → to 
     → has_note_between o from to ≡ false
 quiet_within o low high from to le ge none = fewer_notes o.notes low high from to le ge none
 
--- code that stands in parts
+-- code in two parts
 module _ (o : Parts) (p : ℕ) (first rest : List Instr) (stands : StandsInArm o p (first ++ rest)) where
-  -- the first of two pieces of an arm stands in it
+  -- the first part is in the arm
   pub stands-first : StandsInArm o p first
   stands-first =
       let size = length-append first rest in
@@ -52,7 +52,7 @@ module _ (o : Parts) (p : ℕ) (first rest : List Instr) (stands : StandsInArm o
             (omega (arith, size)) stands.quiet;
       }
 
-  -- and so does the second
+  -- the second part is in the arm
   pub stands-rest : StandsInArm o (p + length first) rest
   stands-rest =
       let size = length-append first rest in
@@ -63,13 +63,13 @@ module _ (o : Parts) (p : ℕ) (first rest : List Instr) (stands : StandsInArm o
             (omega arith) (omega (arith, size)) stands.quiet;
       }
 
--- from s the code is walked to t, in so many regions, and this is shown
+-- inside `depth` regions, the check walks the code from s to t, and this is shown
 pub record Walked (o : Parts) (depth : ℕ) (s : SymState) (code : List Instr) (shows : List Show)
     (t : SymState) : Type 0 where
   pub walks : (p : ℕ) → StandsInArm o p code → WalksTo o depth (p + length code) p s (pattern_of shows) t
 
 module _ (o : Parts) (depth : ℕ) where
-  -- nothing is walked, and one instruction
+  -- a walk of no code
   pub walked-none : (s : SymState) → Walked o depth s [] [] s
   walked-none s = record {
     walks = λ p stands.
@@ -77,7 +77,7 @@ module _ (o : Parts) (depth : ℕ) where
         subst (λ (end : ℕ). WalksTo o depth end p s no_events s) same (AtEnd depth p s);
   }
 
-  -- one instruction is walked as its rule says
+  -- a walk of one instruction
   pub walked-one : (s : SymState) (i : Instr) (x : Show) (t : SymState) → single o s i ≡ Goes (pattern_of_one x) t
       → Walked o depth s (i ∷ []) (x ∷ []) t
   walked-one s i x t goes = record {
@@ -88,7 +88,7 @@ module _ (o : Parts) (depth : ℕ) where
         (AtEnd depth (p + 1) t));
   }
 
-  -- code behind other code
+  -- two walks in sequence
   pub walked-then : (s : SymState) (first : List Instr) (xs : List Show) (t : SymState) (rest : List Instr)
       (ys : List Show) (u : SymState)
       → Walked o depth s first xs t → Walked o depth t rest ys u → Walked o depth s (first ++ rest) (xs ++ ys) u

@@ -1,6 +1,6 @@
--- A branch on a secret whose arms show the same is crossed, where it is padded so that both ways take the same cycles:
--- the first arm begins with the cycles that a branch takes more when it is taken, and the second ends with those of the
--- jump.
+-- A branch on a secret whose arms show the same is crossed if both ways are padded to the same cycles: the first arm
+-- begins with as many cycles as a taken branch costs more than one that isn't taken, and the second ends with the
+-- cycles of the jump.
 use Rattle.std.proofs.Common.{◌≡◌, ℕ, zero, suc, ◌+◌, ◌-◌, ◌<◌, ◌≤◌, pos, false, List, [], ◌∷◌, ◌++◌, length, replicate, Some, refl, sym, ap, ◌∙◌, subst, arith, length-append}
 use Rattle.std.specs.Prelude.{slice_get}
 use Rattle.std.proofs.lemmas.List.{append-nil}
@@ -22,7 +22,7 @@ use Rattle.stretches.proofs.ShowLaws.{pattern_of-append, pattern_of-gaps, patter
 use Rattle.trace_patterns.proofs.Shapes.{shape-region}
 use Rattle.stretches.proofs.ArmCode.{stands-first, stands-rest, Walked, walked-none, walked-on, walked-then}
 
--- cycles in which nothing is done
+-- instructions that only take cycles
 abbrev pub pauses : ℕ → List Instr
 pauses n = replicate n Nop
 
@@ -35,7 +35,7 @@ walked-pauses o depth s zero = walked-none o depth s
 walked-pauses o depth s (suc n) =
     walked-on o depth s Nop (Gap 1) s (pauses n) (paused n) s refl (walked-pauses o depth s n)
 
--- they are one gap
+-- the gaps of instructions that only take cycles become one
 no_gap : gap 0 ≡ no_events
 no_gap = shown-same (gap 0) no_events refl (omega arith)
 
@@ -50,14 +50,14 @@ pattern_of-paused (suc n) shows =
 pub pattern_of-pause : (n : ℕ) → pattern_of (paused n) ≡ pattern_of (Gap n ∷ [])
 pattern_of-pause n = sym (ap pattern_of (append-nil (paused n))) ∙ pattern_of-paused n []
 
--- the code of a branch on a secret with two arms
+-- the code of the two arms of a branch on a secret
 abbrev pub first_arm : ℕ → List Instr → List Instr
 first_arm taken first = pauses (taken - 1) ++ first
 
 abbrev pub second_arm : ℕ → List Instr → List Instr
 second_arm taken second = second ++ pauses taken
 
--- a region: the branch, the first arm, the jump, the second arm
+-- the code of a region: the branch, the first arm, the jump, the second arm
 abbrev pub region_code : ℕ → Cmp → (ra rb : ℕ) → (first second : List Instr) → List Instr
 region_code taken cmp ra rb first second =
     Br cmp ra rb (pos (length (first_arm taken first) + 2))
@@ -65,7 +65,7 @@ region_code taken cmp ra rb first second =
     ++ (Jmp (pos (length (second_arm taken second) + 1)) ∷ second_arm taken second))
 
 module _ (o : Parts) (some : 1 ≤ o.profile.taken) where
-  -- the two ways
+  -- what the two ways show
   pub untaken-shows : (shows : List Show)
       → untaken_way o (pattern_of (paused (o.profile.taken - 1) ++ shows))
       ≡ pattern_of (region_shows o.profile.taken shows)
@@ -143,7 +143,7 @@ module _ (o : Parts) (some : 1 ≤ o.profile.taken) where
         (BothArms depth (p + length whole) p (pos on) s (p + on) (p + length whole) one_way left other_way right shaped
         there behind (untaken-shows shows ∙ sym (taken-shows shows)))
 
-    -- so it is walked to its join
+    -- the check walks such a region to its join
     pub walked-region : Walked o depth s whole (region_shows o.profile.taken shows) (common left right)
     walked-region = record {
       walks = λ p stands.

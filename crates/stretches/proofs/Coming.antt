@@ -1,4 +1,4 @@
--- Runs of stretches of code: one step, and one stretch after another.
+-- Runs of stretches of code: one step, and stretches in sequence.
 use Rattle.std.proofs.Common.{◌≡◌, ℕ, ◌+◌, ◌≤◌, true, false, ℤ, pos, List, [], ◌∷◌, ◌++◌, Option, Some, None, refl, ap, ◌∙◌, arith}
 use Rattle.std.specs.Prelude.{slice_get, slice_set}
 use Rattle.std.proofs.lemmas.List.{map-append}
@@ -19,7 +19,7 @@ use Rattle.lt_isa.proofs.Steps.{step-at, step-by}
 use Rattle.lt_isa.proofs.Shapes.{step-shaped}
 use Rattle.lt_isa.proofs.Stretches.{reaches-step, reaches-append}
 
--- where a run is, it has come
+-- a run reaches the place where it is
 pub comes-here : {o : Parts} (s : State) (most : ℕ) (P : State → Type 0)
     → IsShaped o s → P s → Comes o s [] s.place most P
 comes-here s most P shaped holds = record {
@@ -33,7 +33,7 @@ comes-here s most P shaped holds = record {
   holds = holds;
 }
 
--- one stretch, and another from where the first one ends
+-- one stretch, and another from the state in which the first one ends
 pub comes-both : {o : Parts} {s : State} {es : List Observed} {p q c d : ℕ} {P Q : State → Type 0}
     (fs : List Observed) (first : Comes o s es p c P)
     → Comes o first.end fs q d Q → Comes o s (es ++ fs) q (c + d) Q
@@ -51,14 +51,14 @@ comes-both {es = es} fs first second = record {
   holds = second.holds;
 }
 
--- one stretch, and another from wherever the first one ends
+-- one stretch, and another from any state in which the first one may end
 pub comes-on : {o : Parts} {s : State} {es : List Observed} {p c : ℕ} {P : State → Type 0} (fs : List Observed)
     (q d : ℕ) (Q : State → Type 0)
     → Comes o s es p c P → ((t : State) → IsShaped o t → t.place ≡ p → P t → Comes o t fs q d Q)
     → Comes o s (es ++ fs) q (c + d) Q
 comes-on fs q d Q first rest = comes-both fs first (rest first.end first.shaped first.comes first.holds)
 
--- the same said in other words: equal events, an equal place, more cycles, and less of the end
+-- the same with equal events, an equal place, more cycles, and less known of the end
 pub comes-weaker : {o : Parts} {s : State} {es : List Observed} {p c : ℕ} {P : State → Type 0} (fs : List Observed)
     (q d : ℕ) (Q : State → Type 0)
     → Comes o s es p c P → es ≡ fs → p ≡ q → c ≤ d → ((t : State) → IsShaped o t → P t → Q t) → Comes o s fs q d Q
@@ -77,9 +77,9 @@ seen-stamped : (at : ℕ) (event : Option Observed) → seen (stamped at event) 
 seen-stamped at None = refl
 seen-stamped at (Some event) = refl
 
--- A run where an instruction stands: what it does there is one stretch.
+-- A run at the place of an instruction: the instruction is one stretch.
 module _ (o : Parts) (fits : IsInRange o) (s : State) (shaped : IsShaped o s) where
-  -- one step that goes on comes to its next place, within the instruction's greatest cost
+  -- a step that leads to a state reaches its place, within the instruction's greatest cost
   pub comes-step : (i : Instr) (event : Option Observed) (t : State) (P : State → Type 0)
       → slice_get o.code s.place ≡ Some i
       → executed o s i ≡ Goes event t → P t → Comes o s (shown_by event) t.place (greatest_cost o i) P
@@ -96,19 +96,19 @@ module _ (o : Parts) (fits : IsInRange o) (s : State) (shaped : IsShaped o s) wh
         holds = holds;
       }
 
-  -- those that set a register
+  -- a constant is written to a register
   pub comes-li : (rd : ℕ) (value : ℤ) (P : State → Type 0) → slice_get o.code s.place ≡ Some (Li rd value)
       → P (set_register (went_on o (Li rd value) s) rd value)
       → Comes o s [] (s.place + 1) (greatest_cost o (Li rd value)) P
   comes-li rd value P at holds = comes-step (Li rd value) None _ P at refl holds
 
-  -- a calculation sets its register
+  -- the result of an operation is written to a register
   pub comes-alu : (op : Op) (rd ra rb : ℕ) (P : State → Type 0) → slice_get o.code s.place ≡ Some (Alu op rd ra rb)
       → P (set_register (went_on o (Alu op rd ra rb) s) rd (applied op (register s ra) (register s rb)))
       → Comes o s [] (s.place + 1) (greatest_cost o (Alu op rd ra rb)) P
   comes-alu op rd ra rb P at holds = comes-step (Alu op rd ra rb) None _ P at refl holds
 
-  -- those that need a bound slot
+  -- an instruction that needs a bound slot: the number of its block is written to a register
   pub comes-idb : (rd k b a : ℕ) (words : List ℤ) (P : State → Type 0) → slice_get o.code s.place ≡ Some (Idb rd k)
       → slot s k ≡ Bound b a words → P (set_register (went_on o (Idb rd k) s) rd (pos a))
       → Comes o s [] (s.place + 1) (greatest_cost o (Idb rd k)) P
@@ -119,7 +119,7 @@ module _ (o : Parts) (fits : IsInRange o) (s : State) (shaped : IsShaped o s) wh
       bound)
       holds
 
-  -- a word is loaded from the block that the slot holds
+  -- a word of the slot's block is loaded
   pub comes-ldw : (rd k ro b a : ℕ) (words : List ℤ) (P : State → Type 0)
       → slice_get o.code s.place ≡ Some (Ldw rd k ro) → slot s k ≡ Bound b a words
       → P (set_register (went_on o (Ldw rd k ro) s) rd (word_in words (word_named o (register s ro))))
@@ -133,7 +133,7 @@ module _ (o : Parts) (fits : IsInRange o) (s : State) (shaped : IsShaped o s) wh
       bound)
       holds
 
-  -- a word is stored into the block that the slot holds
+  -- a word is stored in the slot's block
   pub comes-stw : (rs k ro b a : ℕ) (words : List ℤ) (P : State → Type 0)
       → slice_get o.code s.place ≡ Some (Stw rs k ro) → slot s k ≡ Bound b a words
       → P (set_slot (went_on o (Stw rs k ro) s) k
@@ -151,7 +151,7 @@ module _ (o : Parts) (fits : IsInRange o) (s : State) (shaped : IsShaped o s) wh
       bound)
       holds
 
-  -- a block is loaded, and stored
+  -- a block is loaded
   pub comes-ldb : (k b r a : ℕ) (P : State → Type 0) → slice_get o.code s.place ≡ Some (Ldb k b r)
       → block_named o b (register s r) ≡ a
       → P (loaded (passed o (Ldb k b r) false b (s.place + 1) s) k b a)
@@ -165,7 +165,7 @@ module _ (o : Parts) (fits : IsInRange o) (s : State) (shaped : IsShaped o s) wh
       named)
       holds
 
-  -- a slot's block is written back and shown
+  -- a slot's block is stored, and shown
   pub comes-stb : (k b a : ℕ) (words : List ℤ) (P : State → Type 0) → slice_get o.code s.place ≡ Some (Stb k)
       → slot s k ≡ Bound b a words
       → P (set_block (passed o (Stb k) false b (s.place + 1) s) b a words)
@@ -179,13 +179,13 @@ module _ (o : Parts) (fits : IsInRange o) (s : State) (shaped : IsShaped o s) wh
       bound)
       holds
 
-  -- jumps, and branches that are taken or not
+  -- a jump
   pub comes-jmp : (offset : ℤ) (P : State → Type 0) → slice_get o.code s.place ≡ Some (Jmp offset)
       → P (passed o (Jmp offset) true 0 (target_of o s.place offset) s)
       → Comes o s [] (target_of o s.place offset) (greatest_cost o (Jmp offset)) P
   comes-jmp offset P at holds = comes-step (Jmp offset) None _ P at refl holds
 
-  -- a branch whose comparison holds is taken
+  -- a branch whose comparison is true is taken
   pub comes-br_taken : (cmp : Cmp) (ra rb : ℕ) (offset : ℤ) (P : State → Type 0)
       → slice_get o.code s.place ≡ Some (Br cmp ra rb offset) → compared cmp (register s ra) (register s rb) ≡ true
       → P (passed o (Br cmp ra rb offset) true 0 (target_of o s.place offset) s)
@@ -194,7 +194,7 @@ module _ (o : Parts) (fits : IsInRange o) (s : State) (shaped : IsShaped o s) wh
       comes-step (Br cmp ra rb offset) None
       (passed o (Br cmp ra rb offset) true 0 (target_of o s.place offset) s) P at (rw taken refl) holds
 
-  -- a branch whose comparison doesn't hold goes on
+  -- a branch whose comparison is false continues
   pub comes-br_on : (cmp : Cmp) (ra rb : ℕ) (offset : ℤ) (P : State → Type 0)
       → slice_get o.code s.place ≡ Some (Br cmp ra rb offset) → compared cmp (register s ra) (register s rb) ≡ false
       → P (passed o (Br cmp ra rb offset) false 0 (s.place + 1) s)

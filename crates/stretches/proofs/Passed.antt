@@ -1,4 +1,4 @@
--- Passed stretches of code: one behind another, one instruction, and the notes between places.
+-- Stretches that are passed: in sequence, one instruction, and the notes between places.
 use Rattle.std.proofs.Common.{◌≡◌, ℕ, ◌+◌, ◌<◌, ◌≤◌, ◌==◌, Bool, true, false, not, ◌||◌, ◌&&◌, ℤ, List, [], ◌∷◌, ◌++◌, length, Option, Some, None, refl, sym, ap, ◌∙◌, subst, arith, get_or-set_same, get_or-set_other}
 use Rattle.std.specs.Prelude.{if◌then◌else◌, slice_get}
 use Rattle.std.specs.Option.{option_map}
@@ -19,7 +19,7 @@ use Rattle.stretches.specs.Passing.{HoldsAt, AsItComes, Passes, Done, Onward, Aw
 use Rattle.trace_patterns.proofs.Notes.{fits-claim}
 use Rattle.stretches.proofs.Standing.{standing-head, standing-tail}
 
--- one stretch behind another
+-- two stretches in sequence
 pub passes-then : (o : Parts) (p : ℕ) (k : Known) (q : ℕ) (l : Known) → Passes o p k q l → (r : ℕ) (m : Known)
     → Passes o q l r m → Passes o p k r m
 passes-then o p k q l (Done p' k') r m more = more
@@ -31,24 +31,24 @@ passes-then o p k q l (Across p' k' holds offset pattern join state q' l' here r
     Across p k holds offset pattern join state r m here rules crosses
     (passes-then o join _ q l rest r m more)
 
--- the same up to a place with another name
+-- the same up to an equal place
 pub passes-to : (o : Parts) (p : ℕ) (k : Known) (q r : ℕ) (l : Known) → q ≡ r → Passes o p k q l → Passes o p k r l
 passes-to o p k q r l same h = subst (λ (x : ℕ). Passes o p k x l) same h
 
--- an instruction at a place is ruled as it stands
+-- the ruling on a place is the ruling on its instruction
 pub ruled-at : (o : Parts) (p : ℕ) (k : Known) (i : Instr) → slice_get o.code p ≡ Some i
     → ruling_at o p k ≡ ruling_of o p k i
 unfolding ruling_at
 ruled-at o p k i at = ap (ruling_if o p k) at
 
--- one instruction that goes on to the next place
+-- one instruction that continues to the next place
 pub passes-one : (o : Parts) (p : ℕ) (k holds next : Known) (i : Instr) → HoldsAt o p k holds
     → slice_get o.code p ≡ Some i → ruling_of o p holds i ≡ Falls next → p + 1 < length o.code
     → Passes o p k (p + 1) next
 passes-one o p k holds next i here at rules inside =
     Onward p k holds next (p + 1) next here (ruled-at o p holds i at ∙ rules) inside (Done (p + 1) next)
 
--- a jump to a place of the code whose note is fitted isn't refused
+-- a jump isn't refused if its target is in the code and has a note, and what is known fits the note
 pub jumped-fits : (o : Parts) (target : ℕ) (k claimed : Known) (next : Ruling) → target < length o.code
     → claimed_at o target ≡ Some claimed → FitsClaim k claimed → jumped o target k next ≡ next
 jumped-fits o target k claimed next inside noted fit =
@@ -57,7 +57,7 @@ jumped-fits o target k claimed next inside noted fit =
     ∙ ap (λ (c : Option Known). at_claim c k next) noted
     ∙ ap (λ (b : Bool). refused_if (not b) NoteTooLow next) ((fits-claim o target k claimed noted).1 fit)
 
--- a branch on public registers to such a place goes on
+-- a branch on public registers to such a place falls through
 pub branch-falls : (o : Parts) (p : ℕ) (k claimed : Known) (cmp : Cmp) (ra rb : ℕ) (offset : ℤ)
     → is_secret k ra ≡ false → is_secret k rb ≡ false → target_of o p offset < length o.code
     → claimed_at o (target_of o p offset) ≡ Some claimed → FitsClaim k claimed
@@ -76,22 +76,22 @@ unfolding ruling_of
 jump-leaves o p k claimed offset inside noted fit =
     jumped-fits o (target_of o p offset) k claimed Leaves inside noted fit
 
--- some notes lie behind one place and before another
+-- some notes are after one place and before another
 abbrev pub LieBetween : ℕ → ℕ → List Note → Type 0
 LieBetween p q notes = AllByRecursion (λ n. (p < n.pc) × (n.pc < q)) notes
 
--- notes between two places lie between any two around these
+-- notes between two places are between any two places around these
 pub lie_wider : (p q s t : ℕ) (notes : List Note) → s ≤ p → q ≤ t → LieBetween p q notes → LieBetween s t notes
 lie_wider p q s t [] low high lie = tt
 lie_wider p q s t (n ∷ notes) low high lie =
     (let first = lie.0 in (omega (arith, first.0), omega (arith, first.1)), lie_wider p q s t notes low high lie.1)
 
--- notes that lie between two places, and others, do so together
+-- two lists of notes between two places, in sequence
 pub lie_both : (p q : ℕ) (xs ys : List Note) → LieBetween p q xs → LieBetween p q ys → LieBetween p q (xs ++ ys)
 lie_both p q [] ys first second = second
 lie_both p q (n ∷ xs) ys first second = (first.0, lie_both p q xs ys first.1 second)
 
--- none of them stands elsewhere
+-- no note between two places is at the first place or before it
 pub no_note-before : (p q r : ℕ) (notes : List Note) → LieBetween p q notes → r ≤ p → note_of_place notes r ≡ None
 no_note-before p q r [] lie le = refl
 no_note-before p q r (n ∷ notes) lie le =
@@ -100,7 +100,7 @@ no_note-before p q r (n ∷ notes) lie le =
     else note_of_place notes r) (ne_eqb n.pc r (λ e. absurd (omega (arith, first.0))))
     ∙ no_note-before p q r notes lie.1 le
 
--- behind the places between which notes lie there is none of them
+-- no note between two places is at the second place or after it
 pub no_note-behind : (p q r : ℕ) (notes : List Note) → LieBetween p q notes → q ≤ r → note_of_place notes r ≡ None
 no_note-behind p q r [] lie le = refl
 no_note-behind p q r (n ∷ notes) lie le =
@@ -109,14 +109,14 @@ no_note-behind p q r (n ∷ notes) lie le =
     else note_of_place notes r) (ne_eqb n.pc r (λ e. absurd (omega (arith, first.1))))
     ∙ no_note-behind p q r notes lie.1 le
 
--- the note at a place among some and others behind them
+-- a place that none of the last notes has
 pub note_at-first : (xs ys : List Note) (r : ℕ) → note_of_place ys r ≡ None → note_of_place (xs ++ ys) r
     ≡ note_of_place xs r
 note_at-first [] ys r none = none
 note_at-first (n ∷ xs) ys r none = ap (λ (x : Option Note). if n.pc == r then Some n else x)
     (note_at-first xs ys r none)
 
--- where the first notes have none the second ones' stands
+-- a place that none of the first notes has
 pub note_at-second : (xs ys : List Note) (r : ℕ) → note_of_place xs r ≡ None → note_of_place (xs ++ ys) r
     ≡ note_of_place ys r
 note_at-second [] ys r none = refl
@@ -133,7 +133,7 @@ note_at-second (n ∷ xs) ys r none = by (n.pc == r) refl (note_at-second xs ys 
         ≡ note_of_place xs r = ap (λ (b : Bool). if b then Some n else note_of_place xs r) is in
         ap (λ (b : Bool). if b then Some n else note_of_place (xs ++ ys) r) is ∙ behind (sym rest ∙ none)
 
--- a note that the first notes have stays
+-- a note of the first notes is found first
 pub note_at-found : (xs ys : List Note) (r : ℕ) (m : Note) → note_of_place xs r ≡ Some m → note_of_place (xs ++ ys) r
     ≡ Some m
 note_at-found [] ys r m found = absurd (let e : ◌≡◌ {A = Option Note} None (Some m) = found in cc)
@@ -145,91 +145,91 @@ note_at-found (n ∷ xs) ys r m found = by (n.pc == r) found (note_at-found xs y
     by true e behind = e
     by false e behind = behind e
 
--- the first note, and another place
+-- the place of the first note
 pub note_at-head : (n : Note) (notes : List Note) (r : ℕ) → n.pc ≡ r → note_of_place (n ∷ notes) r ≡ Some n
 note_at-head n notes r e = ap (λ (b : Bool). if b then Some n else note_of_place notes r) (eq-eqb n.pc r e)
 
--- another place's note doesn't stand at this one
+-- a place other than that of the first note
 pub note_at-tail : (n : Note) (notes : List Note) (r : ℕ) → (n.pc ≡ r → ⊥) → note_of_place (n ∷ notes) r
     ≡ note_of_place notes r
 note_at-tail n notes r apart =
     ap (λ (b : Bool). if b then Some n else note_of_place notes r) (ne_eqb n.pc r (λ e. absurd (apart e)))
 
--- Between two places stand some notes and then others: the first before a place between them, the others behind it,
--- and none there.
+-- The notes between two places are some notes and then others: the first notes are before a place between these two,
+-- the others are after it, and none is at it.
 module _ (o : Parts) (p q s : ℕ) (xs ys : List Note) (first : LieBetween p q xs) (second : LieBetween q s ys)
     (between : NotesBetween o p s (xs ++ ys)) where
-  -- the first of two pieces has its notes
+  -- the places before it have the claims of the first notes
   pub notes-before : q ≤ s → NotesBetween o p q xs
   notes-before le r low high =
       between r low (omega arith)
       ∙ ap (option_map note_known) (note_at-first xs ys r (no_note-before q s r ys second (omega arith)))
 
-  -- the second of two pieces has its notes
+  -- the places after it have the claims of the other notes
   pub notes-behind : p ≤ q → NotesBetween o q s ys
   notes-behind le r low high =
       between r (omega arith) high
       ∙ ap (option_map note_known) (note_at-second xs ys r (no_note-behind p q r xs first (omega arith)))
 
-  -- no note stands where the two pieces meet
+  -- the place between the two lists of notes has no note
   pub no_note-there : p < q → q < s → claimed_at o q ≡ None
   no_note-there low high =
       between q low high
       ∙ ap (option_map note_known) (note_at-second xs ys q (no_note-behind p q q xs first (omega arith))
       ∙ no_note-before q s q ys second (omega arith))
 
--- where none of them is left out, fewer places have fewer
+-- what notes claim between two places, they claim between two places within these
 pub notes-within : (o : Parts) (p q s t : ℕ) (notes : List Note) → p ≤ s → t ≤ q → NotesBetween o p q notes
     → NotesBetween o s t notes
 notes-within o p q s t notes low high between r after before = between r (omega arith) (omega arith)
 
--- the one note that stands between
+-- the only note between two places
 pub noted : (o : Parts) (p q : ℕ) (n : Note) → NotesBetween o p q (n ∷ []) → p < n.pc → n.pc < q
     → claimed_at o n.pc ≡ Some (note_known n)
 noted o p q n between low high =
     between n.pc low high
     ∙ ap (λ (b : Bool). option_map note_known (if b then Some n else None)) (eq-eqb n.pc n.pc refl)
 
--- what is ruled of each instruction that goes on
+-- the ruling on each instruction that continues to the next place
 module _ (o : Parts) (p : ℕ) (k : Known) where
   -- a number is public
   pub rules-li : (rd : ℕ) (value : ℤ) → ruling_of o p k (Li rd value) ≡ Falls (set_secret k rd false)
   unfolding ruling_of
   rules-li rd value = refl
 
-  -- a result is as secret as its operands
+  -- a result is secret if one of its operands is
   pub rules-alu : (op : Op) (rd ra rb : ℕ)
       → ruling_of o p k (Alu op rd ra rb) ≡ Falls (set_secret k rd (is_secret k ra || is_secret k rb))
   unfolding ruling_of
   rules-alu op rd ra rb = refl
 
-  -- a block is loaded by a public number where its bank shows which block it is
+  -- a block is loaded; if the observer sees its number, the number must be public
   pub rules-ldb : (slot bank r : ℕ) → (shows_block bank && is_secret k r) ≡ false
       → ruling_of o p k (Ldb slot bank r) ≡ Falls (set_bank k slot bank)
   unfolding ruling_of
   rules-ldb slot bank r allowed =
       ap (λ (b : Bool). refused_if b SecretAddress (Falls (set_bank k slot bank))) allowed
 
-  -- a block whose bank is known is written back
+  -- a block is stored, if its bank is known
   pub rules-stb : (slot bank : ℕ) → bank_known k slot ≡ Some bank → ruling_of o p k (Stb slot) ≡ Falls k
   unfolding ruling_of
   rules-stb slot bank known = ap (λ (b : Option ℕ). at_bank b (λ bank. Falls k)) known
 
-  -- a block's number is public where its bank shows it
+  -- a block's number is public if the observer sees it
   pub rules-idb : (rd slot bank : ℕ) → bank_known k slot ≡ Some bank
       → ruling_of o p k (Idb rd slot) ≡ Falls (set_secret k rd (not (shows_block bank)))
   unfolding ruling_of
   rules-idb rd slot bank known =
       ap (λ (b : Option ℕ). at_bank b (λ bank. Falls (set_secret k rd (not (shows_block bank))))) known
 
-  -- a word of plain memory is as secret as its place, any other is secret
+  -- a word of plain memory is secret if its place is; any other word is secret
   pub rules-ldw : (rd slot ro bank : ℕ) → bank_known k slot ≡ Some bank
       → ruling_of o p k (Ldw rd slot ro) ≡ Falls (set_secret k rd (not (is_ram bank) || is_secret k ro))
   unfolding ruling_of
   rules-ldw rd slot ro bank known =
       ap (λ (b : Option ℕ). at_bank b (λ bank. Falls (set_secret k rd (not (is_ram bank) || is_secret k ro)))) known
 
-  -- a word is stored where plain memory gets nothing secret
+  -- a word is stored; in plain memory neither the word nor its place may be secret
   pub rules-stw : (rs slot ro bank : ℕ) → bank_known k slot ≡ Some bank
       → (is_ram bank && (is_secret k rs || is_secret k ro)) ≡ false → ruling_of o p k (Stw rs slot ro) ≡ Falls k
   unfolding ruling_of
@@ -239,7 +239,7 @@ module _ (o : Parts) (p : ℕ) (k : Known) where
       (Falls k))) known
       ∙ ap (λ (b : Bool). refused_if b SecretToRam (Falls k)) allowed
 
--- what is read behind a change
+-- what is read after a change
 pub secret-same : (k : Known) (r : ℕ) (label : Bool) → r < length k.secret → is_secret (set_secret k r label) r ≡ label
 secret-same k r label inside = get_or-set_same k.secret r label true inside
 
@@ -248,21 +248,21 @@ pub secret-other : (k : Known) (r s : ℕ) (label : Bool) → (s ≡ r → ⊥)
     → is_secret (set_secret k r label) s ≡ is_secret k s
 secret-other k r s label apart = get_or-set_other k.secret r s label true apart
 
--- the bank that a slot got is known
+-- the bank of a slot that was bound
 pub bank-same : (k : Known) (slot bank : ℕ) → slot < length k.banks → bank_known (set_bank k slot bank) slot ≡ Some bank
 bank-same k slot bank inside = get_or-set_same k.banks slot (Some bank) None inside
 
--- the bank of another slot stays known
+-- the bank of another slot stays
 pub bank-other : (k : Known) (slot bank s : ℕ) → (s ≡ slot → ⊥) → bank_known (set_bank k slot bank) s ≡ bank_known k s
 bank-other k slot bank s apart = get_or-set_other k.banks slot s (Some bank) None apart
 
--- Instructions from a place on that go on from each to the next, given what holds at the first.
+-- Instructions from a place on, each of which continues to the next place, from what is known at the first.
 pub data GoesOn (o : Parts) : (p : ℕ) → List Instr → Known → Known → Type 0 where
   NoMore : (p : ℕ) (k : Known) → GoesOn o p [] k k
   One : (p : ℕ) (i : Instr) (code : List Instr) (k next last : Known)
       → ruling_of o p k i ≡ Falls next → GoesOn o (p + 1) code next last → GoesOn o p (i ∷ code) k last
 
--- one piece and then the rest
+-- two parts in sequence
 pub goes-then : (o : Parts) (p : ℕ) (xs ys : List Instr) (k l m : Known) → GoesOn o p xs k l
     → GoesOn o (p + length xs) ys l m → GoesOn o p (xs ++ ys) k m
 goes-then o p [] ys k l m (NoMore p' k') more =
@@ -273,7 +273,7 @@ goes-then o p (i ∷ xs) ys k l m (One p' i' code k' next last rules rest) more 
     One p i (xs ++ ys) k next m rules
     (goes-then o (p + 1) xs ys next l m rest (subst (λ (q : ℕ). GoesOn o q ys l m) same more))
 
--- they are passed where no note stands at them
+-- instructions that continue are passed if their places have no notes
 pub passes-goes : (o : Parts) (p : ℕ) (code : List Instr) (k last : Known) → GoesOn o p code k last
     → StandsAt o p code → ((r : ℕ) → p ≤ r → r < p + length code → claimed_at o r ≡ None)
     → p + length code < length o.code → Passes o p k (p + length code) last
@@ -287,7 +287,7 @@ passes-goes o p (i ∷ code) k last (One p' i' code' k' next last' rules rest) s
     (passes-goes o (p + 1) code next last rest (standing-tail i code stands)
     (λ r low high. quiet r (omega arith) (omega arith)) (omega arith)))
 
--- the same where what comes to the first is given with what holds there
+-- instructions that continue are passed if at most their first place has a note
 pub passes-noted : (o : Parts) (p : ℕ) (i : Instr) (code : List Instr) (k holds last : Known) → HoldsAt o p k holds
     → GoesOn o p (i ∷ code) holds last → StandsAt o p (i ∷ code)
     → ((r : ℕ) → p < r → r < p + length (i ∷ code) → claimed_at o r ≡ None)

@@ -1,5 +1,5 @@
--- What the check has come to is carried over a stretch that is passed. An object whose code is checked so from its start
--- up to its last place, at which it is left, is accepted.
+-- The check's state is carried over a stretch that is passed. An object whose code is passed from its start up to its
+-- last place, whose instruction leaves, is accepted.
 use Rattle.std.proofs.Common.{◌≡◌, ℕ, ◌+◌, ◌-◌, ◌<◌, ◌≤◌, true, false, ℤ, length, Option, Some, None, refl, sym, ap, ◌∙◌, subst, ⊎_elim, arith}
 use Rattle.std.proofs.lemmas.Bool.{cases_lt}
 use Rattle.lt_isa.specs.Object.{Parts}
@@ -26,14 +26,14 @@ module _ (o : Parts) where
   unclaimed : {A : Type 0} (p : ℕ) (k : Known) → claimed_at o p ≡ None → claimed_at o p ≡ Some k → A
   unclaimed p k none noted = absurd (let e : ◌≡◌ {A = Option Known} None (Some k) = sym none ∙ noted in cc)
 
-  -- what holds where the check has come to is known there
+  -- what is known at a place when the check gets there is known as at a visited place
   starts-visited : (p : ℕ) (k holds : Known) → StartsFrom o p k → HoldsAt o p k holds → VisitedAt o p holds
   starts-visited p k holds (ByComing k' comes) (AsItComes j none) = Unnoted p k none comes
   starts-visited p k holds (ByComing k' comes) (AsClaimed j claimed noted fit) = Noted p claimed noted
   starts-visited p k holds (ByNote k' at fitting) (AsItComes j none) = unclaimed p k none at
   starts-visited p k holds (ByNote k' at fitting) (AsClaimed j claimed noted fit) = Noted p claimed noted
 
-  -- what reaches it fits its note
+  -- what reaches the place fits its note
   starts-fits : (p : ℕ) (k holds : Known) → StartsFrom o p k → HoldsAt o p k holds → NoneBelow o p → p < length o.code
       → FitsHere o p
   starts-fits p k holds (ByNote k' noted fitting) there none inside other claim here at =
@@ -48,14 +48,14 @@ module _ (o : Parts) where
       subst (λ (x : Known). fits x claim ≡ true) known
       (subst (λ (x : Known). fits k x ≡ true) same ((fits-claim o p k claimed noted).1 fit))
 
-  -- so the check makes of it what it makes of a place where this holds
+  -- the check's result for the place is that for a visited place at which this is known
   starts-effect : (p : ℕ) (k holds : Known) → StartsFrom o p k → HoldsAt o p k holds → NoneBelow o p
       → p < length o.code → effect_from o p (reached_at o p) ≡ effect_at o p holds
   starts-effect p k holds starts here none inside =
       visited-known o p holds (starts-visited p k holds starts here) none
       (starts-fits p k holds starts here none inside) inside
 
-  -- one place more isn't refused
+  -- one more place isn't refused
   none_more : (p : ℕ) (e : Effect) → effect_from o p (reached_at o p) ≡ e → refusal_in p e ≡ None → NoneBelow o p
       → NoneBelow o (p + 1)
   none_more p e is allowed none q lt =
@@ -66,7 +66,7 @@ module _ (o : Parts) where
       subst (λ (r : ℕ). refusal_at o r ≡ None) same (ap (refusal_in p) is ∙ allowed))
       (cases_lt q p)
 
-  -- nor the places of a region
+  -- no place of a region that is crossed is refused
   none_inside : (p join : ℕ) (k : Known) → effect_from o p (reached_at o p) ≡ Joins join k → NoneBelow o p
       → NoneBelow o join
   none_inside p join k is none q lt =
@@ -77,7 +77,7 @@ module _ (o : Parts) where
       ∙ ap (refusal_in q) (effect_from-inside o q join k))
       (cases_lt q (p + 1))
 
-  -- nothing comes to a place behind one that leads elsewhere alone
+  -- nothing reaches a place after an instruction that only leads elsewhere
   fits_left : (p : ℕ) → effect_from o p (reached_at o p) ≡ Leaves → NoneBelow o (p + 1) → p + 1 < length o.code
       → FitsNote o (p + 1)
   fits_left p is none inside k claimed comes at =
@@ -91,7 +91,7 @@ module _ (o : Parts) where
       let region = crosses-region o 0 (length o.code - 1) p offset (at_entry holds) pattern join state crosses in
       omega (arith, region.1.first, region.1.second)
 
-  -- a stretch leads on
+  -- a stretch ends no earlier than it begins
   passes-on : (p : ℕ) (k : Known) (q : ℕ) (l : Known) → Passes o p k q l → p ≤ q
   passes-on p k q l (Done p' k') = omega arith
   passes-on p k q l (Onward p' k' holds next q' l' here rules inside rest) =
@@ -101,7 +101,7 @@ module _ (o : Parts) where
   passes-on p k q l (Across p' k' holds offset pattern join state q' l' here rules crosses rest) =
       omega (arith, joins_behind p holds offset pattern join state crosses, passes-on join (known_after state) q l rest)
 
-  -- no place of a stretch that is passed is refused, and what it says comes to the place behind it
+  -- no place of a stretch that is passed is refused, and what it ends with reaches the place after it
   passes-none : (p : ℕ) (k : Known) (q : ℕ) (l : Known) → Passes o p k q l → q < length o.code → StartsFrom o p k
       → NoneBelow o p → StartsFrom o q l × NoneBelow o q
   passes-none p k q l (Done p' k') last starts none = (starts, none)
@@ -144,7 +144,7 @@ module _ (o : Parts) where
     starts = ByComing start_known Starts;
   }
 
-  -- and comes so far behind a stretch that is passed
+  -- the check gets to the end of a stretch that is passed
   pub checked-on : (p q : ℕ) (comes last : Known) → CheckedUpTo o p comes → Passes o p comes q last
       → q < length o.code → CheckedUpTo o q last
   checked-on p q comes last checked passes inside =
@@ -153,7 +153,8 @@ module _ (o : Parts) where
       (none_up_to o p (omega (arith, on)) checked.none_refused) in
       record { none_refused = none-refused q (omega arith) passed.1; starts = passed.0 }
 
-  -- an object that is checked up to its last place, which is left, is accepted where no secret lies in plain memory
+  -- an object is accepted if it is checked up to its last place, the instruction there leaves, and no secret variable
+  -- is in plain memory
   pub checked-accepted : (q : ℕ) (k holds : Known) → CheckedUpTo o q k → HoldsAt o q k holds
       → ruling_at o q holds ≡ rule.Leaves → q + 1 ≡ length o.code → has_secret_in_ram o ≡ false → Accepts o
   checked-accepted q k holds checked here leaves last symbols =
@@ -162,7 +163,8 @@ module _ (o : Parts) where
       starts-effect q k holds checked.starts here none (omega arith) ∙ effect-ruled o q holds rule.Leaves leaves in
       none_is_accepted o (subst (NoneBelow o) last (none_more q Leaves is refl none)) symbols
 
-  -- so is one that is passed up to there
+  -- an object is accepted if the check passes it up to its last place, the instruction there leaves, and no secret
+  -- variable is in plain memory
   pub passes-accepted : (q : ℕ) (k holds : Known) → Passes o 0 start_known q k → HoldsAt o q k holds
       → ruling_at o q holds ≡ rule.Leaves → q + 1 ≡ length o.code → has_secret_in_ram o ≡ false → Accepts o
   passes-accepted q k holds passes here leaves last symbols =

@@ -1,4 +1,4 @@
--- Runs through code: one piece and then the rest, and the instructions that set a register.
+-- Runs through code: two parts in sequence, and the instructions that set a register.
 use Rattle.std.proofs.Common.{◌≡◌, ℕ, ◌+◌, ◌<◌, ◌≤◌, false, ℤ, pos, List, [], ◌∷◌, ◌++◌, length, Some, refl, sym, ap, ◌∙◌, subst, arith}
 use Rattle.std.specs.Prelude.{slice_get}
 use Rattle.std.proofs.lemmas.List.{get_or-set_same, get_or-set_other, length-append}
@@ -17,7 +17,7 @@ use Rattle.stretches.specs.Coming.{Comes, RunsThrough, Sets, Keeps}
 use Rattle.stretches.proofs.Standing.{standing-first, standing-rest, standing-head, standing-tail, greatest_costs-append}
 use Rattle.stretches.proofs.Coming.{comes-on, comes-weaker, comes-li, comes-alu, comes-idb, comes-ldw}
 
--- one piece of code and the rest
+-- two parts of code in sequence
 pub runs-append : {o : Parts} (s : State) (xs ys : List Instr) (es fs : List Observed) (P Q : State → Type 0)
     → StandsAt o s.place (xs ++ ys) → (StandsAt o s.place xs → RunsThrough o s xs es P)
     → ((t : State) → IsShaped o t → P t → StandsAt o t.place ys → RunsThrough o t ys fs Q)
@@ -32,7 +32,7 @@ runs-append {o = o} s xs ys es fs P Q at first rest =
     refl (ap (λ p. p + length ys) comes) (omega arith) (λ u shape h. h)))
     refl (omega (arith, length-append xs ys)) (omega (arith, greatest_costs-append o xs ys)) (λ u shape h. h)
 
--- one instruction and the rest
+-- one instruction and then the rest
 pub runs-cons : {o : Parts} (s : State) (i : Instr) (ys : List Instr) (es fs : List Observed) (P Q : State → Type 0)
     → StandsAt o s.place (i ∷ ys)
     → (slice_get o.code s.place ≡ Some i → Comes o s es (s.place + 1) (greatest_cost o i) P)
@@ -47,7 +47,7 @@ runs-cons {o = o} s i ys es fs P Q at first rest =
     refl (ap (λ p. p + length ys) comes) (omega arith) (λ u shape h. h)))
     refl (omega arith) (omega arith) (λ u shape h. h)
 
--- one instruction alone
+-- one instruction
 pub runs-one : {o : Parts} (s : State) (i : Instr) (es : List Observed) (P : State → Type 0)
     → StandsAt o s.place (i ∷ [])
     → (slice_get o.code s.place ≡ Some i → Comes o s es (s.place + 1) (greatest_cost o i) P)
@@ -56,13 +56,13 @@ runs-one {o = o} s i es P at first =
     comes-weaker es (s.place + 1) (greatest_costs o (i ∷ [])) P (first (standing-head i [] at)) refl refl
     (omega arith) (λ t shaped h. h)
 
--- a run through code of which more is said, or the same in other words
+-- a run through code of which less is stated
 pub runs-weaker : {o : Parts} (s : State) (code : List Instr) (es fs : List Observed) (P Q : State → Type 0)
     → RunsThrough o s code es P → es ≡ fs → ((t : State) → IsShaped o t → P t → Q t) → RunsThrough o s code fs Q
 runs-weaker {o = o} s code es fs P Q run same weaker =
     comes-weaker fs (s.place + length code) (greatest_costs o code) Q run same refl (omega arith) weaker
 
--- what a state with another register is like
+-- the state with another register
 pub sets-register : (o : Parts) (s : State) (i : Instr) (r : ℕ) (word : ℤ) → IsShaped o s → r < 32
     → Sets s r word (set_register (passed o i false 0 (s.place + 1) s) r word)
 sets-register o s i r word shaped below = record {
@@ -72,7 +72,7 @@ sets-register o s i r word shaped below = record {
   banks = refl;
 }
 
--- a register from n on was set, and one thing and then another was done
+-- setting a register from n on keeps the registers below n
 pub keeps-set : (n : ℕ) {s t : State} {r : ℕ} {word : ℤ} → Sets s r word t → n ≤ r → Keeps n s t
 keeps-set n {r = r} sets from = record {
   below = λ q under. sets.others q (λ same. absurd (omega arith));
@@ -80,7 +80,7 @@ keeps-set n {r = r} sets from = record {
   banks = sets.banks;
 }
 
--- one thing that keeps the lower registers and then another
+-- two changes in sequence that keep the registers below n
 pub keeps-on : {n : ℕ} {s t u : State} → Keeps n s t → Keeps n t u → Keeps n s u
 keeps-on first second = record {
   below = λ q under. second.below q under ∙ first.below q under;
@@ -89,13 +89,13 @@ keeps-on first second = record {
 }
 
 module _ (o : Parts) (fits : IsInRange o) (s : State) (shaped : IsShaped o s) where
-  -- a number is put into a register
+  -- a constant is written to a register
   pub sets-li : (rd : ℕ) (value : ℤ) → rd < 32 → slice_get o.code s.place ≡ Some (Li rd value)
       → Comes o s [] (s.place + 1) (greatest_cost o (Li rd value)) (Sets s rd value)
   sets-li rd value below at =
       comes-li o fits s shaped rd value (Sets s rd value) at (sets-register o s (Li rd value) rd value shaped below)
 
-  -- the result of a calculation is put into a register
+  -- the result of an operation is written to a register
   pub sets-alu : (op : Op) (rd ra rb : ℕ) (word : ℤ) → rd < 32 → applied op (register s ra) (register s rb) ≡ word
       → slice_get o.code s.place ≡ Some (Alu op rd ra rb)
       → Comes o s [] (s.place + 1) (greatest_cost o (Alu op rd ra rb)) (Sets s rd word)
@@ -105,7 +105,7 @@ module _ (o : Parts) (fits : IsInRange o) (s : State) (shaped : IsShaped o s) wh
       (applied op (register s ra) (register s rb)))) is
       (sets-register o s (Alu op rd ra rb) rd (applied op (register s ra) (register s rb)) shaped below))
 
-  -- the number of a slot's block is put into a register
+  -- the number of a slot's block is written to a register
   pub sets-idb : (rd k b a : ℕ) (words : List ℤ) → rd < 32 → slot s k ≡ Bound b a words
       → slice_get o.code s.place ≡ Some (Idb rd k)
       → Comes o s [] (s.place + 1) (greatest_cost o (Idb rd k)) (Sets s rd (pos a))
@@ -113,7 +113,7 @@ module _ (o : Parts) (fits : IsInRange o) (s : State) (shaped : IsShaped o s) wh
       comes-idb o fits s shaped rd k b a words (Sets s rd (pos a)) at bound
       (sets-register o s (Idb rd k) rd (pos a) shaped below)
 
-  -- a word of a slot's block is put into a register
+  -- a word of a slot's block is written to a register
   pub sets-ldw : (rd k ro b a : ℕ) (words : List ℤ) (word : ℤ) → rd < 32 → slot s k ≡ Bound b a words
       → word_in words (word_named o (register s ro)) ≡ word
       → slice_get o.code s.place ≡ Some (Ldw rd k ro)

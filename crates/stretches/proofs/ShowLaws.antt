@@ -1,4 +1,4 @@
--- Laws of patterns that are told as what is shown one thing after another.
+-- Laws of patterns that are lists of what is shown in sequence.
 use Rattle.std.proofs.Common.{◌≡◌, ℕ, ◌+◌, List, [], ◌∷◌, ◌++◌, sym, ap, ◌∙◌}
 use Rattle.trace_patterns.specs.Patterns.{Shown, no_events, with_gap, joined}
 use Rattle.trace_patterns.specs.Events.{TreeEvent}
@@ -6,7 +6,7 @@ use Rattle.trace_patterns.specs.Single.{gap}
 use Rattle.stretches.specs.Shows.{Show, Gap, pattern_of_one, pattern_of}
 use Rattle.trace_patterns.proofs.PatternLaws.{no_events-joined, joined-no_events, joined-assoc, joined-gap, with_gap-more}
 
--- what is shown in turn is two patterns joined
+-- two lists in sequence are two patterns in sequence
 pub pattern_of-append : (xs ys : List Show) → pattern_of (xs ++ ys) ≡ joined (pattern_of xs) (pattern_of ys)
 pattern_of-append [] ys = sym (no_events-joined (pattern_of ys))
 pattern_of-append (x ∷ xs) ys =
@@ -22,14 +22,14 @@ gaps-joined m n =
     joined-gap (gap m) no_events n ∙ ap (λ (p : Shown TreeEvent). with_gap p n) (joined-no_events (gap m))
     ∙ with_gap-more no_events m n
 
--- two gaps are one
+-- two gaps at the beginning become one
 pub pattern_of-gaps : (m n : ℕ) (shows : List Show)
     → pattern_of (Gap m ∷ Gap n ∷ shows) ≡ pattern_of (Gap (m + n) ∷ shows)
 pattern_of-gaps m n shows =
     sym (joined-assoc (gap m) (gap n) (pattern_of shows))
     ∙ ap (λ (p : Shown TreeEvent). joined p (pattern_of shows)) (gaps-joined m n)
 
--- a gap behind the rest
+-- a gap at the end
 pub pattern_of-gap : (shows : List Show) (n : ℕ)
     → pattern_of (shows ++ Gap n ∷ []) ≡ with_gap (pattern_of shows) n
 pattern_of-gap shows n =

@@ -1,4 +1,4 @@
--- Code that stands at a place stands there part by part.
+-- Code at a place, in parts.
 use Rattle.std.proofs.Common.{◌≡◌, ℕ, ◌+◌, zero, suc, List, [], ◌∷◌, ◌++◌, length, Some, refl, ap, ◌∙◌, arith}
 use Rattle.std.specs.Prelude.{slice_get}
 use Rattle.std.proofs.lemmas.Option.{none-some}
@@ -18,11 +18,11 @@ slice_get-append_right (x ∷ xs) ys k =
     let next : suc (length xs) + k ≡ suc (length xs + k) = omega arith in
     ap (slice_get (x ∷ (xs ++ ys))) next ∙ slice_get-append_right xs ys k
 
--- the first part, and the rest behind it
+-- the first part of some code is at its place
 pub standing-first : {o : Parts} {p : ℕ} (xs ys : List Instr) → StandsAt o p (xs ++ ys) → StandsAt o p xs
 standing-first xs ys at = record { each = λ k i is. at.each k i (slice_get-append_left xs ys k i is) }
 
--- of two pieces the second stands behind the first
+-- the second part is after the first
 pub standing-rest : {o : Parts} {p : ℕ} (xs ys : List Instr) → StandsAt o p (xs ++ ys) → StandsAt o (p + length xs) ys
 standing-rest {o = o} {p = p} xs ys at = record {
   each = λ k i is.
@@ -30,13 +30,13 @@ standing-rest {o = o} {p = p} xs ys at = record {
       ap (slice_get o.code) place ∙ at.each (length xs + k) i (slice_get-append_right xs ys k ∙ is);
 }
 
--- the first instruction, and those behind it
+-- the first instruction is at the place
 pub standing-head : {o : Parts} {p : ℕ} (i : Instr) (code : List Instr)
     → StandsAt o p (i ∷ code) → slice_get o.code p ≡ Some i
 standing-head {o = o} {p = p} i code at =
     let place : p ≡ p + 0 = omega arith in ap (slice_get o.code) place ∙ at.each 0 i refl
 
--- behind the first instruction the rest stands
+-- the instructions after the first are at the next place
 pub standing-tail : {o : Parts} {p : ℕ} (i : Instr) (code : List Instr)
     → StandsAt o p (i ∷ code) → StandsAt o (p + 1) code
 standing-tail {o = o} {p = p} i code at = record {
@@ -44,13 +44,13 @@ standing-tail {o = o} {p = p} i code at = record {
       let place : p + 1 + k ≡ p + suc k = omega arith in ap (slice_get o.code) place ∙ at.each (suc k) j is;
 }
 
--- the costs of two parts
+-- the sum of the costs of two parts
 pub greatest_costs-append : (o : Parts) (xs ys : List Instr)
     → greatest_costs o (xs ++ ys) ≡ greatest_costs o xs + greatest_costs o ys
 greatest_costs-append o [] ys = omega arith
 greatest_costs-append o (i ∷ xs) ys = omega (arith, greatest_costs-append o xs ys)
 
--- the whole of an object's code stands at place 0
+-- the whole code of an object is at place 0
 pub standing-whole : (o : Parts) (code : List Instr) → o.code ≡ code → StandsAt o 0 code
 standing-whole o code is = record {
   each = λ k i at.

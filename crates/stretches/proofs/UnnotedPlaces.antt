@@ -1,4 +1,4 @@
--- Where nothing is claimed between two places, no note stands between them.
+-- If no place between two places has a claim, no note is between them.
 use Rattle.std.proofs.Common.{◌≡◌, ℕ, ◌<◌, ◌==◌, Bool, true, false, ◌&&◌, nat_lt, List, [], ◌∷◌, Option, Some, None, refl, sym, ap, ◌∙◌}
 use Rattle.std.specs.Prelude.{if◌then◌else◌}
 use Rattle.std.specs.List.{list_any}
@@ -10,7 +10,7 @@ use Rattle.trace_patterns.specs.Known.{Known, note_known}
 use Rattle.trace_patterns.specs.Shape.{has_note_between}
 use Rattle.trace_patterns.specs.Rules.{note_of_place, claimed_at}
 
--- of the notes at each place between, none is found
+-- no note is found at any place between two places
 NoneFound : List Note → ℕ → ℕ → Type 0
 NoneFound notes low high = (r : ℕ) → low < r → r < high → note_of_place notes r ≡ None
 
@@ -45,7 +45,7 @@ unclaimed : (found : Option Note) → option_map note_known found ≡ None → f
 unclaimed None e = refl
 unclaimed (Some n) e = absurd (let f : ◌≡◌ {A = Option Known} (Some (note_known n)) None = e in cc)
 
--- where no place claims anything there is no note
+-- if no place between two places has a claim, no note is between them
 pub quiet-unclaimed : (o : Parts) (low high : ℕ) → ((r : ℕ) → low < r → r < high → claimed_at o r ≡ None)
     → has_note_between o low high ≡ false
 unfolding claimed_at NoneFound

@@ -1,4 +1,5 @@
--- Runs of a stretch of code: where a run comes, what it shows on the way, and by which cycle. (This project's profile.)
+-- Runs of a stretch of code: the place that a run reaches, what it shows on the way, and by which cycle. (This
+-- project's profile.)
 use Rattle.std.specs.Prelude.{◌≡◌, ◌≢◌, ℕ, ◌+◌, ◌<◌, ◌≤◌, ℤ, List, [], ◌∷◌, length, map, Option, Some, None}
 use Rattle.lt_isa.specs.declared.instructions.Instr.{Instr}
 use Rattle.lt_isa.specs.Object.{Parts}
@@ -11,8 +12,8 @@ use Rattle.lt_isa.specs.Trace.{Stamped, Reaches}
 abbrev pub seen : List Stamped → List Observed
 seen events = map (λ e. e.event) events
 
--- From a state the run comes to a place, in a state of which P holds. On the way it shows these things in this order,
--- and it takes so many cycles at most.
+-- From state s the run reaches a place, in a state with property P. On the way it shows these events in this order, and
+-- it takes at most `most` cycles.
 pub record Comes (o : Parts) (s : State) (shown : List Observed) (place most : ℕ) (P : State → Type 0) : Type 0 where
   pub end : State
   pub events : List Stamped
@@ -28,18 +29,18 @@ abbrev pub shown_by : Option Observed → List Observed
 shown_by None = []
 shown_by (Some event) = event ∷ []
 
--- the run of code from its first instruction comes just behind its last, within the greatest costs
+-- the run of some code from its first instruction reaches the place after its last one, within the greatest costs
 abbrev pub RunsThrough : Parts → State → List Instr → List Observed → (State → Type 0) → Type 0
 RunsThrough o s code shown P = Comes o s shown (s.place + length code) (greatest_costs o code) P
 
--- one register was set, and all else is as before but for the place and the cycle
+-- one register was set; all else is as before, except the place and the cycle
 pub record Sets (s : State) (r : ℕ) (word : ℤ) (t : State) : Type 0 where
   pub value : register t r ≡ word
   pub others : (q : ℕ) → q ≢ r → register t q ≡ register s q
   pub slots : t.slots ≡ s.slots
   pub banks : t.banks ≡ s.banks
 
--- the registers below one, the slots and the banks are as before
+-- the registers below n, the slots and the banks are as before
 pub record Keeps (n : ℕ) (s t : State) : Type 0 where
   pub below : (r : ℕ) → r < n → register t r ≡ register s r
   pub slots : t.slots ≡ s.slots

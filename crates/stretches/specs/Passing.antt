@@ -1,6 +1,6 @@
--- A stretch of public code is passed without a refusal: from what comes to its first place to what comes to the place
--- behind it. Code that is emitted piece by piece is accepted piece by piece so.
--- (GhostRider, ASPLOS 2015: the type system of L_T; that notes claim what is known is this project's profile.)
+-- The check passes a stretch of public code without a refusal, from what reaches its first place to what reaches the
+-- place after it. So code that is generated in parts is accepted part by part. (GhostRider, ASPLOS 2015: the type
+-- system of L_T; that notes claim what is known is this project's profile.)
 use Rattle.std.specs.Prelude.{◌≡◌, ℕ, ◌+◌, ◌<◌, ℤ, List, length, Some, None}
 use Rattle.std.specs.Option.{option_map}
 use Rattle.lt_isa.specs.declared.symbols.Note.{Note}
@@ -12,15 +12,16 @@ use Rattle.trace_patterns.specs.SymStates.{SymState, known_after}
 use Rattle.trace_patterns.specs.Rules.{Falls, Leaves, Opens, note_of_place, claimed_at, ruling_at}
 use Rattle.trace_patterns.specs.Visits.{CrossesFrom}
 
--- What holds at a place, given what comes to it: that, where no note stands there; or what the note claims, which what
--- comes must fit.
+-- What is known at a place, from what reaches it: the same, if the place has no note; or what its note claims, and what
+-- reaches it must fit that.
 pub data HoldsAt (o : Parts) (p : ℕ) : (comes holds : Known) → Type 0 where
   AsItComes : (k : Known) → claimed_at o p ≡ None → HoldsAt o p k k
   AsClaimed : (k claimed : Known) → claimed_at o p ≡ Some claimed → FitsClaim k claimed → HoldsAt o p k claimed
 
--- From a place, to which this comes, the code is passed up to another place, to which that comes: nothing is left; or
--- an instruction goes on to the next place, which is one of the code; or it leads elsewhere alone, and what is known
--- at the next place is what the note there claims; or the region that a branch opens is crossed to its join.
+-- The check passes the code from place p up to place q; the two `Known` are what reaches p and what reaches q. Either
+-- nothing is left; or an instruction continues to the next place, which is in the code; or it only leads elsewhere, and
+-- what is known at the next place is what that place's note claims; or a branch opens a region, which is crossed to its
+-- join.
 pub data Passes (o : Parts) : (p : ℕ) → Known → (q : ℕ) → Known → Type 0 where
   Done : (p : ℕ) (k : Known) → Passes o p k p k
   Onward : (p : ℕ) (k holds next : Known) (q : ℕ) (last : Known)
@@ -34,6 +35,6 @@ pub data Passes (o : Parts) : (p : ℕ) → Known → (q : ℕ) → Known → Ty
       → HoldsAt o p k holds → ruling_at o p holds ≡ Opens offset → CrossesFrom o p offset holds pattern join state
       → Passes o join (known_after state) q last → Passes o p k q last
 
--- behind place p and before place q stand exactly these of an object's notes
+-- the places after p and before q have the claims of these notes, and no others
 abbrev pub NotesBetween : Parts → ℕ → ℕ → List Note → Type 0
 NotesBetween o p q notes = (r : ℕ) → p < r → r < q → claimed_at o r ≡ option_map note_known (note_of_place notes r)

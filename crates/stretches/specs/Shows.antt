@@ -1,5 +1,5 @@
--- Patterns told as what is shown one thing after another: cycles without an event, and events.
--- (GhostRider, ASPLOS 2015: the trace patterns of the type system of L_T; gaps of cycles are this project's profile.)
+-- Patterns as lists of what is shown in sequence: cycles without an event, and events. (GhostRider, ASPLOS 2015: the
+-- trace patterns of the type system of L_T; gaps of cycles are this project's profile.)
 use Rattle.std.specs.Prelude.{ℕ, List, [], ◌∷◌, ◌++◌}
 use Rattle.trace_patterns.specs.Patterns.{Shown, no_events, joined}
 use Rattle.trace_patterns.specs.Events.{TreeEvent}
@@ -9,7 +9,7 @@ pub data Show : Type 0 where
   Gap : (cycles : ℕ) → Show
   Seen : (event : TreeEvent) → Show
 
--- the pattern of one thing, and of several: cycles that meet are one gap
+-- the pattern of one item, and of several: adjacent gaps become one
 abbrev pub pattern_of_one : Show → Shown TreeEvent
 pattern_of_one (Gap cycles) = gap cycles
 pattern_of_one (Seen e) = event e
