@@ -1,4 +1,4 @@
--- What an item adds to what is read of a text, and the stages of lines.
+-- What an item adds to a draft, and the stages of lines.
 use Rattle.std.proofs.Common.{◌≡◌, ℕ, ◌+◌, ◌≤◌, Bool, true, false, not, eqb, List, [], ◌∷◌, ◌++◌, length, Option, Some, None, refl, ap, arith, length-append}
 use Rattle.std.specs.Prelude.{◌&&◌, ◌||◌, is_some, is_none}
 use Rattle.std.specs.Ordering.{nat_cmp, match_ordering}
@@ -35,22 +35,22 @@ added n (ANote mask claims) d =
     record d { notes = d.notes ++ record { pc = length d.code; secrets = mask; slots = claims } ∷ [] }
 added n (AnInstruction instr target) d = with_code n (coded_in (length d.code) instr target) d
 
--- the draft behind a list of items, the first of them on line n
+-- the draft after a list of items, the first of which is line n's
 abbrev pub adds : ℕ → List Item → Draft → Draft
 adds n [] d = d
 adds n (item ∷ items) d = adds (n + 1) items (added n item d)
 
--- an item's label, where it is one, is none yet
+-- if an item is a label, the draft doesn't have it yet
 abbrev pub IsFresh : Draft → Item → Type 0
 IsFresh d (ALabel name) = place_of d.labels name ≡ None
 IsFresh d item = Unit {0}
 
--- no item names anew what stands already
+-- no item repeats a label
 abbrev pub AreFresh : ℕ → List Item → Draft → Type 0
 AreFresh n [] d = Unit {0}
 AreFresh n (item ∷ items) d = IsFresh d item × AreFresh (n + 1) items (added n item d)
 
--- the stage of a draft, by whether it has a first line, code, no symbol and no bank
+-- the stage of a draft, by whether it has a first line and code, and whether it has no symbols and no banks
 abbrev pub stage_of : Bool → Bool → Bool → Bool → ℕ
 stage_of false code symbols banks = 0
 stage_of true true symbols banks = 4
@@ -58,15 +58,15 @@ stage_of true false false banks = 3
 stage_of true false true false = 2
 stage_of true false true true = 1
 
--- the stage that a draft is in: nothing yet, the object, banks, symbols or code
+-- the stage that a draft has reached: nothing, the first line, banks, symbols or code
 unfoldable pub stage_in : Draft → ℕ
 stage_in d = stage_of (is_some d.profile) (has_code d) (eqb (length d.symbols) 0) (eqb (length d.banks) 0)
 
--- before the first line nothing is there
+-- a draft without a first line is empty
 abbrev pub IsHeaded : Draft → Type 0
 IsHeaded d = d.profile ≡ None → d ≡ empty_draft
 
--- which stages take a line
+-- the stages at which a line is allowed
 
 bank_stage : (p c s b : Bool) → (p && (s && not c)) ≡ true → Within 1 2 (stage_of p c s b)
 bank_stage true false true true e = (omega arith, omega arith)
@@ -74,7 +74,7 @@ bank_stage true false true false e = (omega arith, omega arith)
 bank_stage true true true b e = absurd cc
 bank_stage _ _ _ b e = absurd cc
 
--- a draft that takes a bank, by its stage
+-- a draft that takes a bank is at stage 1 or 2
 pub takes_bank-stage : (d : Draft) → takes_bank d ≡ true → Within 1 2 (stage_in d)
 unfolding stage_in
 takes_bank-stage d e = bank_stage (is_some d.profile) (has_code d) (eqb (length d.symbols) 0) (eqb (length d.banks) 0) e
@@ -85,12 +85,12 @@ stage_bank true false false b h = absurd (omega (arith, h.1))
 stage_bank true true s b h = absurd (omega (arith, h.1))
 stage_bank false c s b h = absurd (omega (arith, h.0))
 
--- and back
+-- a draft at stage 1 or 2 takes a bank
 pub stage-takes_bank : (d : Draft) → Within 1 2 (stage_in d) → takes_bank d ≡ true
 unfolding stage_in
 stage-takes_bank d h = stage_bank (is_some d.profile) (has_code d) (eqb (length d.symbols) 0) (eqb (length d.banks) 0) h
 
--- what is 1 or more isn't 0
+-- a number from 1 on isn't 0
 pub not_zero : (n : ℕ) → 1 ≤ n → eqb n 0 ≡ false
 not_zero n h = grind (arith, nat_tests)
 
@@ -102,7 +102,7 @@ symbol_stage true true false true false f e = (omega arith, omega arith)
 symbol_stage true true false false b f e = (omega arith, omega arith)
 symbol_stage _ _ _ _ b f e = absurd cc
 
--- a draft that takes a symbol, by its stage
+-- a draft that takes a symbol is at stage 2 or 3
 pub takes_symbol-stage : (d : Draft) → 2 ≤ length d.banks → takes_symbol d ≡ true → Within 2 3 (stage_in d)
 unfolding stage_in
 takes_symbol-stage d some e =
@@ -115,7 +115,7 @@ stage_symbol true true true s b e h = absurd (omega (arith, h.1))
 stage_symbol p false c s b e h = absurd cc
 stage_symbol false true c s b e h = absurd (omega (arith, h.0))
 
--- and back
+-- a draft that takes code takes a symbol at stage 2 or 3
 pub stage-takes_symbol : (d : Draft) → takes_code d ≡ true → Within 2 3 (stage_in d) → takes_symbol d ≡ true
 unfolding stage_in
 stage-takes_symbol d code h =
@@ -136,7 +136,7 @@ headed (Some p) h = refl
 no_banks : (d : Draft) → d ≡ empty_draft → 2 ≤ length d.banks → ⊥
 no_banks d e some = absurd (omega (arith, some, ap (λ (x : Draft). length x.banks) e))
 
--- a draft that takes code, by its stage
+-- a draft that takes code is at stage 2 or later
 pub takes_code-stage : (d : Draft) → IsHeaded d → takes_code d ≡ true → 2 ≤ stage_in d
 unfolding stage_in
 takes_code-stage d h e =
@@ -148,7 +148,7 @@ first_stage : (o : Option Profile) (c s b : Bool) → is_none o ≡ true → sta
 first_stage None c s b e = refl
 first_stage (Some p) c s b e = absurd cc
 
--- a draft without an object, by its stage
+-- a draft without a first line is at stage 0
 pub is_none-stage : (d : Draft) → is_none d.profile ≡ true → stage_in d ≡ 0
 unfolding stage_in
 is_none-stage d e = first_stage d.profile (has_code d) (eqb (length d.symbols) 0) (eqb (length d.banks) 0) e
@@ -160,18 +160,18 @@ stage_first (Some p) false false b e = absurd (omega (arith, e))
 stage_first (Some p) false true true e = absurd (omega (arith, e))
 stage_first (Some p) false true false e = absurd (omega (arith, e))
 
--- and back
+-- a draft at stage 0 has no first line
 pub stage-is_none : (d : Draft) → stage_in d ≡ 0 → d.profile ≡ None
 unfolding stage_in
 stage-is_none d e = stage_first d.profile (has_code d) (eqb (length d.symbols) 0) (eqb (length d.banks) 0) e
 
--- which stage an item leads to
+-- the stage after an item
 
 stage_some : (o : Option Profile) (c s b : Bool) → 1 ≤ stage_of (is_some o) c s b → is_some o ≡ true
 stage_some None c s b h = absurd (omega (arith, h))
 stage_some (Some p) c s b h = refl
 
--- behind the first line
+-- after the first line
 pub stage-is_some : (d : Draft) → 1 ≤ stage_in d → is_some d.profile ≡ true
 unfolding stage_in
 stage-is_some d h = stage_some d.profile (has_code d) (eqb (length d.symbols) 0) (eqb (length d.banks) 0) h
@@ -201,7 +201,7 @@ by_order Less a b c h k l = h
 by_order Equal a b c h k l = k
 by_order Greater a b c h k l = l
 
--- a label more is a label at least
+-- there is a label after one was added
 pub inserted : (labels : Labels) (name : Word) (place : ℕ) → 1 ≤ length (with_label name place labels)
 inserted [] name place = omega arith
 inserted (e ∷ es) name place =
@@ -220,7 +220,7 @@ code_last : (a b : Bool) → b ≡ false → (not a || not b) ≡ true
 code_last true b e = rw e refl
 code_last false b e = refl
 
--- the stage behind one item more
+-- the stage after one more item
 pub stage-added : (n : ℕ) (item : Item) (d : Draft)
     → IsHeaded d → Stands (stage_in d) item → stage_in (added n item d) ≡ stage_behind (stage_in d) item
 unfolding stage_in
@@ -251,7 +251,7 @@ has_first : (o : Option Profile) → is_some o ≡ true → o ≡ None → ⊥
 has_first None some e = cc
 has_first (Some p) some e = cc
 
--- an item more keeps the object in front
+-- one more item leaves no draft without a first line
 pub IsHeaded-added : (n : ℕ) (item : Item) (d : Draft)
     → IsHeaded d → Stands (stage_in d) item → IsHeaded (added n item d)
 IsHeaded-added n Nothing d h stands = h

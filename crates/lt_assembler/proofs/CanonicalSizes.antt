@@ -1,4 +1,4 @@
--- How long the canonical text of an object is.
+-- The length of the canonical text of an object.
 use Rattle.std.proofs.Common.{◌≡◌, ℕ, suc, ◌+◌, ◌*◌, ◌^◌, ◌<◌, ◌≤◌, Bool, true, false, eqb, cond, List, [], ◌∷◌, ◌++◌, length, map, refl, ap, ◌∙◌, arith, length-append}
 use Rattle.std.specs.Prelude.{All, IsTrue, ℤ, pos, negsuc, codes, decimal, flat_map}
 use Rattle.std.specs.Fmt.{signed_decimal}
@@ -36,7 +36,7 @@ use Rattle.lt_assembler.proofs.CanonicalWords.{HasSmallNumbers}
 use Rattle.lt_isa.proofs.SymbolPlaces.{most_blocks-le}
 use Rattle.lt_assembler.proofs.SpelledRead.{IsSmall, small_memory, small_symbol}
 
--- the bytes of words with one more behind each
+-- the bytes of words with one more byte after each
 abbrev size : List Word → ℕ
 size [] = 0
 size (w ∷ ws) = length w + (1 + size ws)
@@ -256,7 +256,7 @@ lines_append : (xs ys : List (List Word))
     → length (flat_map line (xs ++ ys)) ≡ length (flat_map line xs) + length (flat_map line ys)
 lines_append xs ys = ap length (flat_map-append line xs ys) ∙ length-append (flat_map line xs) (flat_map line ys)
 
--- the canonical text is within the limit of texts that are assembled
+-- the canonical text is no longer than the limit of texts that are assembled
 pub canonical_short : (o : Parts) → IsInRange o → length (canonical o) ≤ 67108864
 unfolding canonical
 canonical_short o h =

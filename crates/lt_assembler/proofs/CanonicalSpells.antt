@@ -1,4 +1,4 @@
--- The canonical text of an object spells it, and is no longer than a text that is assembled may be.
+-- The canonical text of an object encodes it.
 use Rattle.std.proofs.Common.{◌≡◌, ℕ, ◌+◌, ◌^◌, ◌<◌, ◌≤◌, Bool, true, false, eqb, cond, List, [], ◌∷◌, ◌++◌, length, map, Option, Some, None, refl, sym, ap, subst, ◌∙◌, append_assoc, arith}
 use Rattle.std.specs.Prelude.{All}
 use Rattle.std.proofs.lemmas.Bool.{eqb-true}
@@ -24,7 +24,7 @@ use Rattle.lt_assembler.proofs.CanonicalWords.{object_plain, bank_line_plain, sy
 use Rattle.lt_isa.proofs.SymbolPlaces.{most_blocks-le}
 use Rattle.lt_assembler.proofs.SpelledRead.{IsSmall, small_symbol, no_banks, no_profile}
 
--- each list of words spells an item
+-- the lists of words encode the items, one by one
 abbrev pub WordsAre : List (List Word) → List Item → Type 0
 WordsAre [] [] = Unit {0}
 WordsAre [] (item ∷ items) = ⊥
@@ -57,7 +57,7 @@ symbols_are : (ss : List Symbol) → WordsAre (map words_for_symbol ss) (map ASy
 symbols_are [] = tt
 symbols_are (s ∷ ss) = (Variable s, symbols_are ss)
 
--- what items that stand in front give
+-- what items yield that come before others
 
 none_in_front : {X Y : Type 0} (give : ℕ → Item → List Y) (f : X → Item) (place : ℕ) → ((x : X) → give place (f x) ≡ [])
     → ((x : X) → place_after place (f x) ≡ place) → (xs : List X) (rest : List Item)
@@ -84,19 +84,19 @@ banks_order : (bs : List BankSpec) (rest : List Item) → StagesInOrder 2 rest �
 banks_order [] rest h = h
 banks_order (b ∷ bs) rest h = ((omega arith, omega arith), banks_order bs rest h)
 
--- symbols or code behind the banks
+-- symbols or code after the banks
 symbols_late : (ss : List Symbol) (rest : List Item)
     → StagesInOrder 3 rest → StagesInOrder 2 rest → StagesInOrder 2 (map ASymbol ss ++ rest)
 symbols_late [] rest h k = k
 symbols_late (s ∷ ss) rest h k = ((omega arith, omega arith), symbols_order ss rest h)
 
--- banks behind the first line
+-- banks after the first line
 first_order : (bs : List BankSpec) (rest : List Item)
     → StagesInOrder 2 (map ABank bs ++ rest) → 2 ≤ length bs → StagesInOrder 1 (map ABank bs ++ rest)
 first_order [] rest h some = absurd (omega (arith, some))
 first_order (b ∷ bs) rest h some = ((omega arith, omega arith), h.1)
 
--- notes that rise in place, from one place on and below another
+-- notes in rising order of place, from one place on and below another
 abbrev Rising : List Note → ℕ → ℕ → Type 0
 Rising [] from below = Unit {0}
 Rising (m ∷ notes) from below = (from ≤ m.pc) × (m.pc < below) × Rising notes (m.pc + 1) below
@@ -111,7 +111,7 @@ rising banks below before (m ∷ notes) each all = (
       (rising banks below (before ++ m ∷ []) notes each.1 (All-tail (λ (x : Note). x.pc < below) m notes all)),
 )
 
--- what lines of code give
+-- the items of lines of code, and what they yield
 record CodeGives (wss : List (List Word)) (notes : List Note) (place : ℕ) (code : List Instr) : Type 0 where
   items : List Item
   are : WordsAre wss items
@@ -179,7 +179,7 @@ code_gives (m ∷ notes) place (i ∷ code) below end r = chosen (eqb m.pc place
     (λ e. with_instruction _ (m ∷ notes) place i code
     (code_gives (m ∷ notes) (place + 1) code below (omega (arith, end)) (past m.pc place e r.0, r.1, r.2)))
 
--- the lines are of plain words
+-- the words of the lines are plain
 
 lines_append : (xs ys : List (List Word)) → AreLines xs → AreLines ys → AreLines (xs ++ ys)
 lines_append [] ys h k = k
@@ -285,7 +285,7 @@ object_gives o h =
       };
     }
 
--- the canonical text spells its object
+-- the canonical text encodes its object
 pub canonical-spells : (o : Parts) → IsInRange o → SpellsInText (canonical o) o
 unfolding canonical
 canonical-spells o h =

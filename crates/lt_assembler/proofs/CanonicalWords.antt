@@ -1,4 +1,4 @@
--- The words of canonical lines are of plain bytes.
+-- The words of canonical lines consist of plain bytes.
 use Rattle.std.proofs.Common.{◌≡◌, ℕ, suc, ◌^◌, ◌<◌, ◌≤◌, Bool, true, false, eqb, ltb, cond, List, [], ◌∷◌, ◌++◌, length, map, refl, arith}
 use Rattle.std.specs.Prelude.{◌||◌, All, IsTrue, ℤ, pos, negsuc, codes, decimal}
 use Rattle.std.specs.Fmt.{signed_decimal}
@@ -136,7 +136,7 @@ window_plain p h = (
   ),
 )
 
--- the words of each line have no blank
+-- the words of the first line are plain
 pub object_plain : (p : Profile) → ProfileFits p → ArePlain (object_words p)
 object_plain p h = (fixed (codes ".object") refl refl, by_test (has_unit_period p))
   where
@@ -145,14 +145,14 @@ object_plain p h = (fixed (codes ".object") refl refl, by_test (has_unit_period 
     by_test true = (fixed (codes "1") refl refl, cycles_plain p h [] tt)
     by_test false = (fixed (codes "2") refl refl, cycles_plain p h (window_words p) (window_plain p h))
 
--- as those of an object
+-- the words of a bank's line are plain
 pub bank_line_plain : (b : BankSpec) → b.blocks ≤ 65536 → b.latency ≤ 1000000 → ArePlain (words_for_bank b)
 bank_line_plain b h k = (
   fixed (codes ".bank") refl refl,
   (decimal_plain b.blocks (omega arith), (decimal_plain b.latency (omega arith), tt)),
 )
 
--- a symbol's numbers are small
+-- the numbers of a symbol are small
 pub record HasSmallNumbers (s : Symbol) : Type 0 where
   pub name : IsTrue (is_name s.name)
   pub bank : s.bank < 10
@@ -160,7 +160,7 @@ pub record HasSmallNumbers (s : Symbol) : Type 0 where
   pub word : s.word < 512
   pub length : s.length ≤ 1048576
 
--- as those of an object
+-- the words of a symbol's line are plain
 pub symbol_plain : (s : Symbol) → HasSmallNumbers s → ArePlain (words_for_symbol s)
 symbol_plain s h = (
   fixed (codes ".symbol") refl refl,
@@ -196,7 +196,7 @@ claims_plain banks (c ∷ slots) few h = (
   claims_plain banks slots few (All-tail (λ c. IsTrue (is_slot_claim banks c)) c slots h),
 )
 
--- as those of an object
+-- the words of a note's line are plain
 pub note_plain : (banks : ℕ) (n : Note) → banks ≤ 10 → n.secrets < 2 ^ 32
     → All (λ c. IsTrue (is_slot_claim banks c)) n.slots → ArePlain (note_words n)
 note_plain banks n few h k =
@@ -205,7 +205,7 @@ note_plain banks n few h k =
 slot_plain : (k : ℕ) → k < 8 → IsPlain (decimal k)
 slot_plain k h = decimal_plain k (omega arith)
 
--- as those of an object
+-- the words of an instruction's line are plain
 pub instruction_plain : (banks : ℕ) (i : Instr) → banks ≤ 10 → InstrFits banks i → ArePlain (instruction_words i)
 instruction_plain banks Nop few h = (fixed (codes "nop") refl refl, tt)
 instruction_plain banks Halt few h = (fixed (codes "halt") refl refl, tt)

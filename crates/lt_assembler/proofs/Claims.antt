@@ -19,7 +19,7 @@ pub claims_go_on : (banks : ℕ) (words : List Word) (i : ℕ) (front : List ℕ
 claims_go_on banks words i front claim lt here =
     rw (drop-cons words i [] lt, add-one, here) (onto front claim (claims_of banks (drop (suc i) words)))
 
--- a word is none
+-- a word isn't a claim
 pub claims_fail : (banks : ℕ) (words : List Word) (i : ℕ) (front : List ℕ)
     → i < length words → claim_of banks (get_or words i []) ≡ None
     → option_map (λ (cs : List ℕ). front ++ cs) (claims_of banks (drop i words)) ≡ None

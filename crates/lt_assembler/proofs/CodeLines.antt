@@ -1,4 +1,4 @@
--- Notes, labels and instructions: what is read is what the words spell, and in range.
+-- Notes, labels and instructions: the words encode what is read, and it is in range.
 use Rattle.std.proofs.Common.{◌≡◌, ℕ, suc, ◌+◌, ◌-◌, ◌^◌, ◌<◌, ◌≤◌, Bool, true, false, not, eqb, ltb, List, [], ◌∷◌, ◌++◌, length, map, Option, Some, None, refl, sym, ap, ◌∙◌, subst, arith, length-append}
 use Rattle.std.specs.Prelude.{◌&&◌, ◌||◌, All, IsTrue, bytes_eq, nat_lt, is_none, codes, decimal, option_map, option_and_then}
 use Rattle.std.specs.Ordering.{nat_cmp}
@@ -30,7 +30,7 @@ use Rattle.lt_assembler.proofs.WordsRead.{mask_from}
 use Rattle.lt_assembler.proofs.InstructionsRead.{instruction_read_so}
 use Rattle.lt_assembler.proofs.HeadLines.{IsPlace, DraftFits, Says, said}
 
--- claims on slots
+-- claims about slots
 
 abbrev IsClaim : ℕ → ℕ → Type 0
 IsClaim banks claim = IsTrue (is_slot_claim banks claim)
@@ -53,7 +53,7 @@ IsClaimWord banks word claim = IsClaim banks claim × (word ≡ claim_word claim
 other_claim : (claim : ℕ) → claim < 255 → eqb claim 255 ≡ false
 other_claim claim lt = grind (arith, nat_tests)
 
--- a claim on a bank is no 255
+-- the word of a claim that names a bank
 bank_claim_word : (claim : ℕ) (word : Word) → claim < 255 → word ≡ decimal claim → word ≡ claim_word claim
 bank_claim_word claim word lt e = rw (other_claim claim lt) e
 
@@ -103,7 +103,7 @@ claims_from banks (word ∷ words) some few claims e =
 abbrev pub IsNoteOf : List Word → Note → Type 0
 IsNoteOf words n = codes ".note" ∷ words ≡ codes ".note" ∷ hex_word 8 n.secrets ∷ map claim_word n.slots
 
--- a note's line has a mask and eight words behind its first
+-- a note's line has a mask and eight words after its first
 pub note_fits : (F : Type 0) (banks place : ℕ) (before : List Note) (words : List Word)
     → 2 ≤ banks → banks ≤ 10 → next_place before ≤ place → place ≤ 1048576
     → ((mask : ℕ) → (claims : List Word) → mask < 2 ^ 32 → length claims ≡ 8 → words ≡ hex_word 8 mask ∷ claims → F)
@@ -128,14 +128,14 @@ note_fits F banks place before (mask ∷ claims) some most behind few k =
           ∙ ap (λ (ws : List Word). codes ".note" ∷ hex_word 8 secrets ∷ ws) hs.spelled,
     ))))
 
--- a note at the next place, as it is added
+-- a note at the next place is added to the draft
 noted_is : (place : ℕ) (n : Note) (d : Draft) → n.pc ≡ place
     → record d { notes = d.notes ++ n ∷ [] }
     ≡ record d { notes = d.notes ++ record { pc = place; secrets = n.secrets; slots = n.slots } ∷ [] }
 noted_is place n d e =
     ap (λ k. record d { notes = d.notes ++ record { pc = k; secrets = n.secrets; slots = n.slots } ∷ [] }) e
 
--- what a note's line says
+-- the words of a note's line encode what is read
 pub note_line_fits : (n : ℕ) (follows : Bool) (words : List Word) (d : Draft)
     → DraftFits d → IfRead (note_line follows words d) (Says n (codes ".note" ∷ words) d)
 unfolding note_line
@@ -158,16 +158,16 @@ note_line_fits n follows words d h =
       code = h.lines.code;
     }) h.names))))
 
--- nothing stands behind a label
+-- a label's line has no other word
 alone : (name : Word) (words : List Word) → eqb (length words) 0 ≡ true → words ≡ []
 alone name words e = nil_from_length words (eqb-true _ _ e)
 
--- what is none by a test
+-- an option that a test finds to be None
 pub none_is : (o : Option ℕ) → is_none o ≡ true → o ≡ None
 none_is None e = refl
 none_is (Some n) e = absurd cc
 
--- what a label's line says
+-- the words of a label's line encode what is read
 pub label_line_fits : (n : ℕ) (name word : Word) (words : List Word) (d : Draft)
     → word ≡ name ++ codes ":" → DraftFits d → IfRead (label_line name words d) (Says n (word ∷ words) d)
 unfolding label_line
@@ -192,7 +192,7 @@ uses_fit place n (Some name) few =
     All-cons (λ u. IsPlace u.place) (record { name = name; place = place; line = n }) [] few
     (All-nil (λ u. IsPlace u.place))
 
--- what an instruction's line says
+-- the words of an instruction's line encode what is read
 pub code_line_fits : (n : ℕ) (words : List Word) (d : Draft)
     → DraftFits d → IfRead (code_line n words d) (Says n words d)
 unfolding code_line

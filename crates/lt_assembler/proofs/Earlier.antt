@@ -1,4 +1,4 @@
--- What stands before a line, by the draft of the lines that were read.
+-- The contents of the lines before a line, from the draft of the lines that were read.
 use Rattle.std.proofs.Common.{◌≡◌, ℕ, ◌+◌, List, [], ◌∷◌, ◌++◌, length, Option, Some, None, refl, sym, ap, ◌∙◌, arith}
 use Rattle.lt_isa.specs.declared.profiles.Profile.{Profile}
 use Rattle.lt_assembler.specs.Drafts.{Labels, Draft, empty_draft}
@@ -10,7 +10,7 @@ use Rattle.lt_assembler.proofs.Added.{added, adds, IsFresh, AreFresh, stage_in, 
 use Rattle.lt_assembler.proofs.Gathered.{option_list, place_added, order_behind}
 use Rattle.lt_assembler.proofs.Spelled.{IsGathered, is_gathered, stage_start, headed_start}
 
--- what a draft gives, with labels in the order of the text
+-- the contents of a draft, with labels in the order of the text
 abbrev pub earlier_of : Draft → Labels → Earlier
 earlier_of d labels = record {
   stage = stage_in d;
@@ -22,7 +22,7 @@ earlier_of d labels = record {
   place = length d.code;
 }
 
--- how many words a block has
+-- the number of words of a block
 pub width_is : (o : Option Profile) → block_words_by (option_list o) ≡ width o
 width_is None = refl
 width_is (Some p) = refl
@@ -45,7 +45,7 @@ record_is : (items : List Item) (d : Draft) → IsGathered items d → stage_beh
     → place_after_all 0 items ≡ length d.code → given items ≡ earlier_of d (labels_in items)
 record_is items d h stage place = rw (stage, h.profile, h.banks, h.symbols, h.notes, place) refl
 
--- what items give is what their draft gives
+-- the contents of items are those of their draft
 pub given_is : (items : List Item) (d : Draft) → StagesInOrder (stage_in empty_draft) items
     → AreFresh 1 items empty_draft → d ≡ adds 1 items empty_draft → given items ≡ earlier_of d (labels_in items)
 given_is items d order fresh is =
@@ -54,7 +54,7 @@ given_is items d order fresh is =
     ∙ ap stage_in (sym is))
     (place_is 1 items empty_draft ∙ ap (λ (x : Draft). length x.code) (sym is))
 
--- one item more
+-- one more item
 
 pub adds-push : (n : ℕ) (items : List Item) (item : Item) (d : Draft)
     → adds n (items ++ item ∷ []) d ≡ added (length items + n) item (adds n items d)

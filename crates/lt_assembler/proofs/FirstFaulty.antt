@@ -1,4 +1,4 @@
--- A text's fault is that of its first faulty line, or of the whole.
+-- A text's error is that of its first line with an error, or of the whole text.
 use Rattle.std.proofs.Common.{◌≡◌, ◌≢◌, ℕ, ◌+◌, ◌≤◌, Bool, true, false, cond, List, [], ◌∷◌, ◌++◌, length, Option, Some, None, Result, Ok, Err, IfErr, refl, sym, ap, subst, ◌∙◌, arith, length-append}
 use Rattle.std.specs.Prelude.{◌&&◌, is_some}
 use Rattle.std.proofs.lemmas.Bool.{and_parts, and_from, leb-true, le-leb, not-true}
@@ -32,7 +32,7 @@ use Rattle.lt_assembler.proofs.Splitting.{positive}
 use Rattle.lt_assembler.proofs.UnknownLabels.{one_unknown, unknown_use, use_unknown}
 use Rattle.lt_assembler.proofs.Waiting.{Goes, line_goes}
 
--- a draft of items, behind which these lines come
+-- a draft of items, after which these lines come
 record IsAt (items : List Item) (ls : List (List ℕ)) (d : Draft) : Type 0 where
   ordered : StagesInOrder (stage_in empty_draft) items
   fresh : AreFresh 1 items empty_draft
@@ -49,7 +49,7 @@ given_at items ls d at = given_is items d at.ordered at.fresh at.is
 same_at : (items : List Item) (ls : List (List ℕ)) (d : Draft) → IsAt items ls d → SameLabels d.labels (labels_in items)
 same_at items ls d at = (is_gathered items d at.ordered at.fresh at.is).same
 
--- one line more
+-- one more line
 step : (n : ℕ) (items : List Item) (line : List ℕ) (rest : List (List ℕ)) (d : Draft) (item : Item)
     → n ≡ length items + 1 → IsAt items (line ∷ rest) d → Says (earlier_of d (labels_in items)) line rest item
     → IsAt (items ++ item ∷ []) rest (added n item d)
@@ -76,7 +76,7 @@ record AllSaid (before : List Item) (ls : List (List ℕ)) (d : Draft) : Type 0 
   leads : Leads before ls items []
   at : IsAt items [] d
 
--- a faulty line behind lines without a fault
+-- a line with an error after lines without one
 record FaultBehind (before : List Item) (ls : List (List ℕ)) (e : AsmError) : Type 0 where
   items : List Item
   line : List ℕ
@@ -142,7 +142,7 @@ lead n before (line ∷ rest) d number at =
           (more (before ++ found.0 ∷ []) x (next_number n before found.0 number)
           (subst (IsAt (before ++ found.0 ∷ []) rest) (sym found.2) next))
 
--- what lines without a fault lead to is read
+-- after the items of lines without an error, reading continues with the lines that are left
 record Reached (n : ℕ) (ls : List (List ℕ)) (d : Draft) (items : List Item) (after : List (List ℕ)) : Type 0 where
   draft : Draft
   at : IsAt items after draft
@@ -174,7 +174,7 @@ err_is a b e = cc
 ok_no_err : {X : Type 0} (x : X) (e : AsmError) → ◌≡◌ {A = Result X AsmError} (Ok x) (Err e) → ⊥
 ok_no_err x e h = cc
 
--- a first line, two banks and an instruction are there
+-- there are a first line, two banks and an instruction
 abbrev is_complete : Draft → Bool
 is_complete d = is_some d.profile && is_whole d
 
@@ -204,7 +204,7 @@ by_complete d labels h =
 abbrev end_line : List ℕ → ℕ
 end_line text = length (lines text) + 1
 
--- of a text that was read to its end
+-- a text that was read to its end
 module _ (text : List ℕ) (d : Draft) (items : List Item) (said : AreSaid text items) (at : IsAt items [] d) where
   is_given : given items ≡ earlier_of d (labels_in items)
   is_given = given_at items [] d at
@@ -249,7 +249,7 @@ module _ (text : List ℕ) (d : Draft) (items : List Item) (said : AreSaid text 
   unfolding finished
   at_end e h = by_profile e d.profile refl h
 
--- a fault of a line
+-- an error of a line
 line_first : (text : List ℕ) (e : AsmError) → FaultBehind [] (lines text) e → IsFirstTextFault text e
 line_first text e k =
     let whole : IsFirstFaulty text (length k.items + 1) k.fault = record {
@@ -262,7 +262,7 @@ line_first text e k =
     } in
     subst (IsFirstTextFault text) k.error (InLine (length k.items + 1) k.fault whole)
 
--- the fault that is answered is the first
+-- the error that is returned is the first
 pub first_fault : (text : List ℕ) (e : AsmError) → assembled text ≡ Err e → IsFirstTextFault text e
 unfolding assembled
 first_fault text e h =
@@ -275,13 +275,13 @@ first_fault text e h =
     of_lines (Err fault) k g =
         line_first text e (subst (FaultBehind [] (lines text)) (err_is {X = Parts} fault e g) k)
 
--- of what a call found
+-- the error that a call returned is the first
 pub is_first : {X : Type 0} (text : List ℕ) (view : X → Parts) (r : Result X AsmError)
     → Finds view r (assembled text) → IfErr r (λ e. e ≢ Memory → IsFirstTextFault text e)
 is_first text view (Ok o) h = tt
 is_first text view (Err e) h = λ other. first_fault text e (h other)
 
--- the other way round
+-- the first error is the one that is returned
 
 reach_from_start : (text : List ℕ) (items : List Item) (after : List (List ℕ))
     → Leads [] (lines text) items after → Reached 1 (lines text) empty_draft items after
@@ -304,7 +304,7 @@ in_line_fault text n fault h =
     ∙ ap (λ m. Err (at_line m fault)) (sym h.number) in
     rw read refl
 
--- a text that ends too soon
+-- a text that ends too early
 complete_first : (p : Option Profile) (whole : Bool)
     → (is_some p && whole) ≡ true → (q : Profile) × (p ≡ Some q) × (whole ≡ true)
 complete_first None whole e = absurd cc
@@ -340,7 +340,7 @@ unfolding assembled
 end_fault text items e k h =
     let fine : read_lines 1 (lines text) empty_draft ≡ Ok k.draft = k.read ∙ read_none _ k.draft in rw fine h
 
--- a text has no other fault
+-- the first error of a text is returned, so it has no other
 pub one_fault : (text : List ℕ) (e : AsmError) → IsFirstTextFault text e → assembled text ≡ Err e
 one_fault text _ (InLine n fault h) = in_line_fault text n fault h
 one_fault text _ (TooShort items said lacks) =

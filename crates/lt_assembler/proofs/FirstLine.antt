@@ -1,4 +1,4 @@
--- The words of a text's first line, found from its front on.
+-- The words of a text's first line, found from its beginning on.
 use Rattle.std.proofs.Common.{◌≡◌, ℕ, ◌+◌, ◌<◌, ◌≤◌, Bool, true, false, cond, not, eqb, List, [], ◌∷◌, length, take, drop, refl, sym, ap, ◌∙◌, arith}
 use Rattle.std.specs.Prelude.{filter, slice_index, ◌-◌, ◌&&◌}
 use Rattle.std.specs.Char.{is_ascii}
@@ -46,11 +46,11 @@ last true c d e h p q r = absurd cc
 last false true d e h p q r = absurd cc
 last false false true e h p q r = absurd cc
 
--- a byte that ends no word and separates none isn't ASCII
+-- a byte isn't ASCII if it isn't part of a word, isn't a blank, begins no comment, and ends no line
 foreign : (b : ℕ) → is_part b ≡ false → is_blank b ≡ false → eqb b 59 ≡ false → eqb b 10 ≡ false → is_ascii b ≡ false
 foreign b h p q r = last (is_blank b) (eqb b 59) (eqb b 10) (is_ascii b) h p q r
 
--- a byte more at the front
+-- one more byte at the beginning
 
 first_more : (b : ℕ) (t : List ℕ) → eqb b 10 ≡ false → first_line (b ∷ t) ≡ b ∷ first_line t
 first_more b t other = rw (other, one_more (line_len t)) refl
@@ -91,14 +91,14 @@ ascii_more b t feed ascii = ap is_ascii_line (first_more b t feed) ∙ rw ascii 
 ascii_not : (b : ℕ) (t : List ℕ) → eqb b 10 ≡ false → is_ascii b ≡ false → is_ascii_line (first_line (b ∷ t)) ≡ false
 ascii_not b t feed other = ap is_ascii_line (first_more b t feed) ∙ rw other refl
 
--- the code of the first line
+-- the part of the first line before a comment
 abbrev code : List ℕ → List ℕ
 code t = uncommented (first_line t)
 
 code_more : (b : ℕ) (t : List ℕ) → eqb b 10 ≡ false → eqb b 59 ≡ false → code (b ∷ t) ≡ b ∷ code t
 code_more b t feed semicolon = ap uncommented (first_more b t feed) ∙ uncommented_more b (first_line t) semicolon
 
--- a text from which less is left, in the same line
+-- a text without some first bytes, still in the same line
 pub record IsInLine (t u : List ℕ) : Type 0 where
   pub ascii : is_ascii_line (first_line t) ≡ is_ascii_line (first_line u)
   pub behind : behind_line t ≡ behind_line u
@@ -114,7 +114,7 @@ pub record IsBehindBlanks (t u : List ℕ) : Type 0 where
   pub words : line_words t ≡ line_words u
   pub front : (b : ℕ) (rest : List ℕ) → u ≡ b ∷ rest → is_blank b ≡ false
 
--- what stands behind the blanks at the front of a text
+-- the text after the blanks at its beginning
 pub blanks : (t : List ℕ) → IsBehindBlanks t (drop (prefix_len is_blank t) t)
 blanks [] = record { line = record { ascii = refl; behind = refl }; words = refl; front = λ b rest e. absurd cc }
 blanks (c ∷ t) = on_test (is_blank c)
@@ -137,7 +137,7 @@ blanks (c ∷ t) = on_test (is_blank c)
 abbrev pub part_len : List ℕ → ℕ
 part_len t = prefix_len is_part t
 
--- behind the bytes of a word
+-- the text after the bytes of a word
 pub parts : (t : List ℕ) → IsInLine t (drop (part_len t) t)
 parts [] = record { ascii = refl; behind = refl }
 parts (b ∷ t) = on_test (is_part b)
@@ -146,7 +146,7 @@ parts (b ∷ t) = on_test (is_part b)
     rw (part, one_more (part_len t)) (in_line_more b t _ w.feed w.ascii (parts t)))
     (λ (other : is_part b ≡ false). rw other (record { ascii = refl; behind = refl }))
 
--- the code of a line split at the end of its first word
+-- the code of a line, split at the end of its first word
 record IsCut (t : List ℕ) : Type 0 where
   behind : List (List ℕ)
   split : slice_split is_blank (code t) ≡ take (part_len t) t ∷ behind
@@ -188,7 +188,7 @@ cut (b ∷ t) ascii = on_test (is_part b)
     let not_ascii = ascii_not b t line (foreign b other no_blank no_comment line) in
     absurd (let bad : true ≡ false = sym ascii ∙ not_ascii in cc)))))
 
--- the first word of a line, and the words behind it
+-- the first word of a line, and the words after it
 pub first_word : (b : ℕ) (t : List ℕ) → is_part b ≡ true → is_ascii_line (first_line (b ∷ t)) ≡ true
     → line_words (b ∷ t) ≡ take (part_len (b ∷ t)) (b ∷ t) ∷ line_words (drop (part_len (b ∷ t)) (b ∷ t))
 unfolding pieces
@@ -197,7 +197,7 @@ first_word b t part ascii =
     ap (filter has_bytes) h.split ∙ rw (part, one_more (part_len t))
     (ap (λ ws. (b ∷ take (part_len t) t) ∷ ws) (rw (part, one_more (part_len t)) at h.same))
 
--- a line that begins with no word has none
+-- a line that begins with neither a blank nor a word has no words
 pub no_word : (b : ℕ) (t : List ℕ) → is_part b ≡ false → is_blank b ≡ false → is_ascii_line (first_line (b ∷ t)) ≡ true
     → line_words (b ∷ t) ≡ []
 no_word b t other no_blank ascii = on_test (eqb b 10)
@@ -213,7 +213,7 @@ empty_words = ap pieces nothing_left ∙ no_words
 
 -- the end of a line
 
--- what stands where the ASCII bytes of the first line end
+-- the text from where the ASCII bytes of the first line end
 abbrev pub EndsAt : List ℕ → List ℕ → Type 0
 EndsAt t [] = (is_ascii_line (first_line t) ≡ true) × (behind_line t ≡ [])
 EndsAt t (b ∷ rest) = cond (eqb b 10) ((is_ascii_line (first_line t) ≡ true) × (behind_line t ≡ rest))
@@ -293,7 +293,7 @@ at_end (b ∷ t) front none ascii = on_test (is_part b)
     absurd (let size : part_len (b ∷ t) ≡ 1 + part_len t = rw part refl in omega (arith, size, none)))
     (λ (other : is_part b ≡ false). no_word b t other (front b t refl) ascii)
 
--- where no word begins behind the blanks, none is left
+-- if no word begins after the blanks, no words are left
 pub no_next : (text u : List ℕ) → u ≡ drop (prefix_len is_blank text) text → part_len u ≡ 0
     → is_ascii_line (first_line text) ≡ true → line_words text ≡ []
 no_next text u is none ascii =
@@ -315,7 +315,7 @@ pub record IsNextWord (text u : List ℕ) : Type 0 where
       → line_words text ≡ take (part_len u) u ∷ line_words (drop (part_len u) u)
   pub line : IsInLine text (drop (part_len u) u)
 
--- a word that begins behind the blanks
+-- a word that begins after the blanks
 pub next_word : (text u : List ℕ) → u ≡ drop (prefix_len is_blank text) text → 0 < part_len u → IsNextWord text u
 next_word text u is some =
     let h = blanks text in
@@ -329,7 +329,7 @@ next_word text u is some =
       };
     }
 
--- the text behind a line is shorter
+-- the text after a line is shorter
 pub behind_less : (text : List ℕ) → 0 < length text → length (behind_line text) < length text
 behind_less text some =
     omega (arith, length-drop 1 (drop (line_len text) text), length-drop (line_len text) text, some)

@@ -1,4 +1,4 @@
--- A line of a form is read without the fault of another form.
+-- Reading a line that has a form doesn't fail for its form.
 use Rattle.std.proofs.Common.{◌≡◌, ℕ, ◌+◌, ◌-◌, ◌*◌, ◌<◌, ◌≤◌, Bool, true, false, not, cond, eqb, ltb, List, [], ◌∷◌, ◌++◌, length, None, Result, Ok, Err, refl, sym, ap, subst, ◌∙◌, arith}
 use Rattle.std.specs.Prelude.{◌⊎◌, ◌&&◌, ◌||◌, codes, is_none, slice_index}
 use Rattle.std.proofs.Common.{inl, inr}
@@ -51,7 +51,7 @@ none_before : (a b : Bool) → a ≡ false → (a || b) ≡ true → b ≡ true
 none_before true b e h = absurd cc
 none_before false b e h = h
 
--- of four tests the last holds where the first three don't
+-- the last of four tests is true if one is and the first three aren't
 last_of : (a b c d : Bool) → ((a || (b || c)) || d) ≡ true → a ≡ false → b ≡ false → c ≡ false → d ≡ true
 last_of false false false d h p q r = h
 last_of true b c d h p q r = absurd cc

@@ -1,4 +1,4 @@
--- What is known of a value that was read.
+-- What is known about a value that was read.
 use Rattle.std.proofs.Common.{◌≡◌, ℕ, suc, ◌<◌, ◌≤◌, Bool, true, false, cond, [], ◌∷◌, length, Option, Some, Result, refl, sym, ap, subst, ◌∙◌, arith}
 use Rattle.std.specs.Prelude.{◌&&◌, option_map, ℤ, pos, ◌^◌, ◌-◌, decimal}
 use Rattle.std.specs.Fmt.{signed_decimal}
@@ -20,7 +20,7 @@ use Rattle.lt_assembler.specs.Faults.{unless_not}
 use Rattle.gr_base.specs.Results.{◌>>=◌}
 use Rattle.lt_assembler.proofs.Digits.{number_word}
 
--- a test before others
+-- a test before the rest
 pub read_if : {B : Type 0} (fault : Fault) (b : Bool) (f : Unit {0} → Result B Fault) (P : B → Type 0)
     → (b ≡ true → IfRead (f tt) P) → IfRead (unless_not fault b >>= f) P
 read_if fault true f P k = k refl
@@ -47,16 +47,16 @@ number_from low high word n e =
     let q = Within-is_within low high (digits_value 10 word) p.1 in
     subst (IsNumber low high word) found.1 (q.0, q.1, sym (number_text word p.0))
 
--- a word behind its first byte
+-- a word that begins with a byte
 pub first_byte : (byte : ℕ) (word : Word) → 0 < byte → begins_with byte word ≡ true → word ≡ byte ∷ but_first word
 first_byte byte [] some e = absurd (let same : 0 ≡ byte = eqb-true 0 byte e in omega arith)
 first_byte byte (b ∷ word) some e = ap (λ x. x ∷ word) (eqb-true b byte e)
 
--- the word spells a constant, or an offset behind its sign
+-- the word writes a constant
 abbrev pub IsConstant : Word → ℤ → Type 0
 IsConstant word z = IsWord z × (word ≡ signed_decimal z)
 
--- a word is a sign and a number behind it
+-- the word writes an offset, with its sign
 abbrev pub IsSigned : Word → ℤ → Type 0
 IsSigned word z = IsOffset z × (word ≡ offset_word z)
 
@@ -77,7 +77,7 @@ backward_offset : (rest : Word) (n : ℕ) → IsNumber 1 (2 ^ 31) rest n → IsS
 backward_offset rest n h =
     (omega (arith, ints, h.0, h.1), ap (λ (t : Word). 45 ∷ t) (h.2 ∙ ap decimal (sym (negative_number n h.0))))
 
--- one of two values that may be there, with the test known
+-- one of two values that may be missing, if the result of the test is known
 pub by_answer : {A : Type 0} (b : Bool) (x y : Option A) (P : A → Type 0) → (b ≡ true → (z : A) → x ≡ Some z → P z)
     → (b ≡ false → (z : A) → y ≡ Some z → P z) → (z : A) → cond b x y ≡ Some z → P z
 by_answer true x y P h k = h refl
@@ -97,14 +97,14 @@ constant_from word z e =
     (λ _. mapped (number_within 0 (2 ^ 63 - 1) word) pos (IsNumber 0 (2 ^ 63 - 1) word) (IsConstant word)
     (number_from 0 (2 ^ 63 - 1) word) (positive_constant word)) z e
 
--- the offset behind a `+`
+-- the offset after a `+`
 pub forward_from : (rest : Word) (z : ℤ) → forward_of rest ≡ Some z → IsSigned (43 ∷ rest) z
 unfolding forward_of
 forward_from rest =
     mapped (number_within 0 (2 ^ 31 - 1) rest) pos (IsNumber 0 (2 ^ 31 - 1) rest) (IsSigned (43 ∷ rest))
     (number_from 0 (2 ^ 31 - 1) rest) (forward_offset rest)
 
--- the offset behind a `-`
+-- the offset after a `-`
 pub backward_from : (rest : Word) (z : ℤ) → backward_of rest ≡ Some z → IsSigned (45 ∷ rest) z
 unfolding backward_of
 backward_from rest =

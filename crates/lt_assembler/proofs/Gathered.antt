@@ -1,4 +1,4 @@
--- What items add to a draft is what they give, one behind the other.
+-- What items add to a draft is what they yield in sequence.
 use Rattle.std.proofs.Common.{◌≡◌, ℕ, ◌+◌, Bool, true, false, cond, List, [], ◌∷◌, ◌++◌, length, Option, Some, None, refl, sym, ap, subst, ◌∙◌, append_assoc, length-append}
 use Rattle.std.specs.Prelude.{bytes_eq}
 use Rattle.std.specs.Ordering.{nat_cmp, is_eq, match_ordering}
@@ -20,7 +20,7 @@ use Rattle.lt_assembler.proofs.Added.{coded_in, added, adds, AreFresh, stage_in,
 use Rattle.lt_assembler.proofs.NamedWords.{same_word}
 use Rattle.lt_assembler.proofs.Splitting.{on_test}
 
--- what items give by the number of their line and the place of the next instruction
+-- what items yield, from the number of their line and the place of the next instruction
 abbrev pub listed : {X : Type 0} → (ℕ → ℕ → Item → List X) → ℕ → ℕ → List Item → List X
 listed give n place [] = []
 listed give n place (item ∷ items) = give n place item ++ listed give (n + 1) (place_after place item) items
@@ -31,24 +31,24 @@ listed-gathered give n place [] = refl
 listed-gathered {X} give n place (item ∷ items) =
     ap (λ (xs : List X). give place item ++ xs) (listed-gathered give (n + 1) (place_after place item) items)
 
--- the place behind one item more
+-- the place after one more item
 pub place_added : (n : ℕ) (item : Item) (d : Draft) → length (added n item d).code ≡ place_after (length d.code) item
 place_added n (AnInstruction i t) d = length-append d.code ((coded_in (length d.code) i t).instr ∷ [])
 place_added n _ d = refl
 
--- a part of a draft to which each item that stands in order adds what it gives
+-- a part of a draft to which each item that is in order adds what it yields
 abbrev pub Gathers : {X : Type 0} → (Draft → List X) → (ℕ → ℕ → Item → List X) → Type 0
 Gathers get give =
     (n : ℕ) (item : Item) (d : Draft) → Stands (stage_in d) item
     → get (added n item d) ≡ get d ++ give n (length d.code) item
 
--- the items behind one are in order
+-- the items after the first are in order
 pub order_behind : (n : ℕ) (item : Item) (items : List Item) (d : Draft)
     → IsHeaded d → StagesInOrder (stage_in d) (item ∷ items) → StagesInOrder (stage_in (added n item d)) items
 order_behind n item items d headed order =
     subst (λ m. StagesInOrder m items) (sym (stage-added n item d headed order.0)) order.1
 
--- what a draft gathers of its items, each by its line
+-- a part of the draft after some items, from their lines
 pub adds-listed : {X : Type 0} (get : Draft → List X) (give : ℕ → ℕ → Item → List X) → Gathers get give
     → (n : ℕ) (items : List Item) (d : Draft) → IsHeaded d → StagesInOrder (stage_in d) items
     → get (adds n items d) ≡ get d ++ listed give n (length d.code) items
@@ -61,7 +61,7 @@ adds-listed {X} get give one n (item ∷ items) d headed order =
     ∙ append_assoc (get d) (give n (length d.code) item) (listed give (n + 1) (length next.code) items)
     ∙ ap (λ p. get d ++ (give n (length d.code) item ++ listed give (n + 1) p items)) (place_added n item d)
 
--- the same where the line doesn't matter
+-- the same if the number of the line doesn't matter
 pub adds-gathered : {X : Type 0} (get : Draft → List X) (give : ℕ → Item → List X) → Gathers get (λ m. give)
     → (n : ℕ) (items : List Item) (d : Draft) → IsHeaded d → StagesInOrder (stage_in d) items
     → get (adds n items d) ≡ get d ++ gathered give (length d.code) items
@@ -76,32 +76,32 @@ abbrev pub option_list : {X : Type 0} → Option X → List X
 option_list None = []
 option_list (Some x) = x ∷ []
 
--- the object's line gives the profile
+-- the first line yields the profile
 pub profile_gathers : Gathers (λ d. option_list d.profile) (λ m. profile_in)
 profile_gathers n (AnObject p) d stands = rw (stage-is_none d stands) refl
 profile_gathers n _ d stands = sym (append-nil (option_list d.profile))
 
--- the lines of banks give the banks
+-- the lines of banks yield the banks
 pub banks_gather : Gathers (λ d. d.banks) (λ m. bank_in)
 banks_gather n (ABank b) d stands = refl
 banks_gather n _ d stands = sym (append-nil d.banks)
 
--- the lines of symbols give the symbols
+-- the lines of symbols yield the symbols
 pub symbols_gather : Gathers (λ d. d.symbols) (λ m. symbol_in)
 symbols_gather n (ASymbol s) d stands = refl
 symbols_gather n _ d stands = sym (append-nil d.symbols)
 
--- the lines of notes give the notes
+-- the lines of notes yield the notes
 pub notes_gather : Gathers (λ d. d.notes) (λ m. note_in)
 notes_gather n (ANote mask claims) d stands = refl
 notes_gather n _ d stands = sym (append-nil d.notes)
 
--- the code before labels are known
+-- an instruction before its label is known
 abbrev pub raw_in : ℕ → Item → List Instr
 raw_in place (AnInstruction i t) = (coded_in place i t).instr ∷ []
 raw_in place item = []
 
--- the lines of instructions give the code
+-- the lines of instructions yield the code
 pub code_gathers : Gathers (λ d. d.code) (λ m. raw_in)
 code_gathers n (AnInstruction i t) d stands = refl
 code_gathers n _ d stands = sym (append-nil d.code)
@@ -111,14 +111,14 @@ abbrev pub use_in : ℕ → ℕ → Item → List Use
 use_in n place (AnInstruction i t) = uses_of place n (coded_in place i t).label
 use_in n place item = []
 
--- the lines of instructions give the uses of labels
+-- the lines of instructions yield the uses of labels
 pub uses_gather : Gathers (λ d. d.uses) use_in
 uses_gather n (AnInstruction i t) d stands = refl
 uses_gather n _ d stands = sym (append-nil d.uses)
 
 -- labels
 
--- two texts that differ
+-- a word that is equal to one of two different words isn't the other
 differs : (a b c : Word) → bytes_eq a b ≡ false → c ≡ b → bytes_eq c a ≡ false
 differs a b c e same = on_test (bytes_eq c a)
     (λ (t : bytes_eq c a ≡ true).
@@ -126,7 +126,7 @@ differs a b c e same = on_test (bytes_eq c a)
     let no : true ≡ false = sym bad ∙ e in cc))
     (λ (f : bytes_eq c a ≡ false). f)
 
--- an entry that differs comes first, or later
+-- two look-ups of different names may be exchanged
 swap : (name key at : Word) (p q : ℕ) (rest : Option ℕ) → bytes_eq key at ≡ false
     → cond (bytes_eq name at) (Some q) (cond (bytes_eq name key) (Some p) rest)
     ≡ cond (bytes_eq name key) (Some p) (cond (bytes_eq name at) (Some q) rest)
@@ -171,7 +171,7 @@ lookup-pushed name key p (e ∷ es) none =
     ap (λ (o : Option ℕ). cond (bytes_eq name e.0) (Some e.1) o) (lookup-pushed name key p es parts.1)
     ∙ swap name key e.0 p e.1 (lookup (bytes_eq name) es) parts.0
 
--- labels in the order of their names, and in the order of the text, name the same places
+-- labels in the order of their names have the same places as in the order of the text
 abbrev pub SameLabels : Labels → Labels → Type 0
 SameLabels labels others = (name : Word) → place_of labels name ≡ place_of others name
 
@@ -191,7 +191,7 @@ label_added n _ items d before fresh same = subst (SameLabels d.labels) (sym (ap
 abbrev pub IsNew : Labels → Word × ℕ → Type 0
 IsNew before label = place_of before label.0 ≡ None
 
--- no item names a label that stands already
+-- no item repeats a label
 abbrev pub ItemsFresh : ℕ → Labels → List Item → Type 0
 ItemsFresh place before items = EachAfter IsNew before (gathered label_in place items)
 
@@ -215,12 +215,12 @@ once_added n (AnInstruction i t) items d before fresh same rest =
     (subst (λ (ls : Labels). ItemsFresh (length (added n (AnInstruction i t) d).code) ls items)
     (append-nil before) rest)
 
--- what is known of the labels of items
+-- the labels of items
 pub record LabelsAre (n : ℕ) (items : List Item) (d : Draft) (before : Labels) : Type 0 where
   pub once : ItemsFresh (length d.code) before items
   pub same : SameLabels (adds n items d).labels (before ++ gathered label_in (length d.code) items)
 
--- the lines of labels give the labels
+-- the lines of labels yield the labels
 pub labels_are : (n : ℕ) (items : List Item) (d : Draft) (before : Labels)
     → AreFresh n items d → SameLabels d.labels before → LabelsAre n items d before
 labels_are n [] d before fresh same =

@@ -1,4 +1,4 @@
--- The first line, banks and symbols: what is read is what the words spell, and in range.
+-- The first line, banks and symbols: the words encode what is read, and it is in range.
 use Rattle.std.proofs.Common.{◌≡◌, ℕ, ◌+◌, ◌-◌, ◌<◌, ◌≤◌, Bool, true, false, not, eqb, ltb, List, [], ◌∷◌, ◌++◌, length, Option, Some, None, Result, refl, sym, ap, subst, ◌∙◌, arith, length-append}
 use Rattle.std.specs.Prelude.{◌||◌, All, is_none, is_some, codes, decimal}
 use Rattle.std.specs.Map.{values_of}
@@ -34,11 +34,11 @@ use Rattle.lt_assembler.proofs.CanonicalWords.{open_words, windowed_words}
 use Rattle.gr_base.proofs.Results.{IfRead, read_ok, read_then, some_is}
 use Rattle.lt_assembler.proofs.SymbolRanges.{IsMemory, blocks_in-some, symbol_lies, symbol_fits}
 
--- a number that the code's places have
+-- a number that may be a place of the code
 abbrev pub IsPlace : ℕ → Type 0
 IsPlace n = n ≤ 1048576
 
--- a profile, banks and symbols in range, as far as they are read
+-- a profile, banks and symbols in range, as far as they were read
 pub record HeadFits (o : Option Profile) (bs : List BankSpec) (ss : List Symbol) : Type 0 where
   pub profile : (p : Profile) → o ≡ Some p → ProfileFits p
   pub bank_count : length bs ≤ 10
@@ -46,7 +46,7 @@ pub record HeadFits (o : Option Profile) (bs : List BankSpec) (ss : List Symbol)
   pub symbol_count : length ss ≤ 1024
   pub symbols : EachAfter (SymbolFits (width o) bs) [] ss
 
--- notes and code in range where there are so many banks, as far as they are read
+-- notes and code in range, in an object with this number of banks, as far as they were read
 pub record CodeFits (banks : ℕ) (ns : List Note) (is : List Instr) : Type 0 where
   pub note_count : length ns ≤ 262144
   pub notes : EachAfter (NoteFits banks) [] ns
@@ -54,19 +54,19 @@ pub record CodeFits (banks : ℕ) (ns : List Note) (is : List Instr) : Type 0 wh
   pub code_count : length is ≤ 1048576
   pub code : All (InstrFits banks) is
 
--- labels and uses of labels at places of the code
+-- labels and uses of labels, all at places of the code
 pub record NamesFit (ls : Labels) (us : List Use) : Type 0 where
   pub labels : All IsPlace (values_of ls)
   pub uses : All (λ u. IsPlace u.place) us
 
--- the draft's parts are in range
+-- all parts of a draft are in range
 pub record DraftFits (d : Draft) : Type 0 where
   pub head : HeadFits d.profile d.banks d.symbols
   pub headed : IsHeaded d
   pub lines : CodeFits (length d.banks) d.notes d.code
   pub names : NamesFit d.labels d.uses
 
--- The words of line n spell an item that makes a draft another one, which is in range.
+-- The words of line n encode an item that makes draft d draft e, which is in range.
 pub record Says (n : ℕ) (words : List Word) (d e : Draft) : Type 0 where
   pub fits : DraftFits e
   pub item : Item
@@ -75,7 +75,7 @@ pub record Says (n : ℕ) (words : List Word) (d e : Draft) : Type 0 where
   pub fresh : IsFresh d item
   pub is : e ≡ added n item d
 
--- words say an item, where each part of the draft that it makes is in range
+-- words encode an item, if each part of the draft that it makes is in range
 pub said : (n : ℕ) {words ws : List Word} (d e : Draft) (item : Item) → DraftFits d → WordsSpell ws item → ws ≡ words
     → Stands (stage_in d) item → IsFresh d item → e ≡ added n item d → HeadFits e.profile e.banks e.symbols
     → CodeFits (length e.banks) e.notes e.code → NamesFit e.labels e.uses → Says n words d e
@@ -117,7 +117,7 @@ nothing_fits = record {
   names = record { labels = All-nil IsPlace; uses = All-nil (λ u. IsPlace u.place) };
 }
 
--- lists that are empty by a test
+-- a list that a test finds to be empty
 empty : {X : Type 0} (xs : List X) → eqb (length xs) 0 ≡ true → xs ≡ []
 empty xs e = nil_from_length xs (eqb-true _ _ e)
 
@@ -159,7 +159,7 @@ one = decimal_digit 1 (omega arith)
 two : decimal 2 ≡ codes "2"
 two = decimal_digit 2 (omega arith)
 
--- a word of a version is its number
+-- a word that passes the test of a version is its number
 only : (version : ℕ) (word : Word) → is_version version word ≡ true → word ≡ decimal version
 only version word known = by_number (number_within version version word) (number_from version version word) known
   where
@@ -197,7 +197,7 @@ cycles_fit F has b c d e f =
       rw (hb.2, hc.2, hd.2, he.2, hf.2) refl,
     ))))))
 
--- words of cycles, and words of the window
+-- the words of the cycles, and those of the window
 record IsWindowRead (words more : List Word) (p : Profile) : Type 0 where
   before : Profile
   cycles : AreCycles words before
@@ -243,7 +243,7 @@ windowed_is words more a p first h = (
       ∙ ap (λ ws. codes ".object" ∷ ws) (sym (windowed_words p h.window.period.0)),
 )
 
--- the object's line has six or nine words behind its first
+-- the first line has six or nine words after its first
 pub profile_fits : (F : Type 0) (words : List Word)
     → ((a b c d e f : Word) → words ≡ a ∷ b ∷ c ∷ d ∷ e ∷ f ∷ [] → F)
     → ((a b c d e f g h i : Word) → words ≡ a ∷ b ∷ c ∷ d ∷ e ∷ f ∷ g ∷ h ∷ i ∷ [] → F)
@@ -264,7 +264,7 @@ profile_says : (words : List Word) → IfRead (profile_read words) (IsProfile wo
 profile_says words =
     form_read _ _ _ (profile_fits (Unit {0}) words (λ a b c d e f is. tt) (λ a b c d e f g h i is. tt))
 
--- what the object's line says
+-- the words of the first line encode what is read
 pub object_fits : (n : ℕ) (words : List Word) (d : Draft) → DraftFits d
     → IfRead (object_line words d) (Says n (codes ".object" ∷ words) d)
 unfolding object_line
@@ -287,7 +287,7 @@ abbrev pub IsBank : ℕ → List Word → BankSpec → Type 0
 IsBank index words b =
     Within 1 (most_blocks index) b.blocks × Within 1 1000000 b.latency × (codes ".bank" ∷ words ≡ words_for_bank b)
 
--- a bank's line has two words behind its first
+-- a bank's line has two words after its first
 pub bank_fits : (F : Type 0) (index : ℕ) (words : List Word) → ((a b : Word) → words ≡ a ∷ b ∷ [] → F)
     → ReadsForm (bank_read index words) F (IsBank index words)
 unfolding bank_read
@@ -301,7 +301,7 @@ bank_fits F index _ two = no_form _ _
 bank_says : (index : ℕ) (words : List Word) → IfRead (bank_read index words) (IsBank index words)
 bank_says index words = form_read _ _ _ (bank_fits (Unit {0}) index words (λ a b is. tt))
 
--- what a bank's line says
+-- the words of a bank's line encode what is read
 pub bank_line_fits : (n : ℕ) (words : List Word) (d : Draft) → DraftFits d
     → IfRead (bank_line words d) (Says n (codes ".bank" ∷ words) d)
 unfolding bank_line
@@ -328,7 +328,7 @@ width_some : (o : Option Profile) → is_some o ≡ true → 1 ≤ width o
 width_some None e = absurd cc
 width_some (Some p) e = pow_pos p.block_log
 
--- where a symbol may come, the memory is there
+-- if a symbol is allowed, there are a profile and banks
 pub memory_of : (d : Draft) → DraftFits d → takes_symbol d ≡ true → IsMemory (width d.profile) d.banks
 memory_of d h there =
     let p = and_parts _ _ there in
@@ -338,7 +338,7 @@ memory_of d h there =
       blocks = blocks_in-some d.banks h.head.banks;
     }
 
--- what a symbol's line says
+-- the words of a symbol's line encode what is read
 pub symbol_line_fits : (n : ℕ) (words : List Word) (d : Draft) → DraftFits d
     → IfRead (symbol_line words d) (Says n (codes ".symbol" ∷ words) d)
 unfolding symbol_line

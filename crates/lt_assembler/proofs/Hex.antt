@@ -1,8 +1,8 @@
--- Numbers in digits of base 16.
+-- Numbers in hexadecimal digits.
 use Rattle.std.proofs.Common.{◌≡◌, ℕ, zero, suc, ◌-◌, ◌/◌, ◌%◌, ◌<◌, [], ◌∷◌, ◌++◌, refl, arith}
 use Rattle.lt_assembler.specs.Words.{hex_digit, hex_word}
 
--- one digit more
+-- one more digit
 pub hex_more : (k n : ℕ) → 0 < k → hex_word k n ≡ hex_word (k - 1) (n / 16) ++ hex_digit (n % 16) ∷ []
 unfolding hex_word
 hex_more zero n h = absurd (omega arith)

@@ -1,4 +1,4 @@
--- The object that a text spells is in range.
+-- The object that is assembled from a text is in range.
 use Rattle.std.proofs.Common.{◌≡◌, ℕ, zero, suc, ◌+◌, ◌<◌, ◌≤◌, Bool, true, false, cond, List, [], ◌∷◌, length, get_or, Option, Some, None, Result, Ok, Err, refl, subst, ◌∙◌, ⊎_elim, arith}
 use Rattle.std.specs.Prelude.{All, bytes_eq, ℤ}
 use Rattle.std.specs.Map.{values_of}
@@ -118,28 +118,28 @@ finished_fits n (Some p) d e h = by_test (is_whole d) refl where
       (record { each = h.fits.lines.code; count = refl }))
       (λ code k. read_ok _ _ (whole_fits p d e h t code k))
 
--- the empty draft may go on
+-- the empty draft fits, and no note waits
 pub nothing_goes : (follows : Bool) → Goes follows empty_draft
 nothing_goes follows = record { fits = nothing_fits; waits = λ noted. absurd (let bad : false ≡ true = noted in cc) }
 
--- what the lines of a text say makes an object in range
+-- the object of the lines of a text is in range
 pub in_range : (ls : List (List ℕ)) (n : ℕ) (d : Draft)
     → read_lines 1 ls empty_draft ≡ Ok d → (o : Parts) → finished n d ≡ Ok o → IsInRange o
 unfolding finished
 in_range ls n d read o e =
     (finished_fits n d.profile d refl ((lines_go 1 ls empty_draft (nothing_goes _)).then d read).goes).then o e
 
--- an object that was made
+-- the object of a draft
 pub finished_is : (n : ℕ) (d : Draft) (p : Profile) (code : List Instr) → d.profile ≡ Some p → is_whole d ≡ true
     → settled d.labels d.uses d.code ≡ Ok code → finished n d ≡ Ok (parts_of p d code)
 unfolding finished
 finished_is n d p code e whole here = rw (e, whole, here) refl
 
--- a fault is no object
+-- an error isn't an object
 pub no_object : (e : AsmError) (o : Parts) → ◌≡◌ {A = Result Parts AsmError} (Err e) (Ok o) → ⊥
 no_object e o h = cc
 
--- an object that a text spells
+-- an object that is assembled from a text is in range
 pub spelled_in_range : (text : List ℕ) (o : Parts) → assembled text ≡ Ok o → IsInRange o
 unfolding assembled
 spelled_in_range text o h = of_lines (read_lines 1 (lines text) empty_draft) refl h where

@@ -1,4 +1,4 @@
--- Instructions that are written read back.
+-- Instructions that are written are read as the same.
 use Rattle.std.proofs.Common.{◌≡◌, ℕ, ◌^◌, ◌<◌, ◌≤◌, Bool, true, false, ltb, List, Some, None, Ok, refl, arith}
 use Rattle.std.specs.Prelude.{ℤ, pos, negsuc}
 use Rattle.std.proofs.lemmas.Bool.{lt-ltb}
@@ -26,7 +26,7 @@ unfolding mnemonic_named op_named
 op_again Add = refl
 op_again _ = refl
 
--- the word of a comparison is read again
+-- the word of a comparison is read as the comparison
 pub cmp_again : (cmp : Cmp) → cmp_named (cmp_word cmp) ≡ Some cmp
 unfolding cmp_named
 cmp_again Eq = refl
@@ -40,7 +40,7 @@ aim_again place (negsuc n) fits = let small : n < 2 ^ 31 = omega (arith, ints) i
 abbrev pub alone : Instr → Coded
 alone i = record { instr = i; label = None }
 
--- the words of an instruction are read again
+-- the words of an instruction are read as the instruction
 pub instruction_again : (banks place : ℕ) (i : Instr)
     → banks ≤ 10 → InstrFits banks i → instruction_read banks place (instruction_words i) ≡ Ok (alone i)
 unfolding instruction_read mnemonic_named op_named li_read alu_read ldb_read stb_read idb_read
@@ -62,7 +62,7 @@ instruction_again banks place (Jmp offset) few h = rw (aim_again place offset h)
 instruction_again banks place (Br cmp ra rb offset) few h =
     rw (cmp_again cmp, register_again ra h.0, register_again rb h.1, aim_again place offset h.2) refl
 
--- a line that is read as an instruction has its form
+-- a line that is read as an instruction has the form of one
 pub formed : (words : List Word) (coded : Coded) → instruction_read 2 0 words ≡ Ok coded → is_instruction words ≡ true
 unfolding is_instruction
 formed words coded h = rw h refl
@@ -76,7 +76,7 @@ load_formed k b r banks few h =
       either true = refl
       either false = refl
 
--- what is written of an instruction has an instruction's form
+-- the words of an instruction have the form of one
 pub instruction_formed : (banks : ℕ) (i : Instr)
     → banks ≤ 10 → InstrFits banks i → is_instruction (instruction_words i) ≡ true
 instruction_formed banks Nop few h = formed _ _ (instruction_again 2 0 Nop (omega arith) tt)

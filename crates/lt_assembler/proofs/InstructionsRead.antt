@@ -1,4 +1,4 @@
--- What is read as an instruction is what the words spell, and in range.
+-- The words of an instruction encode what is read, and it is in range.
 use Rattle.std.proofs.Common.{◌≡◌, ℕ, ◌<◌, ◌≤◌, Bool, true, false, cond, ltb, List, [], ◌∷◌, Option, Some, None, Result, refl, sym, ap, subst, arith}
 use Rattle.std.specs.Prelude.{ℤ, pos, option_map, bytes_eq, codes, decimal, slice_index}
 use Rattle.std.specs.Char.{is_ascii_digit}
@@ -134,20 +134,20 @@ untargeted_read_so banks (Alu op) words = alu_read_so banks op words
 
 -- targets
 
--- the offset to a label fits
+-- the offset to a place fits
 pub offset_to_fits : (target place : ℕ) → target ≤ 2147483647 → place ≤ 1048576 → IsOffset (offset_to target place)
 offset_to_fits target place ht hp = omega (arith, ints)
 
--- so does 0, which stands until a label is known
+-- 0 fits; it is the offset until a label's place is known
 pub none_offset : IsOffset (pos 0)
 none_offset = omega (arith, ints)
 
--- where an instruction at a place leads by a target
+-- the target of an instruction at a place
 abbrev pub aim_in : ℕ → Target → Aim
 aim_in place (ToPlace to) = offset_aim (offset_to to place)
 aim_in place (ToLabel name) = record { offset = pos 0; label = Some name }
 
--- a word says where an instruction at a place leads
+-- a word encodes the target of an instruction at a place
 data Aims (place : ℕ) : Word → Aim → Type 0 where
   ByOffset : (z : ℤ) → Aims place (offset_word z) (offset_aim z)
   ByTarget : (word : Word) → (target : Target) → SpellsTarget word target → Aims place word (aim_in place target)
@@ -210,7 +210,7 @@ aim_read_so place word few =
     (λ name. form_ok _ _ _ (or_right _ _ name) (none_offset, ByTarget word (ToLabel word) (ByName word name)))
     (no_form _ _))))
 
--- what the words of an instruction's line say
+-- what the words of an instruction's line encode
 pub record IsCoded (banks place : ℕ) (words : List Word) (c : Coded) : Type 0 where
   pub fits : InstrFits banks c.instr
   pub instr : Instr
@@ -219,7 +219,7 @@ pub record IsCoded (banks place : ℕ) (words : List Word) (c : Coded) : Type 0 
   pub spells : WordsSpell words (AnInstruction instr target)
   pub is : c ≡ coded_in place instr target
 
--- an instruction that leads to a target is that of its item
+-- an instruction with a target is that of its item
 aimed : (place : ℕ) (target : Target) (i : Instr) → with_offset (pos 0) i ≡ i
     → record { instr = with_offset (aim_in place target).offset i; label = (aim_in place target).label }
     ≡ coded_in place i (Some target)
@@ -352,7 +352,7 @@ operands_read_so banks place Jmp words few = jmp_read_so banks place words few
 operands_read_so banks place Br words few = br_read_so banks place words few
 operands_read_so banks place (Alu op) words few = without_read_so banks place (Alu op) words
 
--- what is read of words spells an instruction
+-- the words encode the instruction that is read
 pub instruction_read_so : (banks place : ℕ) (words : List Word)
     → place ≤ 1048576 → ReadsForm (instruction_read banks place words) (HasInstructionForm words)
     (IsCoded banks place words)

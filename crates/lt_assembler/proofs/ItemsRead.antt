@@ -1,4 +1,4 @@
--- A line whose words spell an item reads as that item, where the item fits what was read before.
+-- A line whose words encode an item is read as that item, if the item fits what was read before.
 use Rattle.std.proofs.Common.{◌≡◌, ◌≢◌, ℕ, ◌+◌, ◌-◌, ◌*◌, ◌<◌, ◌≤◌, Bool, true, false, not, eqb, ltb, List, [], ◌∷◌, ◌++◌, length, map, get_or, Option, Some, None, Result, Ok, refl, sym, ap, ◌∙◌, ⊎_elim, arith, length-append}
 use Rattle.std.specs.Prelude.{◌&&◌, All, pos, codes, decimal, is_none}
 use Rattle.std.specs.Char.{is_ascii_digit}
@@ -88,7 +88,7 @@ profile_again p h =
     ∙ rw (two, cycles_again p h, window_again (opened p) p h longer) refl)
     (by_window p h)
 
--- what a draft asks of an item: that it may stand there, of its name, and of room for it
+-- what an item needs of a draft: that it is allowed there, a new name, and room
 
 abbrev pub may_stand : Bool → Draft → Item → Bool
 may_stand follows d Nothing = true
@@ -201,7 +201,7 @@ note_judged n follows d mask claims most h =
 
 -- labels
 
--- a name's first byte
+-- a name has a first byte
 pub record IsNamed (name : Word) : Type 0 where
   pub first : ℕ
   pub rest : List ℕ
@@ -209,7 +209,7 @@ pub record IsNamed (name : Word) : Type 0 where
   pub byte : is_name_byte first ≡ true
   pub letter : is_ascii_digit first ≡ false
 
--- a name is one of its words
+-- a word that passes the test of names has a first byte
 pub named : (name : Word) → is_name name ≡ true → IsNamed name
 named [] e = absurd cc
 named (b ∷ rest) e =
@@ -219,7 +219,7 @@ named (b ∷ rest) e =
 other_byte : (c b : ℕ) → is_name_byte c ≡ true → b < 48 → eqb c b ≡ false
 other_byte c b e lt = grind (arith, nat_tests)
 
--- what is written before the ':'
+-- the name before a ':'
 pub label_name_again : (name : Word) → label_name (name ++ codes ":") ≡ Some name
 unfolding label_name
 label_name_again name =
@@ -323,7 +323,7 @@ coded_again banks place _ _ _ few h (Jump word target s) = jump_again banks plac
 coded_again banks place _ _ _ few h (Branch cmp ra rb word target s) =
     branch_again banks place cmp ra rb word target h.0 h.1 s
 
--- the words begin with an instruction's
+-- an instruction's line is read as one
 is_code_line : (n : ℕ) (follows : Bool) (d : Draft) (words : List Word) (i : Instr) (t : Option Target)
     → WordsSpell words (AnInstruction i t) → by_first_word n follows words d ≡ code_line n words d
 is_code_line n follows d _ _ _ (Instruction i) = is_plain_line n follows i d
@@ -337,7 +337,7 @@ unfolding code_line
 code_judged n follows d words i t few h s =
     rw (coded_again (length d.banks) (length d.code) words i t few h s) refl
 
--- an item's fields are in range, behind what a draft holds
+-- an item's fields are in range, after what a draft has
 abbrev pub InRange : Draft → Item → Type 0
 InRange d Nothing = Unit {0}
 InRange d (AnObject p) = ProfileFits p
@@ -349,7 +349,7 @@ InRange d (ANote mask claims) =
     × NoteFits (length d.banks) d.notes (record { pc = length d.code; secrets = mask; slots = claims })
 InRange d (AnInstruction i t) = (length d.banks ≤ 10) × InstrFits (length d.banks) i
 
--- words that spell an item in range are judged by its place, its name and the room for it
+-- words that encode an item in range are tested for its place, its name and room
 pub item_judged : (n : ℕ) (follows : Bool) (words : List Word) (item : Item) (d : Draft) → WordsSpell words item
     → InRange d item → by_first_word n follows words d ≡ judged n follows item d
 item_judged n follows _ _ d Empty h = nothing_reads n follows d
@@ -366,7 +366,7 @@ item_judged n follows _ _ d (Branch cmp ra rb word target s) h =
     is_code_line n follows d _ _ _ (Branch cmp ra rb word target s)
     ∙ code_judged n follows d _ _ _ h.0 h.1 (Branch cmp ra rb word target s)
 
--- what a draft asks of an item that is read
+-- what an item that is read needs of a draft
 abbrev pub ItemFits : Bool → Draft → Item → Type 0
 ItemFits follows d Nothing = Unit {0}
 ItemFits follows d (AnObject p) = (is_none d.profile ≡ true) × ProfileFits p
@@ -382,7 +382,7 @@ ItemFits follows d (ANote mask claims) =
 ItemFits follows d (AnInstruction i t) =
     (takes_code d ≡ true) × (length d.banks ≤ 10) × InstrFits (length d.banks) i × (length d.code < 1048576)
 
--- what an item that fits passes
+-- an item that fits passes the tests
 record Passes (follows : Bool) (d : Draft) (item : Item) : Type 0 where
   there : may_stand follows d item ≡ true
   new : is_new_in d item ≡ true
@@ -422,7 +422,7 @@ pass false b c d p q r = absurd cc
 pass true false c d p q r = absurd cc
 pass true true false d p q r = absurd cc
 
--- words that spell an item are read as it
+-- words that encode an item are read as it
 pub item_reads : (n : ℕ) (follows : Bool) (words : List Word) (item : Item) (d : Draft) → WordsSpell words item
     → ItemFits follows d item → by_first_word n follows words d ≡ Ok (added n item d)
 item_reads n follows words item d s h =
@@ -430,7 +430,7 @@ item_reads n follows words item d s h =
     item_judged n follows words item d s (fits_range follows d item h)
     ∙ pass (may_stand follows d item) (is_new_in d item) (has_room_in d item) (added n item d) p.there p.new p.room
 
--- an instruction's line has an instruction's form
+-- an instruction's line has the form of one
 pub instruction_form : (banks : ℕ) (words : List Word) (i : Instr) (t : Option Target) → banks ≤ 10
     → InstrFits banks i → WordsSpell words (AnInstruction i t) → is_instruction words ≡ true
 instruction_form banks _ _ _ few h (Instruction i) = instruction_formed banks i few h

@@ -1,4 +1,4 @@
--- Labels in a map under keys, as a list in the order of their names.
+-- Labels in a map by keys, as a list in the order of their names.
 use Rattle.std.proofs.Common.{◌≡◌, ℕ, Bool, true, false, cond, eqb, List, [], ◌∷◌, length, refl, sym, ap, ◌∙◌, Option, None, Some, arith}
 use Rattle.std.specs.Prelude.{option_map, is_some, bytes_eq}
 use Rattle.std.specs.declared.cmp.Ordering.{Ordering}
@@ -28,7 +28,7 @@ on_order Greater less equal greater = greater refl
 abbrev name_cmp : Word → Word → Ordering
 name_cmp a b = slice_cmp nat_cmp a b
 
--- a label put before, in the place of, or behind the first
+-- a label that is inserted before, instead of, or after the first
 put_before : (name : Word) (p : ℕ) (e : Word × ℕ) (es : Labels) → name_cmp name e.0 ≡ Less
     → with_label name p (e ∷ es) ≡ (name, p) ∷ e ∷ es
 put_before name p e es less = rw less refl
@@ -41,7 +41,7 @@ put_behind : (name : Word) (p : ℕ) (e : Word × ℕ) (es : Labels) → name_cm
     → with_label name p (e ∷ es) ≡ e ∷ with_label name p es
 put_behind name p e es greater = rw greater refl
 
--- the later of two places under a name
+-- the second of two places for one name replaces the first
 twice : (name : Word) (p q : ℕ) (es : Labels) → with_label name q (with_label name p es) ≡ with_label name q es
 twice name p q [] = put_over name q (name, p) [] (tied_itself nat_list_cmp_total name)
 twice name p q (e ∷ es) = on_order (name_cmp name e.0)
@@ -106,7 +106,7 @@ not_both Less r h = refl
 not_both Equal r h = h
 not_both Greater r h = refl
 
--- keys are equal where their names are
+-- keys are equal exactly if their names are
 tells : (a b : LabelKey) → is_eq (label_cmp a b) ≡ bytes_eq a.name.now b.name.now
 tells a b = on_test (bytes_eq a.name.now b.name.now)
     (λ (same : bytes_eq a.name.now b.name.now ≡ true).
@@ -115,7 +115,7 @@ tells a b = on_test (bytes_eq a.name.now b.name.now)
     (λ (other : bytes_eq a.name.now b.name.now ≡ false).
     not_both (nat_cmp a.mark b.mark) _ (is_eq-slice_cmp a.name.now b.name.now ∙ other) ∙ sym other)
 
--- a label more in the map
+-- one more label in the map
 pub seen_insert : (es : List (LabelKey × CodePlace)) (k : LabelKey) (v : CodePlace)
     → by_name (insert_entry label_cmp es k v) ≡ with_label k.name.now v.number (by_name es)
 seen_insert [] k v = refl

@@ -12,13 +12,13 @@ use Rattle.lt_assembler.specs.Reading.{line_read, read_lines, instruction_follow
 use Rattle.lt_assembler.specs.Assembled.{text_read}
 use Rattle.gr_base.proofs.Results.{ok_is}
 
--- a line without a fault
+-- a line without an error
 pub read_one : (n : ℕ) (line : List ℕ) (rest : List (List ℕ)) (d e : Draft)
     → line_read n (instruction_follows rest) line d ≡ Ok e → read_lines n (line ∷ rest) d ≡ read_lines (n + 1) rest e
 unfolding read_lines
 read_one n line rest d e here = rw here refl
 
--- a line with one
+-- a line with an error
 pub read_fault : (n : ℕ) (line : List ℕ) (rest : List (List ℕ)) (d : Draft) (fault : Fault)
     → line_read n (instruction_follows rest) line d ≡ Err fault → read_lines n (line ∷ rest) d ≡ Err (at_line n fault)
 unfolding read_lines
@@ -29,20 +29,20 @@ pub read_none : (n : ℕ) (d : Draft) → read_lines n [] d ≡ Ok d
 unfolding read_lines
 read_none n d = refl
 
--- a fault of a line is want of memory where that of the text is
+-- a line's error isn't out of memory if the text's error isn't
 pub no_memory : (n : ℕ) (fault : Fault) (e : AsmError) → e ≡ at_line n fault → e ≢ error.Memory → fault ≢ Memory
 no_memory n fault e same other bad = other (same ∙ ap (at_line n) bad)
 
--- a fault of a line is the text's
+-- the error of a line is the text's
 pub text_fault : (text : List ℕ) (e : AsmError) → read_lines 1 (lines text) empty_draft ≡ Err e → text_read text ≡ Err e
 text_fault text e fault = rw fault refl
 
--- lines without a fault are the text's draft
+-- lines without an error yield the draft of the text
 pub text_fine : (text : List ℕ) (d : Draft) (n : ℕ)
     → read_lines 1 (lines text) empty_draft ≡ Ok d → n ≡ length (lines text) + 1 → text_read text ≡ Ok (d, n)
 text_fine text d n fine number = rw (fine, number) refl
 
--- the draft that was found
+-- the draft that was found, with a number
 numbered : ℕ → Result Draft AsmError → Result (Draft × ℕ) AsmError
 numbered n r = r >>= (λ d. Ok (d, n))
 
@@ -51,7 +51,7 @@ unfolding numbered
 found_of n m (Err fault) d h = absurd cc
 found_of n m (Ok x) d h = ap (λ (y : Draft). Ok y) (ap (λ (p : Draft × ℕ). p.0) (ok_is {E = AsmError} (x, n) (d, m) h))
 
--- and back
+-- the draft of a text is the one to which its lines lead
 pub text_found : (text : List ℕ) (d : Draft) (n : ℕ)
     → text_read text ≡ Ok (d, n) → read_lines 1 (lines text) empty_draft ≡ Ok d
 unfolding numbered

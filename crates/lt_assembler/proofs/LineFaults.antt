@@ -1,4 +1,4 @@
--- What is read of a line is what the line says, or its fault, as the rules of lines have it.
+-- Reading a line results in its item, or in its error, as the rules of lines define them.
 use Rattle.std.proofs.Common.{◌≡◌, ℕ, ◌+◌, ◌≤◌, Bool, true, false, List, length, take, Option, Some, None, Result, Ok, Err, refl, sym, ap, subst, ◌∙◌, arith}
 use Rattle.std.specs.Prelude.{IsTrue, is_none}
 use Rattle.std.proofs.lemmas.Bool.{and_parts, and_from, leb-true, ltb-true, lt-ltb, le-leb}
@@ -80,7 +80,7 @@ true_false : (b : Bool) → b ≡ true → b ≡ false → ⊥
 true_false true e f = cc
 true_false false e f = cc
 
--- a line by its form and what it spells
+-- a line by its form and what it encodes
 
 line_as : (r : Result Draft Fault) (F G S T : Type 0) → LineReads r F S → (F → G) → (F → S → T) → LineReads r G T
 line_as (Ok d) F G S T h k m = record { known = (k h.known.0, m h.known.0 h.known.1) }
@@ -201,12 +201,12 @@ module _ (d : Draft) (labels : Labels) (after : List (List ℕ)) (h : DraftFits 
   stand_by follows (ANote mask claims) e = takes_code-stage d h.headed (and_parts _ _ e).0
   stand_by follows (AnInstruction i t) e = takes_code-stage d h.headed e
 
-  -- what a line spells stands in order
+  -- the item that a line encodes is in order
   pub spelled_stands : (line : List ℕ) (item : Item)
       → SpellsInRange (earlier_of d labels) line after item → Stands (stage_in d) item
   spelled_stands line item s = stand_by (instruction_follows after) item (there_by 1 line item s)
 
-  -- a label that is said is fresh
+  -- a label of a line without an error is new
   pub said_fresh : (item : Item) → HasNewName (earlier_of d labels) item → IsFresh d item
   said_fresh (ALabel name) new = same name ∙ new
   said_fresh Nothing new = tt
@@ -216,7 +216,7 @@ module _ (d : Draft) (labels : Labels) (after : List (List ℕ)) (h : DraftFits 
   said_fresh (ANote mask claims) new = tt
   said_fresh (AnInstruction i t) new = tt
 
-  -- a line that spells an item in range is judged by its name and the room for it
+  -- a line that encodes an item in range is tested for its name and room
   line_judged : (n : ℕ) (line : List ℕ) (item : Item) → SpellsInRange (earlier_of d labels) line after item
       → line_read n (instruction_follows after) line d
       ≡ passing true (is_new_in d item) (has_room_in d item) (added n item d)
@@ -224,7 +224,7 @@ module _ (d : Draft) (labels : Labels) (after : List (List ℕ)) (h : DraftFits 
       by_item n line item s
       ∙ ap (λ b. passing b (is_new_in d item) (has_room_in d item) (added n item d)) (there_by n line item s)
 
-  -- what is read is what the line says, or its fault
+  -- the result of reading is the line's item, or its error
   abbrev pub IsJudged : ℕ → List ℕ → Result Draft Fault → Type 0
   IsJudged n line (Ok x) =
       (item : Item) × Says (earlier_of d labels) line after item × (x ≡ added n item d)
@@ -265,7 +265,7 @@ module _ (d : Draft) (labels : Labels) (after : List (List ℕ)) (h : DraftFits 
       judge n line r e (subst (λ x. LineReads x (IsOfForm (earlier_of d labels) line after) (SpellsOne line)) e
       (line_reads n line))
 
-  -- what a line says is read
+  -- the item of a line is read
   pub said_is_read : (n : ℕ) (line : List ℕ) (item : Item) → Says (earlier_of d labels) line after item
       → line_read n (instruction_follows after) line d ≡ Ok (added n item d)
   said_is_read n line item s =
@@ -275,7 +275,7 @@ module _ (d : Draft) (labels : Labels) (after : List (List ℕ)) (h : DraftFits 
       ∙ ap (λ b. passing true b (has_room_in d item) (added n item d)) new
       ∙ ap (λ b. passing true true b (added n item d)) room
 
-  -- and so is its fault
+  -- the error of a line is read
   pub fault_is_read : (n : ℕ) (line : List ℕ) (fault : Fault) → HasFault (earlier_of d labels) line after fault
       → line_read n (instruction_follows after) line d ≡ Err fault
   fault_is_read n line _ (OtherForm never) = only_form _ _ _ (line_reads n line) never

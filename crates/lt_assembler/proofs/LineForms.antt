@@ -1,5 +1,5 @@
--- A line that is read without the fault of another form has a form that may stand there, and where its numbers are in
--- range it spells an item in range.
+-- If reading a line doesn't fail for its form, the line has a form that is allowed there; and if its numbers are in
+-- range, it encodes an item in range.
 use Rattle.std.proofs.Common.{◌≡◌, ℕ, ◌≤◌, Bool, true, false, not, eqb, ltb, cond, List, [], ◌∷◌, ◌++◌, length, Option, Some, None, Result, refl, sym, ap, subst, ◌∙◌}
 use Rattle.std.specs.Prelude.{◌&&◌, bytes_eq, codes, is_none}
 use Rattle.std.proofs.lemmas.Bool.{and_parts, leb-true, ltb-false, not-true, eqb-true}
@@ -26,13 +26,13 @@ use Rattle.lt_assembler.proofs.ReadsForm.{form_as, LineReads, line_ok, line_if, 
 use Rattle.lt_assembler.proofs.SymbolRanges.{symbol_lies}
 use Rattle.lt_assembler.proofs.Waiting.{ends_in}
 
--- words spell an item in range
+-- words encode an item in range
 pub record SpellIn (d : Draft) (labels : Labels) (ws : List Word) : Type 0 where
   pub item : Item
   pub spells : WordsSpell ws item
   pub fits : FitsRanges (earlier_of d labels) item
 
--- a record of what words spell
+-- an item in range that words encode
 spell_in : (d : Draft) (labels : Labels) (ws us : List Word) (item : Item) → WordsSpell us item → ws ≡ us
     → FitsRanges (earlier_of d labels) item → SpellIn d labels ws
 spell_in d labels ws us item s is fits =

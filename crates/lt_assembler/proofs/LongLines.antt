@@ -20,7 +20,7 @@ use Rattle.lt_assembler.specs.Reading.{profile_read, object_line, bank_read, ban
 use Rattle.gr_word.specs.Names.{is_name}
 use Rattle.lt_assembler.specs.Instructions.{Coded, li_read, alu_read, ldb_read, stb_read, idb_read, access_read, jmp_read, br_read, operands_read, instruction_read, is_instruction}
 
--- a list of more than n items, taken apart
+-- a list of more than ten words, taken apart
 data IsLong : List Word → Type 0 where
   Long : (a b c d e f g h : Word) → (rest : List Word) → 2 < length rest → IsLong (a ∷ b ∷ c ∷ d ∷ e ∷ f ∷ g ∷ h ∷ rest)
 
@@ -54,12 +54,12 @@ pub instruction_long : (banks place : ℕ) (words : List Word) → 10 < length w
     → instruction_read banks place words ≡ Err WrongForm
 instruction_long banks place words h = instruction_of_long banks place words (long words h)
 
--- a line of more than ten words is no instruction
+-- a line of more than ten words isn't an instruction
 pub is_instruction_long : (words : List Word) → 10 < length words → is_instruction words ≡ false
 unfolding is_instruction
 is_instruction_long words h = rw (instruction_long 2 0 words h) refl
 
--- a test, and then a fault of the line's form
+-- a test, and then an error of the line's form
 refused : {X : Type 0} (b : Bool) (f : Unit {0} → Result X Fault) → f tt ≡ Err WrongForm
     → (unless_not WrongForm b >>= f) ≡ Err WrongForm
 refused true f h = h
@@ -150,7 +150,7 @@ of_long_line n follows d _ (Long a b c e f g h i rest more) long =
     (either (bytes_eq a (codes ".note")) _ _ _ (note_long d follows b (c ∷ e ∷ f ∷ g ∷ h ∷ i ∷ rest) (omega arith))
     (other_long d n (label_name a) a (b ∷ c ∷ e ∷ f ∷ g ∷ h ∷ i ∷ rest) long))))
 
--- a line of more than ten words is refused
+-- a line of more than ten words has no form
 pub words_long : (n : ℕ) (follows : Bool) (d : Draft) (line : List Word) → 10 < length line
     → by_first_word n follows line d ≡ Err WrongForm
 words_long n follows d line h = of_long_line n follows d line (long line h) h
@@ -162,7 +162,7 @@ pub line_of_words : (n : ℕ) (follows : Bool) (d : Draft) (text : List ℕ) (ws
 unfolding line_read
 line_of_words n follows d text ws ascii is = rw ascii (ap (λ line. by_first_word n follows line d) (sym is))
 
--- a line that isn't ASCII or has more than ten words
+-- a line that isn't ASCII or has more than ten words has no form
 pub line_refused : (n : ℕ) (follows : Bool) (d : Draft) (text : List ℕ)
     → (is_ascii_line (first_line text) ≡ true → 10 < length (line_words text))
     → line_read n follows (first_line text) d ≡ Err WrongForm
@@ -172,7 +172,7 @@ line_refused n follows d text h = on_test (is_ascii_line (first_line text))
     rw ascii (words_long n follows d (line_words text) (h ascii)))
     (λ (other : is_ascii_line (first_line text) ≡ false). rw other refl)
 
--- the same of an instruction's form
+-- whether a line has the form of an instruction
 pub form_of_words : (text : List ℕ) (ws : List Word) → is_ascii_line (first_line text) ≡ true → ws ≡ line_words text
     → is_instruction_line (first_line text) ≡ is_instruction ws
 unfolding is_instruction_line

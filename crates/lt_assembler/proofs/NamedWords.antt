@@ -1,4 +1,4 @@
--- The words that name things.
+-- The words that name items.
 use Rattle.std.proofs.Common.{◌≡◌, Bool, true, false, cond, List, [], ◌∷◌, Option, Some, None, refl, sym, ap, subst, ◌∙◌}
 use Rattle.std.specs.Prelude.{bytes_eq, codes, option_map}
 use Rattle.std.specs.Option.{option_or}
@@ -14,11 +14,11 @@ use Rattle.lt_assembler.specs.Instructions.{instruction_read, is_instruction}
 use Rattle.lt_assembler.specs.Reading.{label_name}
 use Rattle.gr_base.proofs.Results.{some_is}
 
--- words that are equal by the test
+-- words that the test finds equal are equal
 pub same_word : (a b : Word) → bytes_eq a b ≡ true → a ≡ b
 same_word a b e = (bytes_eq-Decides a b).0 e
 
--- what a word names has that word
+-- an item that a word names has that word
 pub named_is : {X : Type 0} (word_of : X → Word) (xs : List X) (word : Word) (x : X)
     → named word_of xs word ≡ Some x → word_of x ≡ word
 named_is word_of [] word x e = absurd cc
@@ -35,7 +35,7 @@ mnemonic_of word (Some m) op h k n e = subst (λ x. mnemonic_word x ≡ word) (s
 mnemonic_of word None (Some o) h k n e = subst (λ x. mnemonic_word x ≡ word) (some_is (Alu o) n e) (k o refl)
 mnemonic_of word None None h k n e = absurd cc
 
--- the word of a mnemonic that a word names
+-- the word of the instruction that a word names
 pub mnemonic_is : (word : Word) (m : Mnemonic) → mnemonic_named word ≡ Some m → mnemonic_word m ≡ word
 unfolding mnemonic_named op_named
 mnemonic_is word m e =
@@ -47,35 +47,35 @@ unfolding label_name
 no_label (Alu Add) = refl
 no_label _ = refl
 
--- a label's word is no mnemonic
+-- a label's word doesn't begin an instruction
 pub label_is_none : (word name : Word) → label_name word ≡ Some name → mnemonic_named word ≡ None
 label_is_none word name e = of_option (mnemonic_named word) (mnemonic_is word) where
   of_option : (o : Option Mnemonic) → ((m : Mnemonic) → o ≡ Some m → mnemonic_word m ≡ word) → o ≡ None
   of_option None h = refl
   of_option (Some m) h = absurd (let none : label_name word ≡ None = ap label_name (sym (h m refl)) ∙ no_label m in cc)
 
--- the words that begin other lines
+-- `.object` doesn't begin an instruction
 pub object_is_none : mnemonic_named (codes ".object") ≡ None
 unfolding mnemonic_named op_named
 object_is_none = refl
 
--- nor is `.bank`
+-- `.bank` doesn't begin an instruction
 pub bank_is_none : mnemonic_named (codes ".bank") ≡ None
 unfolding mnemonic_named op_named
 bank_is_none = refl
 
--- nor is `.symbol`
+-- `.symbol` doesn't begin an instruction
 pub symbol_is_none : mnemonic_named (codes ".symbol") ≡ None
 unfolding mnemonic_named op_named
 symbol_is_none = refl
 
--- a line that begins with another word is no instruction
+-- a line that begins with another word isn't an instruction
 pub no_instruction : (word : Word) (words : List Word)
     → mnemonic_named word ≡ None → is_instruction (word ∷ words) ≡ false
 unfolding is_instruction instruction_read
 no_instruction word words e = rw e refl
 
--- no words are no instruction
+-- an empty line isn't an instruction
 pub nothing_is_none : is_instruction [] ≡ false
 unfolding is_instruction instruction_read
 nothing_is_none = refl

@@ -1,4 +1,4 @@
--- Numbers that are written read back.
+-- Numbers that are written are read as the same.
 use Rattle.std.proofs.Common.{◌≡◌, ℕ, zero, suc, ◌-◌, ◌*◌, ◌^◌, ◌/◌, ◌%◌, ◌<◌, ◌≤◌, Bool, true, false, eqb, ltb, cond, List, [], ◌∷◌, length, map, Some, refl, sym, ap, arith, length-append}
 use Rattle.std.specs.Prelude.{◌||◌, All, IsTrue, ℤ, pos, negsuc, decimal, codes, bytes_eq}
 use Rattle.std.specs.Fmt.{signed_decimal}
@@ -30,7 +30,7 @@ digits_plain : (ds : List ℕ) → AllDigits 10 ds → list_all is_plain ds ≡ 
 digits_plain [] h = refl
 digits_plain (d ∷ ds) h = and_from _ _ (digit_plain d h.0) (digits_plain ds h.1)
 
--- a text with a first byte that is a digit
+-- a word of digits has a first byte
 pub record IsDigits (word : Word) : Type 0 where
   pub digits : AllDigits 10 word
   pub first : ℕ
@@ -45,14 +45,14 @@ digits_of_word (c ∷ cs) h some =
     let range = digit_from_value c h.0 in
     record { digits = h; first = c; rest = cs; whole = refl; low = range.0; high = range.1 }
 
--- the decimal text of a number is digits
+-- the decimal text of a number consists of digits
 pub decimal_digits : (n : ℕ) → n < 2 ^ 64 → IsDigits (decimal n)
 decimal_digits n small = let h = (decimal_is_IsNumeral n small).0 in digits_of_word (decimal n) h.1 h.0
 
 plain_word : (word : Word) → IsDigits word → IsPlain word
 plain_word word h = record { some = rw h.whole refl; bytes = digits_plain word h.digits }
 
--- without a blank
+-- the decimal text of a number has no blanks
 pub decimal_plain : (n : ℕ) → n < 2 ^ 64 → IsPlain (decimal n)
 decimal_plain n small = plain_word (decimal n) (decimal_digits n small)
 
@@ -62,13 +62,13 @@ number_test n small =
     and_from _ _ (le-leb _ _ (length-decimal-le 19 n (omega arith) small (omega arith)))
     (decimal_canonical n (omega arith))
 
--- what is written of each operand is read again: a number
+-- each operand is read from what is written: a number
 pub number_again : (low high n : ℕ) → low ≤ n → n ≤ high → n < 10 ^ 19 → number_within low high (decimal n) ≡ Some n
 unfolding number_within
 number_again low high n ge le small =
     rw (numeral_value n (omega arith), number_test n small, is_within-Within low high n (ge, le)) refl
 
--- a word of digits begins with no other byte
+-- a word of digits doesn't begin with a byte below those of the digits
 pub no_other : (word : Word) (byte : ℕ) → IsDigits word → byte < 48 → begins_with byte word ≡ false
 no_other word byte h low = rw h.whole (ne_eqb h.first byte (omega (arith, h.low)))
 
@@ -88,7 +88,7 @@ constant_again (negsuc n) fits =
     rw (number_again 1 (2 ^ 63) (suc n) (omega arith) (omega arith) (omega arith))
     (ap (λ k. Some (negsuc k)) (let same : suc n - 1 ≡ n = omega arith in same))
 
--- an offset ahead
+-- an offset forward
 pub forward_again : (n : ℕ) → n < 2 ^ 31 → forward_of (decimal n) ≡ Some (pos n)
 unfolding forward_of
 forward_again n small = rw (number_again 0 (2 ^ 31 - 1) n (omega arith) (omega arith) (omega arith)) refl
@@ -142,7 +142,7 @@ pub record IsHex (k n : ℕ) : Type 0 where
   pub plain : list_all is_plain (hex_word k n) ≡ true
   pub value : digits_value 16 (hex_word k n) ≡ n
 
--- digits of base 16
+-- hexadecimal digits
 pub hex_again : (k n : ℕ) → n < 16 ^ k → IsHex k n
 unfolding hex_word
 hex_again zero n h = record { size = refl; hex = refl; plain = refl; value = omega arith }
@@ -168,7 +168,7 @@ mask_again m small = let h = hex_again 8 m (omega arith) in rw (h.size, h.hex, h
 no_dash : (word : Word) → IsDigits word → bytes_eq word (codes "-") ≡ false
 no_dash word d = rw (d.whole, ne_eqb d.first 45 (omega (arith, d.low))) refl
 
--- a claim that isn't 255 is a bank
+-- a claim other than 255 names a bank
 pub claim_below : (banks claim : ℕ) → eqb claim 255 ≡ false → (ltb claim banks || eqb claim 255) ≡ true → claim < banks
 claim_below banks claim e h = grind (arith, nat_tests)
 

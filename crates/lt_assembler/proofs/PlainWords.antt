@@ -1,4 +1,4 @@
--- Words of plain bytes, joined to lines, split to themselves.
+-- Words of plain bytes that are joined into lines are split into the same words.
 use Rattle.std.proofs.Common.{◌≡◌, ℕ, ◌+◌, Bool, true, false, not, eqb, leb, List, [], ◌∷◌, ◌++◌, map, Result, Ok, Err, refl, ap, ◌∙◌, append_assoc, arith}
 use Rattle.std.specs.Prelude.{◌&&◌, flat_map}
 use Rattle.std.specs.List.{All, list_all, list_any, prefix_len, onto_first, join_with_byte}
@@ -18,14 +18,14 @@ use Rattle.lt_assembler.specs.Drafts.{Draft}
 use Rattle.lt_assembler.specs.Reading.{by_first_word, line_read, is_instruction_line, instruction_follows, read_lines}
 use Rattle.lt_assembler.proofs.Splitting.{one_more}
 
--- a byte that may stand in a word, and one that may stand in a line
+-- a byte that is allowed in a word, and one that is allowed in a line
 abbrev pub is_plain : ℕ → Bool
 is_plain b = leb 33 b && (leb b 126 && not (eqb b 59))
 
 abbrev pub is_of_line : ℕ → Bool
 is_of_line b = leb 32 b && (leb b 126 && not (eqb b 59))
 
--- a word that isn't empty and has no blank
+-- a word that isn't empty and consists of plain bytes
 pub record IsPlain (word : Word) : Type 0 where
   pub some : has_bytes word ≡ true
   pub bytes : list_all is_plain word ≡ true
@@ -35,7 +35,7 @@ abbrev pub ArePlain : List Word → Type 0
 ArePlain [] = Unit {0}
 ArePlain (w ∷ ws) = IsPlain w × ArePlain ws
 
--- each line is plain words
+-- each line consists of plain words
 abbrev pub AreLines : List (List Word) → Type 0
 AreLines [] = Unit {0}
 AreLines (ws ∷ wss) = ArePlain ws × AreLines wss
@@ -91,7 +91,7 @@ no_lines : lines [] ≡ []
 unfolding lines
 no_lines = refl
 
--- lines that are written are split again
+-- lines that are written are split into the same lines
 pub lines_of : (wss : List (List Word)) → AreLines wss → lines (flat_map line wss) ≡ map joined wss
 lines_of [] h = no_lines
 lines_of (ws ∷ wss) h =
@@ -117,7 +117,7 @@ pieces_joined (w ∷ v ∷ ws) h =
     rw (slice_split_at is_blank w 32 (joined (v ∷ ws)) (none_blank w h.0.bytes) refl, h.0.some)
     (ap (λ (us : List Word). w ∷ us) (pieces_joined (v ∷ ws) h.1))
 
--- words that are joined are split again
+-- words that are joined are split into the same words
 pub words_joined : (ws : List Word) → ArePlain ws → words (joined ws) ≡ ws
 words_joined ws h = ap pieces (uncommented_same (joined ws) (joined_bytes ws h)) ∙ pieces_joined ws h
 

@@ -1,4 +1,4 @@
--- Steps in a chain that read words: what is known of the words by what they answer.
+-- Steps in a chain that read words: what their results say about the words.
 use Rattle.std.proofs.Common.{◌≡◌, Bool, true, false, Option, Some, None, Result, Ok, Err, refl}
 use Rattle.std.specs.Prelude.{◌||◌}
 use Rattle.gr_base.specs.Results.{◌>>=◌}
@@ -8,7 +8,7 @@ use Rattle.lt_assembler.specs.declared.faults.Fault.TheVariants.{WrongForm, Numb
 use Rattle.lt_assembler.specs.Faults.{form, number_or, unless_not}
 use Rattle.lt_assembler.specs.Drafts.{Draft}
 
--- tests of which one holds, and a test that doesn't
+-- tests of which one is true, and a test that is false
 pub or_left : (a b : Bool) → a ≡ true → (a || b) ≡ true
 or_left true b e = refl
 or_left false b e = absurd cc
@@ -21,7 +21,7 @@ pub false_by : (b : Bool) → (b ≡ true → ⊥) → b ≡ false
 false_by true never = absurd (never refl)
 false_by false never = refl
 
--- Words with a value, or with a faulty number, have the form F, and a value has the property P.
+-- Words with a value, or with an invalid number, have the form F, and a value has the property P.
 abbrev pub Known : {X : Type 0} → Result X Fault → Type 0 → (X → Type 0) → Type 0
 Known (Ok x) F P = F × P x
 Known (Err WrongForm) F P = Unit {0}
@@ -51,7 +51,7 @@ form_then (Err RepeatedName) f F Q P h k = absurd h.known
 form_then (Err Limit) f F Q P h k = absurd h.known
 form_then (Err Memory) f F Q P h k = absurd h.known
 
--- a word that may name something
+-- a word that may name an item
 pub named_then : {X Y : Type 0} (o : Option X) (f : X → Result Y Fault) (F : Type 0) (Q : X → Type 0)
     (P : Y → Type 0) → ((x : X) → o ≡ Some x → Q x) → ((x : X) → Q x → ReadsForm (f x) F P)
     → ReadsForm (form o >>= f) F P
@@ -82,7 +82,7 @@ pub number_if : {Y : Type 0} (b : Bool) (f : Unit {0} → Result Y Fault) (F : T
 number_if true f F P form k = k refl
 number_if false f F P form k = record { known = form }
 
--- less is known of a value of which more is known
+-- a weaker property of the value
 pub form_weaker : {X : Type 0} (r : Result X Fault) (F : Type 0) (Q P : X → Type 0)
     → ReadsForm r F Q → ((x : X) → Q x → P x) → ReadsForm r F P
 form_weaker (Ok x) F Q P h k = record { known = (h.known.0, k x h.known.1) }
@@ -92,7 +92,7 @@ form_weaker (Err RepeatedName) F Q P h k = absurd h.known
 form_weaker (Err Limit) F Q P h k = absurd h.known
 form_weaker (Err Memory) F Q P h k = absurd h.known
 
--- the form of more words
+-- another form that follows from the form
 pub form_as : {X : Type 0} (r : Result X Fault) (G F : Type 0) (P : X → Type 0)
     → ReadsForm r G P → (G → F) → ReadsForm r F P
 form_as (Ok x) G F P h k = record { known = (k h.known.0, h.known.1) }
@@ -102,12 +102,13 @@ form_as (Err RepeatedName) G F P h k = absurd h.known
 form_as (Err Limit) G F P h k = absurd h.known
 form_as (Err Memory) G F P h k = absurd h.known
 
--- of the value alone
+-- the property of the value
 pub form_read : {X : Type 0} (r : Result X Fault) (F : Type 0) (P : X → Type 0) → ReadsForm r F P → IfRead r P
 form_read (Ok x) F P h = read_ok x P h.known.1
 form_read (Err e) F P h = read_err e P
 
--- A line with another fault than its form has the form F, and one with another than a number says what is known by S.
+-- A line whose error isn't its form has the form F; one whose error is neither its form nor a number has the property
+-- S.
 abbrev pub LineKnown : Result Draft Fault → Type 0 → Type 0 → Type 0
 LineKnown (Err WrongForm) F S = Unit {0}
 LineKnown (Err Number) F S = F
@@ -147,7 +148,7 @@ pub line_limit : (b : Bool) (f : Unit {0} → Result Draft Fault) (F S : Type 0)
 line_limit true f F S form s k = k
 line_limit false f F S form s k = record { known = (form, s) }
 
--- an answer that isn't that of another form
+-- a result that isn't an error of the form
 abbrev pub IsNotForm : {X : Type 0} → Result X Fault → Type 0
 IsNotForm (Ok x) = Unit {0}
 IsNotForm (Err WrongForm) = ⊥
@@ -180,7 +181,7 @@ pub number_formed : {X Y : Type 0} (o : Option X) (f : X → Result Y Fault)
 number_formed (Some x) f k = k x
 number_formed None f k = record { is = tt }
 
--- a word that names something, and a test of the form that holds
+-- a word that names an item, and a test of the form that passes
 pub named_formed : {X Y : Type 0} (o : Option X) (x : X) (f : X → Result Y Fault)
     → o ≡ Some x → Formed (f x) → Formed (form o >>= f)
 named_formed o x f e k = rw e k

@@ -1,5 +1,5 @@
--- The code with the targets of its labels: the instructions that the items give, or the first use of a label that has
--- no place.
+-- The code with the targets of its labels: the instructions that the items yield, or the first use of a label that
+-- isn't defined.
 use Rattle.std.proofs.Common.{◌≡◌, ℕ, ◌+◌, List, [], ◌∷◌, ◌++◌, length, map, get_or, Option, Some, None, Ok, Err, refl, sym, ap, ◌∙◌, append_assoc, arith, length-append}
 use Rattle.std.specs.Prelude.{All, is_some, slice_set, option_map}
 use Rattle.std.proofs.lemmas.List.Elements.{All-nil, All-cons}
@@ -28,7 +28,8 @@ pub record IsUnknownUse (labels : Labels) (n : ℕ) (items : List Item) (line : 
   pub nowhere : place_of labels name ≡ None
   pub known : All (LeadsToKnown labels) before
 
--- items whose labels are known settle to their final code, or one use is unknown
+-- either all labels that the items use are defined, and the items yield their final code; or this is the first use of a
+-- label without a place
 pub data Settles (labels sorted : Labels) (n place : ℕ) (items : List Item) (front code : List Instr)
     (uses : List Use) : Type 0 where
   Known : (final : List Instr)
@@ -60,7 +61,7 @@ module _ (labels sorted : Labels) (same : SameLabels sorted labels) where
   passed n place item items front code uses known e (Unknown line h settles) =
       Unknown line (later_use labels n item items line known h) settles
 
-  -- an instruction, once its target is known
+  -- an instruction, after its target is known
   moved : (n place : ℕ) (item : Item) (items : List Item) (front raw : List Instr) (x : Instr) (uses : List Use)
       → LeadsToKnown labels item → gathered (instruction_in labels) place (item ∷ items)
       ≡ Some x ∷ gathered (instruction_in labels) (place + 1) items
@@ -141,7 +142,7 @@ module _ (labels sorted : Labels) (same : SameLabels sorted labels) where
   unfolding settled
   nothing_left code = refl
 
-  -- each list of items settles
+  -- each list of items yields its code, or has an unknown label
   pub settles : (n place : ℕ) (items : List Item) (front : List Instr) → place ≡ length front
       → Settles labels sorted n place items front (front ++ gathered raw_in place items) (listed use_in n place items)
   settles n place [] front here = Known [] refl (nothing_left (front ++ []))

@@ -1,4 +1,4 @@
--- A text spells the object that is assembled from it.
+-- A text encodes the object that is assembled from it.
 use Rattle.std.proofs.Common.{◌≡◌, ℕ, ◌+◌, Bool, true, false, cond, List, [], ◌++◌, length, map, Option, Some, None, Result, Ok, Err, refl, sym, ap, subst, ◌∙◌}
 use Rattle.lt_isa.specs.declared.profiles.Profile.{Profile}
 use Rattle.lt_isa.specs.declared.instructions.Instr.{Instr}
@@ -24,7 +24,7 @@ pub stage_start : stage_in empty_draft ≡ 0
 unfolding stage_in
 stage_start = refl
 
--- what is known at the end of a text that makes an object
+-- at the end of a text that yields an object
 pub record IsFinished (d : Draft) (o : Parts) : Type 0 where
   pub profile : Profile
   pub code : List Instr
@@ -47,15 +47,15 @@ finished_so n (Some p) d e = by_test (is_whole d) refl where
       read_then _ _ _ _ (itself (settled d.labels d.uses d.code)) (λ code k.
       read_ok _ _ (record { profile = p; code = code; has = e; whole = t; settles = k; is = refl }))
 
--- a text of which the lines were read
+-- a text whose lines were read
 pub record IsRead (text : List ℕ) (d : Draft) : Type 0 where
   pub goes : LinesGo 1 (lines text) empty_draft d
 
--- what is read of the lines spells them
+-- the lines encode what is read from them
 pub lines_read : (text : List ℕ) (d : Draft) → read_lines 1 (lines text) empty_draft ≡ Ok d → IsRead text d
 lines_read text d e = record { goes = (lines_go 1 (lines text) empty_draft (nothing_goes _)).then d e }
 
--- the parts of a draft are what the items give
+-- the parts of a draft are what its items yield
 pub record IsGathered (items : List Item) (d : Draft) : Type 0 where
   pub ordered : StagesInOrder 0 items
   pub profile : gathered profile_in 0 items ≡ option_list d.profile
@@ -67,7 +67,7 @@ pub record IsGathered (items : List Item) (d : Draft) : Type 0 where
   pub once : AreOnce (labels_in items)
   pub same : SameLabels d.labels (labels_in items)
 
--- the empty draft has no object missing
+-- the empty draft
 pub headed_start : IsHeaded empty_draft
 headed_start e = refl
 
@@ -79,7 +79,7 @@ from_start {X} get give one none items d order is =
     sym (ap get is ∙ adds-gathered get give one 1 items empty_draft headed_start order
     ∙ ap (λ (xs : List X). xs ++ gathered give 0 items) none)
 
--- a draft of items in order is what they spell
+-- the parts of a draft of items in order are what the items yield
 pub is_gathered : (items : List Item) (d : Draft)
     → StagesInOrder (stage_in empty_draft) items → AreFresh 1 items empty_draft → d ≡ adds 1 items empty_draft
     → IsGathered items d
@@ -98,7 +98,7 @@ is_gathered items d order fresh is =
       same = subst (λ (x : Draft). SameLabels x.labels (labels_in items)) (sym is) labels.same;
     }
 
--- the code is what the items give, or a label is unknown
+-- the code is what the items yield, or a label is unknown
 pub settling : (items : List Item) (d : Draft)
     → IsGathered items d → Settles (labels_in items) d.labels 1 0 items [] d.code d.uses
 settling items d h =
@@ -129,7 +129,7 @@ pub is_finished : (n : ℕ) (d : Draft) (o : Parts) → finished n d ≡ Ok o �
 unfolding finished
 is_finished n d o e = (finished_so n d.profile d refl).then o e
 
--- what is assembled is spelled
+-- the text encodes the object that is assembled
 pub assembled-spells : (text : List ℕ) (o : Parts) → assembled text ≡ Ok o → SpellsInText text o
 unfolding assembled
 assembled-spells text o h = of_lines (read_lines 1 (lines text) empty_draft) refl h where

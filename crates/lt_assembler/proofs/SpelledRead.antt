@@ -1,4 +1,4 @@
--- What a text spells is assembled from it.
+-- The object that a text encodes is assembled from it.
 use Rattle.std.proofs.Common.{◌≡◌, ℕ, suc, ◌+◌, ◌^◌, ◌<◌, ◌≤◌, Bool, true, not, eqb, List, [], ◌∷◌, ◌++◌, length, map, take, Option, Some, None, Ok, refl, sym, ap, subst, ◌∙◌, append_assoc, arith, length-append}
 use Rattle.std.specs.Prelude.{All, pos, option_map, is_none}
 use Rattle.std.proofs.Math.Seq.{get_or-append_seam, take-append_seam}
@@ -41,15 +41,15 @@ use Rattle.lt_assembler.proofs.ReadsForm.{or_left, or_right}
 use Rattle.lt_assembler.proofs.Settled.{Settles, Known, Unknown}
 use Rattle.lt_assembler.proofs.Spelled.{stage_start, headed_start, is_gathered, settling}
 
--- sizes of a memory
+-- sizes of blocks and banks
 
--- the sizes of a memory
+-- blocks and banks have small sizes
 pub record IsSmall (p : Profile) (banks : List BankSpec) : Type 0 where
   pub words : p.block_log ≤ 9
   pub count : Within 2 10 (length banks)
   pub each : EachAfter BankFits [] banks
 
--- the memory of an object in range is small
+-- the blocks and banks of an object in range have small sizes
 pub small_memory : (o : Parts) → IsInRange o → IsSmall o.profile o.banks
 small_memory o h = record { words = h.profile.block_log.1; count = h.bank_count; each = h.banks }
 
@@ -82,9 +82,9 @@ all_between : {X : Type 0} (P : X → Type 0) (xs ys : List X) (x : X) → All P
 all_between P [] ys x all = All-head P x ys all
 all_between P (y ∷ xs) ys x all = all_between P xs ys x (All-tail P y (xs ++ x ∷ ys) all)
 
--- what stands behind a stage
+-- the items from a stage on
 
--- no bank stands behind the symbols' first
+-- no bank follows a symbol
 pub no_banks : (stage place : ℕ) (items : List Item)
     → 3 ≤ stage → StagesInOrder stage items → gathered bank_in place items ≡ []
 no_banks stage place [] late order = refl
@@ -96,7 +96,7 @@ no_banks stage place (ALabel name ∷ items) late order = no_banks 4 place items
 no_banks stage place (ANote mask claims ∷ items) late order = no_banks 4 place items (omega arith) order.1
 no_banks stage place (AnInstruction i t ∷ items) late order = no_banks 4 (place + 1) items (omega arith) order.1
 
--- behind the object's line there is no other
+-- no first line follows the first line
 pub no_profile : (stage place : ℕ) (items : List Item)
     → 1 ≤ stage → StagesInOrder stage items → gathered profile_in place items ≡ []
 no_profile stage place [] late order = refl
@@ -108,7 +108,7 @@ no_profile stage place (ALabel name ∷ items) late order = no_profile 4 place i
 no_profile stage place (ANote mask claims ∷ items) late order = no_profile 4 place items (omega arith) order.1
 no_profile stage place (AnInstruction i t ∷ items) late order = no_profile 4 (place + 1) items (omega arith) order.1
 
--- the instructions are in range but for their targets
+-- an instruction is in range, apart from its target
 abbrev pub InstrInRange : ℕ → Item → Type 0
 InstrInRange banks (AnInstruction i t) = InstrFits banks i
 InstrInRange banks item = Unit {0}
@@ -122,7 +122,7 @@ instruction_line : (line : List ℕ)
 unfolding is_instruction_line
 instruction_line line ascii form = and_from _ _ ascii form
 
--- where an item is an instruction, a line has an instruction's form
+-- if an item is an instruction, some line has the form of one
 pub form_follows : (banks place : ℕ) (ls : List (List ℕ)) (items : List Item) → banks ≤ 10 → LinesSpell ls items
     → AreInRange banks items → 1 ≤ length (gathered raw_in place items) → instruction_follows ls ≡ true
 form_follows banks place [] [] few said fits some = absurd (omega (arith, some))
@@ -143,7 +143,7 @@ head_of : (none : List Profile) (p : Profile) (rest : List Profile)
 head_of [] p rest e q is = cc
 head_of (x ∷ xs) p rest e q is = absurd cc
 
--- what is left to be read
+-- what is still to be read
 
 module _ (o : Parts) (range : IsInRange o) where
   pub record Left (n : ℕ) (items : List Item) (d : Draft) : Type 0 where
@@ -181,7 +181,7 @@ module _ (o : Parts) (range : IsInRange o) where
     code = ap length (sym (step_gathered (λ x. x.code) raw_in code_gathers n item items d h.ordered.0)) ∙ h.code;
   }
 
-  -- behind the banks all of them are there
+  -- after the banks all of them have been read
   banks_there : (d : Draft) (place : ℕ) (items : List Item) (stage : ℕ)
       → 3 ≤ stage → StagesInOrder stage items → d.banks ++ gathered bank_in place items ≡ o.banks → d.banks ≡ o.banks
   banks_there d place items stage late order is =
@@ -288,7 +288,7 @@ module _ (o : Parts) (range : IsInRange o) where
       (item_reads n (instruction_follows ls) (words line) item d said.1 (fits n ls item items d said.2 h)))
       ∙ lines_read (n + 1) ls items (added n item d) said.2 (step n item items d h)
 
--- labels that stand once are fresh where they come
+-- if each label is defined once, each is new when it is read
 pub fresh_from : (n : ℕ) (items : List Item) (d : Draft) (before : Labels)
     → ItemsFresh (length d.code) before items → SameLabels d.labels before → AreFresh n items d
 fresh_from n [] d before once same = tt
@@ -313,7 +313,7 @@ fresh_from n (ALabel key ∷ items) d before once same =
           (more_labels d.labels before key (length d.code) here same),
     )
 
--- the code, by what the items give
+-- the code that the items yield
 
 profile_is : (p : Option Profile) (q : Profile) → option_list p ≡ q ∷ [] → p ≡ Some q
 profile_is None q e = absurd cc
@@ -367,7 +367,7 @@ raw_size labels place [] = refl
 raw_size labels place (AnInstruction i t ∷ items) = ap suc (raw_size labels (place + 1) items)
 raw_size labels place (_ ∷ items) = raw_size labels place items
 
--- where a label has no place, an instruction is none
+-- an instruction whose label has no place isn't in the code
 pub no_instruction : (labels : Labels) (place : ℕ) (before after : List Item) (i : Instr) (name : Word)
     (code : List Instr) → place_of labels name ≡ None
     → gathered (instruction_in labels) place (before ++ AnInstruction i (Some (ToLabel name)) ∷ after) ≡ map Some code
@@ -433,7 +433,7 @@ at_start items o ls range said h = record {
   code = raw_size (labels_in items) 0 items ∙ ap length h.code ∙ length-map o.code Some;
 }
 
--- what is spelled is assembled
+-- the object that a text encodes is assembled
 pub spells-assembled : (text : List ℕ) (o : Parts) → SpellsInText text o → assembled text ≡ Ok o
 unfolding assembled
 spells-assembled text o s =

@@ -3,7 +3,7 @@ use Rattle.std.proofs.Common.{◌≡◌, ℕ, zero, suc, ◌+◌, ◌<◌, Bool,
 use Rattle.std.specs.List.{prefix_len, onto_first}
 use Rattle.lt_assembler.specs.Lines.{lines}
 
--- both answers of a test
+-- both results of a test
 pub on_test : {P : Type 0} (b : Bool) → (b ≡ true → P) → (b ≡ false → P) → P
 on_test true pass fail = pass refl
 on_test false pass fail = fail refl
@@ -15,7 +15,7 @@ is_no_feed byte = not (eqb byte 10)
 abbrev pub line_len : List ℕ → ℕ
 line_len text = prefix_len is_no_feed text
 
--- one more, both ways
+-- one more, on either side
 pub one_more : (n : ℕ) → 1 + n ≡ suc n
 one_more n = omega arith
 
@@ -35,7 +35,7 @@ pub lines_front : (text : List ℕ)
 lines_front [] some = absurd (omega arith)
 lines_front (b ∷ t) some = lines_first b t
 
--- what isn't 0 is more
+-- a number that isn't 0 is greater
 pub positive : (n : ℕ) → eqb n 0 ≡ false → 0 < n
 positive zero e = absurd (let bad : true ≡ false = e in cc)
 positive (suc n) e = omega arith

@@ -1,4 +1,4 @@
--- What is read as a symbol is what the words spell, and lies behind those before it.
+-- The words of a symbol encode what is read, and its place after those before it is allowed.
 use Rattle.std.proofs.Common.{◌≡◌, ◌≢◌, ℕ, ◌+◌, ◌-◌, ◌*◌, ◌<◌, ◌≤◌, true, List, [], ◌∷◌, length, Some, refl, arith}
 use Rattle.std.specs.Prelude.{◌&&◌, All, IsTrue, codes, decimal}
 use Rattle.std.proofs.lemmas.Bool.{and_parts, leb-true}
@@ -25,7 +25,7 @@ use Rattle.lt_assembler.proofs.Found.{number_from}
 use Rattle.lt_assembler.proofs.ReadsForm.{ReadsForm, form_ok, no_form, form_then, named_then, number_then, form_if}
 use Rattle.lt_assembler.proofs.NamedWords.{named_is}
 
--- the memory in which symbols lie: blocks of w words, and banks of some blocks
+-- the memory of symbols: blocks of w words, and some banks of some blocks
 pub record IsMemory (w : ℕ) (banks : List BankSpec) : Type 0 where
   pub words : 1 ≤ w
   pub count : 2 ≤ length banks
@@ -36,7 +36,7 @@ pub blocks_in-some : (banks : List BankSpec)
     → EachAfter BankFits [] banks → (b : ℕ) → b < length banks → 1 ≤ blocks_in banks b
 blocks_in-some banks each b lt = (EachBelow-from_after BankFits banks each b no_bank lt).blocks.0
 
--- a symbol at a site
+-- a symbol at a place
 pub record SiteFits (w : ℕ) (banks : List BankSpec) (before : List Symbol) (shape : Shape) (s : Site) : Type 0 where
   pub lies : (name : List ℕ) (label : Label)
       → LiesBehind w banks before (record {
@@ -101,7 +101,7 @@ module _ (w : ℕ) (banks : List BankSpec) (before : List Symbol) (memory : IsMe
   abbrev pub IsSymbol : List Word → Symbol → Type 0
   IsSymbol words s = SymbolLies s × (codes ".symbol" ∷ words ≡ words_for_symbol s)
 
-  -- a symbol that is read lies behind those before it
+  -- the place of a symbol that is read, after those before it, is allowed
   pub symbol_lies : (F : Type 0) (words : List Word)
       → ((name : Word) → (label : Label) → (shape : Shape) → (a b c d : Word) → IsTrue (is_name name)
       → words ≡ name ∷ label_word label ∷ shape_word shape ∷ a ∷ b ∷ c ∷ d ∷ [] → F)
@@ -122,7 +122,7 @@ module _ (w : ℕ) (banks : List BankSpec) (before : List Symbol) (memory : IsMe
   unfolding is_new
   new_name text e = others before text e
 
-  -- with a new name, and room for its words
+  -- a symbol with a new name, and with room for its words
   pub symbol_fits : (s : Symbol)
       → SymbolLies s → is_new before s.name ≡ true → has_room before s ≡ true → SymbolFits w banks before s
   symbol_fits s lies new room = record {

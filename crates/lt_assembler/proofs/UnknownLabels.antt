@@ -1,4 +1,4 @@
--- An unknown label, by the items of a text.
+-- An unknown label, from the items of a text.
 use Rattle.std.proofs.Common.{◌≡◌, ℕ, suc, true, List, [], ◌∷◌, ◌++◌, length, Some, None, refl, sym, ap, subst, ◌∙◌, arith}
 use Rattle.std.specs.Prelude.{All, is_some}
 use Rattle.std.proofs.lemmas.List.Elements.{All-head, All-tail}
@@ -10,7 +10,7 @@ use Rattle.lt_assembler.specs.Spelled.{labels_in}
 use Rattle.lt_assembler.specs.FirstFaults.{LeadsToKnown, IsUnknown}
 use Rattle.lt_assembler.proofs.Settled.{IsUnknownUse}
 
--- there is one first use
+-- the first item of a list that lacks a property is at one place
 
 first_once : {X : Type 0} (P : X → Type 0) (one two : List X) (x y : X) (xs ys : List X)
     → one ++ x ∷ xs ≡ two ++ y ∷ ys → All P one → All P two → (P x → ⊥) → (P y → ⊥) → length one ≡ length two
@@ -28,7 +28,7 @@ unknown_item_not : (labels : Labels) (i : Instr) (name : Word) → place_of labe
 unknown_item_not labels i name none known =
     absurd (let bad : is_some {T = ℕ} None ≡ true = ap is_some (sym none) ∙ known in cc)
 
--- the first unknown use is one
+-- at most one line has the first use of an unknown label
 pub one_unknown : (labels : Labels) (items : List Item) (n m : ℕ) → IsUnknownUse labels 1 items n
     → IsUnknownUse labels 1 items m → n ≡ m
 one_unknown labels items n m u v =
@@ -37,7 +37,7 @@ one_unknown labels items n m u v =
     (unknown_item_not labels u.instr u.name u.nowhere) (unknown_item_not labels v.instr v.name v.nowhere) in
     omega (arith, u.number, v.number, same)
 
--- the first use of an unknown label is the relation's, and the other way round
+-- a line has the first use of an unknown label exactly if it has it by the relation
 pub unknown_use : (items : List Item) (n : ℕ) → IsUnknown items n → IsUnknownUse (labels_in items) 1 items n
 unknown_use items n u = record {
   before = u.before;

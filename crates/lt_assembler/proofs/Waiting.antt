@@ -1,5 +1,5 @@
--- The lines of a text that are read without a fault spell items in order. A note that was read waits for an
--- instruction, and there is one behind it.
+-- The lines of a text that are read without an error encode items in order. A note that was read waits for an
+-- instruction, and one follows.
 use Rattle.std.proofs.Common.{◌≡◌, ℕ, ◌+◌, Bool, true, false, not, ltb, eqb, cond, ◌-◌, ◌<◌, List, [], ◌∷◌, ◌++◌, length, get_or, take, Option, Some, None, Result, Ok, Err, refl, sym, ap, subst, ◌∙◌, arith, length-append}
 use Rattle.std.specs.Prelude.{◌&&◌, ◌||◌, bytes_eq, codes, is_none}
 use Rattle.std.proofs.lemmas.Bool.{and_parts, ltb-true, eqb-true}
@@ -24,7 +24,7 @@ use Rattle.lt_assembler.proofs.NamedWords.{same_word, label_is_none, object_is_n
 use Rattle.lt_assembler.proofs.HeadLines.{DraftFits, Says, object_fits, bank_line_fits, symbol_line_fits}
 use Rattle.lt_assembler.proofs.CodeLines.{note_line_fits, label_line_fits, code_line_fits}
 
--- anything may have been read
+-- any value may have been read
 any_read : {X E : Type 0} (r : Result X E) → IfRead r (λ _. Unit {0})
 any_read r = record { then = λ _ _. tt }
 
@@ -59,11 +59,11 @@ label_same name line d =
     read_if WrongForm (takes_code d && (is_name name && eqb (length line) 0)) _ _ (λ _.
     read_if RepeatedName (is_none (place_of d.labels name)) _ _ (λ _. read_ok _ _ (record { noted = refl })))
 
--- where a note waits, an instruction follows
+-- if a note waits, an instruction follows
 abbrev pub Waits : Bool → Draft → Type 0
 Waits follows d = is_noted d ≡ true → follows ≡ true
 
--- by a line that is no instruction
+-- after a line that isn't an instruction
 waits_on : (this follows : Bool) (d e : Draft)
     → this ≡ false → Waits (this || follows) d → SameCode d e → Waits follows e
 waits_on true follows d e wrong h same = λ noted. absurd cc
@@ -81,7 +81,7 @@ note_waits follows line d =
     read_then _ _ (λ _. Unit {0}) _ (any_read (note_read (length d.banks) (length d.code) line)) (λ n _.
     read_if Limit (ltb (length d.notes) 262144) _ _ (λ _. read_ok _ _ (λ _. some))))
 
--- an instruction ends the waiting
+-- after an instruction no note waits
 code_waits : (n : ℕ) (follows : Bool) (line : List Word) (d : Draft)
     → DraftFits d → IfRead (code_line n line d) (Waits follows)
 unfolding code_line
@@ -98,12 +98,12 @@ code_waits n follows line d fits =
           ∷ []),
     ))))))
 
--- the draft fits, and notes wait
+-- the draft fits, and if a note waits, an instruction follows
 pub record Goes (follows : Bool) (d : Draft) : Type 0 where
   pub fits : DraftFits d
   pub waits : Waits follows d
 
--- the words of line n say what the next draft is, and notes wait there
+-- the words of line n yield the next draft, and if a note waits there, an instruction follows
 pub record GoesBy (n : ℕ) (follows : Bool) (words : List Word) (d e : Draft) : Type 0 where
   pub says : Says n words d e
   pub waits : Waits follows e
@@ -148,7 +148,7 @@ is_other : (word text : Word) (line : List Word)
     → mnemonic_named text ≡ None → bytes_eq word text ≡ true → is_instruction (word ∷ line) ≡ false
 is_other word text line none e = no_instruction word line (ap mnemonic_named (same_word word text e) ∙ none)
 
--- the first word is a text
+-- the first word is equal to a text
 first_is : {n : ℕ} {d : Draft} (word text : Word) (line : List Word) (r : Result Draft Fault)
     → bytes_eq word text ≡ true → IfRead r (Says n (text ∷ line) d) → IfRead r (Says n (word ∷ line) d)
 first_is {n = n} {d = d} word text line r e h =
@@ -176,7 +176,7 @@ words_go n follows (word ∷ line) d h =
     (λ e. both _ (first_is word _ line _ e (note_line_fits n follows line d h.fits)) (note_waits follows line d))
     (other_goes n follows (label_name word) word line d (λ x e. e) h))))
 
--- the line is ASCII, and its words say what the next draft is
+-- the line is ASCII, and its words yield the next draft
 pub record LineGoes (n : ℕ) (follows : Bool) (line : List ℕ) (d e : Draft) : Type 0 where
   pub ascii : is_ascii_line line ≡ true
   pub by : GoesBy n follows (words line) d e
@@ -195,8 +195,8 @@ read_in_line : {X : Type 0} {P : X → Type 0} (n : ℕ) (r : Result X Fault) �
 read_in_line n (Ok x) h = read_ok _ _ (h.then x refl)
 read_in_line n (Err fault) h = read_err _ _
 
--- The lines from number n on spell items that stand in order and make a draft another one, which is in range and where
--- no note waits.
+-- The lines from number n on encode items in order, and make draft d draft e, which is in range and has no note that
+-- waits.
 pub record LinesGo (n : ℕ) (ls : List (List ℕ)) (d e : Draft) : Type 0 where
   pub items : List Item
   pub spell : LinesSpell ls items
@@ -205,7 +205,7 @@ pub record LinesGo (n : ℕ) (ls : List (List ℕ)) (d e : Draft) : Type 0 where
   pub is : e ≡ adds n items d
   pub goes : Goes false e
 
--- one line more
+-- one more line
 one_more : (n : ℕ) (follows : Bool) (line : List ℕ) (rest : List (List ℕ)) (d e f : Draft)
     → DraftFits d → LineGoes n follows line d e → LinesGo (n + 1) rest e f → LinesGo n (line ∷ rest) d f
 one_more n follows line rest d e f fits h k =
@@ -221,7 +221,7 @@ one_more n follows line rest d e f fits h k =
       goes = k.goes;
     }
 
--- lines that are read go on to their end
+-- lines that are read reach their end
 pub lines_go : (n : ℕ) (ls : List (List ℕ)) (d : Draft)
     → Goes (instruction_follows ls) d → IfRead (read_lines n ls d) (LinesGo n ls d)
 unfolding read_lines

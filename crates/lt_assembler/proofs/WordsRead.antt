@@ -1,4 +1,4 @@
--- What is read of a word is what the word spells.
+-- A word encodes what is read from it.
 use Rattle.std.proofs.Common.{◌≡◌, ℕ, zero, suc, ◌+◌, ◌*◌, ◌/◌, ◌%◌, ◌^◌, ◌<◌, ◌≤◌, true, false, eqb, List, [], ◌∷◌, ◌++◌, length, get_or, take, Some, None, refl, sym, ap, subst, ◌∙◌, arith}
 use Rattle.std.specs.Prelude.{◌&&◌, bytes_eq, codes, decimal}
 use Rattle.std.specs.List.{list_all}

@@ -23,7 +23,7 @@ cycles_words p =
 abbrev pub window_words : Profile → List Word
 window_words p = decimal p.period ∷ decimal p.opens ∷ decimal p.closes ∷ []
 
--- version 1 where the period is one cycle, and else version 2, with the window
+-- version 1 if the period is one cycle, and otherwise version 2, with the window
 abbrev pub profile_words : Profile → List Word
 profile_words p =
     if has_unit_period p then codes "1" ∷ cycles_words p
@@ -57,12 +57,12 @@ instruction_words (Jmp offset) = codes "jmp" ∷ codes "->" ∷ offset_word offs
 instruction_words (Br cmp ra rb offset) =
     codes "br" ∷ cmp_word cmp ∷ register_word ra ∷ register_word rb ∷ codes "->" ∷ offset_word offset ∷ []
 
--- whether the first of some notes stands at a place
+-- whether the first of some notes is at a place
 abbrev pub starts_at : List Note → ℕ → Bool
 starts_at [] place = false
 starts_at (n ∷ notes) place = n.pc == place
 
--- the notes behind it
+-- the notes after the first
 abbrev pub behind_first : List Note → List Note
 behind_first [] = []
 behind_first (n ∷ notes) = notes
@@ -72,7 +72,7 @@ abbrev pub first_note : List Note → List (List Word)
 first_note [] = []
 first_note (n ∷ notes) = note_words n ∷ []
 
--- the instructions from a place on, each behind the note at its place
+-- the instructions from a place on, each after the note at its place
 abbrev pub code_words : List Note → ℕ → List Instr → List (List Word)
 code_words notes place [] = []
 code_words notes place (i ∷ code) =

@@ -1,4 +1,5 @@
--- What is read of a text so far, for the computing form. Only proofs need it. (This project's profile.)
+-- For the proofs and for private clauses only: what has been read of a text so far, for the computing form. (This
+-- project's profile.)
 use Rattle.std.specs.Prelude.{ℕ, ◌==◌, nat_le, nat_lt, Bool, not, ◌&&◌, ◌||◌, List, [], length, Option, None, is_some, bytes_eq}
 use Rattle.std.specs.Ordering.{nat_cmp}
 use Rattle.std.specs.Cmp.Lexicographic.{slice_cmp}
@@ -18,7 +19,7 @@ pub record Use : Type 0 where
   pub place : ℕ
   pub line : ℕ
 
--- labels with the places that they name, in the order of their names
+-- labels with their places, in the order of their names
 abbrev pub Labels : Type 0
 Labels = List (Word × ℕ)
 
@@ -42,11 +43,11 @@ place_of labels name = lookup (bytes_eq name) labels
 abbrev pub with_label : Word → ℕ → Labels → Labels
 with_label name place labels = insert_entry (slice_cmp nat_cmp) labels name place
 
--- whether a code line was read
+-- whether a line of code was read
 abbrev pub has_code : Draft → Bool
 has_code d = not (length d.code == 0) || (not (length d.notes == 0) || not (length d.labels == 0))
 
--- Which lines may come: banks behind the first line, symbols behind two banks, code behind these.
+-- Which lines may be next: banks after the first line, symbols after two banks, code after these.
 abbrev pub takes_bank : Draft → Bool
 takes_bank d = is_some d.profile && ((length d.symbols == 0) && not (has_code d))
 
@@ -56,6 +57,6 @@ takes_code d = nat_le 2 (length d.banks)
 abbrev pub takes_symbol : Draft → Bool
 takes_symbol d = is_some d.profile && (takes_code d && not (has_code d))
 
--- whether a note stands at the next instruction already
+-- whether the next instruction already has a note
 abbrev pub is_noted : Draft → Bool
 is_noted d = nat_lt (length d.code) (next_place d.notes)

@@ -1,4 +1,4 @@
--- What some lines give, by the items that they spell. (This project's profile.)
+-- The contents of the lines before a line, from the items that they encode. (This project's profile.)
 use Rattle.std.specs.Prelude.{ℕ, ◌^◌, List, [], ◌∷◌}
 use Rattle.lt_isa.specs.declared.profiles.Profile.{Profile}
 use Rattle.lt_isa.specs.declared.profiles.BankSpec.{BankSpec}
@@ -8,7 +8,7 @@ use Rattle.lt_assembler.specs.Words.{Word}
 use Rattle.lt_assembler.specs.Items.{Item}
 use Rattle.lt_assembler.specs.Spelled.{stage_behind, place_after, gathered, profile_in, bank_in, symbol_in, note_in, labels_in}
 
--- the stage behind some items, and the place of the next instruction
+-- the stage after some items, and the place of the next instruction
 abbrev pub stage_behind_all : ℕ → List Item → ℕ
 stage_behind_all stage [] = stage
 stage_behind_all stage (item ∷ items) = stage_behind_all (stage_behind stage item) items
@@ -17,7 +17,7 @@ abbrev pub place_after_all : ℕ → List Item → ℕ
 place_after_all place [] = place
 place_after_all place (item ∷ items) = place_after_all (place_after place item) items
 
--- the stage, the profile where it is there, the banks, symbols, notes and labels, and the place of the next instruction
+-- the stage, the profile if there is one, the banks, symbols, notes and labels, and the place of the next instruction
 pub record Earlier : Type 0 where
   pub stage : ℕ
   pub profile : List Profile
@@ -38,7 +38,7 @@ given items = record {
   place = place_after_all 0 items;
 }
 
--- how many words a block has
+-- the number of words of a block
 abbrev pub block_words_by : List Profile → ℕ
 block_words_by [] = 0
 block_words_by (profile ∷ others) = 2 ^ profile.block_log

@@ -1,4 +1,4 @@
--- The forms of lines: the words of each, where any words may stand for its numbers. (This project's profile.)
+-- The forms of lines: the words of each, with any words for its numbers. (This project's profile.)
 use Rattle.std.specs.Prelude.{◌≡◌, ℕ, ◌^◌, ◌<◌, ◌≤◌, ◌⊎◌, Bool, ◌||◌, List, [], ◌∷◌, ◌++◌, length, codes, IsTrue, slice_index}
 use Rattle.std.specs.Char.{is_ascii_digit}
 use Rattle.gr_word.specs.declared.operations.Op.{Op}
@@ -15,14 +15,14 @@ use Rattle.lt_assembler.specs.Lines.{words, is_ascii_line}
 use Rattle.lt_assembler.specs.Numbers.{begins_with}
 use Rattle.lt_assembler.specs.Earlier.{Earlier}
 
--- A target that begins with '+', '-' or a digit is a number word, and any other is a name.
+-- A target that begins with '+', '-' or a digit is a number; any other target is a name.
 abbrev pub is_number_word : Word → Bool
 is_number_word word = begins_with 43 word || (begins_with 45 word || is_ascii_digit (slice_index word 0))
 
 abbrev pub IsTarget : Word → Type 0
 IsTarget word = IsTrue (is_number_word word || is_name word)
 
--- The words of an instruction, where any words may stand for a constant and for slots.
+-- The words of an instruction, with any words for its constant and its slots.
 pub data HasInstructionForm : List Word → Type 0 where
   Nop : HasInstructionForm (codes "nop" ∷ [])
   Halt : HasInstructionForm (codes "halt" ∷ [])
@@ -48,9 +48,9 @@ InstructionFollows [] = ⊥
 InstructionFollows (line ∷ lines) =
     (IsTrue (is_ascii_line line) × HasInstructionForm (words line)) ⊎ InstructionFollows lines
 
--- Some words have a form that may stand behind what is there, with these lines to come. The first line comes once, then
--- banks, then symbols, then code; symbols and code want two banks before them. A note wants an instruction behind it,
--- and no other note there.
+-- Some words have a form that is allowed after what was read, with these lines to come. The first line comes once; then
+-- banks, symbols and code follow in this order. Symbols and code need two banks before them. A note needs an
+-- instruction after it, and no other note at the same place.
 pub data HasForm (e : Earlier) (after : List (List ℕ)) : List Word → Type 0 where
   Empty : HasForm e after []
   Object : (version block_log alu mul word taken : Word) → e.stage ≡ 0

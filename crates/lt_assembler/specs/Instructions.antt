@@ -1,6 +1,6 @@
--- Reading instructions by their words. Only proofs need it, but for `offset_to`: it is the computing form of
--- `HasInstructionForm` and `WordsSpell`. An instruction whose target is a label has the offset 0 until the whole text is
--- read. (This project's profile.)
+-- For the proofs and for private clauses only, except `offset_to`: reading instructions from their words. This is the
+-- computing form of `HasInstructionForm` and `WordsSpell`. An instruction whose target is a label has the offset 0
+-- until the whole text is read. (This project's profile.)
 use Rattle.std.specs.Prelude.{ℕ, nat_lt, Bool, false, true, if◌then◌else◌, ℤ, pos, ◌-ℤ◌, List, [], ◌∷◌, codes, Option, Some, None, option_map, Result, Ok, Err, bytes_eq, slice_index}
 use Rattle.std.specs.Char.{is_ascii_digit}
 use Rattle.gr_word.specs.declared.operations.Op.{Op}
@@ -17,7 +17,7 @@ use Rattle.lt_assembler.specs.Operands.{mnemonic_named, cmp_named, register_of, 
 use Rattle.gr_base.specs.Results.{◌>>=◌}
 use Rattle.lt_assembler.specs.Faults.{form, number_or, unless_not}
 
--- where a target leads: an offset, or a label whose place is not yet known
+-- a target: an offset, or a label whose place isn't known yet
 pub record Aim : Type 0 where
   pub offset : ℤ
   pub label : Option Word
@@ -29,7 +29,7 @@ offset_aim offset = record { offset = offset; label = None }
 abbrev pub offset_to : ℕ → ℕ → ℤ
 offset_to target place = pos target -ℤ pos place
 
--- the target of an instruction at a place: an offset with a sign, a place in digits, else a label
+-- the target of an instruction at a place: an offset with a sign, a place in digits, or otherwise a label
 unfoldable pub aim_read : ℕ → Word → Result Aim Fault
 aim_read place word =
     if begins_with 43 word then number_or (option_map offset_aim (forward_of (but_first word)))
@@ -39,12 +39,13 @@ aim_read place word =
     (option_map offset_aim (option_map (λ target. offset_to target place) (number_within 0 2147483647 word)))
     else (if is_name word then Ok (record { offset = pos 0; label = Some word }) else Err WrongForm)))
 
--- an instruction, and the label that it still lacks
+-- an instruction, and the label that is its target, if it has one
 pub record Coded : Type 0 where
   pub instr : Instr
   pub label : Option Word
 
--- Each instruction by the words behind its first. Registers, banks and the like come first, then numbers.
+-- Each instruction, from the words after its first. Registers, banks, operations and comparisons come first, then
+-- numbers.
 
 unfoldable pub li_read : List Word → Result Instr Fault
 li_read (rd ∷ value ∷ []) = do
@@ -146,14 +147,14 @@ operands_read banks place mnemonic.Jmp words = jmp_read place words
 operands_read banks place mnemonic.Br words = br_read place words
 operands_read banks place m words = without_target (untargeted_read banks m words)
 
--- the instruction of a line at a place of the code, where there are so many banks
+-- the instruction of a line at a place of the code, in an object with this number of banks
 unfoldable pub instruction_read : ℕ → ℕ → List Word → Result Coded Fault
 instruction_read banks place [] = Err WrongForm
 instruction_read banks place (word ∷ words) = do
   mnemonic ← form (mnemonic_named word)
   operands_read banks place mnemonic words
 
--- Whether a line has an instruction's form: what its numbers are doesn't matter, nor do banks and places.
+-- Whether a line has the form of an instruction. Its numbers don't matter, nor do the number of banks and the place.
 abbrev pub is_of_form : Result Coded Fault → Bool
 is_of_form (Ok coded) = true
 is_of_form (Err WrongForm) = false

@@ -1,4 +1,4 @@
--- What a line of assembly text says: its words spell an item (this project's profile).
+-- The item of a line of assembly text, which its words encode (this project's profile).
 use Rattle.std.specs.Prelude.{ℕ, ◌<◌, ◌^◌, pos, List, [], ◌∷◌, ◌++◌, map, codes, decimal, Option, Some, None, IsTrue}
 use Rattle.gr_word.specs.declared.operations.Cmp.{Cmp}
 use Rattle.gr_word.specs.Names.{is_name}
@@ -11,13 +11,13 @@ use Rattle.lt_assembler.specs.Words.{Word, register_word, claim_word, hex_word}
 use Rattle.lt_isa.specs.InstructionTable.{cmp_word}
 use Rattle.lt_assembler.specs.Canonical.{object_words, words_for_bank, words_for_symbol, instruction_words}
 
--- where an instruction leads: to a place, or to the place that a label names
+-- the target of an instruction: a place, or the place of a label
 pub data Target : Type 0 where
   ToPlace : ℕ → Target
   ToLabel : Word → Target
 
 -- Nothing, the object's profile, a bank, a symbol, a label, a note's mask and claims, or an instruction. An instruction
--- that leads to a place or a label, and not by an offset, stands with the offset 0.
+-- whose target is a place or a label, and not an offset, has the offset 0 here.
 pub data Item : Type 0 where
   Nothing : Item
   AnObject : Profile → Item
@@ -27,12 +27,12 @@ pub data Item : Type 0 where
   ANote : ℕ → List ℕ → Item
   AnInstruction : Instr → Option Target → Item
 
--- a place in digits, or a name
+-- a target as a place in digits, or as a name
 pub data SpellsTarget : Word → Target → Type 0 where
   InDigits : (place : ℕ) → place < 2 ^ 31 → SpellsTarget (decimal place) (ToPlace place)
   ByName : (name : Word) → IsTrue (is_name name) → SpellsTarget name (ToLabel name)
 
--- the words of a line spell an item
+-- the words of a line encode an item
 pub data WordsSpell : List Word → Item → Type 0 where
   Empty : WordsSpell [] Nothing
   Object : (profile : Profile) → WordsSpell (object_words profile) (AnObject profile)

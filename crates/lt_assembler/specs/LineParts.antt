@@ -1,12 +1,12 @@
--- What a text's first line holds, found from its front on. For the contracts of private functions, and for proofs.
--- (This project's profile.)
+-- For the proofs and for private clauses only: the parts of a text's first line, found from its beginning on. (This
+-- project's profile.)
 use Rattle.std.specs.Prelude.{ℕ, Bool, ◌&&◌, not, ◌==◌, List, take, drop}
 use Rattle.std.specs.List.{prefix_len}
 use Rattle.std.specs.Char.{is_ascii}
 use Rattle.lt_assembler.specs.Words.{Word}
 use Rattle.lt_assembler.specs.Lines.{is_blank, is_semicolon, words}
 
--- how many bytes stand before the first line feed
+-- how many bytes come before the first line feed
 abbrev pub line_len : List ℕ → ℕ
 line_len text = prefix_len (λ byte. not (byte == 10)) text
 

@@ -1,5 +1,5 @@
--- What a line says, or its fault, behind the items of the lines before it. In this order come the form, the ranges of
--- numbers, names that stand twice, and limits. (This project's profile.)
+-- The item of a line, or the line's error, after the items of the lines before it. The form comes first, then the
+-- ranges of numbers, repeated names, and limits. (This project's profile.)
 use Rattle.std.specs.Prelude.{◌≡◌, ◌≢◌, ℕ, ◌+◌, ◌<◌, ◌≤◌, List, length, All, IsTrue, bytes_eq, None}
 use Rattle.std.specs.Map.{lookup}
 use Rattle.gr_word.specs.Names.{is_name}
@@ -13,12 +13,12 @@ use Rattle.lt_assembler.specs.Items.{Item, Nothing, AnObject, ABank, ASymbol, AL
 use Rattle.lt_assembler.specs.Earlier.{Earlier, block_words_by}
 use Rattle.lt_assembler.specs.Forms.{HasForm}
 
--- A line is ASCII, and its words have a form that may stand there.
+-- A line is ASCII, and its words have a form that is allowed there.
 pub record IsOfForm (e : Earlier) (line : List ℕ) (after : List (List ℕ)) : Type 0 where
   pub ascii : IsTrue (is_ascii_line line)
   pub form : HasForm e after (words line)
 
--- The numbers of an item are in the ranges of their fields. A symbol lies where it may.
+-- The numbers of an item are in the ranges of their fields, and the place of a symbol is allowed.
 abbrev pub FitsRanges : Earlier → Item → Type 0
 FitsRanges e Nothing = Unit {0}
 FitsRanges e (AnObject profile) = ProfileFits profile
@@ -30,13 +30,13 @@ FitsRanges e (ANote mask claims) =
     NoteFits (length e.banks) e.notes (record { pc = e.place; secrets = mask; slots = claims })
 FitsRanges e (AnInstruction instr target) = InstrFits (length e.banks) instr
 
--- no symbol has the symbol's name, and no label the label's
+-- no symbol has the symbol's name, and no label has the label's name
 abbrev pub HasNewName : Earlier → Item → Type 0
 HasNewName e (ASymbol symbol) = All (λ other. other.name ≢ symbol.name) e.symbols
 HasNewName e (ALabel name) = lookup (bytes_eq name) e.labels ≡ None
 HasNewName e item = Unit {0}
 
--- the item isn't one past a limit, nor are the words of all symbols
+-- the item doesn't exceed a limit, nor do the words of all symbols
 abbrev pub HasRoom : Earlier → Item → Type 0
 HasRoom e (ABank bank) = length e.banks < most_banks
 HasRoom e (ASymbol symbol) =
@@ -45,20 +45,20 @@ HasRoom e (ANote mask claims) = length e.notes < most_notes
 HasRoom e (AnInstruction instr target) = e.place < most_instructions
 HasRoom e item = Unit {0}
 
--- A line has a form and spells an item, whose numbers are in range.
+-- A line has a form and encodes an item, whose numbers are in range.
 pub record SpellsInRange (e : Earlier) (line : List ℕ) (after : List (List ℕ)) (item : Item) : Type 0 where
   pub form : IsOfForm e line after
   pub spells : WordsSpell (words line) item
   pub fits : FitsRanges e item
 
--- A line without a fault says an item.
+-- A line without an error yields an item.
 pub record Says (e : Earlier) (line : List ℕ) (after : List (List ℕ)) (item : Item) : Type 0 where
   pub in_range : SpellsInRange e line after item
   pub new : HasNewName e item
   pub room : HasRoom e item
 
--- The fault of a line: it has no form that may stand there; or it has one, and spells nothing in range; or it spells
--- an item in range whose name stands already; or one whose name is new, and which passes a limit.
+-- The error of a line: it has no form that is allowed there; or it has one, but encodes nothing in range; or it encodes
+-- an item in range whose name is repeated; or it encodes one with a new name that exceeds a limit.
 pub data HasFault (e : Earlier) (line : List ℕ) (after : List (List ℕ)) : Fault → Type 0 where
   OtherForm : ¬ IsOfForm e line after → HasFault e line after fault.WrongForm
   BadNumber : IsOfForm e line after

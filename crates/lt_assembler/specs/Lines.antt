@@ -9,7 +9,7 @@ unfoldable pub lines : List ℕ → List (List ℕ)
 lines [] = []
 lines (byte ∷ text) = if byte == 10 then [] ∷ lines text else onto_first byte (lines text)
 
--- A ';' begins a comment, which goes to the end of the line.
+-- A ';' begins a comment, which extends to the end of the line.
 abbrev pub is_semicolon : ℕ → Bool
 is_semicolon byte = byte == 59
 
@@ -30,6 +30,6 @@ pieces text = filter has_bytes (slice_split is_blank text)
 abbrev pub words : List ℕ → List Word
 words line = pieces (uncommented line)
 
--- no byte is above 127, in a comment neither
+-- no byte is above 127, not even in a comment
 abbrev pub is_ascii_line : List ℕ → Bool
 is_ascii_line line = list_all is_ascii line

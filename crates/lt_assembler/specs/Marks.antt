@@ -1,9 +1,9 @@
--- A number that a name's bytes give. It tells most names apart before they are compared byte by byte, and no answer
--- depends on it. For proofs of private functions. (This project's profile.)
+-- For the proofs and for private clauses only: a number that is computed from a name's bytes. It distinguishes most
+-- names before they are compared byte by byte, and doesn't affect any result. (This project's profile.)
 use Rattle.std.specs.Prelude.{ℕ, ◌+◌, ◌*◌, ◌%◌, ◌^◌, [], ◌∷◌}
 use Rattle.lt_assembler.specs.Words.{Word}
 
--- a mark and one byte more, in 64 bits
+-- the mark of some bytes, with one more byte, in 64 bits
 unfoldable pub mixed : ℕ → ℕ → ℕ
 mixed mark byte = (mark * 31 % 2 ^ 64 + byte) % 2 ^ 64
 

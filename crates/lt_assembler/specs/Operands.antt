@@ -1,4 +1,5 @@
--- What the words of a line name, for the computing form. Only proofs need it. (This project's profile.)
+-- For the proofs and for private clauses only: what the words of a line name, for the computing form. (This project's
+-- profile.)
 use Rattle.std.specs.Prelude.{ℕ, ◌-◌, nat_le, Bool, ◌&&◌, ◌||◌, ◌==◌, if◌then◌else◌, List, [], ◌∷◌, length, codes, find, Option, Some, None, option_map, option_and_then, bytes_eq}
 use Rattle.std.specs.List.{list_all}
 use Rattle.std.specs.Option.{option_or}
@@ -20,7 +21,7 @@ use Rattle.lt_isa.specs.Ranges.{any_bank}
 use Rattle.lt_assembler.specs.Words.{Word, label_word, shape_word}
 use Rattle.lt_assembler.specs.Numbers.{begins_with, but_first, number_within}
 
--- the first of some things whose word this is
+-- the first item that a word names
 abbrev pub named : {X : Type 0} → (X → Word) → List X → Word → Option X
 named word_of things word = find (λ x. bytes_eq (word_of x) word) things
 
@@ -65,25 +66,25 @@ register_of word = if begins_with 114 word then number_within 0 31 (but_first wo
 unfoldable pub slot_named : Word → Option ℕ
 slot_named word = number_within 0 7 word
 
--- a bank in the place of an operand: D, E, or O2 to O9
+-- a bank as an operand: D, E, or O2 to O9
 unfoldable pub bank_named : Word → Option ℕ
 bank_named word =
     if bytes_eq word (codes "D") then Some 0
     else (if bytes_eq word (codes "E") then Some 1
     else (if begins_with 79 word then number_within fewest_banks (most_banks - 1) (but_first word) else None))
 
--- a mask: eight digits of base 16, in lower case
+-- a mask: eight hexadecimal digits, in lower case
 abbrev pub is_hex : ℕ → Bool
 is_hex byte = is_ascii_digit byte || (nat_le 97 byte && nat_le byte 102)
 
 unfoldable pub mask_of : Word → Option ℕ
 mask_of word = if (length word == 8) && list_all is_hex word then Some (digits_value 16 word) else None
 
--- what a note says of a slot, where there are so many banks
+-- a note's claim about a slot, in an object with this number of banks
 unfoldable pub claim_of : ℕ → Word → Option ℕ
 claim_of banks word = if bytes_eq word (codes "-") then Some any_bank else number_within 0 (banks - 1) word
 
--- the same of each slot
+-- the claims about all slots
 abbrev pub claims_of : ℕ → List Word → Option (List ℕ)
 claims_of banks [] = Some []
 claims_of banks (word ∷ words) =

@@ -1,6 +1,6 @@
--- Reading a text line by line, with the first fault that is met: what each line does to what was read before. Only
--- proofs need it: it is the computing form of `LineRules` and `FirstFaults`, to which the law `first_fault` ties it.
--- (This project's profile.)
+-- For the proofs and for private clauses only: reading a text line by line up to the first error, and what each line
+-- adds to what was read before. This is the computing form of `LineRules` and `FirstFaults`; the law `first_fault`
+-- connects them. (This project's profile.)
 use Rattle.std.specs.Prelude.{ℕ, ◌+◌, ◌-◌, ◌*◌, ◌^◌, nat_le, nat_lt, ◌==◌, Bool, not, ◌&&◌, if◌then◌else◌, List, [], ◌∷◌, ◌++◌, length, take, codes, Option, Some, None, is_none, is_some, Result, Ok, Err, bytes_eq, slice_index}
 use Rattle.std.specs.List.{list_all, list_any}
 use Rattle.gr_word.specs.declared.variables.Shape.{Shape}
@@ -25,7 +25,7 @@ use Rattle.lt_assembler.specs.Faults.{form, number_or, unless_not, in_line}
 use Rattle.lt_assembler.specs.Instructions.{Coded, instruction_read, is_instruction}
 use Rattle.lt_assembler.specs.Drafts.{Use, Draft, place_of, with_label, takes_bank, takes_symbol, takes_code, is_noted}
 
--- the size of blocks and cycles of instructions by five words, with memory that is always open
+-- the block size and cycles of instructions from five words, with memory that is always open
 unfoldable pub cycles_read : (block_log alu mul word taken : Word) → Result Profile Fault
 cycles_read block_log alu mul word taken = do
   block_log ← number_or (number_within least_block_log most_block_log block_log)
@@ -44,7 +44,7 @@ cycles_read block_log alu mul word taken = do
     closes = 1;
   })
 
--- the profile whose cycles were read, with the window that three words give
+-- the profile of these cycles, with the window in three words
 unfoldable pub window_read : Result Profile Fault → (period opens closes : Word) → Result Profile Fault
 window_read cycles period opens closes = do
   p ← cycles
@@ -73,7 +73,7 @@ object_line words d = do
   profile ← profile_read words
   Ok (record d { profile = Some profile })
 
--- a bank behind so many others
+-- bank number `index`
 unfoldable pub bank_read : ℕ → List Word → Result BankSpec Fault
 bank_read index (blocks ∷ latency ∷ []) = do
   blocks ← number_or (number_within 1 (most_blocks index) blocks)
@@ -88,7 +88,7 @@ bank_line words d = do
   room ← unless_not Limit (nat_lt (length d.banks) most_banks)
   Ok (record d { banks = d.banks ++ bank ∷ [] })
 
--- where a symbol lies, by four words
+-- the place of a symbol, from four words
 unfoldable pub site_read : ℕ → List BankSpec → List Symbol → Shape → List Word → Result Site Fault
 site_read w banks before shape (bank ∷ block ∷ word ∷ size ∷ []) = do
   bank ← number_or (number_within (last_bank before) (length banks - 1) bank)
@@ -101,7 +101,7 @@ site_read w banks before shape _ = Err WrongForm
 abbrev pub four : List Word → Bool
 four words = length words == 4
 
--- a symbol behind others, where a block has w words
+-- the next symbol after those before, if a block has w words
 unfoldable pub symbol_read : ℕ → List BankSpec → List Symbol → List Word → Result Symbol Fault
 symbol_read w banks before (name ∷ label ∷ shape ∷ site) = do
   whole ← unless_not WrongForm (four site && is_name name)
@@ -119,7 +119,7 @@ symbol_read w banks before (name ∷ label ∷ shape ∷ site) = do
   })
 symbol_read w banks before _ = Err WrongForm
 
--- how many words a block has
+-- the number of words of a block
 abbrev pub width : Option Profile → ℕ
 width None = 0
 width (Some p) = 2 ^ p.block_log
@@ -141,7 +141,7 @@ symbol_line words d = do
   room ← unless_not Limit (has_room d.symbols symbol)
   Ok (record d { symbols = d.symbols ++ symbol ∷ [] })
 
--- a note at a place, where there are so many banks
+-- a note at a place, in an object with this number of banks
 unfoldable pub note_read : ℕ → ℕ → List Word → Result Note Fault
 note_read banks place [] = Err WrongForm
 note_read banks place (mask ∷ claims) = do
@@ -150,7 +150,7 @@ note_read banks place (mask ∷ claims) = do
   slots ← number_or (claims_of banks claims)
   Ok (record { pc = place; secrets = secrets; slots = slots })
 
--- A note needs an instruction behind it, and is the only one there.
+-- A note needs an instruction after it, and is the only one there.
 unfoldable pub note_line : Bool → List Word → Draft → Result Draft Fault
 note_line follows words d = do
   there ← unless_not WrongForm (takes_code d && (not (is_noted d) && follows))
@@ -158,7 +158,7 @@ note_line follows words d = do
   room ← unless_not Limit (nat_lt (length d.notes) most_notes)
   Ok (record d { notes = d.notes ++ note ∷ [] })
 
--- what stands before the ':' at the end of a word
+-- the name before the ':' at the end of a word
 unfoldable pub label_name : Word → Option Word
 label_name word = if slice_index word (length word - 1) == 58 then Some (take (length word - 1) word) else None
 
@@ -168,7 +168,7 @@ label_line name words d = do
   new ← unless_not RepeatedName (is_none (place_of d.labels name))
   Ok (record d { labels = with_label name (length d.code) d.labels })
 
--- the use of a label, where there is one
+-- the use of a label, if there is one
 abbrev pub uses_of : ℕ → ℕ → Option Word → List Use
 uses_of place n None = []
 uses_of place n (Some name) = record { name = name; place = place; line = n } ∷ []
@@ -184,12 +184,12 @@ code_line n words d = do
   room ← unless_not Limit (nat_lt (length d.code) most_instructions)
   Ok (with_code n coded d)
 
--- a label line, or an instruction
+-- a label's line, or an instruction
 abbrev pub label_or_code : ℕ → Option Word → Word → List Word → Draft → Result Draft Fault
 label_or_code n (Some name) word words d = label_line name words d
 label_or_code n None word words d = code_line n (word ∷ words) d
 
--- line n, by its first word; `follows` says that an instruction follows
+-- line n, by its first word; `follows` means that an instruction follows
 unfoldable pub by_first_word : ℕ → Bool → List Word → Draft → Result Draft Fault
 by_first_word n follows [] d = Ok d
 by_first_word n follows (word ∷ words) d =

@@ -1,5 +1,4 @@
--- The draft of the code as a draft of lists. For the contracts of private functions, and for proofs.
--- (This project's profile.)
+-- For the proofs and for private clauses only: the draft of the code as a draft of lists. (This project's profile.)
 use Rattle.std.specs.Prelude.{List, [], ◌∷◌, map}
 use Rattle.lt_assembler.specs.declared.draft.CodePlace.{CodePlace}
 use Rattle.lt_assembler.specs.declared.draft.Use.{Use as CodeUse}

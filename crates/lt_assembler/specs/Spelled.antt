@@ -1,4 +1,5 @@
--- The object that an assembly text spells (this project's profile): each line spells an item, and the items the object.
+-- The object that an assembly text encodes (this project's profile): each line encodes an item, and the items encode
+-- the object.
 use Rattle.std.specs.Prelude.{◌≡◌, ℕ, ◌+◌, ◌≤◌, List, [], ◌∷◌, ◌++◌, map, Option, Some, None, option_map, IsTrue, bytes_eq}
 use Rattle.std.specs.Map.{lookup}
 use Rattle.gr_base.specs.Lists.{Within, EachAfter}
@@ -15,7 +16,7 @@ use Rattle.lt_assembler.specs.Instructions.{offset_to}
 use Rattle.lt_isa.specs.InstructionTable.{with_offset}
 use Rattle.lt_assembler.specs.Items.{Target, ToPlace, ToLabel, Item, Nothing, AnObject, ABank, ASymbol, ALabel, ANote, AnInstruction, WordsSpell}
 
--- each line is ASCII, and its words spell an item
+-- each line is ASCII, and its words encode an item
 abbrev pub LinesSpell : List (List ℕ) → List Item → Type 0
 LinesSpell [] [] = Unit {0}
 LinesSpell [] (item ∷ items) = ⊥
@@ -23,8 +24,8 @@ LinesSpell (line ∷ lines) [] = ⊥
 LinesSpell (line ∷ lines) (item ∷ items) =
     IsTrue (is_ascii_line line) × WordsSpell (words line) item × LinesSpell lines items
 
--- Lines stand in stages: nothing yet (0), behind the first line (1), in the banks (2), in the symbols (3), in the code
--- (4). An empty line may stand anywhere.
+-- Lines are in stages: before the first line (0), after it (1), in the banks (2), in the symbols (3), in the code (4).
+-- An empty line is allowed anywhere.
 abbrev pub Stands : ℕ → Item → Type 0
 Stands stage Nothing = Unit {0}
 Stands stage (AnObject profile) = stage ≡ 0
@@ -32,7 +33,7 @@ Stands stage (ABank bank) = Within 1 2 stage
 Stands stage (ASymbol symbol) = Within 2 3 stage
 Stands stage item = 2 ≤ stage
 
--- the stage behind an item
+-- the stage after an item
 abbrev pub stage_behind : ℕ → Item → ℕ
 stage_behind stage Nothing = stage
 stage_behind stage (AnObject profile) = 1
@@ -44,12 +45,12 @@ abbrev pub StagesInOrder : ℕ → List Item → Type 0
 StagesInOrder stage [] = Unit {0}
 StagesInOrder stage (item ∷ items) = Stands stage item × StagesInOrder (stage_behind stage item) items
 
--- the place of the next instruction behind an item
+-- the place of the next instruction after an item
 abbrev pub place_after : ℕ → Item → ℕ
 place_after place (AnInstruction instr target) = place + 1
 place_after place item = place
 
--- What the items give, one behind the other, each by the place of the next instruction.
+-- What the items yield in sequence, each at the place of the next instruction.
 abbrev pub gathered : {X : Type 0} → (ℕ → Item → List X) → ℕ → List Item → List X
 gathered give place [] = []
 gathered give place (item ∷ items) = give place item ++ gathered give (place_after place item) items
@@ -76,7 +77,7 @@ abbrev pub label_in : ℕ → Item → List (Word × ℕ)
 label_in place (ALabel name) = (name, place) ∷ []
 label_in place item = []
 
--- the instruction that leads to a target, where the target has a place
+-- the instruction with its target, if the target has a place
 abbrev pub leading : List (Word × ℕ) → ℕ → Instr → Option Target → Option Instr
 leading labels place instr None = Some instr
 leading labels place instr (Some (ToPlace to)) = Some (with_offset (offset_to to place) instr)
@@ -90,11 +91,11 @@ instruction_in labels place item = []
 abbrev pub labels_in : List Item → List (Word × ℕ)
 labels_in items = gathered label_in 0 items
 
--- no label stands twice
+-- each label is defined once
 abbrev pub AreOnce : List (Word × ℕ) → Type 0
 AreOnce labels = EachAfter (λ before label. lookup (bytes_eq label.0) before ≡ None) [] labels
 
--- the items spell an object: they stand in order and give its parts
+-- the items encode an object: they are in order and yield its parts
 pub record ItemsSpell (items : List Item) (o : Parts) : Type 0 where
   pub ordered : StagesInOrder 0 items
   pub profile : gathered profile_in 0 items ≡ o.profile ∷ []
@@ -104,8 +105,8 @@ pub record ItemsSpell (items : List Item) (o : Parts) : Type 0 where
   pub labels : AreOnce (labels_in items)
   pub code : gathered (instruction_in (labels_in items)) 0 items ≡ map Some o.code
 
--- The text spells an object, whose fields are in range. So each note stands at an instruction behind it and is the only
--- one there, and each number is in the range of its field.
+-- The text encodes an object whose fields are in range. So each note has an instruction after it and is the only one
+-- there, and each number is in the range of its field.
 pub record SpellsInText (text : List ℕ) (o : Parts) : Type 0 where
   pub items : List Item
   pub said : LinesSpell (lines text) items

@@ -15,7 +15,7 @@ use crate::targets::settle;
 use lt_isa::{BankSpec, Instr, Object};
 use std::alloc::Global;
 
-/// What the lines of a text say, and the number behind that of the last.
+/// Reads all lines of a text. The number is that of the line after the last.
 fn read_text(alloc: Global, text: &[u8]) -> Result<(Draft<'_>, u32), AsmError>
     requires { length text.now ≤ 67108864 }
     ensures { Finds (λ x. (draft_of x.0, x.1)) result (text_read text.now) }
@@ -35,14 +35,14 @@ fn read_text(alloc: Global, text: &[u8]) -> Result<(Draft<'_>, u32), AsmError>
     Ok((draft, number))
 }
 
-/// Whether two banks and an instruction are there.
+/// Whether there are two banks and an instruction.
 fn is_whole(banks: &[BankSpec], code: &[Instr]) -> bool
     ensures { result ≡ (nat_le 2 (length banks.now) && not (length code.now == 0)) }
 {
     2 <= banks.len() && !code.is_empty()
 }
 
-/// The object of what was read by the end of a text, which is line `end`.
+/// The object of a draft at the end of a text; `end` is the number of the line after the last.
 #[tactic(auto, unfolding(crate::specs::Assembled::finished))]
 fn finish(draft: Draft, end: u32) -> Result<Object, AsmError>
     requires { (o : Parts) → finished end (draft_of draft) ≡ Ok o → IsInRange o }
@@ -76,20 +76,21 @@ fn assembled(alloc: Global, text: &[u8]) -> Result<Object, AsmError>
     finish(draft, end)
 }
 
-/// The object that an assembly text spells, at most 67,108,864 bytes, or the text's first fault: the first line with
-/// one, else a text that ends too soon, else the first use of a label that stands nowhere. Within a line come its form,
-/// its numbers, names that stand twice, and limits. Want of memory says nothing of the text.
+/// The object that an assembly text encodes, or the text's first error; the text has at most 67,108,864 bytes. The
+/// first error is that of the first line with an error; if no line has one, that the text ends too early; and otherwise
+/// the first use of a label that isn't defined. Within a line the form comes first, then numbers, repeated names, and
+/// limits. Out of memory says nothing about the text.
 pub fn assemble(alloc: Global, text: &[u8]) -> Result<Object, AsmError>
     requires { length text.now ≤ 67108864 }
 
-    // The text spells the object that is found, which is in range.
+    // The text encodes the object that is found, which is in range.
     ensures spelled { IfOk result (λ o. SpellsInText text.now o) }
     ensures in_range { IfOk result (λ o. IsInRange o) }
 
-    // Where the text spells an object, that one is found, and only want of memory keeps it from being found.
+    // If the text encodes an object, that object is found, unless memory runs out.
     ensures only { (o : Parts) → SpellsInText text.now o → MatchResult result (λ p. p ≡ o) (λ e. e ≡ AsmError.Memory) }
 
-    // A fault is that of the first line with one, or of the text as a whole where no line has one.
+    // An error is that of the first line with one or, if no line has one, of the text as a whole.
     ensures first { IfErr result (λ e. e ≢ AsmError.Memory → IsFirstTextFault text.now e) }
 
     // The same by the computing form.

@@ -19,7 +19,7 @@ use gr_word::name_fits;
 use lt_isa::Note;
 use lt_isa::limits::{MOST_INSTRUCTIONS, MOST_NOTES};
 
-/// The slots of the scratchpad.
+/// The number of slots of the scratchpad.
 const SLOTS: usize = 8;
 
 /// The place of the next instruction.
@@ -31,7 +31,7 @@ fn next_place(draft: &Draft) -> CodePlace
     }
 }
 
-/// What one word of a note says of its slot.
+/// The claim about a slot in one word of a note.
 fn claim_at(banks: usize, words: &[&[u8]], i: usize) -> Option<u8>
     requires few { banks ≤ most_banks }
     requires inside { i < length words.now }
@@ -40,7 +40,7 @@ fn claim_at(banks: usize, words: &[&[u8]], i: usize) -> Option<u8>
     claim_of(banks, words[i])
 }
 
-/// What a note says of each slot, by so many words.
+/// The claims about all slots, in eight words.
 fn claims_of(banks: usize, words: &[&[u8]]) -> Option<[u8; SLOTS]>
     requires few { banks ≤ most_banks }
     requires all { length words.now ≡ 8 }
@@ -53,7 +53,7 @@ fn claims_of(banks: usize, words: &[&[u8]]) -> Option<[u8; SLOTS]>
     Some(claims)
 }
 
-/// A note at a place, by the words behind the first.
+/// A note at a place, from the words after the first.
 #[tactic(auto, unfolding(crate::specs::Reading::note_read))]
 fn note_of(banks: usize, place: u32, words: &[&[u8]]) -> Result<Note, Fault>
     requires { banks ≤ most_banks }
@@ -76,8 +76,8 @@ fn note_of(banks: usize, place: u32, words: &[&[u8]]) -> Result<Note, Fault>
     }
 }
 
-/// Whether the line in which a text begins has the form of an instruction, and the text behind it. `list` has room for
-/// its words.
+/// Whether the first line of a text has the form of an instruction, and the text after the line. `list` has room for
+/// the line's words.
 fn is_instruction_line<'a>(text: &'a [u8], list: &mut [&'a [u8]; MOST_WORDS]) -> (bool, &'a [u8])
     ensures form { result.0 ≡ is_instruction_line (first_line text.now) }
     ensures behind { result.1.now ≡ behind_line text.now }
@@ -107,7 +107,7 @@ fn instruction_follows(text: &[u8]) -> bool
     false
 }
 
-/// A note's line; `behind` is the text behind it.
+/// Reads a note's line; `behind` is the text after it.
 #[tactic(auto, unfolding(crate::specs::Reading::note_line))]
 pub fn note_line(draft: &mut Draft, words: &[&[u8]], behind: &[u8]) -> Result<(), Fault>
     ensures { Becomes result (draft_of draft.new)
@@ -124,7 +124,7 @@ pub fn note_line(draft: &mut Draft, words: &[&[u8]], behind: &[u8]) -> Result<()
     Ok(())
 }
 
-/// What stands before the `:` at the end of a word.
+/// The name before the `:` at the end of a word.
 #[tactic(auto, unfolding(crate::specs::Reading::label_name))]
 pub fn label_name(word: &[u8]) -> Option<&[u8]>
     ensures { option_map (λ w. w.now) result ≡ label_name word.now }
@@ -135,7 +135,7 @@ pub fn label_name(word: &[u8]) -> Option<&[u8]>
     }
 }
 
-/// The line of a label.
+/// Reads a label's line.
 #[tactic(auto, unfolding(crate::specs::Reading::label_line))]
 pub fn label_line<'a>(
     draft: &mut Draft<'a>,
@@ -155,7 +155,7 @@ pub fn label_line<'a>(
     Ok(())
 }
 
-/// The line of an instruction, line number `line`.
+/// Reads the line of an instruction, which has number `line`.
 #[tactic(auto, unfolding(crate::specs::Reading::code_line))]
 pub fn code_line<'a>(draft: &mut Draft<'a>, line: u32, words: &[&'a [u8]]) -> Result<(), Fault>
     ensures { Becomes result (draft_of draft.new) (code_line line (map (λ w. w.now) words.now) (draft_of draft.old)) }

@@ -24,7 +24,7 @@ use lt_isa::instruction_table::{cmp_word, op_word};
 use lt_isa::{BankSpec, Instr, Note, Object, Profile, Symbol};
 use std::alloc::Global;
 
-/// Adds the words of the size of blocks and of the cycles of instructions, each behind a space.
+/// Adds the words of the block size and of the cycles of instructions, each after a space.
 fn put_cycles(out: &mut Vec<u8>, p: &Profile) -> Result<(), Memory>
     ensures { OnOk result (out.new.items ≡ out.old.items ++ flat_map (λ word. 32 ∷ word) (cycles_words p.now)) }
 {
@@ -35,7 +35,7 @@ fn put_cycles(out: &mut Vec<u8>, p: &Profile) -> Result<(), Memory>
     put_number(out, u32::from(p.taken))
 }
 
-/// Adds the words of the window, each behind a space.
+/// Adds the words of the window, each after a space.
 fn put_window(out: &mut Vec<u8>, p: &Profile) -> Result<(), Memory>
     ensures { OnOk result (out.new.items ≡ out.old.items ++ flat_map (λ word. 32 ∷ word) (window_words p.now)) }
 {
@@ -223,7 +223,7 @@ fn put_symbols(out: &mut Vec<u8>, symbols: &[Symbol]) -> Result<(), Memory>
     Ok(())
 }
 
-/// Whether the first of these notes stands at a place.
+/// Whether the first of these notes is at a place.
 fn is_noted(notes: &[Note], place: usize) -> bool
     ensures { result ≡ starts_at notes.now place }
 {
@@ -233,7 +233,7 @@ fn is_noted(notes: &[Note], place: usize) -> bool
     }
 }
 
-/// Adds the instructions, each note before its own.
+/// Adds the instructions, each after the note at its place.
 fn put_code(out: &mut Vec<u8>, notes: &[Note], code: &[Instr]) -> Result<(), Memory>
     ensures { OnOk result (out.new.items ≡ out.old.items ++ flat_map line (code_words notes.now 0 code.now)) }
 {
@@ -261,7 +261,8 @@ fn put_object(out: &mut Vec<u8>, o: &Object) -> Result<(), Memory>
 
 /// The canonical text of an object, which [`assemble`](crate::assemble) reads as the same object: its lines in order,
 /// words separated by one space, each note directly before its instruction, targets as offsets with a sign, and no
-/// empty lines, comments or labels. It is no longer than the texts that `assemble` takes. Memory alone is refused.
+/// empty lines, comments or labels. It is no longer than the texts that `assemble` accepts. The only error is that
+/// memory runs out.
 pub fn disassemble(alloc: Global, object: &Object) -> Result<Vec<u8>, Memory>
     ensures text { IfOk result (λ text. text.items ≡ canonical object.now) }
     ensures within_limit { IfOk result (λ text. length text.items ≤ 67108864) }

@@ -7,7 +7,7 @@ use lt_isa::{BankSpec, Instr, Note, Profile, Symbol};
 use std::alloc::Global;
 use std::collections::BTreeMap;
 
-/// A place of the code, or the place behind it.
+/// A place of the code, or the place after its end.
 #[derive(Clone, Copy)]
 pub struct CodePlace {
     pub number: u32,
@@ -24,14 +24,14 @@ pub struct Use<'a> {
     pub line: u32,
 }
 
-/// What is read of a text so far.
+/// What has been read of a text so far.
 #[derive(Drop)]
 pub struct Draft<'a> {
     pub profile: Option<Profile>,
     pub banks: Vec<BankSpec>,
     pub symbols: Vec<Symbol>,
     pub notes: Vec<Note>,
-    /// Instructions whose target is a label have the offset 0.
+    /// The offset of an instruction is 0 if its target is a label.
     pub code: Vec<Instr>,
     pub labels: Labels<'a>,
     /// Where labels are used, in the order of the text.
@@ -47,7 +47,7 @@ impl<'a> Draft<'a> {
     ghost use Rattle.lt_assembler.specs.Drafts.{empty_draft};
     ghost use Rattle.lt_assembler.specs.Seen.{draft_of};
 
-    /// What is read before the first line.
+    /// The draft before the first line.
     pub fn new(alloc: Global) -> Draft<'a>
         ensures { draft_of result ≡ empty_draft }
     {

@@ -5,23 +5,23 @@ ghost use Rattle.lt_assembler.specs.declared.faults.Fault.TheVariants.{Memory};
 use crate::errors::AsmError;
 use std::alloc::{AllocError, AllocFailed};
 
-/// What is wrong with a line, without its number.
+/// The error of a line, without the line's number.
 #[derive(Clone, Copy)]
 pub enum Fault {
-    /// The line has none of the forms of lines, or stands out of order.
+    /// The line has none of the forms of lines, or is out of order.
     WrongForm,
-    /// A number word is none, or its number is out of its range.
+    /// A word isn't a valid number, or its number is out of its range.
     Number,
-    /// A name stands twice.
+    /// A name is repeated.
     RepeatedName,
-    /// One more than a limit.
+    /// The line exceeds a limit.
     Limit,
-    /// Memory ran out, which says nothing of the line.
+    /// Memory ran out, which says nothing about the line.
     Memory,
 }
 
 impl Fault {
-    /// The fault as one of a text, in the line of this number.
+    /// The error of a text whose line with this number has this error.
     pub fn at(self, line: u32) -> AsmError
         ensures { result ≡ at_line line self }
     {

@@ -14,7 +14,7 @@ use lt_isa::limits::{
 };
 use lt_isa::{BankSpec, Profile};
 
-/// The size of blocks and the cycles of instructions by their words, with memory that is always open.
+/// The block size and the cycles of instructions from their words, with memory that is always open.
 #[tactic(auto, unfolding(crate::specs::Reading::cycles_read))]
 fn cycles_of(
     block_log: &[u8],
@@ -47,7 +47,7 @@ fn cycles_of(
     })
 }
 
-/// The profile whose cycles were read, with the window that three words give.
+/// The profile of these cycles, with the window in three words.
 #[tactic(auto, unfolding(crate::specs::Reading::window_read))]
 fn with_window(
     cycles: Result<Profile, Fault>,
@@ -78,7 +78,7 @@ fn is_version(version: u64, word: &[u8]) -> bool
     number_within(version, version, word).is_some()
 }
 
-/// The profile of the first line, by the words behind the first.
+/// The profile of the first line, from the words after the first.
 #[tactic(auto, unfolding(crate::specs::Reading::profile_read))]
 fn profile_of(words: &[&[u8]]) -> Result<Profile, Fault>
     ensures read { result ≡ profile_read (map (λ w. w.now) words.now) }
@@ -112,7 +112,7 @@ fn profile_of(words: &[&[u8]]) -> Result<Profile, Fault>
     }
 }
 
-/// The first line.
+/// Reads the first line.
 #[tactic(auto, unfolding(crate::specs::Reading::object_line))]
 pub fn object_line(draft: &mut Draft, words: &[&[u8]]) -> Result<(), Fault>
     ensures { Becomes result (draft_of draft.new) (object_line (map (λ w. w.now) words.now) (draft_of draft.old)) }
@@ -125,7 +125,7 @@ pub fn object_line(draft: &mut Draft, words: &[&[u8]]) -> Result<(), Fault>
     Ok(())
 }
 
-/// A bank behind so many, by the words behind the first.
+/// Bank number `index`, from the words after the first.
 #[tactic(auto, unfolding(crate::specs::Reading::bank_read))]
 fn bank_of(index: usize, words: &[&[u8]]) -> Result<BankSpec, Fault>
     ensures { result ≡ bank_read index (map (λ w. w.now) words.now) }
@@ -143,7 +143,7 @@ fn bank_of(index: usize, words: &[&[u8]]) -> Result<BankSpec, Fault>
     }
 }
 
-/// A bank's line.
+/// Reads a bank's line.
 #[tactic(auto, unfolding(crate::specs::Reading::bank_line))]
 pub fn bank_line(draft: &mut Draft, words: &[&[u8]]) -> Result<(), Fault>
     ensures { Becomes result (draft_of draft.new) (bank_line (map (λ w. w.now) words.now) (draft_of draft.old)) }

@@ -32,19 +32,19 @@ use crate::operands::{bank_named, register_of, slot_of};
 use gr_word::{Op, name_fits};
 use lt_isa::Instr;
 
-/// The greatest number of a place as a target.
+/// The greatest place that a target may have.
 const LAST_PLACE: u64 = 2_147_483_647;
 
-/// Where a target leads.
+/// A target: an offset, or a label.
 #[derive(Clone, Copy)]
 pub struct Aim<'a> {
-    /// The offset, 0 where a label's place isn't known yet.
+    /// The offset; 0 if the target is a label, whose place isn't known yet.
     pub offset: i32,
     /// The label.
     pub label: Option<&'a [u8]>,
 }
 
-/// An instruction, with a label that its target still lacks.
+/// An instruction, and the label that is its target, if it has one.
 #[derive(Clone, Copy)]
 pub struct Coded<'a> {
     pub instr: Instr,
@@ -81,7 +81,7 @@ fn alu(op: Op, words: &[&[u8]]) -> Result<Instr, Fault>
     }
 }
 
-/// A load of a block: a slot, one of so many banks, and a register.
+/// A load of a block: a slot, one of `banks` banks, and a register.
 #[tactic(auto, unfolding(crate::specs::Instructions::ldb_read))]
 fn ldb(banks: usize, words: &[&[u8]]) -> Result<Instr, Fault>
     ensures { result ≡ ldb_read banks (map (λ w. w.now) words.now) }
@@ -167,7 +167,7 @@ fn bare(instr: Instr, words: &[&[u8]]) -> Result<Instr, Fault>
     }
 }
 
-/// Refuses a word that is no arrow.
+/// Tests that a word is an arrow.
 fn arrow(word: &[u8]) -> Result<(), Fault>
     ensures { result ≡ arrow_read word.now }
 {
@@ -178,7 +178,7 @@ fn arrow(word: &[u8]) -> Result<(), Fault>
     }
 }
 
-/// A place as a target.
+/// The offset to a target that is given as a place.
 fn place_aim(place: u32, word: &[u8]) -> Result<i32, Fault>
     requires { place ≤ most_instructions }
     ensures { result
@@ -271,7 +271,7 @@ fn br<'a>(place: u32, words: &[&'a [u8]]) -> Result<Coded<'a>, Fault>
     }
 }
 
-/// An instruction without a target, by the words behind its first; it is none with a target.
+/// An instruction that has no target, from the words after its first.
 fn untargeted(banks: usize, mnemonic: Mnemonic, words: &[&[u8]]) -> Result<Instr, Fault>
     ensures { result ≡ untargeted_read banks mnemonic (map (λ w. w.now) words.now) }
 {
@@ -289,7 +289,7 @@ fn untargeted(banks: usize, mnemonic: Mnemonic, words: &[&[u8]]) -> Result<Instr
     }
 }
 
-/// An instruction by the words behind its first.
+/// An instruction, from the words after its first.
 fn operands<'a>(
     banks: usize,
     place: u32,
@@ -310,7 +310,7 @@ fn operands<'a>(
     }
 }
 
-/// The instruction of a line at a place of the code, where there are so many banks.
+/// The instruction of a line at a place of the code, in an object with `banks` banks.
 #[tactic(auto, unfolding(crate::specs::Instructions::instruction_read))]
 pub fn instruction<'a>(banks: usize, place: u32, words: &[&'a [u8]]) -> Result<Coded<'a>, Fault>
     requires { place ≤ most_instructions }
@@ -326,7 +326,7 @@ pub fn instruction<'a>(banks: usize, place: u32, words: &[&'a [u8]]) -> Result<C
     }
 }
 
-/// Whether a line has the form of an instruction, whatever its numbers are.
+/// Whether a line has the form of an instruction, with any numbers.
 #[tactic(auto, unfolding(crate::specs::Instructions::is_instruction))]
 pub fn is_instruction(words: &[&[u8]]) -> bool
     ensures { result ≡ is_instruction (map (λ w. w.now) words.now) }

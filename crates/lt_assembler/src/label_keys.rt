@@ -4,8 +4,8 @@ ghost use Rattle.lt_assembler.specs.Marks.{mixed, mark_of};
 use crate::draft::CodePlace;
 use std::collections::BTreeMap;
 
-/// A label's name as the key of a map. A number that its bytes give stands before it and tells most names apart, so
-/// few names are compared byte by byte. Names that share that number only take longer.
+/// A label's name as the key of a map. Keys are compared first by a number that is computed from the name's bytes,
+/// which differs between most names, so few names are compared byte by byte. Equal numbers only cost time.
 #[derive(Clone, Copy, PartialEq, Eq, PartialOrd, Ord)]
 pub struct LabelKey<'a> {
     mark: u64,
@@ -16,7 +16,7 @@ pub struct LabelKey<'a> {
 /// Labels and their places.
 pub type Labels<'a> = BTreeMap<LabelKey<'a>, CodePlace>;
 
-/// A mark and one byte more.
+/// The mark of some bytes, with one more byte.
 #[tactic(auto, unfolding(crate::specs::Marks::mixed))]
 fn mixed(mark: u64, byte: u8) -> u64
     ensures { result ≡ mixed mark byte }

@@ -13,7 +13,7 @@ pub fn place_of<'a>(labels: &Labels<'a>, name: &'a [u8]) -> Option<CodePlace>
     labels.get(&key_of(name)).copied()
 }
 
-/// Gives a label its place, and returns whether the label is new.
+/// Adds a label with its place, and returns whether the label is new.
 pub fn add_label<'a>(
     labels: &mut Labels<'a>,
     name: &'a [u8],

@@ -1,10 +1,10 @@
 //! Objects as assembly text.
 //!
-//! [`assemble`] reads the object that a text spells, or names the text's first fault, and [`disassemble`] writes an
-//! object's canonical text, which reads as the same object ([`written_again`]). What a text spells is a relation: each
-//! line's words spell an item, and the items the object. So is its first fault: `specs/Forms.antt` says which forms a
-//! line may have, `specs/LineRules.antt` what its fault is, and `specs/FirstFaults.antt` which fault comes first.
-//! [`text_laws`] names the laws of the format.
+//! [`assemble`] reads the object that a text encodes, or returns the text's first error. [`disassemble`] writes an
+//! object's canonical text, which is read as the same object ([`written_again`]). What a text encodes is a relation:
+//! the words of each line encode an item, and the items encode the object. So is its first error: `specs/Forms.antt`
+//! defines the forms of lines, `specs/LineRules.antt` the error of a line, and `specs/FirstFaults.antt` which error
+//! comes first. [`text_laws`] has the laws of the format.
 #![tactic(auto)]
 
 mod assembly;

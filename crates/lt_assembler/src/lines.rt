@@ -5,14 +5,14 @@ ghost use Rattle.lt_assembler.specs.LineParts.{first_line, line_words, behind_li
 
 use crate::numbers::but_first;
 
-/// How many bytes stand before the first line feed.
+/// How many bytes come before the first line feed.
 fn line_len(text: &[u8]) -> usize
     ensures { result ≡ prefix_len (λ byte. not (byte == 10)) text.now }
 {
     text.iter().take_while(|byte| **byte != b'\n').count()
 }
 
-/// The text behind the first line.
+/// The text after the first line.
 pub fn behind_line(text: &[u8]) -> &[u8]
     ensures { result.now ≡ behind_line text.now }
 {
@@ -58,7 +58,7 @@ fn comment_len(text: &[u8]) -> usize
     text.iter().take_while(|byte| is_comment(**byte)).count()
 }
 
-/// The next word of the line in which a text begins, and the text behind it.
+/// The next word of the first line of a text, and the text after the word.
 fn next_word(text: &[u8]) -> Option<(&[u8], &[u8])>
     ensures words { is_ascii_line (first_line text.now) ≡ true →
         MatchOption result (line_words text.now ≡ []) (λ x. line_words text.now ≡ x.0.now ∷ line_words x.1.now) }
@@ -74,7 +74,7 @@ fn next_word(text: &[u8]) -> Option<(&[u8], &[u8])>
     Some(words.split_at(len))
 }
 
-/// The text behind the line in which a text begins, where that line is ASCII.
+/// The text after the first line, if that line is ASCII.
 fn behind_ascii(text: &[u8]) -> Option<&[u8]>
     ensures { MatchOption result (is_ascii_line (first_line text.now) ≡ false)
         (λ x. (is_ascii_line (first_line text.now) ≡ true) × (behind_line text.now ≡ x.now)) }
@@ -89,8 +89,8 @@ fn behind_ascii(text: &[u8]) -> Option<&[u8]>
 /// The most words of a line that has a form.
 pub const MOST_WORDS: usize = 10;
 
-/// Splits the first line of a text into words, in one pass. Returns how many there are and the text behind the line, or
-/// none where the line isn't ASCII or has more than ten.
+/// Splits the first line of a text into words, in one pass. Returns how many there are and the text after the line, or
+/// `None` if the line isn't ASCII or has more than ten words.
 pub fn split_line<'a>(
     text: &'a [u8],
     list: &mut [&'a [u8]; MOST_WORDS],

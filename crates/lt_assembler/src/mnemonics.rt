@@ -36,14 +36,14 @@ const MNEMONICS: [Mnemonic; 10] = [
     Mnemonic::Br,
 ];
 
-/// Whether two words are the same.
+/// Whether two words are equal.
 pub fn same(a: &[u8], b: &[u8]) -> bool
     ensures { result ≡ bytes_eq a.now b.now }
 {
     a == b
 }
 
-/// The operation of this word.
+/// The operation that a word names.
 #[tactic(auto, unfolding(crate::specs::Operands::op_named))]
 pub fn op_named(word: &[u8]) -> Option<Op>
     ensures { result ≡ op_named word.now }
@@ -54,7 +54,7 @@ pub fn op_named(word: &[u8]) -> Option<Op>
         .find(|op| same(op_word(*op), word))
 }
 
-/// The comparison of this word.
+/// The comparison that a word names.
 #[tactic(auto, unfolding(crate::specs::Operands::cmp_named))]
 pub fn cmp_named(word: &[u8]) -> Option<Cmp>
     ensures { result ≡ cmp_named word.now }
@@ -65,7 +65,7 @@ pub fn cmp_named(word: &[u8]) -> Option<Cmp>
         .find(|cmp| same(cmp_word(*cmp), word))
 }
 
-/// The label of this word, or what is wrong with its line.
+/// The label that a word names, or the error of its line.
 #[tactic(auto, unfolding(crate::specs::Operands::label_named))]
 pub fn label_named(word: &[u8]) -> Result<Label, Fault>
     ensures { result ≡ form (label_named word.now) }
@@ -79,7 +79,7 @@ pub fn label_named(word: &[u8]) -> Result<Label, Fault>
     Err(Fault::WrongForm)
 }
 
-/// The shape of this word, or what is wrong with its line.
+/// The shape that a word names, or the error of its line.
 #[tactic(auto, unfolding(crate::specs::Operands::shape_named))]
 pub fn shape_named(word: &[u8]) -> Result<Shape, Fault>
     ensures { result ≡ form (shape_named word.now) }
@@ -111,7 +111,7 @@ fn mnemonic_word(mnemonic: Mnemonic) -> &'static [u8]
     }
 }
 
-/// The instruction that is no operation, whose first word this is.
+/// The instruction with this first word, if it isn't an operation.
 fn plain_mnemonic(word: &[u8]) -> Option<Mnemonic>
     ensures { result ≡ named mnemonic_word mnemonics word.now }
 {
@@ -121,7 +121,7 @@ fn plain_mnemonic(word: &[u8]) -> Option<Mnemonic>
         .find(|mnemonic| same(mnemonic_word(*mnemonic), word))
 }
 
-/// The instruction whose first word this is, by a look at each.
+/// The instruction with this first word, found by comparing the word with each.
 #[tactic(auto, unfolding(crate::specs::Operands::mnemonic_named))]
 fn mnemonic_among_all(word: &[u8]) -> Option<Mnemonic>
     ensures { result ≡ mnemonic_named word.now }
@@ -129,7 +129,7 @@ fn mnemonic_among_all(word: &[u8]) -> Option<Mnemonic>
     plain_mnemonic(word).or(op_named(word).map(Mnemonic::Alu))
 }
 
-/// The instruction whose first word this is. A word that is none is compared with each.
+/// The instruction with this first word. Only a word that begins no instruction is compared with each.
 #[tactic(auto, unfolding(crate::specs::Operands::mnemonic_named, crate::specs::Operands::op_named))]
 pub fn mnemonic_named(word: &[u8]) -> Option<Mnemonic>
     ensures { result ≡ mnemonic_named word.now }

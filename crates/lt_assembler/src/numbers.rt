@@ -15,10 +15,10 @@ ghost use Rattle.lt_assembler.specs.Numbers.{
 use crate::faults::Fault;
 use gr_base::numerals::{digits_value, is_canonical_numeral};
 
-/// The most digits of a number word. A number of more digits is in no range.
+/// The most digits of a number. Longer numbers aren't in any range.
 const MOST_DIGITS: usize = 19;
 
-/// Whether the first byte of a word is this one, which isn't 0.
+/// Whether a word begins with this byte, which isn't 0.
 pub fn begins_with(byte: u8, word: &[u8]) -> bool
     requires { 0 < byte }
     ensures { result ≡ begins_with byte word.now }
@@ -29,7 +29,7 @@ pub fn begins_with(byte: u8, word: &[u8]) -> bool
     }
 }
 
-/// Whether the first byte of a word is a digit.
+/// Whether a word begins with a digit.
 pub fn begins_with_digit(word: &[u8]) -> bool
     ensures { result ≡ is_ascii_digit (slice_index word.now 0) }
 {
@@ -39,7 +39,7 @@ pub fn begins_with_digit(word: &[u8]) -> bool
     }
 }
 
-/// All bytes but the first.
+/// All bytes of a word except the first.
 pub fn but_first(word: &[u8]) -> &[u8]
     ensures { result.now ≡ but_first word.now }
 {
@@ -57,7 +57,7 @@ fn is_number(word: &[u8]) -> bool
     word.len() <= MOST_DIGITS && is_canonical_numeral(word)
 }
 
-/// The number that a word writes, where it is from `low` to `high`.
+/// The number that a word writes, if it is from `low` to `high`.
 #[tactic(auto, unfolding(crate::specs::Numbers::number_within, gr_base::specs::Lists::is_within))]
 pub fn number_within(low: u64, high: u64, word: &[u8]) -> Option<u64>
     ensures value { result ≡ number_within low high word.now }
@@ -74,7 +74,7 @@ pub fn number_within(low: u64, high: u64, word: &[u8]) -> Option<u64>
     }
 }
 
-/// The number that a word writes, where it is from `low` to `high`, or what is wrong with its line.
+/// The number that a word writes, from `low` to `high`, or the error of its line.
 pub fn number_in(low: u64, high: u64, word: &[u8]) -> Result<u64, Fault>
     ensures value { result ≡ number_or (number_within low high word.now) }
     ensures range { IfOk result (λ n. Within low high n) }
@@ -82,7 +82,7 @@ pub fn number_in(low: u64, high: u64, word: &[u8]) -> Result<u64, Fault>
     number_within(low, high, word).ok_or(Fault::Number)
 }
 
-/// The constant that a word writes: a number, maybe behind a `-`, within 64 bits.
+/// The constant that a word writes: a number of 64 bits, which may follow a `-`.
 #[tactic(auto, unfolding(crate::specs::Numbers::constant_of))]
 pub fn constant_of(word: &[u8]) -> Result<i64, Fault>
     ensures { result ≡ number_or (constant_of word.now) }
@@ -95,7 +95,7 @@ pub fn constant_of(word: &[u8]) -> Result<i64, Fault>
     Ok(number as i64)
 }
 
-/// The offset that a word behind a `+` writes.
+/// The offset that a word after a `+` writes.
 #[tactic(auto, unfolding(crate::specs::Numbers::forward_of))]
 pub fn forward_of(word: &[u8]) -> Result<i32, Fault>
     ensures { result ≡ number_or (forward_of word.now) }
@@ -104,7 +104,7 @@ pub fn forward_of(word: &[u8]) -> Result<i32, Fault>
     Ok(number as i32)
 }
 
-/// The offset that a word behind a `-` writes.
+/// The offset that a word after a `-` writes.
 #[tactic(auto, unfolding(crate::specs::Numbers::backward_of))]
 pub fn backward_of(word: &[u8]) -> Result<i32, Fault>
     ensures { result ≡ number_or (backward_of word.now) }

@@ -19,7 +19,7 @@ use crate::numbers::{begins_with, but_first, number_within};
 use gr_base::numerals::digits_value;
 use lt_isa::limits::{FEWEST_BANKS, MOST_BANKS};
 
-/// The register that a word names, or what is wrong with its line.
+/// The register that a word names, or the error of its line.
 #[tactic(auto, unfolding(crate::specs::Operands::register_of))]
 pub fn register_of(word: &[u8]) -> Result<u8, Fault>
     ensures { result ≡ form (register_of word.now) }
@@ -33,7 +33,7 @@ pub fn register_of(word: &[u8]) -> Result<u8, Fault>
     }
 }
 
-/// The slot of the scratchpad that a word names, or what is wrong with its line.
+/// The slot of the scratchpad that a word names, or the error of its line.
 #[tactic(auto, unfolding(crate::specs::Operands::slot_named))]
 pub fn slot_of(word: &[u8]) -> Result<u8, Fault>
     ensures { result ≡ number_or (slot_named word.now) }
@@ -44,7 +44,7 @@ pub fn slot_of(word: &[u8]) -> Result<u8, Fault>
     }
 }
 
-/// The bank that a word in the place of an operand names, or what is wrong with its line.
+/// The bank that a word names as an operand, or the error of its line.
 #[tactic(auto, unfolding(crate::specs::Operands::bank_named))]
 pub fn bank_named(word: &[u8]) -> Result<u8, Fault>
     ensures { result ≡ form (bank_named word.now) }
@@ -76,7 +76,7 @@ fn are_hex(word: &[u8]) -> bool
     word.iter().all(|byte| is_hex(*byte))
 }
 
-/// The mask that a word of eight digits of base 16 writes.
+/// The mask that a word of eight hexadecimal digits writes.
 #[tactic(auto, unfolding(crate::specs::Operands::mask_of))]
 pub fn mask_of(word: &[u8]) -> Option<u32>
     ensures { result ≡ mask_of word.now }
@@ -87,7 +87,7 @@ pub fn mask_of(word: &[u8]) -> Option<u32>
     Some(digits_value(16, word) as u32)
 }
 
-/// What a word of a note says of a slot, where there are so many banks.
+/// The claim about a slot that a word of a note makes, in an object with `banks` banks.
 #[tactic(auto, unfolding(crate::specs::Operands::claim_of))]
 pub fn claim_of(banks: usize, word: &[u8]) -> Option<u8>
     requires { banks ≤ most_banks }

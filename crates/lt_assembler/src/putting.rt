@@ -69,7 +69,7 @@ pub fn put_register(out: &mut Vec<u8>, number: u8) -> Result<(), Memory>
     put(out, buffer.format(number).as_bytes())
 }
 
-/// Adds a space and a bank in place of an operand.
+/// Adds a space and a bank as an operand.
 pub fn put_bank_word(out: &mut Vec<u8>, bank: u8) -> Result<(), Memory>
     ensures { OnOk result (out.new.items ≡ out.old.items ++ 32 ∷ bank_word bank) }
 {
@@ -84,7 +84,7 @@ pub fn put_bank_word(out: &mut Vec<u8>, bank: u8) -> Result<(), Memory>
     }
 }
 
-/// Adds a space and what a note says of a slot.
+/// Adds a space and a note's claim about a slot.
 pub fn put_claim(out: &mut Vec<u8>, claim: u8) -> Result<(), Memory>
     ensures { OnOk result (out.new.items ≡ out.old.items ++ 32 ∷ claim_word claim) }
 {
@@ -102,7 +102,7 @@ fn hex_digit(n: u8) -> u8
     if n < 10 { b'0' + n } else { b'a' + (n - 10) }
 }
 
-/// Adds the lowest `count` digits of base 16 of a number.
+/// Adds the lowest `count` hexadecimal digits of a number.
 #[tactic(auto, unfolding(crate::specs::Words::hex_word))]
 pub fn put_hex(out: &mut Vec<u8>, count: u8, number: u32) -> Result<(), Memory>
     ensures { OnOk result (out.new.items ≡ out.old.items ++ hex_word count number) }

@@ -14,7 +14,7 @@ use crate::mnemonics::same;
 use crate::symbol_lines::symbol_line;
 use std::alloc::Global;
 
-/// A label's line, or an instruction, by its words.
+/// Reads a label's line, or an instruction.
 fn label_or_code<'a>(
     draft: &mut Draft<'a>,
     line: u32,
@@ -32,7 +32,7 @@ fn label_or_code<'a>(
     }
 }
 
-/// Line number `line` by its words; `rest` is the text behind it.
+/// Reads line number `line` by its words; `rest` is the text after it.
 #[tactic(auto, unfolding(crate::specs::Reading::by_first_word))]
 fn read_words<'a>(
     alloc: Global,
@@ -60,8 +60,8 @@ fn read_words<'a>(
     }
 }
 
-/// Reads line number `number`, with which a text begins, and returns the text behind it. `list` has room for its words.
-/// Where the line has a fault, the draft is of no use any more.
+/// Reads line number `number`, the first of `text`, and returns the text after it. `list` has room for the line's
+/// words. After an error the draft is of no use.
 pub fn read_line<'a>(
     alloc: Global,
     draft: &mut Draft<'a>,

@@ -18,7 +18,7 @@ use lt_isa::symbol_places::{blocks_in, first_free, last_bank, most_length};
 use lt_isa::{BankSpec, Profile, Symbol};
 use std::alloc::Global;
 
-/// Where a symbol lies, and its length.
+/// The place of a symbol, and its length.
 #[derive(Clone, Copy)]
 pub struct Site {
     pub bank: u8,
@@ -35,7 +35,7 @@ fn word_in_bank(words: u32, block: u32, word: u16) -> u64
     u64::from(block) * u64::from(words) + u64::from(word)
 }
 
-/// Where a symbol lies behind others, by four words; a block has `words` words.
+/// The place of the next symbol after those before, from four words; a block has `words` words.
 #[tactic(auto, unfolding(crate::specs::Reading::site_read))]
 fn site_of(
     words: u32,
@@ -71,7 +71,7 @@ fn site_of(
     }
 }
 
-/// A symbol's line behind others by the words behind the first, and the name; a block has `words` words.
+/// The next symbol after those before, from the words after the first; a block has `words` words.
 #[tactic(auto, unfolding(crate::specs::Reading::symbol_read))]
 fn symbol_of(
     alloc: Global,
@@ -106,7 +106,7 @@ fn symbol_of(
     }
 }
 
-/// How many words a block has.
+/// The number of words of a block.
 fn width(profile: &Profile) -> u32
     requires { profile.now.block_log ≤ most_block_log }
     ensures words { result ≡ width (Some profile.now) }
@@ -115,7 +115,7 @@ fn width(profile: &Profile) -> u32
     profile.block_words()
 }
 
-/// The lengths of some symbols together.
+/// The total length of some symbols.
 fn total_length(symbols: &[Symbol]) -> u64
     requires { length symbols.now ≤ most_symbols }
     ensures value { result ≡ total_length symbols.now }

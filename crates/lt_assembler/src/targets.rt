@@ -19,7 +19,7 @@ fn offset_to(target: CodePlace, place: CodePlace) -> i32
     target.number as i32 - place.number as i32
 }
 
-/// Lets the instruction at a place lead to another.
+/// Makes another place the target of the instruction at a place.
 fn lead(code: &mut Vec<Instr>, place: CodePlace, target: CodePlace)
     ensures { code.new.items ≡ slice_set code.old.items place.number
         (with_offset (offset_to target.number place.number) (slice_index_or code.old.items place.number Instr.Nop)) }
@@ -31,7 +31,8 @@ fn lead(code: &mut Vec<Instr>, place: CodePlace, target: CodePlace)
     }
 }
 
-/// Lets each use of a label lead to the label's place. The first label that stands nowhere is refused.
+/// Makes each label's place the target where the label is used. It is an error if a label isn't defined; the first such
+/// use is reported.
 #[tactic(auto, unfolding(crate::specs::Assembled::settled, crate::specs::Assembled::aimed))]
 pub fn settle<'a>(
     code: Vec<Instr>,

@@ -5,7 +5,7 @@ use Rattle.lt_assembler.specs.LineParts.{is_part}
 use Rattle.lt_assembler.proofs.FirstLine.{no_next, next_word}
 use Rattle.lt_assembler.proofs.lines.next_word.Goals as goal
 
--- behind so many bytes
+-- the text after n bytes
 behind : (text at : List ℕ) (n m : ℕ) → n ≡ m → at ≡ drop n text → at ≡ drop m text
 behind text at n m same is = is ∙ ap (λ k. drop k text) same
 

@@ -8,7 +8,7 @@ use Rattle.lt_assembler.specs.Seen.{draft_of}
 use Rattle.lt_assembler.proofs.LongLines.{line_of_words, line_refused}
 use Rattle.lt_assembler.proofs.reading.read_line.Goals as goal
 
--- what a line's words and the text behind it say
+-- the result for a line, from its words and the text after it
 by_words : (number : ℕ) (draft : Draft) (text behind : List ℕ) (words : List Word)
     → is_ascii_line (first_line text) ≡ true → words ≡ line_words text → behind ≡ behind_line text
     → line_read number (instruction_follows (lines (behind_line text))) (first_line text) draft
