@@ -1,4 +1,4 @@
--- An access as the code makes it, on slots.
+-- An access on slots, as the code makes it.
 use Rattle.std.proofs.Common.{◌≡◌, ◌≢◌, ℕ, suc, ◌^◌, ◌<◌, List, [], ◌++◌, length, length-set, get_or, set, take, drop, All, sym, ap, ◌∙◌, subst, ⊎_elim, arith}
 use Rattle.std.proofs.lemmas.Bool.{cases_eq, cases_lt}
 use Rattle.std.proofs.lemmas.List.{get_or_past}
@@ -18,7 +18,7 @@ use Rattle.path_oram.proofs.Written.{overwritten, path_bucket, whole_leaf, writt
 none_in : (bucket : List ℕ) (block : ℕ) → bucket ≡ [] → All (λ other. other ≢ block) bucket
 none_in bucket block none k d less = absurd (omega (arith, less, ap length none))
 
--- a block of a whole tree stands in no bucket beside its leaf's path
+-- a block of a whole tree is in no bucket off its leaf's path
 pub not_beside : (p : Places) (block shown : ℕ) → IsWhole p → shown ≡ get_or p.leaves block 0
     → IsNotBeside p.height shown p.tree block
 not_beside p block shown whole is number off =
@@ -40,7 +40,7 @@ not_beside p block shown whole is number off =
     (cases_lt number (length p.tree)))
     (cases_eq number 0)
 
--- what an access leaves
+-- the tree after an access
 pub record Accessed (count height : ℕ) (before : Places) (block shown leaf : ℕ) (stash : List Placed)
     (tree : List (List Placed)) : Type 0 where
   pub whole : IsWhole (places_of count height stash tree)

@@ -1,4 +1,4 @@
--- The leaves that a bank will show are those of the words that its accesses read.
+-- The leaves that a bank will show are determined by the words that its accesses read.
 use Rattle.std.proofs.Common.{◌≡◌, ℕ, zero, suc, ◌+◌, ◌<◌, ◌≤◌, cond, List, [], ◌∷◌, ◌++◌, length, map, get_or, set, All, refl, sym, ap, ◌∙◌, ⊎_elim, arith, get_or-set_same, get_or-set_other}
 use Rattle.std.proofs.lemmas.Bool.{cases_eq, eq-eqb, ne_eqb}
 use Rattle.std.proofs.lemmas.List.{get_or-map, length-map, length-set, map-append}
@@ -11,23 +11,23 @@ use Rattle.path_oram.specs.Places.{Places}
 use Rattle.path_oram.specs.Words.{first_words, leaf_of, word_at, words_left}
 use Rattle.path_oram.specs.WordsRead.{leaves_shown, read_word_number, words_read, words_read_after}
 
--- behind one word more
+-- what is left after one more word
 pub words_left-one : (words : Stream) (k : ℕ) → words_left (suc k) words ≡ (next_u64 (words_left k words)).1
 words_left-one words zero = refl
 words_left-one words (suc k) = words_left-one (next_u64 words).1 k
 
--- words behind words
+-- what is left after words and then others
 pub words_left-more : (n k : ℕ) (words : Stream) → words_left k (words_left n words) ≡ words_left (n + k) words
 words_left-more zero k words = let none : k ≡ 0 + k = omega arith in ap (λ m. words_left m words) none
 words_left-more (suc n) k words =
     let next : suc (n + k) ≡ suc n + k = omega arith in
     words_left-more n k (next_u64 words).1 ∙ ap (λ m. words_left m words) next
 
--- word number k behind n others
+-- word number k after n others
 pub word_behind : (n k : ℕ) (words : Stream) → word_at (words_left n words) k ≡ word_at words (n + k)
 word_behind n k words = ap (λ left. (next_u64 left).0) (words_left-more n k words)
 
--- so many words are drawn
+-- n words are drawn
 pub length-first_words : (n : ℕ) (words : Stream) → length (first_words n words) ≡ n
 length-first_words zero words = refl
 length-first_words (suc n) words = ap suc (length-first_words n (next_u64 words).1)
@@ -41,7 +41,7 @@ pub first_words-one : (n : ℕ) (words : Stream) → first_words (suc n) words �
 first_words-one zero words = refl
 first_words-one (suc n) words = ap (λ l. (next_u64 words).0 ∷ l) (first_words-one n (next_u64 words).1)
 
--- one leaf more, and what is left
+-- one more leaf, and the words that are left
 pub leaves-one : (height n : ℕ) (words : Stream) (leaves more : List ℕ) (word leaf : ℕ) (left next : Stream)
     → leaves ≡ map (leaf_of height) (first_words n words) → left ≡ words_left n words → (word, next) ≡ next_u64 left
     → leaf ≡ leaf_of height word → more ≡ leaves ++ leaf ∷ [] → more ≡ map (leaf_of height) (first_words (n + 1) words)
@@ -54,7 +54,7 @@ leaves-one height n words leaves more word leaf left next before seen drawn made
     ∙ ap (map (leaf_of height)) (sym (first_words-one n words))
     ∙ ap (λ k. map (leaf_of height) (first_words k words)) one
 
--- one word more is drawn
+-- one more word is drawn
 pub left-one : (n : ℕ) (words : Stream) (word : ℕ) (left next : Stream)
     → left ≡ words_left n words → (word, next) ≡ next_u64 left → next ≡ words_left (n + 1) words
 left-one n words word left next seen drawn =
@@ -74,7 +74,7 @@ ahead-step p q s t block shown later moved drawn is =
     ∙ ap (λ left. shown ∷ paths_ahead q left later) (sym drawn)
 
 module _ (count height : ℕ) (word : ℕ → ℕ) where
-  -- the leaves behind some accesses, the last one first: each is made of the word that its block reads next
+  -- the leaves after some accesses, the last one first: each is determined by the word that its block reads next
   pub record HasLeaves (earlier leaves : List ℕ) : Type 0 where
     pub size : length leaves ≡ count
     pub each : (b : ℕ) → b < count → get_or leaves b 0 ≡ leaf_of height (word (read_word_number count earlier b))
@@ -118,7 +118,7 @@ number_bound count (last ∷ earlier) b less =
     omega (arith, kept, number_bound count earlier b less))
     (cases_eq last b)
 
--- at first each leaf is made of its block's own word; these stand behind `start` others
+-- at first each leaf is determined by its block's own word; these words follow `start` others
 pub has_first : (count height start : ℕ) (words : Stream) (word : ℕ → ℕ)
     → ((k : ℕ) → k < count → word k ≡ word_at words (start + k))
     → HasLeaves count height word [] (map (leaf_of height) (first_words count (words_left start words)))
@@ -159,7 +159,7 @@ module _ (count height : ℕ) (words : Stream) where
       ∙ ahead_is blocks (a ∷ earlier) next n (has_next count height (word_at words) earlier leaves a has) rest
       (omega (arith, fits)))
 
-  -- the leaves of the accesses to come are those that the words state
+  -- the leaves of the accesses to come are those of the words that they read
   pub ahead-shown : (blocks : List ℕ) → All (λ b. b < count) blocks
       → leaves_ahead height (map (leaf_of height) (first_words count words)) (words_left count words) blocks
       ≡ leaves_shown count height (first_words (count + length blocks) words) blocks

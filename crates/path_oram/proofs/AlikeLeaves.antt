@@ -1,4 +1,4 @@
--- The leaves of an oblivious object are alike.
+-- The leaves of runs of an oblivious object are alike.
 use Rattle.std.proofs.Common.{◌≡◌, length, sym, ap, ◌∙◌}
 use Rattle.lt_isa.specs.Object.{Parts, blocks_of}
 use Rattle.lt_isa.specs.Oblivious.{IsOblivious}
@@ -11,7 +11,7 @@ use Rattle.path_oram.specs.LeavesAlike.{LeavesAlike, touched}
 use Rattle.path_oram.proofs.Rearranging.{rearrangement}
 use Rattle.path_oram.proofs.ShownAlike.{shows_the_same}
 
--- runs of an oblivious object that agree show the same leaves
+-- runs of an oblivious object on inputs that agree show the same leaves
 pub leaves_alike : (o : Parts) → IsInRange o → IsOblivious o → LeavesAlike o
 leaves_alike o range oblivious = λ d e agree n b two exists.
     let first = touched o d n b in

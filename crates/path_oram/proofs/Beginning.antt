@@ -9,7 +9,7 @@ use Rattle.path_oram.specs.Places.{first_places, held, bucket_number}
 use Rattle.path_oram.specs.Whole.{IsWhole, IsHeightFor}
 use Rattle.path_oram.proofs.Moves.{everything}
 
--- one number more
+-- one more number
 pub range_more : (first n : ℕ) → range_with_len first (n + 1) ≡ range_with_len first n ++ (first + n) ∷ []
 range_more first zero = ap (λ k. k ∷ []) (omega arith)
 range_more first (suc n) =
@@ -30,7 +30,7 @@ held_empty n number =
     (λ past. get_or_past (replicate n []) number [] (omega (arith, length-replicate {A = List ℕ} n [])))
     (cases_lt number n)
 
--- at first each block stands once, on its path
+-- at first each block is stored once, on its path
 pub first_whole : (height : ℕ) (leaves : List ℕ) → IsHeightFor (length leaves) height
     → All (λ leaf. leaf < 2 ^ height) leaves → IsWhole (first_places height leaves)
 first_whole height leaves tall below =
@@ -53,7 +53,7 @@ range_from_zero n =
     let sum : 0 + n ≡ n = omega arith in subst (λ k. range_with_len 0 (n + 1) ≡ range_with_len 0 n ++ k ∷ []) sum
     (range_more 0 n)
 
--- what the code calculates as the number of buckets
+-- the number of buckets, as the code calculates it
 pub tree_size : (height : ℕ) → height ≤ 12 → 1 * 2 ^ (height + 1) % 18446744073709551616 ≡ 2 ^ suc height
 tree_size height low =
     let next : height + 1 ≡ suc height = omega arith in one_shl (height + 1) 64 (omega arith) ∙ ap (λ n. 2 ^ n) next

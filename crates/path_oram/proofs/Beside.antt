@@ -1,4 +1,4 @@
--- The buckets beside a path keep their slots, and don't hold the block of the access.
+-- The buckets off a path keep their slots, and don't hold the accessed block.
 use Rattle.std.proofs.Common.{◌≡◌, ◌≢◌, ℕ, suc, ◌^◌, ◌<◌, List, [], length, get_or, set, All, sym, ap, ◌∙◌, subst, arith}
 use Rattle.std.proofs.lemmas.List.{get_or_default}
 use Rattle.path_oram.specs.declared.bucket.Placed.{Placed}

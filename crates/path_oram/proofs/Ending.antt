@@ -1,4 +1,4 @@
--- Where the blocks stand at the end of a run over a bank that was just made.
+-- Where the blocks are at the end of a run over a new bank.
 use Rattle.std.proofs.Common.{◌≡◌, ℕ, zero, suc, ◌+◌, List, ◌∷◌, Option, length, map, take, drop, refl, sym, ap, ◌∙◌, subst, arith}
 use Rattle.rand_core.specs.Stream.{Stream, next_u64}
 use Rattle.path_oram.specs.Moves.{Moves}
@@ -7,7 +7,7 @@ use Rattle.path_oram.specs.Places.{Places, first_places}
 use Rattle.path_oram.specs.Settles.{AreLevels, Settles, places_from}
 use Rattle.path_oram.specs.Words.{first_words, leaf_of, words_left}
 
--- the first words of a source, and those behind them
+-- the first words of a source, from more of its words
 take-first_words : (n m : ℕ) (words : Stream) → take n (first_words (n + m) words) ≡ first_words n words
 take-first_words zero m words = refl
 take-first_words (suc n) m words =
@@ -22,7 +22,7 @@ drop-first_words (suc n) m words =
     let sum : suc n + m ≡ suc (n + m) = omega arith in
     ap (λ k. drop (suc n) (first_words k words)) sum ∙ drop-first_words n m (next_u64 words).1
 
--- the levels of a bank that came by some accesses from one that was just made
+-- the levels in a bank after accesses to a new one
 pub settled_after : (count height : ℕ) (words stream left : Stream) (before after : Places) (blocks : List ℕ)
     (levels : List (Option ℕ)) → before ≡ first_places height (map (leaf_of height) (first_words count words))
     → stream ≡ words_left count words → ComesBy before stream blocks after left → AreLevels after levels

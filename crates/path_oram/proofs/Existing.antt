@@ -1,4 +1,4 @@
--- There always is a greedy write-back, so each run ends somewhere, and each block stands on a level there.
+-- There always is a greedy write-back, so each run ends in some places, and each block is on a level there.
 use Rattle.std.proofs.Common.{◌≡◌, ◌≢◌, ◌⊎◌, inl, inr, ℕ, zero, suc, ◌+◌, ◌<◌, ◌≤◌, ◌^◌, Bool, true, false, List, [], ◌∷◌, ◌++◌, length, get_or, set, Option, Some, None, refl, sym, ◌∙◌, subst, ⊎_elim, arith, append_assoc, length-append, length-set}
 use Rattle.std.specs.Prelude.{Contains}
 use Rattle.std.specs.List.{All, swap_remove}
@@ -69,14 +69,14 @@ module _ (height : ℕ) (leaves : List ℕ) (leaf : ℕ) (tree : List (List ℕ)
       (λ full. inr (λ less. omega (arith, less, full)))
       (cases_lt (length (held tree (on_path height leaf level))) 4)
 
-  -- the deepest level with room where the block may stand, if there is one
+  -- the deepest level that has room and where the block is allowed, if there is one
   deepest_below : (above : ℕ) → above ≤ height + 1 → NoneFrom height (get_or leaves block 0) leaf tree above → Found
   deepest_below zero within none = inr none
   deepest_below (suc level) within none =
       on_level level (omega arith) none (deepest_below level (omega arith))
       (passes_bucket height leaves leaf level block) refl (room_or_not level)
 
--- all blocks of the hand were looked at
+-- all blocks of the hand were tried
 record Done (height : ℕ) (leaves : List ℕ) (leaf : ℕ) (empty : List (List ℕ)) (old : List ℕ) : Type 0 where
   pub tree : List (List ℕ)
   pub stash : List ℕ
@@ -109,7 +109,7 @@ module _ (height : ℕ) (leaves : List ℕ) (leaf : ℕ) (small : leaf < 2 ^ hei
       (deepest_below height leaves leaf tree block (height + 1) (omega arith)
       (λ level from low room. absurd (omega (arith, from, low))))
 
--- where an access to a block with a word may lead
+-- places to which an access to a block with a word may lead
 pub record Led (p : Places) (block word : ℕ) : Type 0 where
   pub after : Places
   pub by : MovesBy p block word after
@@ -205,7 +205,7 @@ found_below p block (suc n) =
     (there_or_not (held p.tree (on_path p.height (get_or p.leaves block 0) n)) block))
     (found_below p block n)
 
--- each block stands on a level, or in the stash
+-- each block is on a level, or in the stash
 pub level_exists : (p : Places)
     → IsWhole p → (block : ℕ) → block < length p.leaves → (level : Option ℕ) × StandsOn p block level
 level_exists p whole block exists =
@@ -214,11 +214,11 @@ level_exists p whole block exists =
     (λ none. (None, in_stash p whole block exists none))
     (found_below p block (p.height + 1))
 
--- the levels of the first blocks, and of one block more
+-- the levels of the first blocks, and of one more block
 abbrev pub FirstLevels : Places → List (Option ℕ) → Type 0
 FirstLevels p levels = (block : ℕ) → block < length levels → StandsOn p block (get_or levels block None)
 
--- the level of one access more
+-- the level of one more block
 pub one_level : (p : Places) (levels : List (Option ℕ)) (level : Option ℕ)
     → FirstLevels p levels → StandsOn p (length levels) level → FirstLevels p (levels ++ level ∷ [])
 one_level p levels level first stands block less =
@@ -230,12 +230,12 @@ one_level p levels level first stands block less =
     (subst (StandsOn p (length levels)) (sym (get_or-append_seam levels level [] None)) stands))
     (cases_lt block (length levels))
 
--- the levels of the first blocks can be gone on with to those of all
+-- the levels of the first blocks, extended to those of all
 pub record AllLevels (p : Places) (first : List (Option ℕ)) : Type 0 where
   pub more : List (Option ℕ)
   pub are : AreLevels p (first ++ more)
 
--- all blocks stand on a level
+-- all blocks are on a level, or in the stash
 pub all_levels : (left : ℕ) (p : Places) → IsWhole p → (first : List (Option ℕ)) → length first + left ≡ length p.leaves
     → FirstLevels p first → AllLevels p first
 all_levels zero p whole first all stand = record {
@@ -259,7 +259,7 @@ all_levels (suc left) p whole first all stand =
 
 -- ---- a bank
 
--- where accesses to these blocks may lead a bank, and its levels there
+-- places to which accesses to these blocks may lead a bank, and the levels there
 pub record EndsSomehow (p : Places) (words : Stream) (blocks : List ℕ) : Type 0 where
   pub after : Places
   pub left : Stream
@@ -267,7 +267,7 @@ pub record EndsSomehow (p : Places) (words : Stream) (blocks : List ℕ) : Type 
   pub levels : List (Option ℕ)
   pub are : AreLevels after levels
 
--- whatever blocks are accessed, some places are left
+-- any accesses to existing blocks lead to some places
 pub ends_somehow : (p : Places) (words : Stream) (blocks : List ℕ)
     → IsWhole p → All (λ block. block < length p.leaves) blocks → EndsSomehow p words blocks
 ends_somehow p words blocks whole exist =

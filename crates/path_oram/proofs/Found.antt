@@ -1,4 +1,4 @@
--- The leaf of a block is the one beside it.
+-- The leaf of a block is the one in its slot.
 use Rattle.std.proofs.Common.{◌≡◌, ◌≢◌, ℕ, zero, suc, ◌+◌, ◌^◌, ◌<◌, cond, List, [], ◌∷◌, length, get_or, map, replicate, All, refl, sym, ap, ◌∙◌, subst, ⊎_elim, arith}
 use Rattle.std.specs.Prelude.{Contains}
 use Rattle.std.specs.List.{flat_map, range_with_len}
@@ -19,7 +19,7 @@ elsewhere : (x : ℕ) (xs : List ℕ) (b : ℕ) → x ≢ b → (k : ℕ) → k 
 elsewhere x xs b other zero less is = absurd (other is)
 elsewhere x xs b other (suc k) less is = (k, omega (arith, less), is)
 
--- the leaf beside a block that stands in some slots
+-- the leaf of a block that is in some slots
 pub leaf_read : (leaves : List ℕ) (slots : List Placed) (block : ℕ)
     → HaveLeaves leaves slots → Contains (blocks_in slots) block → leaf_in slots block ≡ get_or leaves block 0
 leaf_read leaves [] block have there = absurd (omega (arith, there.1))
@@ -34,7 +34,7 @@ leaf_read leaves (slot ∷ slots) block have there =
     (elsewhere slot.block (blocks_in slots) block other there.0 there.1 there.2))
     (cases_eq slot.block block)
 
--- where each block stands somewhere
+-- if each block is in some slot
 pub leaves_read : (leaves : List ℕ) (count : ℕ) (slots : List Placed)
     → length leaves ≡ count → HaveLeaves leaves slots → ((block : ℕ) → block < count → Contains (blocks_in slots) block)
     → map (leaf_in slots) (range_with_len 0 count) ≡ leaves
@@ -54,7 +54,7 @@ everything_has leaves (bucket ∷ tree) have =
     All-append (λ (s : Placed). s.leaf ≡ get_or leaves s.block 0) bucket (flat_map (λ b. b) tree)
     (have 0 bucket (omega arith)) (everything_has leaves tree (λ k d less. have (suc k) d (omega (arith, less))))
 
--- the places of slots that have the leaves of a list
+-- the places of slots whose leaves are those of a list
 pub places_read : (count height : ℕ) (leaves : List ℕ) (stash : List Placed) (tree : List (List Placed))
     → length leaves ≡ count
     → IsWhole (record { height = height; leaves = leaves; tree = tree_blocks tree; stash = blocks_in stash })
@@ -66,7 +66,7 @@ places_read count height leaves stash tree size whole in_stash in_tree =
     (λ block less. subst (λ l. Contains l block) (sym (all_in stash tree))
     (somewhere _ whole block (omega (arith, less, size))))
 
--- a leaf for each block
+-- there is a leaf for each block
 pub places_count : (count height : ℕ) (stash : List Placed) (tree : List (List Placed))
     → length (places_of count height stash tree).leaves ≡ count
 places_count count height stash tree =

@@ -1,4 +1,4 @@
--- The two ways to tell the greedy write-back agree where each block stands once.
+-- The two definitions of the greedy write-back agree if each block is stored once.
 use Rattle.std.proofs.Common.{◌≡◌, ℕ, zero, suc, ◌+◌, ◌-◌, ◌^◌, ◌<◌, ◌≤◌, min, List, [], ◌∷◌, ◌++◌, length, get_or, Bool, true, false, not, cond, ◌&&◌, eqb, refl, sym, ap, subst, ◌∙◌, arith, append_assoc}
 use Rattle.std.specs.List.{count_by, range_with_len}
 use Rattle.std.proofs.lemmas.List.{append-nil}
@@ -23,7 +23,7 @@ path_split path tree n (suc m) =
     rw (next, path_split path tree n m)
     (append_assoc (path_blocks path tree n) (path_blocks (λ more. path (n + more)) tree m) (held tree (path (n + m))))
 
--- tests that agree on the items of a list
+-- tests that agree on all items of a list
 pub count_same : (p q : ℕ → Bool) (xs : List ℕ) → ((k d : ℕ) → k < length xs → p (get_or xs k d) ≡ q (get_or xs k d))
     → count_by p xs ≡ count_by q xs
 count_same p q [] same = refl
@@ -32,7 +32,7 @@ count_same p q (x ∷ xs) same =
     ∙ rw (same 0 x (omega arith), count_same p q xs (λ k d less. same (suc k) d (omega arith)))
     (sym (sum_by-cons (λ y. cond (q y) 1 0) x xs))
 
--- a test beside one that fails, or that holds
+-- a test, and another that is false or true
 pub nothing_left : (b : Bool) → (b && not true) ≡ false
 nothing_left true = refl
 nothing_left false = refl
@@ -41,7 +41,7 @@ pub all_left : (b : Bool) → (b && not false) ≡ b
 all_left true = refl
 all_left false = refl
 
--- in the hand each block stands at most once
+-- the hand has each block at most once
 pub hand_once : (p : Places) (shown block : ℕ) → IsWhole p → shown < 2 ^ p.height
     → times block (hand p shown p.height) ≤ 1
 hand_once p shown block whole small =
@@ -65,7 +65,7 @@ hand_once p shown block whole small =
           (length p.leaves),
     )
 
--- in a whole tree an access takes what is left over
+-- if each block is stored once, each bucket takes what is left for it
 pub takes_what_is_left : TakesWhatIsLeftWhereWhole
 takes_what_is_left before block shown after whole small greedy level low =
     let path = on_path after.height shown in

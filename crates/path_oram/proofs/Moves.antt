@@ -1,22 +1,22 @@
--- What a tree holds after a bucket was poured out, or was given one more block.
+-- The blocks of a tree after a bucket was emptied, or after one more block was added to it.
 use Rattle.std.proofs.Common.{ℕ, zero, suc, ◌<◌, List, [], ◌∷◌, ◌++◌, length, set, sym, subst, arith, append_assoc}
 use Rattle.std.specs.List.{flat_map}
 use Rattle.std.specs.List.Sorted.{IsPermutation}
 use Rattle.std.proofs.lemmas.List.Sorted.{IsPermutation-refl, IsPermutation-trans, IsPermutation-sym, IsPermutation-append_comm, IsPermutation-append_left, IsPermutation-append_right, IsPermutation-middle}
 use Rattle.path_oram.specs.Places.{held, all_blocks}
 
--- all blocks of a tree
+-- all blocks in a tree
 abbrev pub everything : List (List ℕ) → List ℕ
 everything tree = flat_map (λ bucket. bucket) tree
 
--- two lists in front of a third change places
+-- two lists before a third are exchanged
 pub exchanged : (a b c : List ℕ) → IsPermutation (a ++ (b ++ c)) (b ++ (a ++ c))
 exchanged a b c =
     subst (λ l. IsPermutation l (b ++ (a ++ c))) (append_assoc a b c)
     (subst (λ l. IsPermutation ((a ++ b) ++ c) l) (append_assoc b a c)
     (IsPermutation-append_left c (a ++ b) (b ++ a) (IsPermutation-append_comm a b)))
 
--- one block in front goes behind a list
+-- one block before a list is moved after it
 pub moved_behind : (b : ℕ) (xs ys : List ℕ) → IsPermutation (b ∷ (xs ++ ys)) (xs ++ b ∷ ys)
 moved_behind b xs ys = IsPermutation-sym (xs ++ b ∷ ys) (b ∷ (xs ++ ys)) (IsPermutation-middle xs b ys)
 
@@ -43,7 +43,7 @@ put_in b (bucket ∷ tree) (suc number) within =
     (moved_behind b bucket (everything tree))
     (IsPermutation-append_right bucket (b ∷ everything tree) after (put_in b tree number (omega arith)))
 
--- a bucket is poured into the stash
+-- a bucket is moved into the stash
 pub all_poured : (stash : List ℕ) (tree : List (List ℕ)) (number : ℕ) → number < length tree
     → IsPermutation (all_blocks stash tree) (all_blocks (stash ++ held tree number) (set tree number []))
 all_poured stash tree number within =
@@ -52,7 +52,7 @@ all_poured stash tree number within =
     (IsPermutation-append_right stash (everything tree) (held tree number ++ everything (set tree number []))
     (poured_out tree number within))
 
--- a block of the stash is taken out and put into a bucket
+-- a block is moved from the stash into a bucket
 pub all_put : (b : ℕ) (stash rest : List ℕ) (tree : List (List ℕ)) (number : ℕ) → number < length tree
     → IsPermutation stash (b ∷ rest)
     → IsPermutation (all_blocks stash tree) (all_blocks rest (set tree number (held tree number ++ b ∷ [])))

@@ -1,25 +1,25 @@
--- A block stands once: how often a number is in a list.
+-- A block is stored once: how often a number is in a list.
 use Rattle.std.proofs.Common.{◌≡◌, ℕ, zero, suc, ◌+◌, ◌<◌, ◌≤◌, List, [], ◌∷◌, length, get_or, Bool, true, false, cond, eqb, refl, ◌∙◌, arith, ⊎_elim}
 use Rattle.std.specs.List.{count_by, range_with_len, list_any}
 use Rattle.std.proofs.lemmas.Bool.{eq-eqb, eqb-true, cases_Bool}
 use Rattle.std.proofs.lemmas.List.Sums.{sum_by-cons}
 
--- how often a block stands in a list
+-- how often a block is in a list
 abbrev pub times : ℕ → List ℕ → ℕ
 times block blocks = count_by (λ b. eqb b block) blocks
 
--- one where a test holds
+-- one if a test is true
 abbrev pub unit : Bool → ℕ
 unit b = cond b 1 0
 
--- the unit of a test that holds
+-- the unit of a test that is true
 pub unit_true : (b : Bool) → b ≡ true → unit b ≡ 1
 unit_true b is_it = rw is_it refl
 
 pub unit_false : (b : Bool) → b ≡ false → unit b ≡ 0
 unit_false b is_not = rw is_not refl
 
--- how often a block stands in a list, by its first
+-- how often a block is in a list, by the list's first item
 pub times_first : (block x : ℕ) (xs : List ℕ) → times block (x ∷ xs) ≡ unit (eqb x block) + times block xs
 times_first block x xs = sum_by-cons (λ b. cond (eqb b block) 1 0) x xs
 
@@ -50,14 +50,14 @@ times_range block first (suc n) =
     omega (arith, head, none, times_range block (first + 1) n))
     (cases_Bool (eqb first block))
 
--- an item of a list stands there
+-- an item of a list is there at least once
 pub times_item : (xs : List ℕ) (k d : ℕ) → k < length xs → 1 ≤ times (get_or xs k d) xs
 times_item [] k d within = absurd (omega arith)
 times_item (x ∷ xs) zero d within =
     let one = unit_true (eqb x x) (eq-eqb x x refl) in omega (arith, times_first x x xs, one)
 times_item (x ∷ xs) (suc k) d within = omega (arith, times_first (get_or xs k d) x xs, times_item xs k d (omega arith))
 
--- a block that stands at no place of a list
+-- a block that isn't in a list
 pub none_is : (block : ℕ) (xs : List ℕ) → times block xs ≡ 0 → list_any (λ taken. eqb taken block) xs ≡ false
 none_is block [] none = refl
 none_is block (x ∷ xs) none =

@@ -1,4 +1,4 @@
--- A list that pairs the numbers of one order with those of another is in an order of its own.
+-- A list that pairs the numbers of one order with those of another is an order too.
 use Rattle.std.proofs.Common.{◌≡◌, ℕ, zero, suc, ◌+◌, ◌<◌, ◌≤◌, ◌≢◌, List, [], ◌∷◌, length, map, get_or, set, eqb, refl, sym, subst, ◌∙◌, arith, ⊎_elim, get_or-set_same, get_or-set_other}
 use Rattle.std.specs.List.{range_with_len}
 use Rattle.std.specs.List.Sorted.{IsPermutation}
@@ -8,7 +8,7 @@ use Rattle.std.proofs.lemmas.List.FromFn.{length-range_with_len, get_or-range_wi
 use Rattle.std.proofs.lemmas.List.Sorted.{IsPermutation-map, IsPermutation-trans, IsPermutation-sym, sum_by-IsPermutation, length_permutation, All-permutation}
 use Rattle.path_oram.proofs.Once.{unit, unit_true, times, times_first, times_range, times_item}
 
--- what stands once in a list stands at one place
+-- an item that is in a list once is at one place
 pub one_place : (xs : List ℕ) (i j : ℕ) → ((b : ℕ) → times b xs ≤ 1) → i < j → j < length xs
     → get_or xs i 0 ≢ get_or xs j 0
 one_place [] i j once less within same = absurd (omega arith)
@@ -25,7 +25,7 @@ order_once n xs order b =
     let count : ℕ → ℕ = λ x. unit (eqb x b) in
     omega (arith, sum_by-IsPermutation count (range_with_len 0 n) xs order, times_range b 0 n)
 
--- each number of an order is below its count
+-- each number of an order of n numbers is below n
 pub order_below : (n : ℕ) (xs : List ℕ) → IsPermutation (range_with_len 0 n) xs → (i : ℕ) → i < length xs
     → get_or xs i 0 < n
 order_below n xs order i within =
@@ -33,7 +33,7 @@ order_below n xs order i within =
     (λ k d less. let small : k < n = omega (arith, length-range_with_len 0 n) in omega
     (arith, get_or-range_with_len 0 n k d small)) i 0 within
 
--- one pair more
+-- one more pair
 pub pairs_more :
     (from pairs : List ℕ) (to : ℕ → ℕ) (place : ℕ) → IsPermutation
     (range_with_len 0 (length from)) from → length pairs ≡ length from → place < length from
@@ -51,7 +51,7 @@ pairs_more from pairs to place order size within so_far i less =
     (one_place from i place (order_once (length from) from order) before within) ∙ so_far i before)
     (cases_eq i place)
 
--- numbers that pair two orders are an order
+-- the list that pairs two orders is an order
 pub pairs_order :
     (n : ℕ) (from to pairs : List ℕ) → IsPermutation (range_with_len 0 n) from → IsPermutation
     (range_with_len 0 n) to → length pairs ≡ n

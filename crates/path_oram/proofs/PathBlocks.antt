@@ -1,4 +1,4 @@
--- What the buckets of a path hold, after a bucket has changed.
+-- The blocks in the buckets of a path, after a bucket was changed.
 use Rattle.std.proofs.Common.{◌≡◌, ℕ, zero, suc, ◌<◌, ◌≢◌, List, [], ◌∷◌, ◌++◌, length, set, refl, sym, subst, arith, append_assoc, ⊎_elim, get_or-set_same, get_or-set_other}
 use Rattle.std.specs.List.{All}
 use Rattle.std.specs.List.Sorted.{IsPermutation}
@@ -7,7 +7,7 @@ use Rattle.std.proofs.lemmas.List.Sorted.{IsPermutation-sym, IsPermutation-appen
 use Rattle.std.proofs.lemmas.Bool.{cases_eq}
 use Rattle.path_oram.specs.Places.{held, path_blocks}
 
--- what each bucket's blocks are like, all are like
+-- a property of the blocks of each bucket
 pub path_all : (P : ℕ → Type 0) (path : ℕ → ℕ) (tree : List (List ℕ)) (n : ℕ)
     → ((level : ℕ) → level < n → All P (held tree (path level))) → All P (path_blocks path tree n)
 path_all P path tree zero each = All-nil P
@@ -23,7 +23,7 @@ path_same path one two zero same = refl
 path_same path one two (suc n) same =
     rw (path_same path one two n (λ level less. same level (omega arith)), same n (omega arith)) refl
 
--- a bucket that is not on the path has changed
+-- a bucket off the path was changed
 pub path_other : (path : ℕ → ℕ) (tree : List (List ℕ)) (number : ℕ) (bucket : List ℕ) (n : ℕ)
     → ((level : ℕ) → level < n → path level ≢ number)
     → path_blocks path (set tree number bucket) n ≡ path_blocks path tree n
@@ -31,14 +31,14 @@ path_other path tree number bucket n off =
     path_same path (set tree number bucket) tree n
     (λ level less. get_or-set_other tree number (path level) bucket [] (off level less))
 
--- a path of empty buckets holds nothing
+-- a path of empty buckets has no blocks
 pub path_empty : (path : ℕ → ℕ) (tree : List (List ℕ)) (n : ℕ) → ((level : ℕ) → level < n → held tree (path level) ≡ [])
     → path_blocks path tree n ≡ []
 path_empty path tree zero empty = refl
 path_empty path tree (suc n) empty =
     rw (path_empty path tree n (λ level less. empty level (omega arith)), empty n (omega arith)) refl
 
--- a bucket of the path was given one more block
+-- one more block was added to a bucket of the path
 pub path_put :
     (b : ℕ) (path : ℕ → ℕ) (tree : List (List ℕ)) (n m : ℕ) → m < n → path m < length tree
     → ((level : ℕ) → level < n → level ≢ m → path level ≢ path m)

@@ -25,14 +25,14 @@ pub number_bound : (height level index : ℕ) → level ≤ height → index < 2
     → bucket_number level index < 2 ^ suc height
 number_bound height level index within small = omega (arith, twice height, pow_mono {i = level} {j = height} within)
 
--- a bucket on a path is one of the tree
+-- a bucket on a path is a bucket of the tree
 pub on_path_bound : (height leaf level : ℕ) → level ≤ height → leaf < 2 ^ height
     → on_path height leaf level < 2 ^ suc height
 unfolding on_path
 on_path_bound height leaf level within small =
     number_bound height level (index_on height leaf level) within (index_on_bound height leaf level within small)
 
--- a number tells the level
+-- the number of a bucket determines its level
 pub level_of : (a i b j : ℕ) → i < 2 ^ a → j < 2 ^ b → bucket_number a i ≡ bucket_number b j → a ≡ b
 level_of a i b j first second same =
     ⊎_elim
@@ -43,7 +43,7 @@ level_of a i b j first second same =
     (cases_lt b a))
     (cases_lt a b)
 
--- and the index
+-- the number of a bucket determines its index on its level
 pub index_of : (a i b j : ℕ) → i < 2 ^ a → j < 2 ^ b → bucket_number a i ≡ bucket_number b j → i ≡ j
 index_of a i b j first second same =
     let powers : 2 ^ a ≡ 2 ^ b = ap (λ n. 2 ^ n) (level_of a i b j first second same) in omega arith
@@ -56,7 +56,7 @@ path_differs height leaf a b first second small differ same =
     differ (level_of a (index_on height leaf a) b (index_on height leaf b) (index_on_bound height leaf a first small)
     (index_on_bound height leaf b second small) same)
 
--- the buckets of so many levels of a path are buckets of a tree of that size, and each is another one
+-- the first n buckets of a path are in a tree of that size, and all different
 pub path_within : (height leaf n size : ℕ) → leaf < 2 ^ height → size ≡ 2 ^ suc height → n ≤ suc height
     → (level : ℕ) → level < n → on_path height leaf level < size
 path_within height leaf n size small wide most level less =
@@ -66,7 +66,7 @@ pub path_apart : (height leaf n : ℕ) → leaf < 2 ^ height → n ≤ suc heigh
     → (a b : ℕ) → a < n → b < n → a ≢ b → on_path height leaf a ≢ on_path height leaf b
 path_apart height leaf n small most a b first second = path_differs height leaf a b (omega arith) (omega arith) small
 
--- what the code calculates
+-- the number that the code calculates
 pub calculated : (height leaf level index : ℕ) → level ≤ height → height ≤ 12 → index ≡ index_on height leaf level
     → 1 * 2 ^ level % 4294967296 + index ≡ on_path height leaf level
 unfolding on_path

@@ -1,4 +1,4 @@
--- A tree whose path was poured into the stash.
+-- A tree whose path was moved into the stash.
 use Rattle.std.proofs.Common.{◌≡◌, ℕ, zero, suc, ◌+◌, ◌<◌, ◌≤◌, ◌≢◌, List, [], ◌++◌, length, get_or, set, refl, sym, ap, subst, ◌∙◌, arith, append_assoc, ⊎_elim, get_or-set_same, get_or-set_other, length-set, length-append}
 use Rattle.std.specs.List.{All}
 use Rattle.std.proofs.Math.ListN.{get_or-append}
@@ -11,12 +11,12 @@ use Rattle.path_oram.specs.Places.{held, path_blocks, all_blocks}
 use Rattle.path_oram.specs.Pouring.{poured}
 use Rattle.path_oram.proofs.Moves.{everything, all_poured}
 
--- pouring leaves the buckets in number
+-- the number of buckets stays
 pub poured_size : (path : ℕ → ℕ) (tree : List (List ℕ)) (n : ℕ) → length (poured path tree n) ≡ length tree
 poured_size path tree zero = refl
 poured_size path tree (suc n) = length-set (poured path tree n) (path n) [] ∙ poured_size path tree n
 
--- a bucket that is not among those poured out
+-- a bucket that wasn't emptied
 pub poured_off : (path : ℕ → ℕ) (tree : List (List ℕ)) (n number : ℕ) → ((level : ℕ) → level < n → number ≢ path level)
     → held (poured path tree n) number ≡ held tree number
 poured_off path tree zero number off = refl
@@ -24,7 +24,7 @@ poured_off path tree (suc n) number off =
     get_or-set_other (poured path tree n) (path n) number [] [] (off n (omega arith))
     ∙ poured_off path tree n number (λ level less. off level (omega arith))
 
--- a bucket that was poured out
+-- a bucket that was emptied
 pub poured_on : (path : ℕ → ℕ) (tree : List (List ℕ)) (n level : ℕ) → level < n
     → ((l : ℕ) → l < n → path l < length tree) → held (poured path tree n) (path level) ≡ []
 poured_on path tree zero level less within = absurd (omega arith)
@@ -42,7 +42,7 @@ poured_on path tree (suc n) level less within =
     (cases_eq level n))
     (cases_eq (path level) (path n))
 
--- nothing is lost
+-- no block is lost
 pub poured_all :
     (path : ℕ → ℕ) (stash : List ℕ) (tree : List (List ℕ)) (n : ℕ)
     → ((l : ℕ) → l < n → path l < length tree)
@@ -66,7 +66,7 @@ poured_all path stash tree (suc n) within differ =
     (subst (λ l. IsPermutation (all_blocks so_far before) (all_blocks l (set before (path n) [])))
     (append_assoc stash (path_blocks path tree n) (held tree (path n))) step)
 
--- a bucket has room in the stash
+-- there is room in the stash for a bucket's blocks
 pub poured_room :
     (path : ℕ → ℕ) (stash : List ℕ) (tree : List (List ℕ)) (n : ℕ)
     → ((l : ℕ) → l < suc n → path l < length tree)
@@ -90,14 +90,14 @@ poured_room path stash tree n within differ =
       length-append so_far (held before (path n)),
     )
 
--- one level further
+-- one more level
 pub poured_more : (path : ℕ → ℕ) (tree now : List (List ℕ)) (level number : ℕ) → now ≡ poured path tree level
     → number ≡ path level → set now number [] ≡ poured path tree (level + 1)
 poured_more path tree now level number so_far is =
     let next : suc level ≡ level + 1 = omega arith in
     subst (λ n. set now number [] ≡ poured path tree n) next (rw (so_far, is) refl)
 
--- one bucket more of the path goes to the stash
+-- one more bucket of the path is moved into the stash
 pub stash_more :
     (path : ℕ → ℕ) (tree now : List (List ℕ)) (old stash : List ℕ) (level number : ℕ)
     → ((l : ℕ) → l < level → path level ≢ path l)
@@ -110,7 +110,7 @@ stash_more path tree now old stash level number differ so_far is held_by =
     subst (λ n. stash ++ held now number ≡ old ++ path_blocks path tree n) next
     (rw (same, held_by) (append_assoc old (path_blocks path tree level) (held tree (path level))))
 
--- what is true of every block is true of those of the hand
+-- a property of all blocks holds for those of the hand
 pub poured_each :
     (P : ℕ → Type 0) (path : ℕ → ℕ) (stash : List ℕ) (tree : List (List ℕ)) (n : ℕ)
     → ((l : ℕ) → l < n → path l < length tree)
@@ -123,7 +123,7 @@ poured_each P path stash tree n within differ each k d below =
     (poured_all path stash tree n within differ) each in
     subst P (get_or-append hand rest d k below) (all k d (omega (arith, length-append hand rest)))
 
--- no bucket gets more
+-- no bucket has more blocks than before
 pub poured_most : (path : ℕ → ℕ) (tree : List (List ℕ)) (n : ℕ) → All (λ bucket. length bucket ≤ 4) tree
     → All (λ bucket. length bucket ≤ 4) (poured path tree n)
 poured_most path tree zero most = most

@@ -1,4 +1,4 @@
--- Which word each access reads.
+-- The word that each access reads.
 use Rattle.std.proofs.Common.{◌≡◌, ℕ, zero, suc, ◌+◌, ◌-◌, ◌<◌, ◌≢◌, ◌⊎◌, inl, inr, List, [], ◌∷◌, ◌++◌, length, get_or, reverse, take, set, true, false, true≢false, eqb, refl, sym, ap, subst, ◌∙◌, arith, ⊎_elim, append_assoc, get_or-set_same, get_or-set_other, map}
 use Rattle.std.proofs.lemmas.Bool.{cases_eq, eqb-true, cases_Bool, eq-eqb}
 use Rattle.std.proofs.lemmas.List.{reverse-append, length-reverse, length-take-le, take_more, append-nil}
@@ -24,7 +24,7 @@ pub record FirstThere (count : ℕ) (earlier : List ℕ) (block number k : ℕ) 
 abbrev pub Means : ℕ → List ℕ → ℕ → ℕ → Type 0
 Means count earlier block number = NotThere earlier block number ⊎ ((k : ℕ) × FirstThere count earlier block number k)
 
--- one more item in front, which is another block
+-- one more access before, to another block
 pub not_before : (x : ℕ) (earlier : List ℕ) (block n : ℕ) → x ≢ block → ((k : ℕ) → k < n → get_or earlier k 0 ≢ block)
     → (k : ℕ) → k < suc n → get_or (x ∷ earlier) k 0 ≢ block
 not_before x earlier block n other never zero less = other
@@ -72,7 +72,7 @@ word_means count (last ∷ earlier) block =
     (word_means count earlier block)))
     (cases_Bool (eqb last block))
 
--- what that says of the whole run
+-- the same, over the whole run
 pub means_reads :
     (count : ℕ) (all earlier : List ℕ) (block number : ℕ) → IsBefore all earlier → block ≡ get_or all
     (length earlier) 0 → Means count earlier block number → ReadsWord count all (length earlier) number
@@ -96,7 +96,7 @@ means_reads count all earlier block number before is (inr found) =
       },
     )
 
--- one access further
+-- one more access
 pub before_more : (all earlier : List ℕ) (block : ℕ) → IsBefore all earlier → block ≡ get_or all (length earlier) 0
     → IsBefore all (block ∷ earlier)
 before_more all earlier block before is j less =
@@ -130,7 +130,7 @@ reads_each count all earlier (block ∷ rest) before rests (suc k) less =
     ∙ ap (λ i. get_or all i 0) one)
     k (omega arith))
 
--- each access reads a word of its own
+-- each access reads its word
 pub each_reads : EachReads
 unfolding words_read
 each_reads count blocks i less =
@@ -155,12 +155,12 @@ read_after_more count earlier (x ∷ blocks) block =
     (x ∷ earlier) blocks ++ read_word_number count e block ∷ []) turned
     (read_after_more count (x ∷ earlier) blocks block))
 
--- no access reads no word
+-- a run without accesses reads no words
 pub read_none : (count : ℕ) → words_read count [] ≡ []
 unfolding words_read
 read_none count = refl
 
--- one access more reads one word more
+-- one more access reads one more word
 pub read_more :
     (count : ℕ) (blocks : List ℕ) (i block : ℕ) → i < length blocks → block ≡ get_or blocks i block
     → words_read count (take (i + 1) blocks) ≡ words_read count (take i blocks) ++ read_word_number count
@@ -174,11 +174,11 @@ read_more count blocks i block less is =
     ∙ ap (λ e. words_read_after count [] (take i blocks) ++ read_word_number count e block ∷ [])
     (append-nil (reverse (take i blocks))))
 
--- a table of the words that each block would read next
+-- a table of the word that each block would read next
 abbrev pub IsTable : ℕ → List ℕ → List ℕ → Type 0
 IsTable count earlier last = (block : ℕ) → block < count → get_or last block 0 ≡ read_word_number count earlier block
 
--- the word that a block has after one access more
+-- the table after one more access
 pub table_more :
     (count : ℕ) (blocks last : List ℕ)
     (i block : ℕ) → i < length blocks → block ≡ get_or blocks i block → block < count → length last ≡ count

@@ -11,7 +11,7 @@ use Rattle.path_oram.specs.WordsRead.{words_next, words_read}
 use Rattle.path_oram.proofs.Paired.{order_length, pairs_more, pairs_order}
 use Rattle.path_oram.proofs.WordsOnce.{each_word_once}
 
--- a rising list of the same numbers
+-- the same numbers in rising order
 pub record Risen (xs : List ℕ) : Type 0 where
   pub list : List ℕ
   pub same : IsPermutation xs list
@@ -29,7 +29,7 @@ rising-rest x xs rising i j d le within = rising (suc i) (suc j) d (omega (arith
 swapped : (x y : ℕ) (ys : List ℕ) → IsPermutation (x ∷ y ∷ ys) (y ∷ x ∷ ys)
 swapped x y ys = IsPermutation-append_left ys (x ∷ y ∷ []) (y ∷ x ∷ []) (IsPermutation-append_comm (x ∷ []) (y ∷ []))
 
--- a number put where it belongs
+-- a number is inserted in order
 put_in : (x : ℕ) (xs : List ℕ) → IsNonDecreasing xs → Risen (x ∷ xs)
 put_in x [] rising = record {
   list = x ∷ [];
@@ -89,7 +89,7 @@ word_order count blocks exist =
       },
     )
 
--- the pairs of two orders, as far as to a place
+-- the pairs of two orders, up to a place
 pub record PairedTo (from to : List ℕ) (place : ℕ) : Type 0 where
   pub pairs : List ℕ
   pub size : length pairs ≡ length from
@@ -111,7 +111,7 @@ paired_to from to order (suc place) within =
           (omega (arith, within)) before.each i (omega (arith, less));
     }
 
--- two lists of accesses of one length are rearranged into one another
+-- there is a rearrangement for two lists of as many accesses
 pub rearrangement : (count : ℕ) (first second : List ℕ)
     → length second ≡ length first → All (λ block. block < count) first → All (λ block. block < count) second
     → (pairs : List ℕ) × IsRearrangement count first second pairs

@@ -12,7 +12,7 @@ use Rattle.path_oram.proofs.PathNumbers.{path_differs, on_path_bound}
 use Rattle.path_oram.proofs.Moves.{all_put, moved_behind}
 use Rattle.path_oram.proofs.PathBlocks.{path_empty, path_put}
 
--- before the first level nothing is written back
+-- before the first block nothing is written back
 pub settled_start : (height : ℕ) (leaves : List ℕ) (leaf : ℕ) (empty : List (List ℕ)) (old : List ℕ)
     → ((level : ℕ) → level ≤ height → held empty (on_path height leaf level) ≡ [])
     → All (λ bucket. length bucket ≤ 4) empty → IsSettled height leaves leaf empty empty old old 0
@@ -30,7 +30,7 @@ settled_start height leaves leaf empty old none most =
       above = λ level higher within less room. rw (none higher (omega arith)) (λ k d below. absurd (omega arith));
     }
 
--- a block for which there is no room stays
+-- a block for which there is no room stays in the stash
 pub settled_kept :
     (height : ℕ) (leaves : List ℕ) (leaf : ℕ) (empty tree : List (List ℕ)) (old stash : List ℕ) (kept block : ℕ)
     → IsSettled height leaves leaf empty tree old stash kept → kept < length stash → block ≡ get_or stash kept block
@@ -52,13 +52,13 @@ settled_kept height leaves leaf empty tree old stash kept block so_far within re
       above = so_far.above;
     }
 
--- what stands before the place where an item was taken out
+-- the items before the place at which an item was removed
 pub taken_before : (xs : List ℕ) (i x : ℕ) → i < length xs → take i (swap_remove xs i x) ≡ take i xs
 taken_before xs i x within =
     take-take i (length xs - 1) (set xs i (get_or xs (length xs - 1) x)) (omega arith)
     ∙ take-set xs i (get_or xs (length xs - 1) x)
 
--- a block goes to the deepest level that has room for it
+-- a block goes to the deepest level that has room and where it is allowed
 pub settled_put :
     (height : ℕ) (leaves : List ℕ) (leaf : ℕ) (empty tree : List (List ℕ)) (old stash : List ℕ) (kept block m : ℕ)
     → leaf < 2 ^ height → length tree ≡ 2 ^ suc height

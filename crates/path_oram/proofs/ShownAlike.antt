@@ -22,7 +22,7 @@ order_read count blocks order is i less =
     let within : i < length (words_read count blocks) = omega (arith, read_length count blocks) in
     ap (λ l. get_or l i 0) is.parts ∙ get_or-append (words_read count blocks) is.left 0 i within
 
--- leaves that are shown depend on the words alone, up to their order
+-- rearranged words show the same leaves
 pub shows_the_same : ShowsTheSame
 shows_the_same count height first second rearranged long pairs words others moved =
     let one : ℕ → ℕ = λ n. get_or words n 0 % 2 ^ height in

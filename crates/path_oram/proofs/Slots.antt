@@ -1,4 +1,4 @@
--- Slots as blocks, and the leaves that stand in them.
+-- Slots as blocks, and the leaves in them.
 use Rattle.std.proofs.Common.{◌≡◌, ◌≢◌, ℕ, zero, suc, ◌-◌, ◌<◌, cond, List, [], ◌∷◌, ◌++◌, length, get_or, set, take, map, All, refl, sym, ap, ◌∙◌, subst, ⊎_elim, arith, get_or-set_same, get_or-set_other}
 use Rattle.std.specs.List.{flat_map, swap_remove}
 use Rattle.std.proofs.lemmas.Bool.{cases_eq, cases_lt, eq-eqb, ne_eqb}
@@ -42,7 +42,7 @@ pub blocks_cleared : (tree : List (List Placed)) (number : ℕ)
     → tree_blocks (set tree number []) ≡ set (tree_blocks tree) number []
 blocks_cleared tree number = map-set blocks_in tree number []
 
--- a bucket is given one slot more
+-- one more slot is added to a bucket
 pub blocks_put : (tree : List (List Placed)) (number : ℕ) (slot : Placed)
     → tree_blocks (set tree number (slots_at tree number ++ slot ∷ []))
     ≡ set (tree_blocks tree) number (held (tree_blocks tree) number ++ slot.block ∷ [])
@@ -51,7 +51,7 @@ blocks_put tree number slot =
     ∙ ap (set (tree_blocks tree) number)
     (blocks_append (slots_at tree number) (slot ∷ []) ∙ ap (λ l. l ++ slot.block ∷ []) (sym (held_blocks tree number)))
 
--- a slot is taken out of the stash
+-- a slot is removed from the stash
 pub blocks_taken : (slots : List Placed) (place : ℕ) (slot : Placed)
     → blocks_in (swap_remove slots place slot) ≡ swap_remove (blocks_in slots) place slot.block
 blocks_taken slots place slot =
@@ -78,7 +78,7 @@ pub blocks_given : (block leaf : ℕ) (slots : List Placed)
 blocks_given block leaf [] = refl
 blocks_given block leaf (slot ∷ slots) = ap (λ l. slot.block ∷ l) (blocks_given block leaf slots)
 
--- every slot as every block
+-- all slots as all blocks
 pub all_in : (stash : List Placed) (tree : List (List Placed))
     → blocks_in (all_slots stash tree) ≡ all_blocks (blocks_in stash) (tree_blocks tree)
 all_in stash tree =
@@ -135,7 +135,7 @@ module _ (leaves : List ℕ) where
       subst (λ (s : Placed). s.leaf ≡ get_or leaves s.block 0) (sym read) (have place slot within)
 
   module _ (block leaf : ℕ) where
-    -- a block in other slots keeps its leaf
+    -- the blocks of slots without the block keep their leaves
     pub others_have : (slots : List Placed) → HaveLeaves leaves slots → All (λ b. b ≢ block) (blocks_in slots)
         → HaveLeaves (set leaves block leaf) slots
     others_have slots have other k d less =
@@ -145,7 +145,7 @@ module _ (leaves : List ℕ) where
         subst (λ b. b ≢ block) same (other k d.block (omega (arith, less, count_blocks slots))) in
         have k d less ∙ sym (get_or-set_other leaves block slot.block leaf 0 differs)
 
-    -- the block gets the leaf where it stands
+    -- the block gets the leaf in its slot
     pub given_have : (slots : List Placed) → block < length leaves → HaveLeaves leaves slots
         → HaveLeaves (set leaves block leaf) (map (with_leaf block leaf) slots)
     given_have slots exists have =
@@ -162,7 +162,7 @@ module _ (leaves : List ℕ) where
         ∙ have k d less ∙ sym (get_or-set_other leaves block slot.block leaf 0 other))
         (cases_eq slot.block block))
 
--- ---- one slot after the other
+-- ---- one slot after another
 
 module _ {X : Type 0} (f : X → X) where
   -- a list whose items before a place were changed

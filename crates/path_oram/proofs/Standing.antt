@@ -1,4 +1,4 @@
--- A block that stands in no bucket of its leaf's path is in the stash.
+-- A block that is in no bucket of its leaf's path is in the stash.
 use Rattle.std.proofs.Common.{◌≡◌, ℕ, zero, suc, ◌+◌, ◌-◌, ◌<◌, ◌≤◌, ◌^◌, List, [], ◌∷◌, ◌++◌, length, get_or, sym, ap, ◌∙◌, subst, ⊎_elim, arith}
 use Rattle.std.specs.Prelude.{Contains}
 use Rattle.std.specs.List.{flat_map, range_with_len}
@@ -10,7 +10,7 @@ use Rattle.path_oram.specs.Places.{Places, held, index_on, bucket_number, on_pat
 use Rattle.path_oram.specs.Whole.{IsWhole}
 use Rattle.path_oram.proofs.PathNumbers.{twice}
 
--- a number of a bucket tells its level and its index
+-- a bucket's number has a level and an index
 pub record Numbered (height number : ℕ) : Type 0 where
   pub level : ℕ
   pub index : ℕ
@@ -44,7 +44,7 @@ numbered (suc height) number one less =
     })
     (cases_lt number (2 ^ suc height))
 
--- a block that stands in some bucket
+-- a block that is in some bucket
 pub record StandsIn (tree : List (List ℕ)) (block : ℕ) : Type 0 where
   pub number : ℕ
   pub within : number < length tree
@@ -63,7 +63,7 @@ stands_in (bucket ∷ tree) block there =
     })
     (Contains-append_cases bucket (flat_map (λ b. b) tree) block there)
 
--- each block stands somewhere
+-- each block is in the stash or in a bucket
 pub somewhere : (p : Places)
     → IsWhole p → (block : ℕ) → block < length p.leaves → Contains (p.stash ++ flat_map (λ bucket. bucket) p.tree) block
 somewhere p whole block exists =
@@ -77,7 +77,7 @@ somewhere p whole block exists =
     let read : get_or (range_with_len 0 count) block 0 ≡ block = get_or-range_with_len 0 count block 0 exists ∙ sum in
     subst (Contains all) read (numbers block 0 within)
 
--- a block that stands on no level of its path is in the stash
+-- a block that is on no level of its path is in the stash
 pub in_stash : (p : Places) → IsWhole p → (block : ℕ) → block < length p.leaves
     → ((level : ℕ) → level < p.height + 1
     → Contains (held p.tree (on_path p.height (get_or p.leaves block 0) level)) block → ⊥) → Contains p.stash block
@@ -105,7 +105,7 @@ in_stash p whole block exists never =
     nowhere : (bucket : List ℕ) (b : ℕ) → bucket ≡ [] → Contains bucket b → ⊥
     nowhere bucket b none there = omega (arith, there.1, ap length none)
 
--- what the code reads is the bucket of the block's path
+-- the bucket that the code reads is that of the block's path
 pub bucket_read : (p q : Places) (tree : List (List ℕ)) (leaf number level block : ℕ)
     → p ≡ q → tree ≡ p.tree → leaf ≡ get_or p.leaves block 0 → number ≡ on_path p.height leaf level
     → held tree number ≡ held q.tree (on_path q.height (get_or q.leaves block 0) level)
@@ -114,7 +114,7 @@ bucket_read p q tree leaf number level block same trees leaves numbers =
     ∙ ap (λ t. held t (on_path p.height (get_or p.leaves block 0) level)) trees
     ∙ ap (λ (r : Places). held r.tree (on_path r.height (get_or r.leaves block 0) level)) same
 
--- a block that isn't found on one level more
+-- a block that isn't on one more level
 pub one_level_more : (bucket : ℕ → List ℕ) (block level : ℕ) → ((l : ℕ) → l < level → Contains (bucket l) block → ⊥)
     → (Contains (bucket level) block → ⊥) → (l : ℕ) → l < level + 1 → Contains (bucket l) block → ⊥
 one_level_more bucket block level before here l less there =

@@ -1,4 +1,4 @@
--- How an oblivious bank starts: the first words make the leaves of its blocks.
+-- The start of an oblivious bank: the first words determine the leaves of its blocks.
 use Rattle.std.proofs.Common.{◌≡◌, ℕ, ◌+◌, ◌<◌, ◌^◌, List, length, map, All, sym, ap, ◌∙◌, subst}
 use Rattle.std.proofs.lemmas.List.{length-map}
 use Rattle.std.proofs.lemmas.List.Elements.{All-map}
@@ -14,12 +14,12 @@ use Rattle.path_oram.proofs.Ahead.{ahead-shown, length-first_words}
 
 module _ (words : Stream) (all count height : ℕ) (leaves : List ℕ) (same : count ≡ all)
     (made : leaves ≡ map (leaf_of height) (first_words count words)) where
-  -- one leaf a block
+  -- one leaf for each block
   pub leaf_count : length leaves ≡ all
   leaf_count =
       ap length made ∙ length-map (first_words count words) (leaf_of height) ∙ length-first_words count words ∙ same
 
-  -- each leaf is one of the tree
+  -- each leaf is a leaf of the tree
   pub leaves_below : All (λ leaf. leaf < 2 ^ height) leaves
   leaves_below =
       subst (All (λ leaf. leaf < 2 ^ height)) (sym made)

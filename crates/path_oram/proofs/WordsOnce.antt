@@ -1,5 +1,5 @@
--- No word is read twice: at each access one word leaves the table of the blocks' next words, and the one drawn comes
--- in.
+-- No word is read twice: each access removes one word from the table of the blocks' next words, and adds the word that
+-- it draws.
 use Rattle.std.proofs.Common.{◌≡◌, ℕ, zero, suc, ◌+◌, ◌<◌, ◌≤◌, List, [], ◌∷◌, ◌++◌, length, map, reverse, cond, eqb, true, false, refl, sym, ap, subst, ◌∙◌, arith, ⊎_elim, append_assoc}
 use Rattle.std.specs.List.{All, range_with_len}
 use Rattle.std.specs.List.Sorted.{IsPermutation}
@@ -9,7 +9,7 @@ use Rattle.std.proofs.lemmas.List.Sorted.{IsPermutation-refl, IsPermutation-tran
 use Rattle.path_oram.specs.WordsRead.{read_word_number, words_read_after, words_read, EachWordOnce}
 use Rattle.path_oram.proofs.Moves.{exchanged}
 
--- a function that is another one but at one number
+-- a function that has another value at one number
 abbrev pub instead : (ℕ → ℕ) → ℕ → ℕ → ℕ → ℕ
 instead f block word k = cond (eqb block k) word (f k)
 
@@ -21,7 +21,7 @@ instead_past f block word first (suc n) past =
     (λ differs. differs) (cases_Bool (eqb block first)) in
     rw (other, instead_past f block word (first + 1) n (omega arith)) refl
 
--- one word comes in, and another goes out
+-- one word is added, and another is removed
 pub instead_moves :
     (f : ℕ → ℕ) (block word first n : ℕ) → first ≤ block → block < first + n
     → IsPermutation (word ∷ map f (range_with_len first n))

@@ -1,4 +1,4 @@
--- An access is the greedy write-back, and each block stands once afterwards as before.
+-- An access is the greedy write-back, and each block is stored once afterwards, as before.
 use Rattle.std.proofs.Common.{◌≡◌, ℕ, suc, ◌+◌, ◌^◌, ◌<◌, ◌≤◌, ◌≢◌, min, List, [], ◌++◌, length, get_or, set, take, drop, false, refl, sym, ap, subst, ◌∙◌, arith, ⊎_elim, get_or-set_other, length-set, length-append}
 use Rattle.std.specs.List.{All, count_by, range_with_len}
 use Rattle.std.proofs.lemmas.List.{take_all, drop_all, append-nil}
@@ -19,7 +19,7 @@ use Rattle.path_oram.proofs.PathBlocks.{path_all}
 use Rattle.path_oram.proofs.Poured.{poured_off, poured_size, poured_all}
 use Rattle.path_oram.proofs.Counted.{count_none, count_all, count_append}
 
--- the blocks that no deeper bucket took fill a bucket, or all of them are in it
+-- either blocks that no deeper bucket took fill a bucket, or all of them are in it
 pub filled_up :
     (height : ℕ) (leaves : List ℕ) (shown : ℕ) (before after : List (List ℕ)) (old stash : List ℕ) (level : ℕ)
     → shown < 2 ^ height → length after ≡ 2 ^ suc height
@@ -74,7 +74,7 @@ written_greedy height leaves tree stash block leaf shown after kept wide small i
           (written.size ∙ poured_size path tree (suc height) ∙ wide) written low;
     }
 
--- a bucket beside the path
+-- a bucket off the path
 pub beside : (height shown level index : ℕ) → shown < 2 ^ height → level ≤ height → index < 2 ^ level
     → index ≢ index_on height shown level → IsOff height shown (bucket_number level index)
 unfolding on_path
@@ -87,7 +87,7 @@ pub no_path_zero : (height shown : ℕ) → IsOff height shown 0
 unfolding on_path
 no_path_zero height shown level within same = absurd (omega (arith, pow_pos level, same))
 
--- the bucket that a path has on a level
+-- the bucket of a path on a level
 pub path_bucket : (height shown level index : ℕ) → index ≡ index_on height shown level
     → bucket_number level index ≡ on_path height shown level
 unfolding on_path
@@ -138,7 +138,7 @@ written_whole height leaves tree stash block leaf shown after kept whole exists 
           (cases_eq index (index_on height shown level));
     }
 
--- every block that stands somewhere is a block
+-- each block in the tree or in the stash is below the number of blocks
 pub whole_below : (p : Places) → IsWhole p → All (λ b. b < length p.leaves) (all_blocks p.stash p.tree)
 whole_below p whole =
     All-permutation (λ b. b < length p.leaves) (range_with_len 0 (length p.leaves))
@@ -147,26 +147,26 @@ whole_below p whole =
     let within : k < length p.leaves = omega (arith, length-range_with_len 0 (length p.leaves)) in
     omega (arith, get_or-range_with_len 0 (length p.leaves) k d within))
 
--- there are as many as there are leaves
+-- the tree and the stash have as many blocks as there are leaves
 pub whole_length : (p : Places) → IsWhole p → length (all_blocks p.stash p.tree) ≡ length p.leaves
 whole_length p whole =
     length_permutation (range_with_len 0 (length p.leaves)) (all_blocks p.stash p.tree) whole.once
     ∙ length-range_with_len 0 (length p.leaves)
 
--- the stash holds no more blocks than there are
+-- the stash has at most as many blocks as there are leaves
 pub whole_stash : (p : Places) → IsWhole p → length p.stash ≤ length p.leaves
 whole_stash p whole = omega (arith, whole_length p whole, length-append p.stash (everything p.tree))
 
--- a block's leaf is one of the tree's
+-- a block's leaf is a leaf of the tree
 pub whole_leaf : (p : Places) (block shown : ℕ) → IsWhole p → block < length p.leaves → shown ≡ get_or p.leaves block 0
     → shown < 2 ^ p.height
 whole_leaf p block shown whole within is = subst (λ n. n < 2 ^ p.height) (sym is) (whole.leaves block 0 within)
 
--- a tree of height 12 has room for 4096 blocks
+-- a tree of height 12 or less has at most 4096 blocks
 pub whole_small : (p : Places) → IsWhole p → p.height ≤ 12 → length p.leaves ≤ 4096
 whole_small p whole low = omega (arith, whole.height.enough, pow_mono {i = p.height} {j = 12} low)
 
--- a list that was written over whole
+-- a list that was overwritten entirely
 pub overwritten : {X : Type 0} (n : ℕ) (new old : List X) → n ≡ length old → length new ≡ length old
     → take n (new ++ drop (length new) old) ≡ new
 overwritten n new old size same =

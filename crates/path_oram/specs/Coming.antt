@@ -1,4 +1,4 @@
--- Accesses one behind the other. Proofs, for the laws of the bank alone.
+-- For the proofs and for private clauses only: accesses in sequence, for the laws of the bank.
 use Rattle.std.proofs.Common.{◌≡◌, ℕ, suc, List, [], ◌∷◌, ◌++◌, length, get_or, set, refl, sym, ap, ◌∙◌, subst}
 use Rattle.std.proofs.lemmas.List.{length-map}
 use Rattle.rand_core.specs.Stream.{Stream, next_u64}
@@ -16,7 +16,7 @@ moves-then _ _ r _ _ more others (Then p block word between blocks words q by on
     Then p block word between (blocks ++ more) (words ++ others) r by
     (moves-then between q r blocks words more others one two)
 
--- the first words are those of one run and then those of the next
+-- the first words of two runs in sequence are those of the first run and then those of the second
 pub first_words-then : (blocks more : List ℕ) (words : Stream)
     → first_words (length (blocks ++ more)) words
     ≡ first_words (length blocks) words ++ first_words (length more) (words_left (length blocks) words)
@@ -36,7 +36,7 @@ leaves-each height leaves words (block ∷ blocks) =
     ap suc
     (leaves-each height (set leaves block (leaf_of height (next_u64 words).0)) (next_u64 words).1 blocks)
 
--- each access shows its path
+-- each access shows one path
 pub paths-each : (places : Places) (words : Stream) (blocks : List ℕ)
     → length (paths_ahead places words blocks) ≡ length blocks
 paths-each places words blocks =

@@ -1,6 +1,6 @@
--- Two runs on inputs that agree show the same leaves of each oblivious bank, but for which random word stands for
--- which; and which stands for which is told by the accesses alone, whatever the words are. Nothing is said of chance.
--- (Path ORAM, Stefanov et al., CCS 2013, in this project's profile.)
+-- Two runs on inputs that agree show the same leaves of each oblivious bank after a rearrangement of the random words.
+-- Only the accesses determine the rearrangement, and it serves for all words. Nothing is stated about chance. (Path
+-- ORAM, Stefanov et al., CCS 2013, in this project's profile.)
 use Rattle.std.specs.Prelude.{◌≡◌, ℕ, ◌+◌, ◌<◌, ◌≤◌, ℤ, List, length, slice_index}
 use Rattle.lt_isa.specs.Object.{Parts, blocks_of}
 use Rattle.lt_isa.specs.Start.{Agree, start_state}
@@ -8,11 +8,12 @@ use Rattle.banks.specs.Accesses.{accesses_from, in_bank}
 use Rattle.path_oram.specs.Rearranged.{IsRearrangement}
 use Rattle.path_oram.specs.WordsRead.{leaves_shown}
 
--- the blocks that a run accesses in a bank, in their order
+-- the blocks that a run accesses in a bank, in order
 abbrev pub touched : Parts → List (List ℤ) → ℕ → ℕ → List ℕ
 touched o inputs n b = in_bank b (accesses_from o (start_state o inputs) n)
 
--- as many accesses to a bank of so many blocks, and a rearrangement of the words for which they show the same leaves
+-- two lists of as many accesses to a bank of `count` blocks, and a rearrangement of the words with which they show the
+-- same leaves
 pub record ShowAlike (count : ℕ) (first second : List ℕ) : Type 0 where
   pub as_many : length second ≡ length first
   pub rearranged : List ℕ

@@ -1,5 +1,5 @@
--- Where the blocks go in accesses one after the other. (Stefanov et al., Path ORAM, CCS 2013, Access: the block gets a
--- fresh leaf, and its path is written back.)
+-- Where the blocks go in accesses in sequence. (Stefanov et al., Path ORAM, CCS 2013, Access: the block gets a fresh
+-- leaf, and its path is written back.)
 use Rattle.std.specs.Prelude.{◌≡◌, ℕ, List, [], ◌∷◌, slice_index, slice_set}
 use Rattle.path_oram.specs.Places.{Places}
 use Rattle.path_oram.specs.GreedyPath.{GreedyPath}

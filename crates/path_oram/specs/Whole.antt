@@ -5,12 +5,12 @@ use Rattle.std.specs.List.{All, range_with_len}
 use Rattle.std.specs.List.Sorted.{IsPermutation}
 use Rattle.path_oram.specs.Places.{Places, bucket_number, index_on, held, all_blocks}
 
--- the least height of a tree that has a leaf for each of so many blocks
+-- the least height of a tree that has a leaf for each of `count` blocks
 pub record IsHeightFor (count height : ℕ) : Type 0 where
   pub enough : count ≤ 2 ^ height
   pub least : (less : ℕ) → count ≤ 2 ^ less → height ≤ less
 
--- each block stands once, in the stash or in a bucket of its leaf's path
+-- each block is stored once, in the stash or in a bucket of its leaf's path
 pub record IsWhole (p : Places) : Type 0 where
   pub height : IsHeightFor (length p.leaves) p.height
   pub leaves : All (λ leaf. leaf < 2 ^ p.height) p.leaves

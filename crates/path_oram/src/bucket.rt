@@ -5,14 +5,14 @@ use std::marker::Model;
 /// The most blocks of a bucket.
 pub const SIZE: u32 = 4;
 
-/// A slot of a bucket or of the stash: a block with its leaf.
+/// A slot of a bucket or of the stash: a block and its leaf.
 #[derive(Clone, Copy, Debug)]
 pub struct Placed {
     pub block: u32,
     pub leaf: u32,
 }
 
-/// A bucket of the tree: at most four blocks, each with its leaf. Seen as the list of these slots.
+/// A bucket of the tree: at most four blocks, each with its leaf. Contracts see it as the list of these slots.
 #[derive(Debug, Drop)]
 pub struct Bucket {
     len: u32,
@@ -34,7 +34,7 @@ impl Model for Bucket {
 }
 
 impl Bucket {
-    /// A bucket that holds no block.
+    /// An empty bucket.
     pub fn new() -> Bucket
         ensures { result ≡ [] }
     {
@@ -44,7 +44,7 @@ impl Bucket {
         }
     }
 
-    /// The slots that hold a block.
+    /// The slots that hold blocks; the others are dummies.
     pub fn slots(&self) -> &[Placed]
         ensures slots { result.now ≡ self.now }
         ensures most { length self.now ≤ 4 }
@@ -52,7 +52,7 @@ impl Bucket {
         &self.at[..self.len as usize]
     }
 
-    /// Whether one more block has room.
+    /// Whether there is room for one more block.
     pub fn has_room(&self) -> bool
         ensures { result ≡ nat_lt (length self.now) 4 }
     {
@@ -68,7 +68,7 @@ impl Bucket {
         self.len += 1;
     }
 
-    /// Takes all blocks out.
+    /// Removes all blocks.
     pub fn clear(&mut self)
         ensures { self.new ≡ [] }
     {

@@ -9,7 +9,7 @@ use crate::paths::MAX_HEIGHT;
 use gr_base::Memory;
 use std::alloc::Global;
 
-/// The height of a tree with a leaf for each of so many blocks, the least that there is.
+/// The least height of a tree that has a leaf for each of `count` blocks.
 pub fn height_for(count: u32) -> u32
     requires most { count ≤ most_blocks 2 }
     ensures height { IsHeightFor count result }
@@ -23,7 +23,7 @@ pub fn height_for(count: u32) -> u32
     MAX_HEIGHT
 }
 
-/// The numbers of so many blocks, in order.
+/// The numbers of `count` blocks, in order.
 pub(crate) fn every_block(alloc: Global, count: u32) -> Result<Vec<u32>, Memory>
     ensures { IfOk result (λ blocks. blocks.items ≡ range_with_len 0 count) }
 {
@@ -34,7 +34,7 @@ pub(crate) fn every_block(alloc: Global, count: u32) -> Result<Vec<u32>, Memory>
     Ok(blocks)
 }
 
-/// A slot for each of the blocks that have these leaves, in order.
+/// A slot for each of the blocks with these leaves, in order.
 pub(crate) fn every_slot(alloc: Global, leaves: &[u32]) -> Result<Vec<Placed>, Memory>
     requires { length leaves.now < 2 ^ 32 }
     ensures { IfOk result
@@ -50,7 +50,7 @@ pub(crate) fn every_slot(alloc: Global, leaves: &[u32]) -> Result<Vec<Placed>, M
     Ok(slots)
 }
 
-/// So many buckets that hold no block.
+/// `count` empty buckets.
 pub(crate) fn empty_tree(alloc: Global, count: usize) -> Result<Vec<Bucket>, Memory>
     ensures { IfOk result (λ tree. tree.items ≡ replicate count []) }
 {

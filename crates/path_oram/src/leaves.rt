@@ -6,7 +6,7 @@ use gr_base::Memory;
 use rand_core::Rng;
 use std::alloc::Global;
 
-/// The leaf that a word makes in a tree of so many levels below the root: as many low bits of the word.
+/// The leaf that a word determines in a tree of this height: its lowest `height` bits.
 #[tactic(auto, using(std::proofs::lemmas::Nat::and_mask, crate::proofs::PathNumbers::calculated, crate::proofs::PathNumbers::small_numbers))]
 pub fn low_bits(word: u64, height: u32) -> u32
     requires { height ≤ 12 }
@@ -16,7 +16,7 @@ pub fn low_bits(word: u64, height: u32) -> u32
     (word & ((1 << height) - 1)) as u32
 }
 
-/// The leaves of so many blocks, for each of which a word is drawn, in order.
+/// The leaves of `count` blocks. A word is drawn for each block, in order.
 pub fn first_leaves<R: Rng>(
     alloc: Global,
     words: &mut R,

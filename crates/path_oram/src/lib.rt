@@ -1,12 +1,10 @@
-//! Path ORAM: a tree of buckets and a stash, where each block stands with its leaf, and the write-back after each
-//! access.
+//! Path ORAM: a tree of buckets and a stash, which hold each block with its leaf, and the write-back after each access.
 //!
-//! [`PathTree`] is the tree with its stash, without a position map: an access to a block names its leaf.
-//! [`PathOram`] is a bank of memory whose blocks stand so, over any source of random words. It alone has a
-//! position map. [`Positions`] says where the blocks stand, by their numbers alone. [`Positions::access`] shows the
-//! path of the leaf that it is told, gives the block a new leaf there, and leads from the places before to those after
-//! by the greedy write-back.
-//! Neither an access to positions nor one to a bank takes memory.
+//! [`PathTree`] is the tree with its stash, without a position map: the caller names the leaf of the block that it
+//! accesses. [`PathOram`] is a bank of memory that stores its blocks in such a tree, with any source of random words;
+//! it also has a position map. [`Positions`] has only the numbers of the blocks, and where each is.
+//! [`Positions::access`] shows the path of the leaf that it is given, assigns the block a new leaf, and writes the path
+//! back greedily. No access to positions or to a bank takes memory.
 #![tactic(auto)]
 
 pub mod bucket;

@@ -24,9 +24,9 @@ use rand_core::Rng;
 use std::alloc::Global;
 use std::marker::Model;
 
-/// An oblivious bank: a list of blocks whose accesses show nothing but paths of a tree, each chosen by a random word.
-/// Its position map is a list with the leaf of each block. Seen as the blocks, where they stand in the tree, and the
-/// source of words.
+/// An oblivious bank: a list of blocks whose accesses show only paths of a tree, each chosen by a random word. Its
+/// position map is a list with the leaf of each block. Contracts see it as the blocks, their places in the tree, and
+/// the source of words.
 #[derive(Drop)]
 pub struct PathOram<R: Rng + Drop> {
     words: R,
@@ -55,8 +55,8 @@ impl<R: Rng + Drop> Model for PathOram<R> {
 }
 
 impl<R: Rng + Drop> PathOram<R> {
-    /// A bank of these words, which are its blocks one behind the other. It draws a word for each block, in order,
-    /// which makes the block's first leaf. All later room is made here.
+    /// A bank of these words, which are its blocks in sequence. It draws a word for each block, in order, which
+    /// determines the block's first leaf. All memory that later calls need is reserved here.
     pub fn new(
         alloc: Global,
         words: R,
@@ -92,8 +92,8 @@ impl<R: Rng + Drop> PathOram<R> {
         PathOram::over(alloc, words, PlainBank::new(blocks, block_words))
     }
 
-    /// A bank of these blocks. It draws a word for each of them, in order, which makes the block's first leaf. All
-    /// later room is made here.
+    /// A bank of these blocks. It draws a word for each of them, in order, which determines the block's first leaf. All
+    /// memory that later calls need is reserved here.
     pub fn over(alloc: Global, words: R, blocks: PlainBank) -> Result<PathOram<R>, Memory>
         requires { length blocks.contents ≤ most_blocks 2 }
         ensures contents { IfOk result (λ oram. oram.contents ≡ blocks.contents) }
@@ -149,7 +149,7 @@ impl<R: Rng + Drop> PathOram<R> {
         self.leaves[at as usize]
     }
 
-    /// How many blocks the stash holds.
+    /// How many blocks are in the stash.
     pub fn stash_len(&self) -> u32
         ensures len { result ≡ length self.now.places.stash }
         ensures whole { IsWhole self.now.places }
@@ -157,8 +157,8 @@ impl<R: Rng + Drop> PathOram<R> {
         self.tree.stash_len()
     }
 
-    /// What stands at a place of the bucket of a level that is number `index` from the left, none where that is a
-    /// dummy.
+    /// The block at a place of a bucket, or `None` if the place is a dummy. The bucket is number `index` from the left
+    /// on its level.
     pub fn bucket(&self, level: u32, index: u32, place: u32) -> Option<u32>
         requires level { level ≤ self.now.places.height }
         requires index { index < 2 ^ level }
@@ -169,7 +169,7 @@ impl<R: Rng + Drop> PathOram<R> {
         self.tree.bucket(level, index, place)
     }
 
-    /// The level of the bucket that a block stands in, none where it is in the stash.
+    /// The level of the bucket that holds a block, or `None` if the block is in the stash.
     pub fn level(&self, at: u32) -> Option<u32>
         requires exists { at < length self.now.contents }
         ensures stands { StandsOn self.now.places at result }
@@ -178,7 +178,7 @@ impl<R: Rng + Drop> PathOram<R> {
         self.tree.level(at)
     }
 
-    // The leaf of a block before an access, and the one that a drawn word makes for it.
+    // The leaf of a block before an access, and the leaf that a drawn word determines for it.
     fn leaves_of(&mut self, at: u32) -> (u32, u32)
         requires { at < length self.old.contents }
         ensures contents { self.new.contents ≡ self.old.contents }
@@ -213,8 +213,8 @@ impl<R: Rng + Drop> Bank for PathOram<R> {
         self.tree.block_words()
     }
 
-    /// An access: fills the slice with a block. It shows the path of the leaf that the block had. The word that is drawn
-    /// makes the block's new leaf, and the path is written back.
+    /// An access: copies a block into the slice. It shows the path of the block's leaf. A word is drawn and determines
+    /// the block's new leaf, and the path is written back.
     fn read(&mut self, at: u32, into: &mut [i64]) -> Leaves
         requires exists { at < length self.old.contents }
         requires size { length into.old ≡ self.old.width }
@@ -241,7 +241,8 @@ impl<R: Rng + Drop> Bank for PathOram<R> {
         Leaves::one(old)
     }
 
-    /// An access: replaces one block by the slice's words. It shows, draws and writes back as `read` does.
+    /// An access: replaces one block by the slice's words. It shows a path, draws a word and writes the path back as
+    /// `read` does.
     fn write(&mut self, at: u32, from: &[i64]) -> Leaves
         requires exists { at < length self.old.contents }
         requires size { length from.now ≡ self.old.width }

@@ -9,7 +9,7 @@ use crate::bucket::{Bucket, Placed};
 /// The most levels below the root.
 pub const MAX_HEIGHT: u32 = 12;
 
-/// Which bucket of a level the path of a leaf passes through.
+/// The index of the bucket through which the path of a leaf passes on a level.
 #[tactic(auto, unfolding(crate::specs::Places::index_on))]
 pub(crate) fn index_at(height: u32, leaf: u32, level: u32) -> u32
     requires within { level ≤ height }
@@ -31,7 +31,7 @@ pub(crate) fn number_at(height: u32, leaf: u32, level: u32) -> usize
     ((1 << level) + index_at(height, leaf, level)) as usize
 }
 
-/// Whether the path of a leaf passes through the bucket that another leaf's path has on a level.
+/// Whether the path of a leaf passes through the bucket of another leaf's path on a level.
 pub(crate) fn passes_at(height: u32, own: u32, leaf: u32, level: u32) -> bool
     requires within { level ≤ height }
     requires height { height ≤ 12 }
@@ -40,7 +40,7 @@ pub(crate) fn passes_at(height: u32, own: u32, leaf: u32, level: u32) -> bool
     index_at(height, own, level) == index_at(height, leaf, level)
 }
 
-/// Whether a block stands in a bucket.
+/// Whether a bucket holds a block.
 pub(crate) fn stands_at(tree: &[Bucket], number: usize, block: u32) -> bool
     requires exists { number < length tree.now }
     ensures { IsTrue result ↔ Contains (held (tree_blocks tree.now) number) block }
@@ -48,7 +48,7 @@ pub(crate) fn stands_at(tree: &[Bucket], number: usize, block: u32) -> bool
     tree[number].contains(&block)
 }
 
-/// Whether a bucket has room.
+/// Whether there is room in a bucket.
 pub(crate) fn has_room(tree: &[Bucket], number: usize) -> bool
     requires exists { number < length tree.now }
     ensures { result ≡ nat_lt (length (held (tree_blocks tree.now) number)) 4 }
@@ -56,7 +56,7 @@ pub(crate) fn has_room(tree: &[Bucket], number: usize) -> bool
     tree[number].has_room()
 }
 
-/// Puts a block with its leaf into a bucket.
+/// Adds a block with its leaf to a bucket.
 pub(crate) fn put(tree: &mut [Bucket], number: usize, slot: Placed)
     requires exists { number < length tree.old }
     requires room { length (held (tree_blocks tree.old) number) < 4 }
@@ -65,7 +65,7 @@ pub(crate) fn put(tree: &mut [Bucket], number: usize, slot: Placed)
     tree[number].push(slot);
 }
 
-// Adds slots at the end of a vector that has room for them. It takes no memory.
+// Appends slots to a vector that has room for them. It takes no memory.
 fn extend_within(slots: &mut Vec<Placed>, more: &[Placed])
     requires { vec_len slots.old + length more.now ≤ vec_capacity slots.old }
     ensures items { slots.new.items ≡ slots.old.items ++ more.now }
@@ -77,7 +77,7 @@ fn extend_within(slots: &mut Vec<Placed>, more: &[Placed])
     }
 }
 
-// Pours a bucket into the stash, which has room for it.
+// Moves the blocks of a bucket into the stash, which has room for them.
 fn pour(tree: &mut [Bucket], number: usize, stash: &mut Vec<Placed>)
     requires exists { number < length tree.old }
     requires room { vec_len stash.old + length (slots_at tree.old number) ≤ vec_capacity stash.old }
@@ -90,7 +90,8 @@ fn pour(tree: &mut [Bucket], number: usize, stash: &mut Vec<Placed>)
     bucket.clear();
 }
 
-/// Pours each bucket of a leaf's path into the stash, which has room for all blocks. Each keeps its leaf.
+/// Moves the blocks of all buckets of a leaf's path into the stash, which has room for all blocks. Each block keeps its
+/// leaf.
 pub(crate) fn empty_path(tree: &mut [Bucket], stash: &mut Vec<Placed>, height: u32, leaf: u32)
     requires height { height ≤ 12 }
     requires leaf { leaf < 2 ^ height }

@@ -16,8 +16,8 @@ use gr_base::Memory;
 use std::alloc::Global;
 use std::marker::Model;
 
-/// Where the blocks of an oblivious bank stand: the tree with its stash, in which each block stands with its leaf.
-/// There is no list of leaves besides. Seen as the blocks in the tree and in the stash, and the leaf beside each.
+/// The positions of the blocks of an oblivious bank: the tree with its stash, which hold each block with its leaf.
+/// There is no other list of leaves. Contracts see it as the blocks in the tree and in the stash, and the leaf of each.
 #[derive(Debug, Drop)]
 pub struct Positions {
     count: u32,
@@ -46,8 +46,8 @@ impl Model for Positions {
 }
 
 impl Positions {
-    /// Every block in the stash and every bucket empty. There is a block for each of the leaves, and `height` is that
-    /// of a tree for so many. All later room is made here.
+    /// All blocks in the stash, and all buckets empty. There is a block for each of the leaves, and `height` is that of
+    /// a tree for this number of blocks. All memory that later calls need is reserved here.
     pub fn new(alloc: Global, height: u32, leaves: Vec<u32>) -> Result<Positions, Memory>
         requires most { length leaves.items ≤ most_blocks 2 }
         requires height { IsHeightFor (length leaves.items) height }
@@ -74,7 +74,7 @@ impl Positions {
         self.height
     }
 
-    /// How many blocks there are.
+    /// The number of blocks.
     pub fn blocks(&self) -> u32
         ensures count { result ≡ length self.now.leaves }
         ensures whole { IsWhole self.now }
@@ -82,7 +82,7 @@ impl Positions {
         self.count
     }
 
-    /// A block's leaf, which is looked for in the stash and in every bucket.
+    /// A block's leaf, which is searched for in the stash and then in each bucket.
     pub fn leaf(&self, block: u32) -> u32
         requires exists { block < length self.now.leaves }
         ensures leaf { result ≡ slice_index self.now.leaves block }
@@ -94,7 +94,7 @@ impl Positions {
         }
     }
 
-    /// How many blocks the stash holds.
+    /// How many blocks are in the stash.
     pub fn stash_len(&self) -> u32
         ensures len { result ≡ length self.now.stash }
         ensures whole { IsWhole self.now }
@@ -102,7 +102,7 @@ impl Positions {
         self.stash.len() as u32
     }
 
-    /// The bucket of a level that is number `index` from the left.
+    /// Bucket number `index` from the left on a level.
     pub fn bucket(&self, level: u32, index: u32) -> &Bucket
         requires level { level ≤ self.now.height }
         requires index { index < 2 ^ level }
@@ -112,7 +112,7 @@ impl Positions {
         &self.tree[((1 << level) + index) as usize]
     }
 
-    /// The level of the bucket that a block stands in, none where it is in the stash.
+    /// The level of the bucket that holds a block, or `None` if the block is in the stash.
     pub fn level(&self, block: u32) -> Option<u32>
         requires exists { block < length self.now.leaves }
         ensures stands { StandsOn self.now block result }
@@ -131,8 +131,8 @@ impl Positions {
         None
     }
 
-    /// One access to a block, whose leaf is `old` and which gets the leaf `new`: the path of `old` is poured into the
-    /// stash, the block gets its leaf there, and the path is written back. It takes no memory.
+    /// One access to a block whose leaf is `old`, and which gets the leaf `new`: the path of `old` is moved into the
+    /// stash, the block gets its new leaf, and the path is written back. It takes no memory.
     pub fn access(&mut self, block: u32, old: u32, new: u32)
         requires exists { block < length self.old.leaves }
         requires old { old ≡ slice_index self.old.leaves block }

@@ -8,8 +8,9 @@ use crate::first::every_block;
 use gr_base::Memory;
 use std::alloc::Global;
 
-/// Which of the random words the leaf of each access is made of, where so many blocks draw the first of them and each
-/// access draws one: the block's own word at its first access, and then the word that the last access to it drew.
+/// The numbers of the random words that determine the leaf of each access, if `count` blocks draw the first words and
+/// each access draws one. At its first access a block reads its own word, and then the word that the last access to it
+/// drew.
 pub fn words_read(alloc: Global, count: u32, blocks: &[u32]) -> Result<Vec<u32>, Memory>
     requires exist { All (λ block. block < count) blocks.now }
     requires fits { count + length blocks.now < 2 ^ 32 }
@@ -35,7 +36,7 @@ fn read_and_next(alloc: Global, count: u32, blocks: &[u32]) -> Result<(Vec<u32>,
     Ok((numbers, last))
 }
 
-// The words that a run reads, and then those that are left, in rising order.
+// The words that a run reads, and then all others, in rising order.
 fn words_in_order(alloc: Global, count: u32, blocks: &[u32]) -> Result<Vec<u32>, Memory>
     requires exist { All (λ block. block < count) blocks.now }
     requires fits { count + length blocks.now < 2 ^ 32 }
@@ -47,7 +48,7 @@ fn words_in_order(alloc: Global, count: u32, blocks: &[u32]) -> Result<Vec<u32>,
     Ok(order)
 }
 
-// The list whose entry at each number of `from` is the number of `to` beside it.
+// The list that has, at each number of `from`, the number of `to` at the same index.
 fn paired(alloc: Global, from: &[u32], to: &[u32]) -> Result<Vec<u32>, Memory>
     requires once { IsPermutation (range_with_len 0 (length from.now)) from.now }
     requires same { length to.now ≡ length from.now }
@@ -62,8 +63,8 @@ fn paired(alloc: Global, from: &[u32], to: &[u32]) -> Result<Vec<u32>, Memory>
     Ok(pairs)
 }
 
-/// How the words of one run stand for those of another of as many accesses: with the words of the first run put where
-/// this list says, the second run shows the same leaves.
+/// A rearrangement of the words of one run for another run with as many accesses: if each word of the first run is
+/// moved to the number that this list has for it, the second run shows the same leaves.
 pub fn rearrange(
     alloc: Global,
     count: u32,

@@ -4,7 +4,7 @@ ghost use Rattle.path_oram.specs.Slots.{AllHaveLeaves, HaveLeaves, blocks_in, tr
 
 use crate::bucket::{Bucket, Placed};
 
-/// The leaf beside a block in some slots, none where they don't hold the block.
+/// The leaf of a block in some slots, or `None` if the block isn't there.
 pub(crate) fn leaf_among(slots: &[Placed], block: u32) -> Option<u32>
     ensures leaf { IfSome result
         (λ leaf. (leaves : List ℕ) → HaveLeaves leaves slots.now → leaf ≡ slice_index leaves block) }
@@ -19,7 +19,7 @@ pub(crate) fn leaf_among(slots: &[Placed], block: u32) -> Option<u32>
     None
 }
 
-/// The leaf beside a block that some bucket holds.
+/// The leaf of a block that some bucket holds.
 pub(crate) fn leaf_in_tree(tree: &[Bucket], block: u32) -> u32
     requires there { Contains (flat_map (λ bucket. bucket) (tree_blocks tree.now)) block }
     ensures { (leaves : List ℕ) → AllHaveLeaves leaves tree.now → result ≡ slice_index leaves block }
@@ -32,7 +32,7 @@ pub(crate) fn leaf_in_tree(tree: &[Bucket], block: u32) -> u32
     unreachable!()
 }
 
-// A slot, with another leaf where it holds a block.
+// A slot, with another leaf if it holds this block.
 fn given(slot: Placed, block: u32, leaf: u32) -> Placed
     ensures { result ≡ with_leaf block leaf slot }
 {
@@ -42,7 +42,7 @@ fn given(slot: Placed, block: u32, leaf: u32) -> Placed
     slot
 }
 
-/// Gives a block another leaf, in the slot that holds it.
+/// Gives a block another leaf, in its slot.
 pub(crate) fn give_leaf(stash: &mut Vec<Placed>, block: u32, leaf: u32)
     ensures slots { stash.new.items ≡ map (with_leaf block leaf) stash.old.items }
     ensures capacity { vec_capacity stash.new ≡ vec_capacity stash.old }
@@ -67,7 +67,7 @@ impl Bucket {
         leaf_among(self.slots(), *block).is_some()
     }
 
-    /// The block at a place, none where that is a dummy.
+    /// The block at a place, or `None` if the place is a dummy.
     pub fn block(&self, place: usize) -> Option<u32>
         ensures { result ≡ slice_get (blocks_in self.now) place }
     {

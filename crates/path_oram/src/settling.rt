@@ -8,7 +8,7 @@ use crate::bucket::{Bucket, Placed};
 use crate::paths::{empty_path, has_room, number_at, passes_at, put};
 use crate::scan::give_leaf;
 
-// The deepest level of a leaf's path that has room and where a block with the leaf `own` may stand.
+// The deepest level of a leaf's path that has room and where a block with the leaf `own` is allowed.
 fn room_for(tree: &[Bucket], height: u32, leaf: u32, own: u32) -> Option<u32>
     requires height { height ≤ 12 }
     requires leaf { leaf < 2 ^ height }
@@ -25,7 +25,7 @@ fn room_for(tree: &[Bucket], height: u32, leaf: u32, own: u32) -> Option<u32>
     None
 }
 
-// Whether a block with the leaf `own` may stand on a level of a leaf's path, and has room there.
+// Whether a block with the leaf `own` is allowed on a level of a leaf's path, and has room there.
 fn fits_on(tree: &[Bucket], height: u32, leaf: u32, level: u32, own: u32) -> bool
     requires height { height ≤ 12 }
     requires leaf { leaf < 2 ^ height }
@@ -38,8 +38,8 @@ fn fits_on(tree: &[Bucket], height: u32, leaf: u32, level: u32, own: u32) -> boo
     passes_at(height, own, leaf, level) && has_room(tree, number_at(height, leaf, level))
 }
 
-/// Settles the blocks of the stash into the buckets of a leaf's path, which are empty: each block goes to the deepest
-/// of them where it may stand and that has room, and else stays. Each keeps its leaf.
+/// Moves the blocks of the stash into the buckets of a leaf's path, which are empty. Each block goes to the deepest of
+/// them where it is allowed and that has room, and otherwise stays. Each keeps its leaf.
 pub(crate) fn settle(tree: &mut [Bucket], stash: &mut Vec<Placed>, height: u32, leaf: u32)
     requires height { height ≤ 12 }
     requires leaf { leaf < 2 ^ height }
@@ -66,7 +66,7 @@ pub(crate) fn settle(tree: &mut [Bucket], stash: &mut Vec<Placed>, height: u32, 
     }
 }
 
-/// One access to a block along the path of its leaf `old`: the path is poured into the stash, which has room for all
+/// One access to a block along the path of its leaf `old`: the path is moved into the stash, which has room for all
 /// blocks, the block gets the leaf `new`, and the path is written back.
 pub(crate) fn access_path(
     tree: &mut [Bucket],

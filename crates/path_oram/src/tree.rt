@@ -17,8 +17,8 @@ use gr_base::Memory;
 use std::alloc::Global;
 use std::marker::Model;
 
-/// The tree of Path ORAM with its stash, without a position map: each block stands there with its leaf, and whoever
-/// accesses a block says which leaf that is. Seen as the blocks, the number of words of each, and where they stand.
+/// The tree of Path ORAM with its stash, without a position map: it holds each block with its leaf, and the caller of
+/// an access names that leaf. Contracts see it as the blocks, the number of words of each, and their places.
 #[derive(Debug, Drop)]
 pub struct PathTree {
     blocks: PlainBank,
@@ -41,8 +41,8 @@ impl Model for PathTree {
 }
 
 impl PathTree {
-    /// A tree of these words, which are its blocks one behind the other, with these leaves, one for each block. Every
-    /// block is in the stash. All later room is made here.
+    /// A tree of these words, which are its blocks in sequence, with one leaf for each block. All blocks are in the
+    /// stash. All memory that later calls need is reserved here.
     pub fn new(
         alloc: Global,
         blocks: Vec<i64>,
@@ -68,8 +68,8 @@ impl PathTree {
         PathTree::over(alloc, PlainBank::new(blocks, block_words), height, leaves)
     }
 
-    /// A tree of this height over these blocks, with these leaves, one for each block. Every block is in the stash. All
-    /// later room is made here.
+    /// A tree of this height over these blocks, with one leaf for each block. All blocks are in the stash. All memory
+    /// that later calls need is reserved here.
     pub fn over(
         alloc: Global,
         blocks: PlainBank,
@@ -89,7 +89,7 @@ impl PathTree {
         Ok(PathTree { blocks, positions })
     }
 
-    /// How many blocks there are.
+    /// The number of blocks.
     pub fn blocks(&self) -> u32
         ensures count { result ≡ length self.now.contents }
         ensures tree { IsTree self.now }
@@ -97,7 +97,7 @@ impl PathTree {
         self.positions.blocks()
     }
 
-    /// How many words a block has.
+    /// The number of words of a block.
     pub fn block_words(&self) -> u32
         ensures { result ≡ self.now.width }
     {
@@ -122,7 +122,7 @@ impl PathTree {
         self.positions.leaf(at)
     }
 
-    /// How many blocks the stash holds.
+    /// How many blocks are in the stash.
     pub fn stash_len(&self) -> u32
         ensures len { result ≡ length self.now.places.stash }
         ensures tree { IsTree self.now }
@@ -130,8 +130,8 @@ impl PathTree {
         self.positions.stash_len()
     }
 
-    /// What stands at a place of the bucket of a level that is number `index` from the left, none where that is a
-    /// dummy.
+    /// The block at a place of a bucket, or `None` if the place is a dummy. The bucket is number `index` from the left
+    /// on its level.
     pub fn bucket(&self, level: u32, index: u32, place: u32) -> Option<u32>
         requires level { level ≤ self.now.places.height }
         requires index { index < 2 ^ level }
@@ -142,7 +142,7 @@ impl PathTree {
         self.positions.bucket(level, index).block(place as usize)
     }
 
-    /// The level of the bucket that a block stands in, none where it is in the stash.
+    /// The level of the bucket that holds a block, or `None` if the block is in the stash.
     pub fn level(&self, at: u32) -> Option<u32>
         requires exists { at < length self.now.contents }
         ensures stands { StandsOn self.now.places at result }
@@ -151,7 +151,7 @@ impl PathTree {
         self.positions.level(at)
     }
 
-    /// A word of a block. This is no access, and changes nothing.
+    /// A word of a block. This isn't an access, and it changes nothing.
     pub fn word(&self, at: u32, index: u32) -> i64
         requires exists { at < length self.now.contents }
         requires within { index < self.now.width }
@@ -160,7 +160,7 @@ impl PathTree {
         self.blocks.word(at, index)
     }
 
-    /// An access to a block, whose leaf is `old` and which gets the leaf `new`: fills the slice with the block.
+    /// An access to a block whose leaf is `old`, and which gets the leaf `new`: copies the block into the slice.
     pub fn fetch(&mut self, at: u32, old: u32, new: u32, into: &mut [i64])
         requires exists { at < length self.old.contents }
         requires old { old ≡ slice_index self.old.places.leaves at }
@@ -176,7 +176,7 @@ impl PathTree {
         self.positions.access(at, old, new);
     }
 
-    /// An access to a block, whose leaf is `old` and which gets the leaf `new`: replaces the block by the slice.
+    /// An access to a block whose leaf is `old`, and which gets the leaf `new`: replaces the block by the slice.
     pub fn store(&mut self, at: u32, old: u32, new: u32, from: &[i64])
         requires exists { at < length self.old.contents }
         requires old { old ≡ slice_index self.old.places.leaves at }
@@ -191,8 +191,8 @@ impl PathTree {
         self.positions.access(at, old, new);
     }
 
-    /// An access to a block, whose leaf is `old` and which gets the leaf `new`: replaces a word of the block, and
-    /// answers the one before.
+    /// An access to a block whose leaf is `old`, and which gets the leaf `new`: replaces a word of the block, and
+    /// returns the old word.
     pub fn swap_word(&mut self, at: u32, old: u32, new: u32, word: u32, value: i64) -> i64
         requires exists { at < length self.old.contents }
         requires old { old ≡ slice_index self.old.places.leaves at }

@@ -4,7 +4,7 @@ use Rattle.path_oram.specs.Pouring.{poured}
 use Rattle.path_oram.specs.Slots.{AllHaveLeaves, HaveLeaves, blocks_in, tree_blocks}
 use Rattle.path_oram.proofs.paths.empty_path.Given as goal
 
--- the buckets above `level` are empty
+-- the buckets of the path above `level` are empty
 abbrev pub invariant-loop-level : goal.invariant-loop-level
 invariant-loop-level l = record {
   tree : tree_blocks l.tree ≡ poured (on_path l.height l.leaf) (tree_blocks l.initial.tree) l.level;

@@ -3,7 +3,7 @@ use Rattle.path_oram.specs.Slots.{with_leaf}
 use Rattle.path_oram.proofs.Slots.{changed_before}
 use Rattle.path_oram.proofs.scan.give_leaf.Given as goal
 
--- the slots before `place` have been looked at
+-- the slots before `place` have their new leaves
 abbrev pub invariant-loop-place : goal.invariant-loop-place
 invariant-loop-place l = record {
   slots : l.stash.items ≡ changed_before (with_leaf l.block l.leaf) l.initial.stash.items l.place;

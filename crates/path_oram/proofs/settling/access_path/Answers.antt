@@ -9,7 +9,7 @@ use Rattle.path_oram.proofs.Slots.{blocks_given, count_blocks, count_buckets, gi
 use Rattle.path_oram.proofs.Beside.{beside_have}
 use Rattle.path_oram.proofs.settling.access_path.Goals as goal
 
--- what is settled from the hand is written back
+-- the path is written back after the blocks of the hand were moved into it
 written : (height : ℕ) (leaves : List ℕ) (leaf : ℕ) (before empty after : List (List ℕ)) (old hand stash : List ℕ)
     (kept : ℕ)
     → empty ≡ poured (on_path height leaf) before (suc height)

@@ -3,7 +3,7 @@ use Rattle.path_oram.specs.Settling.{NoneFrom}
 use Rattle.path_oram.specs.Slots.{tree_blocks}
 use Rattle.path_oram.proofs.settling.room_for.Given as goal
 
--- no level from `above` on will do
+-- no level from `above` on has room and allows the block
 abbrev pub invariant-loop-above : goal.invariant-loop-above
 invariant-loop-above l = record {
   within : l.above ≤ l.height + 1;

@@ -16,6 +16,6 @@ invariant-loop-kept l = record {
   capacity : vec_capacity l.stash ≡ vec_capacity l.initial.stash;
 }
 
--- the slots that have not been looked at
+-- the slots that weren't tried yet
 abbrev pub decreases-loop-kept : goal.decreases-loop-kept
 decreases-loop-kept l = length l.stash.items - l.kept
