@@ -1,4 +1,4 @@
--- The first piece of a text is what its splitting begins with, and there is no other.
+-- The splitting of a text begins with the piece that is found first, and with no other.
 use Rattle.std.proofs.Common.{◌≡◌, ◌⊎◌, inl, inr, ℕ, zero, suc, ◌+◌, ◌<◌, ◌≤◌, Bool, true, false, List, [], ◌∷◌, ◌++◌, length, drop, refl, ap, subst, arith, Option, Some, None, Err}
 use Rattle.std.specs.Prelude.{slice_index, if◌then◌else◌}
 use Rattle.std.specs.List.{prefix_len, take_while}
@@ -14,7 +14,7 @@ use Rattle.src_lexer.specs.Splits.{Lexed, with_token, token_at, IsLongest, Split
 use Rattle.src_lexer.specs.Found.{Found, Skipped, Piece, Faulty, run_found, single_found, sign_found, found_in}
 use Rattle.src_lexer.proofs.Longest.{prefix_each, prefix_ends}
 
--- what the first piece says of how a text splits
+-- what the first piece says about the splitting of a text
 abbrev pub Allows : ℕ → List ℕ → Found → Type 0
 Allows at text (Skipped n) =
     (0 < n) × (n ≤ length text) × ((r : Lexed) → Splits (at + n) (drop n text) r → Splits at text r)
@@ -29,7 +29,7 @@ longest p text = record { each = prefix_each p text; ends = prefix_ends p text }
 splits_at : {r : Lexed} (at : ℕ) (xs ys : List ℕ) → xs ≡ ys → Splits at xs r → Splits at ys r
 splits_at {r} at xs ys e s = subst (λ z. Splits at z r) e s
 
--- the same text from the same place, by another sum
+-- the same splitting, from the same place written as another sum
 pub place_at : {r : Lexed} {text : List ℕ} (a b : ℕ) → a ≡ b → Splits a text r → Splits b text r
 place_at {r} {text} a b e s = subst (λ z. Splits z text r) e s
 
@@ -115,6 +115,6 @@ byte_allows at b rest true name w n = (omega arith, omega arith, λ r s. Blank w
 byte_allows at b rest false true w n = run_allows at (b ∷ rest) (positive is_name_byte b rest n) _ refl
 byte_allows at b rest false false w n = sign_allows at b rest w n _ refl (some_or_apart b rest)
 
--- the piece that is found at the front of a text may stand there
+-- the piece that is found first may begin the splitting
 pub found_allows : (at b : ℕ) (rest : List ℕ) → Allows at (b ∷ rest) (found_in at (b ∷ rest))
 found_allows at b rest = byte_allows at b rest (is_white b) (is_name_byte b) refl refl

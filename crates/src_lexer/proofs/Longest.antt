@@ -1,4 +1,4 @@
--- Longest pieces of a text.
+-- Longest runs at the beginning of a text.
 use Rattle.std.proofs.Common.{◌≡◌, ◌⊎◌, inl, inr, ℕ, suc, ◌+◌, Bool, true, false, cond, List, [], ◌∷◌, ◌++◌, length, take, drop, refl, ap, ◌∙◌, arith}
 use Rattle.std.specs.Prelude.{slice_index}
 use Rattle.std.specs.List.{prefix_len, list_all}
@@ -12,7 +12,7 @@ each_step : (p : ℕ → Bool) (x : ℕ) (xs : List ℕ) (b : Bool) → p x ≡ 
 each_step p x xs true e h = rw (one_and (prefix_len p xs)) (and_from _ _ e h)
 each_step p x xs false e h = refl
 
--- all bytes of a longest front pass
+-- all bytes of the longest run pass the test
 pub prefix_each : (p : ℕ → Bool) (xs : List ℕ) → list_all p (take (prefix_len p xs) xs) ≡ true
 prefix_each p [] = refl
 prefix_each p (x ∷ xs) = each_step p x xs (p x) refl (prefix_each p xs)
@@ -24,7 +24,7 @@ ends_step : (p : ℕ → Bool) (x : ℕ) (xs : List ℕ) (b : Bool)
 ends_step p x xs true e h = rw (one_and (prefix_len p xs)) h
 ends_step p x xs false e h = inr e
 
--- and the byte behind it doesn't
+-- the byte after the longest run doesn't pass the test
 pub prefix_ends : (p : ℕ → Bool) (xs : List ℕ)
     → (drop (prefix_len p xs) xs ≡ []) ⊎ (p (slice_index (drop (prefix_len p xs) xs) 0) ≡ false)
 prefix_ends p [] = inl refl
@@ -35,7 +35,7 @@ stop_step p [] h = refl
 stop_step p (x ∷ rest) (inl e) = absurd (cc)
 stop_step p (x ∷ rest) (inr e) = ap (λ b. cond b (1 + prefix_len p rest) 0) e
 
--- a front whose bytes pass, before one that doesn't, is the longest
+-- a run whose bytes pass, before a byte that doesn't, is the longest
 pub longest_prefix : (p : ℕ → Bool) (xs rest : List ℕ)
     → list_all p xs ≡ true → (rest ≡ []) ⊎ (p (slice_index rest 0) ≡ false) → prefix_len p (xs ++ rest) ≡ length xs
 longest_prefix p [] rest all ends = stop_step p rest ends

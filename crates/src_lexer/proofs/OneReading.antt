@@ -13,7 +13,7 @@ use Rattle.src_lexer.specs.Splits.{Lexed, with_token, token_at, IsLongest, Start
 use Rattle.src_lexer.specs.Found.{Found, Skipped, Piece, Faulty, run_found, single_found, sign_found, found_in}
 use Rattle.src_lexer.proofs.Longest.{longest_prefix}
 
--- what a first piece makes of the reading of the rest
+-- the result for a text, from its first piece and the result for the rest
 abbrev next : ℕ → Found → (ℕ → Lexed) → Lexed
 next at (Skipped n) rest = rest n
 next at (Piece k n) rest = with_token (token_at k at n) (rest n)
@@ -101,7 +101,7 @@ after_two : (b c : ℕ) (line rest : List ℕ) → drop (2 + length line) (b ∷
 after_two b c line rest =
     let e : 2 + length line ≡ suc (suc (length line)) = omega arith in rw e (drop-append_seam line rest)
 
--- a text that splits so is read so
+-- a text that splits into a result is read with that result
 pub only : {at : ℕ} {text : List ℕ} {r : Lexed}
     → Splits at text r → (fuel : ℕ) → length text ≤ fuel → lexed fuel at text ≡ r
 only Ends fuel h = refl
@@ -157,6 +157,6 @@ only {at} (Bad {b = b} {rest = rest} starts is apart) (suc fuel) h =
 pub one_reading : (at : ℕ) (text : List ℕ) (a b : Lexed) → Splits at text a → Splits at text b → a ≡ b
 one_reading at text a b s t = sym (only s (length text) (omega arith)) ∙ only t (length text) (omega arith)
 
--- and into one list of tokens
+-- a text splits into at most one list of tokens
 pub same_tokens : (at : ℕ) (text : List ℕ) (a b : List Token) → Splits at text (Ok a) → Splits at text (Ok b) → a ≡ b
 same_tokens at text a b s t = let e = one_reading at text (Ok a) (Ok b) s t in cc

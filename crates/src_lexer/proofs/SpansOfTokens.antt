@@ -1,4 +1,4 @@
--- The tokens of a text stand in order, each on the bytes that spell it.
+-- The tokens of a text are in order, each at the bytes that are its text.
 use Rattle.std.proofs.Common.{◌≡◌, ℕ, ◌+◌, ◌<◌, ◌≤◌, List, [], ◌∷◌, ◌++◌, length, length-append, take, drop, sym, ap, ◌∙◌, subst, arith, Ok, Err}
 use Rattle.std.proofs.lemmas.List.{drop-drop}
 use Rattle.std.proofs.Math.Seq.{take-append_seam, drop-append_seam}
@@ -61,7 +61,7 @@ front text piece rest k at e s =
 line_length : (a b : ℕ) (line : List ℕ) → 2 + length line ≡ length (a ∷ b ∷ line)
 line_length a b line = omega arith
 
--- each token lies on its slice of the text
+-- the bytes of each token's span are its text
 pub slices : {at : ℕ} {part : List ℕ} {r : Lexed}
     → Splits at part r → (text : List ℕ) → drop at text ≡ part → SlicesOf text r
 slices Ends text e = tt
@@ -82,6 +82,6 @@ slices _ text e = tt
 none_before : (text : List ℕ) → 0 + length text ≡ length text
 none_before text = omega arith
 
--- the tokens of a text lie in it in order
+-- the spans of the tokens of a text are in order
 pub spans_of_text : (text : List ℕ) (tokens : List Token) → Splits 0 text (Ok tokens) → InOrder 0 (length text) tokens
 spans_of_text text tokens s = subst (λ z. InOrder 0 z tokens) (none_before text) (spans s)

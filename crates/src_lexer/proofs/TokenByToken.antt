@@ -1,4 +1,4 @@
--- A text is read piece by piece.
+-- Reading a text piece by piece.
 use Rattle.std.proofs.Common.{◌≡◌, ◌⊎◌, inl, inr, ℕ, ◌+◌, ◌<◌, ◌≤◌, List, [], ◌∷◌, ◌++◌, length, drop, refl, sym, ap, subst, append_assoc, length-drop, arith, Ok, Err}
 use Rattle.std.proofs.lemmas.List.{append-nil, drop-drop, drop_all}
 use Rattle.src_lexer.specs.declared.tokens.TokenKind.{TokenKind}
@@ -8,12 +8,12 @@ use Rattle.src_lexer.specs.Splits.{Lexed, with_token, token_at, Splits, Ends}
 use Rattle.src_lexer.specs.Found.{Found, Skipped, Piece, Faulty, found_in}
 use Rattle.src_lexer.proofs.FirstPieces.{Allows, found_allows}
 
--- some tokens, and then the others
+-- prepends tokens to a result
 abbrev pub behind : List Token → Lexed → Lexed
 behind tokens (Ok more) = Ok (tokens ++ more)
 behind tokens (Err e) = Err e
 
--- these tokens were read, and the reading stands at this byte
+-- these tokens were read, and reading has got to this byte
 pub record Stands (text : List ℕ) (at : ℕ) (tokens : List Token) : Type 0 where
   pub inside : at ≤ length text
   pub leads : (r : Lexed) → Splits at (drop at text) r → Splits 0 text (behind tokens r)
@@ -41,12 +41,12 @@ allowed : (text : List ℕ) (at : ℕ) (f : Found)
     → at < length text → found_in at (drop at text) ≡ f → Allows at (drop at text) f
 allowed text at f h is = subst (λ z. Allows at (drop at text) z) is (allows at (drop at text) (some_left text at h))
 
--- what the first piece of a rest is, which is given as a text of its own
+-- the first piece of the rest of a text, which is given as another text
 first_piece : (text : List ℕ) (at : ℕ) {rest : List ℕ} (f : Found)
     → at < length text → rest ≡ drop at text → f ≡ found_in at rest → Allows at (drop at text) f
 first_piece text at f h is e = allowed text at f h (subst (λ z. found_in at z ≡ f) is (sym e))
 
--- a piece that is no token is passed
+-- white space or a comment is skipped
 pub skips_from : {text rest : List ℕ} {at n : ℕ} {tokens : List Token} → Stands text at tokens → at < length text
     → rest ≡ drop at text → Skipped n ≡ found_in at rest → Stands text (at + n) tokens
 skips_from {text} {at = at} {n} s h is e =
@@ -58,7 +58,7 @@ skips_from {text} {at = at} {n} s h is e =
       leads = λ r t. s.leads r (a.2 r (subst (λ z. Splits (at + n) z r) (sym (drop-drop n at text)) t));
     }
 
--- one more token is taken
+-- one more token is added
 pub takes_from : {text rest : List ℕ} {at n : ℕ} {k : TokenKind} {tokens : List Token}
     → Stands text at tokens → at < length text → rest ≡ drop at text → Piece k n ≡ found_in at rest
     → Stands text (at + n) (tokens ++ token_at k at n ∷ [])
@@ -73,13 +73,13 @@ takes_from {text} {at = at} {n} {k} {tokens} s h is e =
           (a.2 r (subst (λ z. Splits (at + n) z r) (sym (drop-drop n at text)) t)));
     }
 
--- a fault behind the tokens so far is the text's
+-- an error after the tokens so far is the text's
 pub fault_from : {text rest : List ℕ} {at : ℕ} {e m : LexError} {tokens : List Token} → Stands text at tokens
     → at < length text → rest ≡ drop at text → (e ≡ m) ⊎ (found_in at rest ≡ Faulty e) → (e ≡ m) ⊎ Splits 0 text (Err e)
 fault_from s h is (inl memory) = inl memory
 fault_from {text} {at = at} {e} s h is (inr f) = inr (s.leads (Err e) (first_piece text at (Faulty e) h is (sym f)))
 
--- the tokens so far are all tokens at the end of the text
+-- at the end of the text the tokens so far are all its tokens
 pub all_read : {text : List ℕ} {at : ℕ} {tokens : List Token}
     → Stands text at tokens → length text ≤ at → Splits 0 text (Ok tokens)
 all_read {text} {at} {tokens} s h =

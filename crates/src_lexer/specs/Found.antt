@@ -7,7 +7,7 @@ use Rattle.src_lexer.specs.declared.errors.LexError.{LexError}
 use Rattle.src_lexer.specs.declared.errors.LexError.TheVariants as error
 use Rattle.src_lexer.specs.Pieces.{is_white, is_in_line, LetterRun, Is, Big, Long, Mixed, letter_run_of, sign_of, BytePair, Two, Slashes, Apart, pair_of}
 
--- so many bytes that are no token; a token of so many bytes; or a fault
+-- white space or a comment of this length; a token of this length; or an error
 pub data Found : Type 0 where
   Skipped : (size : ℕ) → Found
   Piece : (k : TokenKind) (size : ℕ) → Found

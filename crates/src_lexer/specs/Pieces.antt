@@ -1,4 +1,4 @@
--- The pieces of a source text and how they are spelled (this project's profile).
+-- The pieces of a source text, and how they are written (this project's profile).
 use Rattle.std.specs.Prelude.{ℕ, ◌^◌, ◌-◌, nat_le, nat_lt, Bool, true, false, ◌==◌, ◌||◌, if◌then◌else◌, pos, List, length, take, slice_index, codes, bytes_eq, Option, Some, None}
 use Rattle.std.specs.List.{prefix_len}
 use Rattle.std.specs.Char.{is_ascii_digit}
@@ -14,16 +14,15 @@ is_white b = (b == 32) || ((b == 9) || ((b == 10) || (b == 13)))
 abbrev pub is_in_line : ℕ → Bool
 is_in_line b = if b == 10 then false else true
 
--- what a run of letters, digits and `_` is: a token; a number that is too big; a name that is too long; or a number
--- with a letter or `_` behind so many digits
+-- a run of letters, digits and `_`, classified: a token; a number that is too big; a name that is too long; or a number
+-- of this many digits with a letter or `_` directly after it
 pub data LetterRun : Type 0 where
   Is : (k : TokenKind) → LetterRun
   Big : LetterRun
   Long : LetterRun
   Mixed : (digits : ℕ) → LetterRun
 
--- a run that starts with a digit: its digits write a number up to 2^63 - 1, leading zeros allowed, and nothing stands
--- behind them
+-- a run that starts with a digit: it consists of digits, which may begin with zeros, and its value is at most 2^63 - 1
 unfoldable pub number_run : List ℕ → LetterRun
 number_run run =
     if nat_lt (2 ^ 63 - 1) (digits_value 10 (take (prefix_len is_ascii_digit run) run)) then Big
@@ -58,7 +57,7 @@ sign_of b =
     else (if b == 37 then Some kind.Percent else (if b == 38 then Some kind.Amp
     else (if b == 124 then Some kind.Bar else (if b == 94 then Some kind.Caret else None)))))))))))))))))
 
--- what two bytes are together: == != <= >= << >>, or `//`, which starts a comment
+-- two bytes, classified: == != <= >= << >>, or `//`, which starts a comment
 pub data BytePair : Type 0 where
   Two : (k : TokenKind) → BytePair
   Slashes : BytePair

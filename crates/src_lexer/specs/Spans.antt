@@ -1,21 +1,21 @@
--- Where the tokens of a text stand (this project's profile).
+-- The places of the tokens of a text (this project's profile).
 use Rattle.std.specs.Prelude.{◌≡◌, ℕ, ◌+◌, ◌<◌, ◌≤◌, List, [], ◌∷◌, take, drop, Some}
 use Rattle.src_lexer.specs.declared.tokens.TokenKind.{TokenKind}
 use Rattle.src_lexer.specs.declared.tokens.Token.{Token}
 use Rattle.src_lexer.specs.Pieces.{Is, letter_run_of, sign_of, Two, pair_of}
 
--- these bytes spell a token of this kind
+-- these bytes are the text of a token of this kind
 pub data Spelled : List ℕ → TokenKind → Type 0 where
   ByRun : (bytes : List ℕ) (k : TokenKind) → letter_run_of bytes ≡ Is k → Spelled bytes k
   ByOne : (b : ℕ) (k : TokenKind) → sign_of b ≡ Some k → Spelled (b ∷ []) k
   ByTwo : (a b : ℕ) (k : TokenKind) → pair_of a b ≡ Two k → Spelled (a ∷ b ∷ []) k
 
--- the spans of tokens stand in order from one byte on up to another, and none is empty
+-- the spans of tokens are in order between two bytes, and none is empty
 abbrev pub InOrder : ℕ → ℕ → List Token → Type 0
 InOrder at end [] = at ≤ end
 InOrder at end (token ∷ tokens) = (at ≤ token.start) × (0 < token.len) × InOrder (token.start + token.len) end tokens
 
--- the slice of its span spells the token
+-- the bytes of a token's span are the token's text
 abbrev pub IsSlice : List ℕ → Token → Type 0
 IsSlice text token = Spelled (take token.len (drop token.start text)) token.kind
 

@@ -1,5 +1,5 @@
--- How a source text splits into its pieces: white space, comments and longest tokens; or what its first wrong piece is
--- (this project's profile).
+-- How a source text splits into white space, comments and tokens that are as long as possible; or its first error (this
+-- project's profile).
 use Rattle.std.specs.Prelude.{◌≡◌, ◌⊎◌, ℕ, ◌+◌, ◌<◌, Bool, true, false, List, [], ◌∷◌, ◌++◌, length, slice_index, Some, None, Result, Ok, Err}
 use Rattle.std.specs.List.{list_all}
 use Rattle.gr_word.specs.Names.{is_name_byte}
@@ -9,11 +9,11 @@ use Rattle.src_lexer.specs.declared.errors.LexError.{LexError}
 use Rattle.src_lexer.specs.declared.errors.LexError.TheVariants as error
 use Rattle.src_lexer.specs.Pieces.{is_white, is_in_line, Is, Big, Long, Mixed, letter_run_of, sign_of, Two, Slashes, Apart, pair_of}
 
--- the tokens of a text, or its first fault
+-- the tokens of a text, or its first error
 abbrev pub Lexed : Type 0
 Lexed = Result (List Token) LexError
 
--- a token, and then the others
+-- a token before the others, if there is no error
 abbrev pub with_token : Token → Lexed → Lexed
 with_token token (Ok tokens) = Ok (token ∷ tokens)
 with_token token (Err e) = Err e
@@ -21,17 +21,17 @@ with_token token (Err e) = Err e
 abbrev pub token_at : TokenKind → ℕ → ℕ → Token
 token_at k at size = record { kind = k; start = at; len = size }
 
--- a longest piece of such bytes, before the rest of a text
+-- a longest run of such bytes, before the rest of a text
 pub record IsLongest (p : ℕ → Bool) (piece rest : List ℕ) : Type 0 where
   pub each : list_all p piece ≡ true
   pub ends : rest ≡ [] ⊎ (p (slice_index rest 0) ≡ false)
 
--- a byte that is no white space and in no name or number
+-- a byte that is neither white space nor part of a name or a number
 pub record StartsSign (b : ℕ) : Type 0 where
   pub no_white : is_white b ≡ false
   pub no_word : is_name_byte b ≡ false
 
--- a text that starts at byte `at` splits so
+-- the splitting of a text that starts at byte `at`
 pub data Splits : (at : ℕ) → List ℕ → Lexed → Type 0 where
   Ends : {at : ℕ} → Splits at [] (Ok [])
   -- one byte of white space
@@ -49,7 +49,7 @@ pub data Splits : (at : ℕ) → List ℕ → Lexed → Type 0 where
   -- a sign of two bytes
   Double : {at : ℕ} {rest : List ℕ} {reading : Lexed} (k : TokenKind) (a b : ℕ) → StartsSign a → pair_of a b ≡ Two k →
       Splits (at + 2) rest reading → Splits at (a ∷ b ∷ rest) (with_token (token_at k at 2) reading)
-  -- a sign of one byte, which makes no longer one with the next byte, and no comment
+  -- a sign of one byte, which is neither a longer sign nor a comment together with the next byte
   Single : {at : ℕ} {rest : List ℕ} {reading : Lexed} (k : TokenKind) (b : ℕ)
       → StartsSign b → sign_of b ≡ Some k → pair_of b (slice_index rest 0) ≡ Apart
       → Splits (at + 1) rest reading → Splits at (b ∷ rest) (with_token (token_at k at 1) reading)
@@ -61,10 +61,10 @@ pub data Splits : (at : ℕ) → List ℕ → Lexed → Type 0 where
   TooLong : {at : ℕ} {rest : List ℕ} (run : List ℕ)
       → 0 < length run → IsLongest is_name_byte run rest → letter_run_of run ≡ Long
       → Splits at (run ++ rest) (Err (error.NameTooLong at))
-  -- a letter or `_` behind a number
+  -- a letter or `_` directly after a number
   Behind : {at : ℕ} {rest : List ℕ} (run : List ℕ) (digits : ℕ)
       → 0 < length run → IsLongest is_name_byte run rest → letter_run_of run ≡ Mixed digits
       → Splits at (run ++ rest) (Err (error.BadByte (at + digits)))
-  -- a byte with which nothing of these begins
+  -- a byte with which none of these begins
   Bad : {at b : ℕ} {rest : List ℕ} → StartsSign b → sign_of b ≡ None → pair_of b (slice_index rest 0) ≡ Apart →
       Splits at (b ∷ rest) (Err (error.BadByte at))

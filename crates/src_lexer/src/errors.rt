@@ -4,10 +4,10 @@ ghost use Rattle.src_lexer.specs.declared.errors.LexError.TheVariants.{Memory};
 use std::alloc::{AllocError, AllocFailed};
 use thiserror::Error;
 
-/// Why a text is no list of tokens: its first wrong piece, with the byte at which it starts, counted from 0.
+/// Why a text isn't a list of tokens: its first error, with a place, which is the number of a byte from 0.
 #[derive(Debug, Drop, PartialEq, Eq, Error)]
 pub enum LexError {
-    /// The byte begins no token; or it is a letter or `_` that stands directly behind the digits of a number.
+    /// No token begins with the byte; or it is a letter or `_` directly after the digits of a number.
     #[error("byte {0} begins no token")]
     BadByte(u32),
     /// The number that starts at this byte is above 2^63 - 1.
@@ -16,7 +16,7 @@ pub enum LexError {
     /// The name that starts at this byte has more than 32 bytes.
     #[error("the name at byte {0} is too long")]
     NameTooLong(u32),
-    /// Memory ran out, which says nothing of the text.
+    /// Memory ran out, which says nothing about the text.
     #[error("out of memory")]
     Memory,
 }

@@ -8,11 +8,11 @@ use crate::pieces::{Piece, piece_at};
 use crate::tokens::Token;
 use std::alloc::Global;
 
-/// The tokens of a source text of at most 1,048,576 bytes, in order. White space and comments are left out.
+/// The tokens of a source text of at most 1,048,576 bytes, in order, without white space and comments.
 ///
-/// Each token is the longest piece that it can be. Of a text with a wrong piece the first one's fault is given:
-/// `BadByte` with a byte that begins no token or is a letter or `_` directly behind a number, `NumberTooBig` and
-/// `NameTooLong` with the first byte of the number or name. `Memory` says nothing of the text.
+/// Each token is as long as possible. If the text has an error, the first one is returned: `BadByte` with a byte that
+/// begins no token, or that is a letter or `_` directly after a number; `NumberTooBig` or `NameTooLong` with the first
+/// byte of the number or the name. `Memory` says nothing about the text.
 pub fn lex(alloc: Global, text: &[u8]) -> Result<Vec<Token>, LexError>
     requires { length text.now ≤ 2 ^ 20 }
     ensures tokens { IfOk result (λ tokens. Splits 0 text.now (Ok tokens.items)) }

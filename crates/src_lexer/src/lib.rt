@@ -1,7 +1,7 @@
 //! The tokens of the source language.
 //!
-//! [`lex`] gives the tokens of a text in order, each the longest piece that it can be, with the span of its bytes; or
-//! the text's first wrong piece. How a text splits is said by `specs/Splits`, and it splits in one way.
+//! [`lex`] returns the tokens of a text in order, each as long as possible and with the span of its bytes, or the
+//! text's first error. `specs/Splits` defines how a text splits, which it does in one way.
 #![tactic(auto)]
 
 pub mod errors;

@@ -12,7 +12,7 @@ use crate::signs::{Pair, single, together};
 use crate::tokens::TokenKind;
 use std::alloc::Global;
 
-// The first piece of a text: so many bytes that are no token, or a token of so many bytes.
+// The first piece of a text: white space or a comment with this number of bytes, or a token with this number of bytes.
 #[derive(Drop)]
 pub(crate) enum Piece {
     Skipped(usize),
@@ -70,7 +70,7 @@ fn word(alloc: Global, text: &[u8], at: u32) -> Result<Piece, LexError>
     }
 }
 
-// The byte behind the first, or 0 where there is none.
+// The second byte, or 0 if there is none.
 fn second(text: &[u8]) -> u8
     requires { 0 < length text.now }
     ensures { result ≡ slice_index (drop 1 text.now) 0 }
@@ -91,7 +91,7 @@ fn lone(byte: u8, at: u32) -> Result<Piece, LexError>
     }
 }
 
-// A piece that starts with another byte that is no white space.
+// A piece that starts with another byte that isn't white space.
 fn sign(text: &[u8], at: u32) -> Result<Piece, LexError>
     requires some { 0 < length text.now }
     requires few { length text.now ≤ 2 ^ 20 }
@@ -107,7 +107,7 @@ fn sign(text: &[u8], at: u32) -> Result<Piece, LexError>
     }
 }
 
-// How long the comment is that a text starts with.
+// The length of the comment at the beginning of a text.
 fn comment_length(text: &[u8]) -> usize
     requires { length text.now ≤ 2 ^ 20 }
     ensures { result ≡ 2 + prefix_len is_in_line (drop 1 (drop 1 text.now)) }

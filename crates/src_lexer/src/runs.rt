@@ -11,7 +11,7 @@ use gr_base::numerals::number_capped;
 use gr_word::Name;
 use std::alloc::Global;
 
-// What a run of letters, digits and `_` is.
+// A run of letters, digits and `_`, classified.
 #[derive(Drop)]
 pub(crate) enum Run {
     Is(TokenKind),
@@ -26,7 +26,7 @@ const MOST: u64 = 9_223_372_036_854_775_807;
 // The most bytes of a name.
 const NAME_BYTES: usize = 32;
 
-// How many digits a run starts with.
+// How many digits come first in a run.
 fn digits(run: &[u8]) -> usize
     ensures { result ≡ prefix_len is_ascii_digit run.now }
 {
@@ -50,7 +50,7 @@ fn number(run: &[u8]) -> Run
     Run::Mixed(count)
 }
 
-// Whether two words are the same.
+// Whether two words are equal.
 fn same(a: &[u8], b: &[u8]) -> bool
     ensures { result ≡ bytes_eq a.now b.now }
 {
@@ -88,7 +88,7 @@ fn word(alloc: Global, run: &[u8]) -> Result<Run, Memory>
     Ok(Run::Is(TokenKind::Word(Name::new(alloc, run)?)))
 }
 
-// What a run is.
+// Classifies a run.
 pub(crate) fn classify(alloc: Global, run: &[u8]) -> Result<Run, Memory>
     requires some { 0 < length run.now }
     requires each { list_all is_name_byte run.now ≡ true }

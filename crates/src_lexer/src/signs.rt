@@ -4,7 +4,7 @@ ghost use Rattle.src_lexer.specs.Seen.{pair_seen};
 
 use crate::tokens::TokenKind;
 
-// What two bytes are together: a sign, the start of a comment, or neither.
+// Two bytes together: a sign, the start of a comment, or neither.
 #[derive(Drop)]
 pub(crate) enum Pair {
     Two(TokenKind),
@@ -12,7 +12,7 @@ pub(crate) enum Pair {
     Apart,
 }
 
-// The sign of one byte.
+// The sign that consists of this byte.
 #[tactic(auto, unfolding(crate::specs::Pieces::sign_of))]
 pub(crate) fn single(byte: u8) -> Option<TokenKind>
     ensures { result ≡ sign_of byte }
@@ -40,7 +40,7 @@ pub(crate) fn single(byte: u8) -> Option<TokenKind>
     }
 }
 
-// What two bytes are together.
+// Classifies two bytes together.
 #[tactic(auto, unfolding(crate::specs::Pieces::pair_of))]
 pub(crate) fn together(first: u8, second: u8) -> Pair
     ensures { pair_seen result ≡ pair_of first second }

@@ -1,7 +1,7 @@
 use gr_word::Name;
 
-/// What a token is: a keyword, a sign, a number or a name of the source language. The comparisons stand in the order of
-/// [`gr_word::Cmp`].
+/// The kind of a token: a keyword, a sign, a number or a name of the source language. The comparisons are in the order
+/// of [`gr_word::Cmp`].
 #[derive(Debug, Drop)]
 pub enum TokenKind {
     Public,
@@ -38,7 +38,7 @@ pub enum TokenKind {
     Word(Name),
 }
 
-/// A piece of a source text: what it is, its first byte and how many bytes it has.
+/// A token of a source text: its kind, the place of its first byte, and its number of bytes.
 #[derive(Debug, Drop)]
 pub struct Token {
     pub kind: TokenKind,
