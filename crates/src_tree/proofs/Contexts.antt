@@ -1,4 +1,4 @@
--- What declarations say of names, once one more is declared.
+-- What names are declared as, after one more declaration.
 use Rattle.std.proofs.Common.{◌≡◌, ℕ, Bool, true, false, cond, List, [], ◌∷◌, ◌++◌, Option, Some, None, refl, sym, ap, ◌∙◌, subst}
 use Rattle.std.specs.Prelude.{bytes_eq}
 use Rattle.std.specs.Bool.{Decides, one_answer}
@@ -8,7 +8,7 @@ use Rattle.src_tree.specs.declared.trees.Decl.{Decl}
 use Rattle.src_tree.specs.Contexts.{label_and_shape, context_of}
 use Rattle.src_tree.proofs.Chains.{or_none}
 
--- whether two texts are the same doesn't depend on their order
+-- whether two texts are equal doesn't depend on their order
 pub swapped : (a b : List ℕ) → bytes_eq a b ≡ bytes_eq b a
 swapped a b =
     let d = bytes_eq-Decides b a in
@@ -32,7 +32,7 @@ last_or : {X : Type 0} (b : Bool) (k : X) (c : Option X) → (b ≡ true → c �
 last_or true k c h = sym (ap (λ z. option_or z (Some k)) (h refl))
 last_or false k c h = or_none c
 
--- the last of some declarations, where its name is new
+-- one more declaration, if its name is new
 pub declared_last : (ds : List Decl) (d : Decl) → context_of ds d.name ≡ None → (q : List ℕ)
     → cond (bytes_eq d.name q) (Some (label_and_shape d)) (context_of ds q) ≡ context_of (ds ++ d ∷ []) q
 declared_last ds d new q =

@@ -1,4 +1,4 @@
--- No declaration is a fault exactly where each name is declared once.
+-- No declaration has an error exactly if each name is declared once.
 use Rattle.std.proofs.Common.{◌≡◌, false, List, [], ◌∷◌, ◌++◌, length, Option, Some, None, refl}
 use Rattle.std.specs.Prelude.{is_some}
 use Rattle.gr_base.specs.Lists.{EachAfter}
@@ -8,7 +8,7 @@ use Rattle.src_tree.specs.Contexts.{context_of}
 use Rattle.src_tree.specs.FirstFault.{shown_place, where_true, twice_fault}
 use Rattle.src_tree.proofs.Chains.{neither, chained, not_true, no_fault}
 
--- what isn't there is nothing
+-- an option that isn't Some is None
 pub none_of : {X : Type 0} (o : Option X) → is_some o ≡ false → o ≡ None
 none_of None e = refl
 none_of (Some x) e = absurd cc
@@ -17,7 +17,7 @@ pub none_back : {X : Type 0} (o : Option X) → o ≡ None → is_some o ≡ fal
 none_back None e = refl
 none_back (Some x) e = absurd cc
 
--- no declaration is refused exactly where each name is declared once
+-- if no declaration has an error, each name is declared once
 pub declared_once : (before ds : List Decl) → twice_fault before ds ≡ None
     → EachAfter (λ b d. context_of b d.name ≡ None) before ds
 declared_once before [] e = tt
@@ -26,7 +26,7 @@ declared_once before (d ∷ ds) e =
     (twice_fault (before ++ d ∷ []) ds) e in
     (none_of (context_of before d.name) (not_true _ _ n.first), declared_once (before ++ d ∷ []) ds n.second)
 
--- names that differ from those before have no fault of a second declaration
+-- if each name is declared once, no declaration has an error
 pub once_back : (before ds : List Decl) → EachAfter (λ b d. context_of b d.name ≡ None) before ds
     → twice_fault before ds ≡ None
 once_back before [] t = refl

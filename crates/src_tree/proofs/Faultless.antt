@@ -1,4 +1,4 @@
--- A program has no first fault exactly where it is well typed and within the limits.
+-- A program has no first error exactly if it is well typed and within the limits.
 use Rattle.std.proofs.Common.{◌≡◌, ◌+◌, ◌≤◌, nat_lt, [], length, Option, None, sym, ◌∙◌, arith}
 use Rattle.std.specs.Option.{option_or}
 use Rattle.std.proofs.lemmas.Bool.{ltb-false, le-ltb}
@@ -17,17 +17,17 @@ use Rattle.src_tree.proofs.DeclaredOnce.{declared_once, once_back}
 use Rattle.src_tree.proofs.NoTypingFault.{block_typed, block_back}
 use Rattle.src_tree.proofs.NoLimitPassed.{lengths_fit, lengths_back, words_fit, words_back, block_low, block_low_back}
 
--- the faults behind those of declarations
+-- the errors after those of declarations
 abbrev pub behind : Source → Option TypeError
 behind p =
     option_or (statements_fault (typing_fault (context_of p.decls)) p) (limits_fault p)
 
--- the law: no fault, exactly where a program is well typed and within the limits
+-- a program is well typed and within the limits
 pub record Fine (p : Source) : Type 0 where
   pub typed : IsTyped p
   pub within : IsWithinLimits p
 
--- a program without a first fault meets each rule
+-- a program without a first error is well typed and within the limits
 pub fine : (p : Source) → first_fault p ≡ None → Fine p
 fine p e =
     let known = context_of p.decls in
@@ -53,7 +53,7 @@ fine p e =
       };
     }
 
--- a program that meets each rule has no first fault
+-- a program that is well typed and within the limits has no first error
 pub faultless : (p : Source) → Fine p → first_fault p ≡ None
 faultless p f =
     let known = context_of p.decls in

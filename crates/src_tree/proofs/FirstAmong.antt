@@ -1,4 +1,4 @@
--- The first fault among some statements is found at the statement where it is, and only there.
+-- The first error among some statements is that of the first statement with one, and of no other.
 use Rattle.std.proofs.Common.{◌≡◌, ℕ, zero, suc, ◌+◌, ◌<◌, List, [], ◌∷◌, slice_index_or, Option, Some, None, refl, ap, ◌∙◌, subst, arith}
 use Rattle.std.specs.Option.{option_or}
 use Rattle.gr_word.specs.declared.variables.Label.{Label}
@@ -20,7 +20,7 @@ module _ (fault : StatementFault) where
         λ j d below. at_number (n + suc j) ((n + 1) + j) _ _ (omega arith) (first.none_before (suc j) d (omega arith));
   }
 
-  -- the first statement at fault is the one that is found
+  -- the error of the first statement with one is found
   pub found_among : (n : ℕ) (xs : List (Label × Statement)) (k : ℕ) (e : TypeError) → IsFirstAt fault n xs k e
       → first_among fault n xs ≡ Some e
   found_among n [] k e first = absurd (omega (arith, first.within))
@@ -31,7 +31,7 @@ module _ (fault : StatementFault) where
       (at_number (n + 0) n x _ (omega arith) (first.none_before 0 x (omega arith)))
       ∙ found_among (n + 1) xs k e (later n k x xs e first)
 
-  -- one statement more, with which nothing is wrong
+  -- one more statement before the others, without an error
   behind : (n k : ℕ) (x : Label × Statement) (xs : List (Label × Statement)) (e : TypeError) → fault x.0 n x.1 ≡ None
       → IsFirstAt fault (n + 1) xs k e → IsFirstAt fault n (x ∷ xs) (suc k) e
   behind n k x xs e none first = record {
@@ -46,7 +46,7 @@ module _ (fault : StatementFault) where
       before (suc j) d below =
           at_number ((n + 1) + j) (n + suc j) _ _ (omega arith) (first.none_before j d (omega (arith, below)))
 
-  -- the fault that is found is that of the first statement at fault
+  -- the error that is found is that of the first statement with one
   pub only_among : (n : ℕ) (xs : List (Label × Statement)) (e : TypeError) → first_among fault n xs ≡ Some e
       → (k : ℕ) × IsFirstAt fault n xs k e
   only_among n [] e none = absurd cc

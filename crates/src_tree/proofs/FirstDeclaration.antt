@@ -1,4 +1,5 @@
--- A fault of declarations is found at the first declaration that has it, and only there: one walk for each kind.
+-- An error of declarations is found at the first declaration that has it, and at no other: one walk for each kind of
+-- error.
 use Rattle.std.proofs.Common.{◌≡◌, ℕ, ◌+◌, nat_lt, Bool, true, false, not, List, [], ◌∷◌, ◌++◌, length, length-append, Option, Some, None, refl, sym, ap, ◌∙◌, subst, arith}
 use Rattle.std.specs.Prelude.{is_some}
 use Rattle.std.specs.Option.{option_or}
@@ -20,14 +21,14 @@ use Rattle.src_tree.specs.Causes.{IsFirstDeclaration, IsNamedAgain, HasBadLength
 
 -- ---- one walk
 
--- a test that holds exactly of the faulty, and what the fault is called behind some declarations
+-- a test that is true exactly for declarations with an error, and the name of the error after some declarations
 pub record Finds (Faulty : List Decl → Decl → Type 0) (test : List Decl → Decl → Bool) : Type 0 where
   pub found : (before : List Decl) (d : Decl) → test before d ≡ true → Faulty before d
   pub clear : (before : List Decl) (d : Decl) → test before d ≡ false → Faulty before d → ⊥
 
 module _ (Faulty : List Decl → Decl → Type 0) (test : List Decl → Decl → Bool) (finds : Finds Faulty test)
     (name : ℕ → TypeError) where
-  -- the first fault in declarations that stand behind others
+  -- the first error in declarations that follow others
   abbrev pub walk : List Decl → List Decl → Option TypeError
   walk before [] = None
   walk before (d ∷ ds) = option_or (where_true (test before d) (name (length before))) (walk (before ++ d ∷ []) ds)
@@ -35,7 +36,7 @@ module _ (Faulty : List Decl → Decl → Type 0) (test : List Decl → Decl →
   abbrev pub clears : (before ds : List Decl) → Type 0
   clears before ds = EachAfter (λ earlier d. Faulty earlier d → ⊥) before ds
 
-  -- a test that can't hold
+  -- a test that can't be true
   fails : (before : List Decl) (d : Decl) → (Faulty before d → ⊥) → test before d ≡ false
   fails before d none = by (test before d) refl
     where
@@ -50,7 +51,7 @@ module _ (Faulty : List Decl → Decl → Type 0) (test : List Decl → Decl →
       by true e = refl
       by false e = absurd (finds.clear before d e faulty)
 
-  -- the first declaration at fault is found, behind any that stand before
+  -- the first declaration with an error is found, after any others
   found_behind : (before clear : List Decl) (d : Decl) (ds : List Decl) → clears before clear
       → Faulty (before ++ clear) d → walk before (clear ++ d ∷ ds) ≡ Some (name (length before + length clear))
   found_behind before [] d ds none faulty =
@@ -71,7 +72,7 @@ module _ (Faulty : List Decl → Decl → Type 0) (test : List Decl → Decl →
       ∙ found_behind [] first.before first.declaration first.behind first.none_before first.faulty
       ∙ ap (λ n. Some (name n)) (omega (arith, first.place))
 
-  -- what is found stands at the first declaration at fault
+  -- what is found is the error of the first declaration with one
   record Behind (before ds : List Decl) (e : TypeError) : Type 0 where
     clear : List Decl
     declaration : Decl
@@ -156,7 +157,7 @@ pub twice_only : (decls : List Decl) (e : TypeError) → twice_fault [] decls �
     → (k : ℕ) × IsFirstDeclaration IsNamedAgain decls k × (e ≡ TwiceDeclared (shown_place k))
 twice_only decls e some = only_first IsNamedAgain _ named_again twice_name decls e (sym (twice_walk [] decls) ∙ some)
 
--- ---- an array that is empty or too long
+-- ---- an array with no words, or too many
 
 bad_length : Finds HasBadLength (λ before d. not (length_fits d.length))
 bad_length = record {

@@ -1,4 +1,4 @@
--- The first fault in words is the one that is worked out.
+-- The first error of the relation is the one that is computed.
 use Rattle.std.proofs.Common.{◌≡◌, ◌+◌, ◌≤◌, nat_lt, Bool, true, false, [], length, Option, Some, None, ◌⊎◌, ⊎_elim, inl, inr, refl, sym, ◌∙◌, subst, arith}
 use Rattle.std.specs.Option.{option_or}
 use Rattle.std.specs.List.{AllByRecursion}
@@ -23,7 +23,7 @@ use Rattle.src_tree.proofs.InOrder.{block_first}
 use Rattle.src_tree.proofs.NoTypingFault.{block_typed, block_back}
 use Rattle.src_tree.proofs.NoLimitPassed.{lengths_fit, lengths_back, words_fit, words_back, block_low, block_low_back}
 
--- ---- chains of faults
+-- ---- chains of errors
 
 either : (a b : Option TypeError) (e : TypeError) → option_or a b ≡ Some e
     → (a ≡ Some e) ⊎ ((a ≡ None) × (b ≡ Some e))
@@ -50,7 +50,7 @@ module _ (p : Source) where
   abbrev statements : StatementFault → Option TypeError
   statements fault = statements_fault fault p
 
-  -- ---- from words to the fault
+  -- ---- from the relation to the computation
 
   typed_none : IsTyped p → (r : Option TypeError) → limits_fault p ≡ r → first_fault p ≡ r
   typed_none typed r h =
@@ -101,9 +101,9 @@ module _ (p : Source) where
       (behind_none (statements height_fault) _ _ (low_body low)
       (true_is (nat_lt max_weight (weight_of p)) _ (lt-ltb max_weight (weight_of p) heavy))))))
 
-  -- ---- from the fault to words
+  -- ---- from the computation to the relation
 
-  -- a test that holds, and its fault
+  -- a test that is true, and its error
   passed : (b : Bool) (x e : TypeError) → where_true b x ≡ Some e → ((b ≡ true) → IsFirstFault p x) → IsFirstFault p e
   passed b x e h by = let found = true_only b x e h in subst (IsFirstFault p) (sym found.1) (by found.0)
 

@@ -1,4 +1,4 @@
--- The first fault of a block, part by part, is the first among its statements in order.
+-- The first error of a block, part by part, is the first among its statements in order.
 use Rattle.std.proofs.Common.{◌≡◌, ℕ, ◌+◌, List, [], ◌∷◌, ◌++◌, length, refl, sym, ap, ◌∙◌, arith}
 use Rattle.std.proofs.lemmas.List.{length-append}
 use Rattle.gr_word.specs.declared.variables.Label.{Label}
@@ -10,7 +10,7 @@ use Rattle.src_tree.specs.FirstFault.{StatementFault, ◌or_else◌, first_among
 use Rattle.src_tree.specs.PartByPart.{count_of, block_count, statement_fault, block_fault}
 use Rattle.src_tree.proofs.Chains.{or_assoc, or_none}
 
--- the first among some statements and others behind them
+-- the first error among some statements and then others
 among_both : (fault : StatementFault) (n m : ℕ) (xs ys : List (Label × Statement)) → m ≡ n + length xs
     → first_among fault n (xs ++ ys) ≡ first_among fault n xs or_else first_among fault m ys
 among_both fault n m [] ys e = ap (λ k. first_among fault k ys) (let f : n ≡ m = omega arith in f)
@@ -56,7 +56,7 @@ mutual
   parts_first known fault code n (Loop t a) =
       ap (λ r. fault code n (Loop t a) or_else r) (block_first known fault code (n + 1) a)
 
-  -- a block's first fault is the first among its statements in their order
+  -- the first error of a block is the first among its statements in order
   pub block_first : (known : Context) (fault : StatementFault) (code : Label) (n : ℕ) (b : Block)
       → block_fault known fault code n b ≡ first_among fault n (in_order known code b)
   block_first known fault code n Nothing = refl

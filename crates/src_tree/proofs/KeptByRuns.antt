@@ -1,12 +1,12 @@
--- What relates what was left to itself, goes on from one to the next, and holds of a word that is written and of a turn
--- that is taken holds of all that statements do.
+-- A relation of states holds for the execution of any statements if it is reflexive and transitive, and holds for
+-- writing a word and for starting an iteration.
 use Rattle.std.proofs.Common.{◌≡◌, ℕ, zero, suc, Bool, true, false, if◌then◌else◌, ℤ, Option, Some, None, List, refl, subst}
 use Rattle.std.specs.Option.{option_and_then}
 use Rattle.src_tree.specs.declared.trees.Decl.{Decl}
 use Rattle.src_tree.specs.Trees.{Statement, SetVariable, SetElement, Choice, Loop, Block, Nothing, Then}
 use Rattle.src_tree.specs.Meaning.{Store, Left, Execution, with_word, guard_holds, in_turn, turn_taken, looped, loop, run_of, run_of_block}
 
--- a store with the turns that are left
+-- a store, with the iterations that are left
 abbrev pub left : Store → ℕ → Left
 left store turns = record { store = store; turns = turns }
 
@@ -16,14 +16,14 @@ pub record IsKept (R : Left → Left → Type 0) : Type 0 where
   pub turn : (store : Store) (turns : ℕ) → R (left store (suc turns)) (left store turns)
 
 module _ (R : Left → Left → Type 0) (kept : IsKept R) where
-  -- what statements leave is related to what was there
+  -- the state after statements is related to the state before
   abbrev pub Keeps : Execution → Type 0
   Keeps run = (before after : Left) → run before ≡ Some after → R before after
 
   pub one_keeps : (before next after : Left) → R before next → Some next ≡ Some after → R before after
   one_keeps before next after step e = subst (R before) (let same : next ≡ after = cc in same) step
 
-  -- one after the other
+  -- two executions in sequence
   pub both_keep : (first second : Execution) → Keeps first → Keeps second → Keeps (in_turn first second)
   both_keep first second one two before after e = through (first before) refl e
     where
@@ -32,7 +32,7 @@ module _ (R : Left → Left → Type 0) (kept : IsKept R) where
       through (Some between) e f =
           kept.goes_on before between after (one before between e) (two between after f)
 
-  -- either of two
+  -- one of two executions
   pub either_keeps : (b : Bool) (first second : Execution) → Keeps first → Keeps second
       → Keeps (λ before. if b then first before else second before)
   either_keeps true first second one two = one

@@ -8,7 +8,7 @@ use Rattle.src_tree.specs.declared.trees.Decl.{Decl}
 use Rattle.src_tree.specs.Contexts.{label_and_shape, context_of}
 use Rattle.src_tree.specs.Typing.{DeclaredOnce}
 
--- a name for which declarations say nothing is none of theirs
+-- a name that isn't declared differs from each name that is
 not-among : (ds : List Decl) (name : List ℕ)
     → context_of ds name ≡ None → (i : ℕ) (d : Decl) → i < length ds → (get_or ds i d).name ≢ name
 not-among [] name none i d within is = absurd (omega (arith, within))
@@ -25,7 +25,7 @@ not-among (x ∷ ds) name none i d within is = go (not-among ds name) (bytes_eq 
         later (subst (λ b. cond b (Some (label_and_shape x)) (context_of ds name) ≡ None) other none) i d
         (omega (arith, within)) is
 
--- the name of an earlier declaration is another
+-- the names of two declarations differ
 pub names_differ : (ds : List Decl)
     → DeclaredOnce ds → (i j : ℕ) (d : Decl) → i < j → j < length ds → (get_or ds i d).name ≢ (get_or ds j d).name
 names_differ ds once i j d less within =

@@ -1,4 +1,4 @@
--- No limit is refused exactly where all are kept.
+-- There is no error of limits exactly if all limits are kept.
 use Rattle.std.proofs.Common.{◌≡◌, ℕ, ◌+◌, ◌≤◌, nat_lt, nat_le, Bool, true, false, not, ◌&&◌, ◌||◌, List, [], ◌∷◌, Option, Some, None, refl, arith}
 use Rattle.std.specs.List.{AllByRecursion}
 use Rattle.std.proofs.lemmas.Bool.{ltb-false, le-ltb, leb-true, le-leb}
@@ -36,7 +36,7 @@ pub fits_back : (length : Option ℕ) → LengthFits length → not (length_fits
 fits_back None h = refl
 fits_back (Some n) h = true_back (nat_le 1 n) (nat_le n max_length) (le-leb 1 n h.0) (le-leb n max_length h.1)
 
--- without a fault of lengths each length fits
+-- if there is no error of lengths, each length is within the limits
 pub lengths_fit : (n : ℕ) (ds : List Decl) → length_fault n ds ≡ None → AllByRecursion (λ d. LengthFits d.length) ds
 lengths_fit n [] e = tt
 lengths_fit n (d ∷ ds) e =
@@ -44,14 +44,14 @@ lengths_fit n (d ∷ ds) e =
     (length_fault (n + 1) ds) e in
     (length_is_fit d.length (not_true _ _ s.first), lengths_fit (n + 1) ds s.second)
 
--- lengths that fit have no fault
+-- if each length is within the limits, there is no error of lengths
 pub lengths_back : (n : ℕ) (ds : List Decl) → AllByRecursion (λ d. LengthFits d.length) ds → length_fault n ds ≡ None
 lengths_back n [] h = refl
 lengths_back n (d ∷ ds) h =
     chained (where_true (not (length_fits d.length)) (Limit ArrayLength (shown_number n))) (length_fault (n + 1) ds)
     (no_fault _ _ (fits_back d.length h.0)) (lengths_back (n + 1) ds h.1)
 
--- all words together
+-- if there is no error of words, all words together are within the limit
 pub words_fit : (n before : ℕ) (ds : List Decl) → before ≤ max_words → words_fault n before ds ≡ None
     → before + total_words ds ≤ max_words
 words_fit n before [] h e = omega arith
@@ -62,7 +62,7 @@ words_fit n before (d ∷ ds) h e =
     (ltb-false max_words (before + words_of d) (not_true _ _ s.first)) s.second in
     omega arith
 
--- words within the limit have no fault
+-- if all words together are within the limit, there is no error of words
 pub words_back : (n before : ℕ) (ds : List Decl) → before + total_words ds ≤ max_words → words_fault n before ds ≡ None
 words_back n before [] h = refl
 words_back n before (d ∷ ds) h =
@@ -71,7 +71,7 @@ words_back n before (d ∷ ds) h =
     (no_fault _ _ (le-ltb max_words (before + words_of d) (omega arith)))
     (words_back (n + 1) (before + words_of d) ds (omega arith))
 
--- heights of expressions
+-- expressions within the height limit
 low : (e : Tree) → too_high e ≡ false → Low e
 low e h = ltb-false max_height (height_of e) h
 
@@ -101,7 +101,7 @@ mutual
       let g = neither (height_fault code n (Loop t a)) (block_fault known height_fault code (n + 1) a) f in
       (both_low t.left t.right _ g.first, block_low known code (n + 1) a g.second)
 
-  -- a block without a fault of heights is low
+  -- a block without an error of heights is within the limit
   pub block_low : (known : Context) (code : Label) (n : ℕ) (b : Block) → block_fault known height_fault code n b ≡ None
       → LowBlock b
   block_low known code n Nothing f = tt
@@ -126,7 +126,7 @@ mutual
       chained (height_fault code n (Loop t a)) (block_fault known height_fault code (n + 1) a)
       (both_back t.left t.right (Limit Height (shown_number n)) h.0.0 h.0.1) (block_low_back known code (n + 1) a h.1)
 
-  -- a low block has no fault of heights
+  -- a block within the limit has no error of heights
   pub block_low_back : (known : Context) (code : Label) (n : ℕ) (b : Block) → LowBlock b
       → block_fault known height_fault code n b ≡ None
   block_low_back known code n Nothing h = refl

@@ -1,4 +1,4 @@
--- No typing fault is found in statements exactly where they are well typed.
+-- There is no error of typing in statements exactly if they are well typed.
 use Rattle.std.proofs.Common.{◌≡◌, ℕ, ◌+◌, false, not, ◌||◌, List, Option, Some, None, refl, sym, ap, subst}
 use Rattle.std.specs.Option.{option_or}
 use Rattle.gr_word.specs.declared.variables.Label.{Label}
@@ -24,7 +24,7 @@ flows_back Public to f = refl
 flows_back Secret Public f = absurd f
 flows_back Secret Secret f = refl
 
--- what isn't a secret is public
+-- a label that isn't secret is public
 pub public : (l : Label) → secret_label l ≡ false → l ≡ Public
 public Public e = refl
 public Secret e = absurd cc
@@ -92,7 +92,7 @@ tree_indexes known (Operation op l r) t =
     neither_true (has_leaking_index known l) (has_leaking_index known r) (tree_indexes known l t.0)
     (tree_indexes known r t.1)
 
--- a statement's own faults, part by part
+-- a statement's own errors, part by part
 set_typed : (known : Context) (code : Label) (n : ℕ) (x : List ℕ) (e : Tree)
     → typing_fault known code n (SetVariable x e) ≡ None → TypedStatement known code (SetVariable x e)
 set_typed known code n x e f =
@@ -139,7 +139,7 @@ choice_typed known code n t a b f =
     let g = neither (option_or (names_fault known n t.left)
     (names_fault known n t.right)) _ f in test_typed known n t g.first g.second
 
--- what a loop needs besides its body
+-- what a loop needs, apart from its body
 pub record LoopTyped (known : Context) (code : Label) (t : Test) : Type 0 where
   pub test : TypedTest known t
   pub guard : label_of_test known t ≡ Public
@@ -178,7 +178,7 @@ mutual
       let l = loop_typed known code n t a g.first in
       (l.test, (l.guard, (l.place, block_typed known code (n + 1) a g.second)))
 
-  -- a block without a typing fault is well typed
+  -- a block without an error of typing is well typed
   pub block_typed : (known : Context) (code : Label) (n : ℕ) (b : Block)
       → block_fault known (typing_fault known) code n b ≡ None → TypedBlock known code b
   block_typed known code n Nothing f = tt
@@ -187,7 +187,7 @@ mutual
       (block_fault known (typing_fault known) code (n + count_of s) rest) f in
       (statement_typed known code n s g.first, block_typed known code (n + count_of s) rest g.second)
 
--- and back
+-- what is well typed has no error of typing
 test_back : (known : Context) (n : ℕ) (t : Test) → TypedTest known t
     → Neither (option_or (names_fault known n t.left) (names_fault known n t.right) ≡ None)
     (where_true (has_leaking_index known t.left || has_leaking_index known t.right)
@@ -240,7 +240,7 @@ mutual
       (no_fault _ _ (public_back (label_of_test known t) typed.1.0)) (no_fault _ _ (public_back code typed.1.1.0))))
       (block_back known code (n + 1) a typed.1.1.1)
 
-  -- a well typed block has no typing fault
+  -- a well typed block has no error of typing
   pub block_back : (known : Context) (code : Label) (n : ℕ) (b : Block) → TypedBlock known code b
       → block_fault known (typing_fault known) code n b ≡ None
   block_back known code n Nothing t = refl

@@ -1,4 +1,4 @@
--- The statements of a program that is well typed and within the limits are well typed, and their expressions are low.
+-- The statements of a program that is well typed and within the limits are well typed, and within the height limit.
 use Rattle.std.proofs.Common.{[], ◌++◌}
 use Rattle.std.specs.List.{All}
 use Rattle.std.proofs.lemmas.List.Elements.{All-append, All-cons, All-contains, All-nil}
@@ -55,14 +55,14 @@ mutual
       All-append LowIn (with_parts known code s) (in_order known code rest) (parts_low known code s low.0)
       (block_low known code rest low.1)
 
--- each statement of a well typed program is well typed where it stands
+-- each statement of a well typed program is well typed in its code
 pub statement_typed : (p : Source) (code : Label) (s : Statement) → IsTyped p → StandsIn p code s
     → TypedStatement (context_of p.decls) code s
 statement_typed p code s typed stands =
     All-contains (TypedIn (context_of p.decls)) (in_order (context_of p.decls) Public p.body) (code, s)
     (block_typed (context_of p.decls) Public p.body typed.body) stands
 
--- each statement of a program within the limits is low
+-- each statement of a program within the limits is within the height limit
 pub statement_low : (p : Source) (code : Label) (s : Statement) → IsWithinLimits p → StandsIn p code s → LowStatement s
 statement_low p code s within stands =
     All-contains LowIn (in_order (context_of p.decls) Public p.body) (code, s)

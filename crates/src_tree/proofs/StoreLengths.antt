@@ -1,4 +1,4 @@
--- A program leaves as many variables as there were.
+-- A program leaves as many variables as there were before.
 use Rattle.std.proofs.Common.{◌≡◌, ℕ, length, Option, Some, None, refl, ◌∙◌, subst}
 use Rattle.std.specs.Option.{option_map}
 use Rattle.std.proofs.lemmas.List.{length-set}

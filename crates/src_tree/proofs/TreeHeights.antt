@@ -1,4 +1,4 @@
--- The height of an expression is 1 at least.
+-- The height of an expression is at least 1.
 use Rattle.std.proofs.Common.{◌≤◌, arith}
 use Rattle.src_tree.specs.Heights.{height_of}
 use Rattle.src_tree.specs.Trees.{Tree, Number, Variable, Element, Operation}

@@ -1,4 +1,4 @@
--- The numbers of declared names, and what is declared at a number.
+-- The numbers of declared names, and the declaration with a number.
 use Rattle.std.proofs.Common.{◌≡◌, ℕ, zero, suc, ◌+◌, ◌<◌, Bool, true, false, cond, List, [], ◌∷◌, length, take, get_or, Some, None, refl, sym, ap, ◌∙◌, arith}
 use Rattle.std.specs.Prelude.{bytes_eq}
 use Rattle.std.proofs.lemmas.Option.{none-some}
@@ -11,7 +11,7 @@ use Rattle.src_tree.specs.Contexts.{context_of, label_and_shape}
 use Rattle.src_tree.specs.Meaning.{variable_number}
 use Rattle.src_tree.specs.Typing.{DeclaredOnce}
 
--- two names of one number are of one kind
+-- two names with the same number are declared alike
 pub same-number : (ds : List Decl) (x y : List ℕ) (kind : Label × Shape) → context_of ds x ≡ Some kind
     → variable_number ds x ≡ variable_number ds y → context_of ds y ≡ Some kind
 same-number [] x y kind known same = absurd (none-some kind known)
@@ -27,7 +27,7 @@ same-number (d ∷ ds) x y kind known same =
     here false true known same rest = absurd (omega arith)
     here false false known same rest = rest known (omega arith)
 
--- a declared name has a number among the declarations, and what stands there declares it
+-- the number of a declared name is that of a declaration
 pub number-below : (ds : List Decl) (x : List ℕ) (kind : Label × Shape) → context_of ds x ≡ Some kind
     → variable_number ds x < length ds
 number-below [] x kind known = absurd (none-some kind known)
@@ -42,7 +42,7 @@ number-below (d ∷ ds) x kind known = by (bytes_eq x d.name) known (number-belo
 behind : (d : Decl) (ds : List Decl) (n : ℕ) (default : Decl) → get_or (d ∷ ds) (1 + n) default ≡ get_or ds n default
 behind d ds n default = let next : 1 + n ≡ suc n = omega arith in ap (λ k. get_or (d ∷ ds) k default) next
 
--- the kind of the variable whose number is within the list
+-- the declaration with a name's number declares the name
 pub kind-at_number : (ds : List Decl) (x : List ℕ) (default : Decl) → variable_number ds x < length ds
     → context_of ds x ≡ Some (label_and_shape (get_or ds (variable_number ds x) default))
 kind-at_number [] x default below = absurd (omega arith)
@@ -61,7 +61,7 @@ kind-at_number (d ∷ ds) x default below = by (bytes_eq x d.name) below (kind-a
 some-same : (a b : Label × Shape) → Some a ≡ Some b → a ≡ b
 some-same a b e = cc
 
--- a known variable's kind is that of its number
+-- a declared name is what the declaration with its number says
 pub kind-of_number : (ds : List Decl) (x : List ℕ) (default : Decl) (kind : Label × Shape) → context_of ds x ≡ Some kind
     → label_and_shape (get_or ds (variable_number ds x) default) ≡ kind
 kind-of_number ds x default kind known =
@@ -80,7 +80,7 @@ number-behind (d ∷ ds) x (suc k) default within named new =
     by true new rest = absurd (cc)
     by false new rest = omega (arith, rest new)
 
--- where each name is declared once, a declaration's number is its place
+-- if each name is declared once, the number of a declaration's name is its place
 pub number-of_declared : (ds : List Decl) → DeclaredOnce ds → (k : ℕ) (default : Decl) → k < length ds
     → variable_number ds (get_or ds k default).name ≡ k
 number-of_declared ds once k default within =

@@ -1,5 +1,5 @@
--- The first fault of a program in words: what is wrong, which declaration or statement has it, and what is right before
--- it counts (this project's profile). FirstFault.antt works the same fault out.
+-- The first error of a program as a relation: what is wrong, which declaration or statement has the error, and what
+-- comes before it and isn't wrong (this project's profile). FirstFault.antt computes the same error.
 use Rattle.std.specs.Prelude.{◌≡◌, ℕ, ◌+◌, ◌<◌, ◌≤◌, List, [], ◌∷◌, ◌++◌, length, Some}
 use Rattle.std.specs.List.{AllByRecursion}
 use Rattle.gr_base.specs.Lists.{EachAfter}
@@ -17,7 +17,7 @@ use Rattle.src_tree.specs.Typing.{DeclaredOnce, IsTyped}
 use Rattle.src_tree.specs.Limits.{max_variables, max_words, max_weight, words_of, total_words, weight_of, LengthFits, LowBlock}
 use Rattle.src_tree.specs.FirstFault.{StatementFault, IsFirstAt, shown_place, shown_number, typing_fault, height_fault}
 
--- declaration k is the first at fault, where its fault may depend on those before it
+-- declaration k is the first with an error, which may depend on the declarations before it
 pub record IsFirstDeclaration (Faulty : List Decl → Decl → Type 0) (decls : List Decl) (k : ℕ) : Type 0 where
   pub before : List Decl
   pub declaration : Decl
@@ -31,20 +31,20 @@ pub record IsFirstDeclaration (Faulty : List Decl → Decl → Type 0) (decls : 
 abbrev pub IsNamedAgain : List Decl → Decl → Type 0
 IsNamedAgain before d = (kind : Label × Shape) × (context_of before d.name ≡ Some kind)
 
--- an array is empty or too long
+-- an array has no words, or too many
 abbrev pub HasBadLength : List Decl → Decl → Type 0
 HasBadLength before d = LengthFits d.length → ⊥
 
--- with a declaration there are too many words
+-- the variables up to a declaration have too many words
 abbrev pub PassesWords : List Decl → Decl → Type 0
 PassesWords before d = max_words < total_words before + words_of d
 
--- statement k, in the order of first tokens, is the first with this fault
+-- statement k, in the order of first tokens, is the first with this error
 abbrev pub IsFirstStatement : StatementFault → Source → ℕ → TypeError → Type 0
 IsFirstStatement fault p k e = IsFirstAt fault 0 (in_order (context_of p.decls) Public p.body) k e
 
--- A program's first fault: a name that is declared again; else what is wrong with the first statement at fault; else
--- the first limit that it passes, the limits in this order.
+-- A program's first error: a name that is declared again; otherwise that of the first statement with an error of
+-- typing; otherwise the first limit that is exceeded, in this order.
 pub data IsFirstFault (p : Source) : TypeError → Type 0 where
   NamedAgain : (k : ℕ) → IsFirstDeclaration IsNamedAgain p.decls k → IsFirstFault p (TwiceDeclared (shown_place k))
   IllTyped : DeclaredOnce p.decls → (k : ℕ) (e : TypeError)

@@ -2,7 +2,7 @@
 use Rattle.std.specs.Prelude.{ℕ, ◌+◌, max}
 use Rattle.src_tree.specs.Trees.{Tree, Number, Variable, Element, Operation}
 
--- 1 for a number and a variable, and 1 more than the higher part's else
+-- 1 for a number or a variable, and otherwise 1 more than that of the highest operand or index
 abbrev pub height_of : Tree → ℕ
 height_of (Number z) = 1
 height_of (Variable x) = 1

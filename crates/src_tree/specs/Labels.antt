@@ -1,4 +1,4 @@
--- Labels of expressions: one is secret where a secret variable or an element of a secret array stands in it (the
+-- Labels of expressions: an expression is secret if a secret variable or an element of a secret array is in it (the
 -- security labels of GhostRider, ASPLOS 2015).
 use Rattle.std.specs.Prelude.{ℕ, List, Option, Some, None, Bool, true, false}
 use Rattle.gr_word.specs.declared.variables.Label.{Label}
@@ -7,7 +7,7 @@ use Rattle.gr_word.specs.declared.variables.Shape.{Shape}
 use Rattle.src_tree.specs.Trees.{Tree, Number, Variable, Element, Operation, Test}
 use Rattle.src_tree.specs.Contexts.{Context}
 
--- secret where one of two is
+-- secret if one of two is
 abbrev pub higher : Label → Label → Label
 higher Public b = b
 higher Secret b = Secret
@@ -16,7 +16,7 @@ abbrev pub label_or_public : Option (Label × Shape) → Label
 label_or_public None = Public
 label_or_public (Some kind) = kind.0
 
--- the label of a name that is declared
+-- the label of a name, or public if it isn't declared
 abbrev pub label_at : Context → List ℕ → Label
 label_at known name = label_or_public (known name)
 
@@ -30,7 +30,7 @@ label_of known (Operation op a b) = higher (label_of known a) (label_of known b)
 abbrev pub label_of_test : Context → Test → Label
 label_of_test known t = higher (label_of known t.left) (label_of known t.right)
 
--- the label of the arms of a choice in code of a label
+-- the label of the arms of a choice that is in code with a label
 abbrev pub inside : Context → Label → Test → Label
 inside known code t = higher code (label_of_test known t)
 

@@ -1,4 +1,4 @@
--- The limits of a program that don't depend on a machine, and what statements weigh (this project's profile).
+-- The limits of a program that don't depend on a machine, and the weight of statements (this project's profile).
 use Rattle.std.specs.Prelude.{ℕ, ◌+◌, ◌≤◌, List, [], ◌∷◌, length, Option, Some, None}
 use Rattle.std.specs.List.{AllByRecursion}
 use Rattle.gr_base.specs.Lists.{Within}
@@ -25,7 +25,7 @@ max_height = 16
 abbrev pub max_weight : ℕ
 max_weight = 8192
 
--- the words of a variable: a scalar is one word
+-- the words of a variable: a scalar has one
 abbrev pub words_of_length : Option ℕ → ℕ
 words_of_length None = 1
 words_of_length (Some n) = n
@@ -41,7 +41,7 @@ abbrev pub LengthFits : Option ℕ → Type 0
 LengthFits None = Unit {0}
 LengthFits (Some n) = Within 1 max_length n
 
--- an expression weighs its nodes
+-- the weight of an expression is the number of its nodes
 abbrev pub tree_weight : Tree → ℕ
 tree_weight (Number z) = 1
 tree_weight (Variable x) = 1
@@ -51,12 +51,12 @@ tree_weight (Operation op a b) = 1 + (tree_weight a + tree_weight b)
 abbrev pub test_weight : Test → ℕ
 test_weight t = tree_weight t.left + tree_weight t.right
 
--- the parts of a choice count twice in secret code
+-- the blocks of a choice count twice in secret code
 abbrev pub parts_weight : Label → ℕ → ℕ
 parts_weight Public parts = parts
 parts_weight Secret parts = parts + parts
 
--- a statement in code of a label
+-- the weight of a statement in code with a label
 abbrev mutual
   pub statement_weight : Context → Label → Statement → ℕ
   statement_weight known code (SetVariable x e) = 1 + tree_weight e
@@ -75,7 +75,7 @@ abbrev mutual
 abbrev pub weight_of : Source → ℕ
 weight_of p = block_weight (context_of p.decls) Public p.body
 
--- every expression is low enough
+-- each expression is within the height limit
 abbrev pub Low : Tree → Type 0
 Low e = height_of e ≤ max_height
 

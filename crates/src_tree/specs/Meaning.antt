@@ -1,17 +1,18 @@
--- The meaning of a program: what its variables hold when it is done, where its loops may enter their bodies a number of
--- times (this project's profile of the source language of GhostRider, ASPLOS 2015). Words and operations are the
--- machine's. It says something of every tree: a name that isn't declared reads 0, and to write it changes nothing.
+-- The meaning of a program: what its variables hold when it finishes, if its loops may execute their bodies a given
+-- number of times in all (this project's profile of the source language of GhostRider, ASPLOS 2015). Words and
+-- operations are the machine's. Every tree has a meaning: a name that isn't declared is read as 0, and writing to it
+-- changes nothing.
 use Rattle.std.specs.Prelude.{ℕ, suc, zero, ◌+◌, ◌%◌, ℤ, pos, Bool, if◌then◌else◌, List, [], ◌∷◌, length, slice_index_or, slice_set, bytes_eq, Option, Some, None}
 use Rattle.std.specs.Option.{option_and_then, option_map}
 use Rattle.gr_word.specs.Words.{applied, compared, unsigned_of}
 use Rattle.src_tree.specs.declared.trees.Decl.{Decl}
 use Rattle.src_tree.specs.Trees.{Tree, Number, Variable, Element, Operation, Test, Statement, SetVariable, SetElement, Choice, Loop, Block, Nothing, Then, Source}
 
--- a store: the words of each variable, in the order of declaration; a scalar has one
+-- a store: the words of each variable, in the order of declaration; a scalar has one word
 abbrev pub Store : Type 0
 Store = List (List ℤ)
 
--- the number of the variable that a name stands for, which its first declaration makes; past the last where there is
+-- the number of a name's variable, which is that of its first declaration, or the number of declarations if there is
 -- none
 abbrev pub variable_number : List Decl → List ℕ → ℕ
 variable_number [] name = 0
@@ -21,19 +22,19 @@ variable_number (d ∷ ds) name = if bytes_eq name d.name then 0 else 1 + variab
 abbrev pub words_of_number : Store → ℕ → List ℤ
 words_of_number store k = slice_index_or store k []
 
--- an index is taken without a sign, modulo the number of words
+-- an index is an unsigned number, modulo the number of words
 abbrev pub wrapped : List ℤ → ℤ → ℕ
 wrapped words index = unsigned_of index % length words
 
--- the word of variable number k that an index names
+-- the word of variable number k at an index
 abbrev pub element : Store → ℕ → ℤ → ℤ
 element store k index = slice_index_or (words_of_number store k) (wrapped (words_of_number store k) index) (pos 0)
 
--- the only word of variable number k
+-- the first word of variable number k
 abbrev pub scalar : Store → ℕ → ℤ
 scalar store k = slice_index_or (words_of_number store k) 0 (pos 0)
 
--- a store in which word number `at` of variable number k is another
+-- a store with another word number `at` of variable number k
 abbrev pub with_word : Store → ℕ → ℕ → ℤ → Store
 with_word store k at word = slice_set store k (slice_set (words_of_number store k) at word)
 
@@ -44,37 +45,37 @@ evaluated decls store (Variable x) = scalar store (variable_number decls x)
 evaluated decls store (Element x i) = element store (variable_number decls x) (evaluated decls store i)
 evaluated decls store (Operation op a b) = applied op (evaluated decls store a) (evaluated decls store b)
 
--- whether a guard holds
+-- whether a guard is true
 abbrev pub guard_holds : List Decl → Store → Test → Bool
 guard_holds decls store t = compared t.cmp (evaluated decls store t.left) (evaluated decls store t.right)
 
--- the stores that assignments leave
+-- the stores after assignments
 abbrev pub scalar_set : Store → ℕ → ℤ → Store
 scalar_set store k value = with_word store k 0 value
 
 abbrev pub element_set : Store → ℕ → ℤ → ℤ → Store
 element_set store k index value = with_word store k (wrapped (words_of_number store k) index) value
 
--- what there is between two statements: a store, and how often bodies of loops may still be entered
+-- the state between two statements: a store, and how many iterations of loops are left
 pub record Left : Type 0 where
   pub store : Store
   pub turns : ℕ
 
--- what statements leave, or none where they are spent: a loop wanted a turn, and none was left
+-- what statements leave, or nothing if they are spent: a loop needed an iteration, and none was left
 abbrev pub Execution : Type 0
 Execution = Left → Option Left
 
--- one run, and then another
+-- one execution, and then another
 abbrev pub in_turn : Execution → Execution → Execution
 in_turn first second before = option_and_then second (first before)
 
--- a turn is taken where one is left, and the body and then the rest are run with one less
+-- an iteration if one is left: the body, and then the rest with one fewer
 abbrev pub turn_taken : Execution → Execution → ℕ → Store → Option Left
 turn_taken body rest zero store = None
 turn_taken body rest (suc turns) store = in_turn body rest (record { store = store; turns = turns })
 
--- A loop of a body, as long as a test holds: at most `most` times, which is no bound where no more turns than that are
--- left.
+-- A loop that executes its body as long as a test is true, at most `most` times. That is no bound if no more iterations
+-- than that are left.
 unfoldable pub looped : (Store → Bool) → Execution → ℕ → Execution
 looped holds body zero before = if holds before.store then None else Some before
 looped holds body (suc most) before =
@@ -84,7 +85,7 @@ looped holds body (suc most) before =
 abbrev pub loop : (Store → Bool) → Execution → Execution
 loop holds body before = looped holds body before.turns before
 
--- what statements do
+-- the execution of statements
 abbrev mutual
   pub run_of : List Decl → Statement → Execution
   run_of decls (SetVariable x e) before =
@@ -107,7 +108,7 @@ abbrev mutual
   run_of_block decls Nothing before = Some before
   run_of_block decls (Then s rest) before = in_turn (run_of decls s) (run_of_block decls rest) before
 
--- the store that a program leaves, or none where it is spent
+-- the store that a program leaves, or nothing if it is spent
 abbrev pub meaning : Source → Store → ℕ → Option Store
 meaning p store turns =
     option_map (λ left. left.store) (run_of_block p.decls p.body (record { store = store; turns = turns }))

@@ -1,4 +1,4 @@
--- For the proofs and for private clauses only: the first fault of a block, part by part.
+-- For the proofs and for private clauses only: the first error of a block, part by part.
 use Rattle.std.specs.Prelude.{ℕ, ◌+◌, Option, None}
 use Rattle.gr_word.specs.declared.variables.Label.{Label}
 use Rattle.src_tree.specs.Trees.{Statement, SetVariable, SetElement, Choice, Loop, Block, Nothing, Then}
@@ -7,7 +7,7 @@ use Rattle.src_tree.specs.Contexts.{Context}
 use Rattle.src_tree.specs.Labels.{inside}
 use Rattle.src_tree.specs.FirstFault.{StatementFault, ◌or_else◌}
 
--- how many statements there are, those in blocks counted
+-- the number of statements, including those in blocks
 abbrev mutual
   pub count_of : Statement → ℕ
   count_of (SetVariable x e) = 1
@@ -19,7 +19,7 @@ abbrev mutual
   block_count Nothing = 0
   block_count (Then s rest) = count_of s + block_count rest
 
--- the first of the statements of a block from number n on with which something is wrong, part by part
+-- the first error of the statements of a block, which are numbered from n on, part by part
 abbrev mutual
   pub statement_fault : Context → StatementFault → Label → ℕ → Statement → Option TypeError
   statement_fault known fault code n (SetVariable x e) = fault code n (SetVariable x e)

@@ -1,5 +1,5 @@
--- The canonical text of a program: each operation in parentheses, each second block of a choice present, a line feed
--- behind each `;`, `{` and `}`, and one space behind each other token (this project's profile).
+-- The canonical text of a program: each operation is in parentheses, each `if` has a second block, a line feed follows
+-- each `;`, `{` and `}`, and a space follows each other token (this project's profile).
 use Rattle.std.specs.Prelude.{ℕ, List, [], ◌∷◌, ◌++◌, Option, Some, None, codes, decimal}
 use Rattle.std.specs.Fmt.{signed_decimal}
 use Rattle.gr_word.specs.declared.operations.Op.{Op}
@@ -11,14 +11,14 @@ use Rattle.gr_word.specs.declared.variables.Label.TheVariants.{Public, Secret}
 use Rattle.src_tree.specs.declared.trees.Decl.{Decl}
 use Rattle.src_tree.specs.Trees.{Tree, Number, Variable, Element, Operation, Test, Statement, SetVariable, SetElement, Choice, Loop, Block, Nothing, Then, Source}
 
--- a token with a space behind it, and one that ends a line
+-- a token and a space, and a token and a line feed
 abbrev pub spaced : List ℕ → List ℕ
 spaced token = token ++ 32 ∷ []
 
 abbrev pub line_of_token : List ℕ → List ℕ
 line_of_token token = token ++ 10 ∷ []
 
--- the source language has every operation but Remu
+-- the source language has every operation except Remu
 abbrev pub op_sign : Op → List ℕ
 op_sign Add = codes "+"
 op_sign Sub = codes "-"
@@ -51,12 +51,12 @@ tree_text (Element x i) = spaced x ++ (spaced (codes "[") ++ (tree_text i ++ spa
 tree_text (Operation op a b) =
     spaced (codes "(") ++ (tree_text a ++ (spaced (op_sign op) ++ (tree_text b ++ spaced (codes ")"))))
 
--- a guard in its brackets
+-- a guard between parentheses
 abbrev pub test_text : Test → List ℕ
 test_text t =
     spaced (codes "(") ++ (tree_text t.left ++ (spaced (cmp_sign t.cmp) ++ (tree_text t.right ++ spaced (codes ")"))))
 
--- a block in its braces
+-- a block between braces
 abbrev pub in_braces : List ℕ → List ℕ
 in_braces text = line_of_token (codes "{") ++ (text ++ line_of_token (codes "}"))
 
@@ -75,7 +75,7 @@ abbrev mutual
   block_text Nothing = []
   block_text (Then s rest) = statement_text s ++ block_text rest
 
--- the length of an array in its brackets
+-- the length of an array between brackets
 abbrev pub size_text : Option ℕ → List ℕ
 size_text None = []
 size_text (Some n) = spaced (codes "[") ++ (spaced (decimal n) ++ spaced (codes "]"))

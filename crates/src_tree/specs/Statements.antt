@@ -1,6 +1,6 @@
--- The statements of a program in the order of their first tokens, each with the label of the code that it stands in:
--- the arms of a choice are code as high as its guard. A statement's number is its place in this list, from 0.
--- (This project's profile.)
+-- The statements of a program in the order of their first tokens, each with the label of the code that it is in: the
+-- arms of a choice are secret code if its guard is secret, or if the choice is in secret code. A statement's number is
+-- its place in this list, from 0. (This project's profile.)
 use Rattle.std.specs.Prelude.{List, [], ◌∷◌, ◌++◌}
 use Rattle.std.specs.List.{Contains}
 use Rattle.gr_word.specs.declared.variables.Label.{Label}
@@ -21,6 +21,6 @@ abbrev mutual
   in_order known code Nothing = []
   in_order known code (Then s rest) = with_parts known code s ++ in_order known code rest
 
--- a statement of a program, in code of a label
+-- a statement of a program, in code with a label
 abbrev pub StandsIn : Source → Label → Statement → Type 0
 StandsIn p code s = Contains (in_order (context_of p.decls) Public p.body) (code, s)

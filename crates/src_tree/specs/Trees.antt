@@ -13,7 +13,7 @@ use Rattle.src_tree.specs.declared.trees.Stmt.TheOpen as open_stmt
 use Rattle.src_tree.specs.declared.trees.Decl.{Decl}
 use Rattle.src_tree.specs.declared.trees.Program.{Program}
 
--- an expression: a number, a variable, an element of an array by its index, or an operation on two expressions
+-- an expression: a number, a variable, an element of an array with its index, or an operation on two expressions
 pub data Tree : Type 0 where
   Number : (value : ℤ) → Tree
   Variable : (name : List ℕ) → Tree
@@ -58,7 +58,7 @@ abbrev pub block_of : List Statement → Block
 block_of [] = Nothing
 block_of (s ∷ ss) = Then s (block_of ss)
 
--- one statement, once the statements in its blocks are read
+-- one statement, after the statements in its blocks
 abbrev pub statement_step : Stmt-F Statement → Statement
 statement_step (open_stmt.Set x e) = SetVariable x (expr_tree e)
 statement_step (open_stmt.Put x i e) = SetElement x (expr_tree i) (expr_tree e)

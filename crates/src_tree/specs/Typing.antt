@@ -1,6 +1,6 @@
--- When a program is well typed. Rules on trees, in the manner of Volpano, Smith and Irvine (1996) and of GhostRider's
--- type system (ASPLOS 2015): a secret flows into nothing that is public, neither by a value, nor by the index of a
--- public array, nor by the choice of what is done; and no loop depends on a secret.
+-- When a program is well typed. The rules are on trees, like those of Volpano, Smith and Irvine (1996) and of
+-- GhostRider's type system (ASPLOS 2015): no secret flows to anything public, whether by a value, by the index of a
+-- public array, or by a choice between statements; and no loop depends on a secret.
 use Rattle.std.specs.Prelude.{◌≡◌, ℕ, List, [], Some, None}
 use Rattle.gr_base.specs.Lists.{EachAfter}
 use Rattle.gr_word.specs.declared.variables.Label.{Label}
@@ -12,17 +12,17 @@ use Rattle.src_tree.specs.Trees.{Tree, Number, Variable, Element, Operation, Tes
 use Rattle.src_tree.specs.Contexts.{Context, context_of}
 use Rattle.src_tree.specs.Labels.{higher, inside, label_at, label_of, label_of_test}
 
--- what has the first label may flow to what has the second
+-- a value with the first label may flow to a variable with the second
 abbrev pub Flows : Label → Label → Type 0
 Flows Public to = Unit {0}
 Flows Secret Public = ⊥
 Flows Secret Secret = Unit {0}
 
--- a name is declared, with the shape by which it is used
+-- a name is declared, with the shape with which it is used
 abbrev pub UsedAs : Context → List ℕ → Shape → Type 0
 UsedAs known name shape = (label : Label) × (known name ≡ Some (label, shape))
 
--- variables stand without an index and arrays with one; the index of a public array is public
+-- a scalar has no index and an array has one; the index of a public array is public
 abbrev pub TypedTree : Context → Tree → Type 0
 TypedTree known (Number z) = Unit {0}
 TypedTree known (Variable x) = UsedAs known x Scalar
@@ -32,8 +32,9 @@ TypedTree known (Operation op a b) = TypedTree known a × TypedTree known b
 abbrev pub TypedTest : Context → Test → Type 0
 TypedTest known t = TypedTree known t.left × TypedTree known t.right
 
--- A statement in code of a label. What is assigned is as high as its value and as the code; the arms of a choice are
--- code as high as its guard; a loop has a public guard and stands in public code.
+-- A statement in code with a label. An assignment to a public variable has a public value and is in public code; the
+-- arms of a choice are secret code if its guard is secret, or if the choice is in secret code; a loop has a public
+-- guard and is in public code.
 abbrev mutual
   pub TypedStatement : Context → Label → Statement → Type 0
   TypedStatement known code (SetVariable x e) =

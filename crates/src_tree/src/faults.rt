@@ -6,40 +6,41 @@ use std::alloc::{AllocError, AllocFailed};
 /// A limit of programs.
 #[derive(Clone, Copy, Debug, PartialEq, Eq)]
 pub enum Which {
-    /// At most 256 variables. The number is that of the variables.
+    /// At most 256 variables. The number is how many there are.
     Variables,
     /// An array has 1 to 1,048,576 words. The number is that of the declaration.
     ArrayLength,
-    /// All variables together have at most 4,194,304 words. The number is that of the declaration that passes it.
+    /// All variables together have at most 4,194,304 words. The number is that of the declaration that exceeds the
+    /// limit.
     TotalWords,
     /// An expression has at most the height 16. The number is that of the statement.
     Height,
-    /// A program weighs at most 8,192. The number is its weight.
+    /// A program has at most the weight 8,192. The number is its weight.
     Weight,
 }
 
-/// Why a program is refused. A place is the number of a declaration for [`TypeError::TwiceDeclared`] and of a statement
-/// otherwise, counted from 0 in the order of their first tokens, and 2^32 - 1 from there on. The number of a limit is
-/// 2^64 - 1 from there on.
+/// Why a program isn't allowed. A place is the number of a declaration for [`TypeError::TwiceDeclared`], and otherwise
+/// the number of a statement, counted from 0 in the order of their first tokens; numbers above 2^32 - 1 are reported as
+/// 2^32 - 1. The number of a limit is reported as 2^64 - 1 if it is greater.
 #[derive(Clone, Copy, Debug, PartialEq, Eq)]
 pub enum TypeError {
     /// The declaration has the name of an earlier one.
     TwiceDeclared(u32),
-    /// The statement names what isn't declared.
+    /// The statement uses a name that isn't declared.
     Undeclared(u32),
-    /// The statement names an array without an index, or a scalar with one.
+    /// The statement uses an array without an index, or a scalar with one.
     WrongShape(u32),
-    /// The statement assigns a secret, or from within secret code, to what is public.
+    /// The statement assigns to a public variable a secret value or, in secret code, any value.
     FlowToPublic(u32),
-    /// A public array has a secret index in the statement.
+    /// The statement uses a public array with a secret index.
     SecretIndexOfPublic(u32),
     /// The loop has a secret guard.
     SecretGuardOfLoop(u32),
-    /// The loop stands in secret code.
+    /// The loop is in secret code.
     LoopInSecret(u32),
-    /// A limit is passed.
+    /// A limit is exceeded.
     Limit(Which, u64),
-    /// Memory ran out, which says nothing of the program.
+    /// Memory ran out, which says nothing about the program.
     Memory,
 }
 

@@ -4,8 +4,8 @@ ghost use Rattle.src_tree.specs.Trees.{expr_tree};
 
 use crate::trees::Expr;
 
-/// The height of an expression: 1 for a number and a variable, and 1 more than the higher part's else. From 2^32 - 1 on
-/// it is given as 2^32 - 1.
+/// The height of an expression: 1 for a number or a variable, and otherwise 1 more than that of its highest operand or
+/// index. It is reported as 2^32 - 1 if it is greater.
 pub fn height(e: &Expr) -> u32
     ensures { result ≡ min (height_of (expr_tree e.now)) (2 ^ 32 - 1) }
 {

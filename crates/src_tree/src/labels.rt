@@ -6,7 +6,7 @@ ghost use Rattle.src_tree.specs.Trees.{expr_tree};
 use crate::trees::{Decl, Expr, Program};
 use gr_word::Label;
 
-/// The label of two things together: secret where one of them is.
+/// The label of two expressions together: secret if one of them is.
 pub fn higher(a: Label, b: Label) -> Label
     ensures { result ≡ higher a b }
 {
@@ -28,9 +28,9 @@ fn label_at(decls: &[Decl], name: &[u8]) -> Label
     Label::Public
 }
 
-/// The label of an expression of a program: secret where a secret variable or an element of a secret array stands in
-/// it, and public else. A name that isn't declared makes nothing secret. It takes no memory, and looks the names up in
-/// the list of declarations.
+/// The label of an expression of a program: secret if a secret variable or an element of a secret array is in it, and
+/// otherwise public. A name that isn't declared makes nothing secret. It takes no memory, and searches the list of
+/// declarations for each name.
 pub fn label_of(p: &Program, e: &Expr) -> Label
     ensures { result ≡ label_of (context_of p.now.decls.items) (expr_tree e.now) }
 {

@@ -9,15 +9,15 @@ ghost use Rattle.src_tree.specs.Limits.{IsWithinLimits};
 ghost use Rattle.src_tree.specs.FirstFault.{StatementFault, IsFirstAt, statements_fault, first_fault};
 ghost use Rattle.src_tree.specs.Causes.{IsFirstFault};
 
-/// Laws of faults: a program has no first fault exactly where it is well typed and within the limits.
+/// Laws of errors: a program has no first error exactly if it is well typed and within the limits.
 pub fn no_fault()
     ensures typed { (p : Source) → first_fault p ≡ None → IsTyped p }
     ensures within { (p : Source) → first_fault p ≡ None → IsWithinLimits p }
     ensures faultless { (p : Source) → IsTyped p → IsWithinLimits p → first_fault p ≡ None }
 {}
 
-/// Laws of what is asked of each statement: the first fault is found at the statement where it is, those before it
-/// having none, and only there.
+/// Laws of a kind of error of statements: the first error that is found is that of the first statement that has one,
+/// and of no other.
 pub fn first_statement()
     ensures found { (fault : StatementFault) (p : Source) (k : ℕ) (e : TypeError)
         → IsFirstAt fault 0 (in_order (context_of p.decls) Public p.body) k e → statements_fault fault p ≡ Some e }
@@ -25,7 +25,7 @@ pub fn first_statement()
         → (k : ℕ) × IsFirstAt fault 0 (in_order (context_of p.decls) Public p.body) k e }
 {}
 
-/// Laws of the first fault: it is the one that the relation in words names, and no other.
+/// Laws of the first error: it is the one that the relation defines, and no other.
 pub fn first_cause()
     ensures found { (p : Source) (e : TypeError) → IsFirstFault p e → first_fault p ≡ Some e }
     ensures only { (p : Source) (e : TypeError) → first_fault p ≡ Some e → IsFirstFault p e }

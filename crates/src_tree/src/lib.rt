@@ -1,11 +1,10 @@
 //! The trees of the source language.
 //!
-//! An [`Expr`], a [`Guard`], a [`Stmt`] and a [`Program`] are seen in contracts as trees without pointers, by
-//! `specs/Trees`. [`print`] writes a program's canonical text, by `specs/Printed`. What a program means is
-//! `specs/Meaning`. The rules of typing are `specs/Typing`, the limits that don't depend on a machine `specs/Limits`,
-//! and the first fault of a program `specs/FirstFault`; a program has none exactly where it is well typed and within
-//! the limits ([`laws`]). [`label_of`] is the label of an expression. [`Names`] is what declarations say of names, as a
-//! map that other crates fill.
+//! Contracts see an [`Expr`], a [`Guard`], a [`Stmt`] and a [`Program`] as trees without pointers (`specs/Trees`).
+//! [`print`] writes a program's canonical text (`specs/Printed`). `specs/Meaning` defines what a program means,
+//! `specs/Typing` the rules of typing, `specs/Limits` the limits that don't depend on a machine, and `specs/FirstFault`
+//! the first error of a program; a program has none exactly if it is well typed and within the limits ([`laws`]).
+//! [`label_of`] is the label of an expression. [`Names`] is a map of what names are declared as; other crates fill it.
 #![tactic(auto)]
 
 pub mod faults;

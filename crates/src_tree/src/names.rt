@@ -9,7 +9,7 @@ use std::collections::BTreeMap;
 /// The label and the shape of each declared name, by the name's bytes.
 pub type Names<'a> = BTreeMap<&'a [u8], (Label, Shape)>;
 
-/// The shape of a variable by its length in words: an array has a length, a scalar has none.
+/// The shape of a variable from its length in words: an array has a length, a scalar has none.
 pub fn shape_of(length: Option<u64>) -> Shape
     ensures { result ≡ shape_of length }
 {
@@ -19,14 +19,14 @@ pub fn shape_of(length: Option<u64>) -> Shape
     }
 }
 
-/// What a name was declared as, where it was.
+/// What a name was declared as, or `None` if it wasn't declared.
 pub fn kind_at<'a>(names: &Names<'a>, name: &'a [u8]) -> Option<(Label, Shape)>
     ensures { result ≡ found_under names.now name.now }
 {
     names.get(&name).copied()
 }
 
-/// The label of a name, public where it isn't declared.
+/// The label of a name, or public if it isn't declared.
 pub fn label_at<'a>(names: &Names<'a>, name: &'a [u8]) -> Label
     ensures { result ≡ label_at (found_under names.now) name.now }
 {

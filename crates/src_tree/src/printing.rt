@@ -24,7 +24,7 @@ use gr_word::{Cmp, Label, Op};
 use itoa::Buffer;
 use std::alloc::Global;
 
-// Adds a token with a space behind it.
+// Adds a token and a space.
 fn put(out: &mut Vec<u8>, token: &[u8]) -> Result<(), Memory>
     ensures { OnOk result (out.new.items ≡ out.old.items ++ spaced token.now) }
 {
@@ -33,7 +33,7 @@ fn put(out: &mut Vec<u8>, token: &[u8]) -> Result<(), Memory>
     Ok(())
 }
 
-// Adds a token that ends a line.
+// Adds a token and a line feed.
 fn put_line(out: &mut Vec<u8>, token: &[u8]) -> Result<(), Memory>
     ensures { OnOk result (out.new.items ≡ out.old.items ++ line_of_token token.now) }
 {
@@ -156,7 +156,7 @@ fn put_statement(out: &mut Vec<u8>, s: &Stmt) -> Result<(), Memory>
     }
 }
 
-// Adds a block in its braces.
+// Adds a block between braces.
 #[cycle(put_statements)]
 fn put_body(out: &mut Vec<u8>, statements: &[Stmt]) -> Result<(), Memory>
     ensures { OnOk result (out.new.items ≡ out.old.items ++ in_braces (block_text (block_of_all statements.now))) }
@@ -215,8 +215,8 @@ fn put_declarations(out: &mut Vec<u8>, decls: &[Decl]) -> Result<(), Memory>
     Ok(())
 }
 
-/// The canonical text of a program: each operation in parentheses, each second block of a choice present, a line feed
-/// behind each `;`, `{` and `}`, and one space behind each other token.
+/// The canonical text of a program: each operation is in parentheses, each `if` has a second block, a line feed follows
+/// each `;`, `{` and `}`, and a space follows each other token.
 pub fn print(alloc: Global, p: &Program) -> Result<Vec<u8>, Memory>
     ensures { IfOk result (λ text. text.items ≡ source_text (source_of p.now)) }
 {

@@ -1,6 +1,6 @@
 use gr_word::{Cmp, Label, Name, Op};
 
-/// An expression: a number, a variable, an element of an array by its index, or an operation on two expressions.
+/// An expression: a number, a variable, an element of an array with its index, or an operation on two expressions.
 #[derive(Debug, Drop)]
 pub enum Expr {
     Num(i64),
