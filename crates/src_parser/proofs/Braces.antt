@@ -1,4 +1,4 @@
--- The open braces before and behind a token: none is part of an expression, of a part of a statement or of a
+-- The open braces before and after a token: a brace isn't part of an expression, of a part of a statement or of a
 -- declaration.
 use Rattle.std.proofs.Common.{◌≡◌, ℕ, ◌+◌, ◌<◌, pos, Bool, true, false, List, Option, Some, None, refl, sym, ap, ◌∙◌}
 use Rattle.std.specs.Prelude.{nat_lt}
@@ -16,7 +16,7 @@ use Rattle.src_parser.proofs.Tokenwise.{Counted}
 pub same_state : {S : Type 0} (x y : S) → ◌≡◌ {A = Advance S} (Goes x) (Goes y) → x ≡ y
 same_state x y e = cc
 
--- what is read as a part was read as its part
+-- an advance of the whole is an advance of its part
 pub mapped_goes : {A B R : Type 0} (f : A → B) (t : Advance A) (b : B) → mapped f t ≡ Goes b
     → ((a : A) → t ≡ Goes a → f a ≡ b → R) → R
 mapped_goes f (Goes a) b e so = so a refl (same_state (f a) b e)
@@ -29,7 +29,7 @@ braces_counted open_braces most count true x next t is e =
     (ltb-true count most t, ap open_braces (sym (same_state x next e)) ∙ is)
 braces_counted open_braces most count false x next t is e = absurd (cc)
 
--- no brace is part of an expression
+-- a brace isn't part of an expression
 closing_left : (used : ℕ) (joint : Joint) (y : Reading) → closing used kind.LBrace joint ≡ Moves y → ⊥
 closing_left used (Joins stack tree depth) y e = cc
 

@@ -1,4 +1,5 @@
--- What spells an expression is read as that expression: from where an operand is wanted to where its tree is there.
+-- The tokens of an expression are read as that expression, from where an operand is expected to where its tree is
+-- complete.
 use Rattle.std.proofs.Common.{◌≡◌, ◌≢◌, ℕ, ◌+◌, ◌<◌, ◌≤◌, pos, List, [], ◌∷◌, ◌++◌, Option, Some, None, refl, ap, ◌∙◌, subst, append_assoc, arith}
 use Rattle.std.specs.Prelude.{◌&&◌, nat_lt}
 use Rattle.std.proofs.lemmas.Bool.{and_from, lt-ltb, le-leb, lt-leb}
@@ -20,12 +21,12 @@ top_level (Index d name ∷ stack) = 0
 top_level (Sign d ∷ stack) = 6
 top_level (Pending left op ∷ stack) = level_of op + 1
 
--- a token behind an expression of this level: no `[`, and no operator that binds tighter
+-- a token after an expression of this level: it isn't `[`, nor an operator that binds tighter
 pub record Follows (level : ℕ) (k : TokenKind) : Type 0 where
   pub no_index : k ≢ kind.LBracket
   pub looser : (op : Op) → operator_of k ≡ Some op → level_of op ≤ level
 
--- a reading that goes on by `reads`, whatever comes of it
+-- a reading that continues with `reads`, for any result
 pub record Runs (most : Limits) {R : Type 0} (go : Reading → List TokenKind → R) : Type 0 where
   pub moves : (x y : Reading) (k : TokenKind) (ks : List TokenKind) → reads most x k ≡ Moves y → go x (k ∷ ks) ≡ go y ks
   pub same : (x y : Reading) (k : TokenKind) (ks : List TokenKind)
@@ -45,12 +46,12 @@ settled j (Sign d ∷ stack) tree depth h i = absurd (omega arith)
 settled j (Pending left op ∷ stack) tree depth h i = rw (lt-leb j (level_of op) (omega arith)) refl
 settled j _ tree depth h i = refl
 
--- what waits for no tighter operators takes the operand
+-- what doesn't wait for tighter operators takes the operand
 pub taken : (j : ℕ) (left : Tree) (op : Op) (stack : List Waiting) (tree : Tree) (depth : ℕ) → j ≤ level_of op →
     tree_joined j (Pending left op ∷ stack) tree depth ≡ tree_joined j stack (Operation op left tree) depth
 taken j left op stack tree depth h = rw (le-leb j (level_of op) h) refl
 
--- behind an expression a name is as good as its tree
+-- after an expression, a name is read like its tree
 name_is_tree : (most : Limits) (stack : List Waiting) (depth used : ℕ) (name : List ℕ) (k : TokenKind) → k
     ≢ kind.LBracket →
     reads most (At stack depth used (m.Named name)) k ≡ reads most (At stack depth used (Given (Variable name))) k
@@ -91,7 +92,7 @@ pub behind_operator : (sign : TokenKind) (op : Op) → operator_of sign ≡ Some
 behind_operator sign op is =
     record { no_index = not_index sign op is; looser = level_of_sign sign op (level_of op) is (omega arith) }
 
--- what is neither a bracket nor an operator follows at each level
+-- a token that is neither `[` nor an operator follows at each level
 pub closer : (level : ℕ) (k : TokenKind) → k ≢ kind.LBracket → operator_of k ≡ None → Follows level k
 closer level k h n = record { no_index = h; looser = λ op is. absurd (cc) }
 

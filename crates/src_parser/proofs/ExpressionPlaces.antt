@@ -1,4 +1,4 @@
--- The place of a token among those of an expression, and what the reading there says of it.
+-- The place of a token among those of an expression, and what reading says about it there.
 use Rattle.std.proofs.Common.{◌≡◌, ℕ, ◌+◌, ◌<◌, ◌≤◌, List, length, take, drop, get_or, Some, None, refl, sym, ap, ◌∙◌, subst, arith}
 use Rattle.std.proofs.lemmas.List.{take_all}
 use Rattle.src_lexer.specs.declared.tokens.Token.{Token}
@@ -22,7 +22,7 @@ goes_at tokens opened used i token x y h is before now =
     ap (λ ks. reads_all limits (first opened used) ks) (kinds_more tokens i token h is)
     ∙ one_more limits (token_kinds (take i tokens)) token.kind (first opened used) x y before now
 
--- a token behind a whole expression
+-- a token after a whole expression
 pub found_at : (tokens : List Token) (opened used i : ℕ) (token : Token) (x y : Reading) (tree : Tree)
     → used ≤ 256 → i < length tokens → token ≡ get_or tokens i token
     → reads_all limits (first opened used) (token_kinds (take i tokens)) ≡ Moves x
@@ -37,7 +37,7 @@ found_at tokens opened used i token x y tree few h is before now w = record {
 none_left : (x y : Reading) → reads limits x kind.Semi ≡ Stops y → whole y ≡ None → ended limits x ≡ None
 none_left x y stop w = ap left_whole stop ∙ w
 
--- a token that can't stand where it stands
+-- a token with which the expression can't continue
 pub stray_at : (tokens : List Token) (opened used i : ℕ) (token : Token) (x y : Reading)
     → used ≤ 256 → i < length tokens → token ≡ get_or tokens i token
     → reads_all limits (first opened used) (token_kinds (take i tokens)) ≡ Moves x

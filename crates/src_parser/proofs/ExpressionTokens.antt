@@ -1,5 +1,5 @@
--- What is said of one expression among tokens, as the readings that the tokens lead to: so a parser of larger things may
--- go over an expression at once.
+-- The results for one expression among tokens, as the readings to which the tokens lead, so that a parser of a larger
+-- language can skip an expression at once.
 use Rattle.std.proofs.Common.{◌≡◌, ℕ, ◌+◌, ◌≤◌, List, [], ◌∷◌, ◌++◌, Option, Some, None, refl, sym, ap, ◌∙◌}
 use Rattle.src_lexer.specs.declared.tokens.TokenKind.{TokenKind}
 use Rattle.src_lexer.specs.declared.tokens.TokenKind.TheVariants as kind
@@ -11,7 +11,7 @@ use Rattle.src_parser.specs.ReadTokens.{then_read, reads_all, left_whole, after_
 use Rattle.src_parser.proofs.Reached.{ends}
 use Rattle.src_parser.proofs.ReadTokens.{first, reached, begins, is_expression, read_whole, stops_all, alike, one_more, wider}
 
--- tokens that are read, and what is left by the one behind them
+-- tokens that are read, and what the token after them leaves
 pub record Front (most : Limits) (x : Reading) (ks : List TokenKind) (k : TokenKind) (tree : Tree) : Type 0 where
   pub last : Reading
   pub all : reads_all most x ks ≡ Moves last
@@ -46,7 +46,7 @@ front most [] k x tree e = last_step most k x (reads most x k) tree refl e
 front most (k1 ∷ ks) k x tree e =
     front_step most k1 ks k x (reads most x k1) tree (λ z g. front most ks k z tree g) refl e
 
--- tokens with which an expression begins are read
+-- tokens that begin an expression are read
 pub record Read (most : Limits) (opened used : ℕ) (ks : List TokenKind) : Type 0 where
   pub last : Reading
   pub all : reads_all most (first opened used) ks ≡ Moves last
@@ -72,7 +72,7 @@ read_begun most opened used ks b =
     let r = take_front most ks b.more (first opened used) f.last f.all in
     record { last = r.0; all = r.1 }
 
--- an expression was read, and the token behind it leaves it whole
+-- an expression was read, and the token after it leaves it whole
 pub record ReadWhole (opened used : ℕ) (ks : List TokenKind) (k : TokenKind) (tree : Tree) : Type 0 where
   pub last : Reading
   pub all : reads_all limits (first opened used) ks ≡ Moves last
@@ -100,7 +100,7 @@ found_read opened used ks k tree few is none =
     by f Deep e =
         let w = wider limits opened used ks f.last k few f.all e in absurd (none w.wide w.begins)
 
--- a token that can't stand behind what was read
+-- a token with which what was read can't continue
 pub record ReadStray (opened used : ℕ) (ks : List TokenKind) (k : TokenKind) : Type 0 where
   pub last : Reading
   pub all : reads_all limits (first opened used) ks ≡ Moves last
@@ -128,7 +128,7 @@ stray_read opened used ks k few b unfinished none = by (read_begun limits opened
         record { last = r.last; all = r.all; next = z; stops = e; none = left r z e (whole z) refl }
     by r Deep e = let w = wider limits opened used ks r.last k few r.all e in absurd (none w.wide w.begins)
 
--- a token that is too much
+-- a token that exceeds a limit
 pub record ReadDeep (opened used : ℕ) (ks : List TokenKind) (k : TokenKind) : Type 0 where
   pub last : Reading
   pub all : reads_all limits (first opened used) ks ≡ Moves last

@@ -1,4 +1,4 @@
--- Every state of a declaration has read some tokens, and these go on to a whole declaration.
+-- Each state of a declaration has read some tokens, and these can be completed to a declaration.
 use Rattle.std.proofs.Common.{◌≡◌, ℕ, pos, List, [], ◌∷◌, ◌++◌, Some, None, subst}
 use Rattle.gr_word.specs.declared.variables.Label.{Label}
 use Rattle.src_lexer.specs.declared.tokens.TokenKind.{TokenKind}
@@ -9,14 +9,14 @@ use Rattle.src_parser.specs.Headings.{Heading, Labelled, Typed, Titled, Sizing, 
 use Rattle.src_parser.specs.Tokenwise.{Goes}
 use Rattle.src_parser.proofs.Braces.{same_state}
 
--- declarations and others behind them
+-- declarations and then others
 pub declares_both : {ts us : List TokenKind} {a b : List Decl} → Declares ts a → Declares us b
     → Declares (ts ++ us) (a ++ b)
 declares_both NoMore e = e
 declares_both (Scalar label name d) e = Scalar label name (declares_both d e)
 declares_both (Array label name n d) e = Array label name n (declares_both d e)
 
--- these tokens of a declaration lead to where it stands
+-- these tokens of a declaration lead to this state
 pub data Heads : Heading → List TokenKind → Type 0 where
   IsLabelled : (label : Label) → Heads (Labelled label) (keyword_of label ∷ [])
   IsTyped : (label : Label) → Heads (Typed label) (keyword_of label ∷ kind.Int ∷ [])
@@ -39,7 +39,7 @@ went : (tokens : List TokenKind) (x y : HeadingState) → Goes x ≡ Goes y → 
     → HeadingStands y tokens
 went tokens x y e s = subst (λ z. HeadingStands z tokens) (same_state x y e) s
 
--- a token of a declaration leads on
+-- a token of a declaration that is read
 pub heading_steps : {heading : Heading} {tokens : List TokenKind} → Heads heading tokens → (k : TokenKind)
     (s : HeadingState) → heading_advanced heading k ≡ Goes s → HeadingStands s (tokens ++ k ∷ [])
 heading_steps (IsLabelled label) kind.Int s e = went _ _ s e (IsTyped label)
@@ -56,7 +56,7 @@ heading_steps (IsSized label name n) _ s e = absurd (cc)
 heading_steps (IsClosing label name n) kind.Semi s e = went _ _ s e (Array label name n NoMore)
 heading_steps (IsClosing label name n) _ s e = absurd (cc)
 
--- what makes a declaration whole, with a given name where it has none yet
+-- what completes a declaration, with a given name if it has none yet
 abbrev pub rest_of : Heading → List ℕ → List TokenKind
 rest_of (Labelled label) x = kind.Int ∷ kind.Word x ∷ kind.Semi ∷ []
 rest_of (Typed label) x = kind.Word x ∷ kind.Semi ∷ []

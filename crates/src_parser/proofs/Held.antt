@@ -1,4 +1,5 @@
--- What a reading has read: the tokens behind a stack, what a token adds to them, and how they go on to an expression.
+-- What a reading has read: the tokens before its stack, what one more token adds to them, and how they are completed to
+-- an expression.
 use Rattle.std.proofs.Common.{◌≡◌, ℕ, ◌+◌, ◌<◌, ◌≤◌, pos, Bool, true, false, List, [], ◌∷◌, ◌++◌, Some, refl, sym, subst, append_assoc, arith}
 use Rattle.std.specs.Prelude.{nat_le, if◌then◌else◌}
 use Rattle.std.proofs.lemmas.List.{append-nil}
@@ -11,8 +12,8 @@ use Rattle.src_parser.specs.Grammar.{operator_of, level_of, operators, SpellsTre
 use Rattle.src_parser.specs.Operands.{Waiting, Open, Index, Sign, Pending, Joint, Joins, tree_joined}
 use Rattle.src_parser.proofs.Levels.{lower}
 
--- tokens that are read where this stack waits, from `base` open brackets on: so many are open then, and an operand of
--- this level fits
+-- tokens that lead to this stack, from `base` open brackets on: `depth` are open then, and an operand of this level
+-- fits
 pub data Held (most base : ℕ) : (stack : List Waiting) (depth level : ℕ) → List TokenKind → Type 0 where
   Start : Held most base [] base 0 []
   Opened : {stack : List Waiting} {depth level : ℕ} {tokens : List TokenKind}
@@ -30,7 +31,7 @@ pub data Held (most base : ℕ) : (stack : List Waiting) (depth level : ℕ) →
       Held most base stack depth level tokens →
       Held most base (Pending a op ∷ stack) depth (level_of op + 1) (tokens ++ (left ++ sign ∷ []))
 
--- the operators and signs of what waits
+-- the number of operators and signs that wait
 abbrev pub weight : List Waiting → ℕ
 weight [] = 0
 weight (Open d ∷ stack) = weight stack
@@ -49,7 +50,7 @@ no_name_in_both [] us g h = h
 no_name_in_both (kind.Word name ∷ ts) us g h = absurd g
 no_name_in_both (_ ∷ ts) us g h = no_name_in_both ts us g h
 
--- an expression that goes on from some tokens, by tokens that are no names
+-- these tokens are completed to an expression by tokens that aren't names
 pub record GoesOn (most base : ℕ) (tokens : List TokenKind) (count : ℕ) : Type 0 where
   pub more : List TokenKind
   pub nameless : HasNoName more
@@ -79,7 +80,7 @@ count_at : {most base : ℕ} {tokens : List TokenKind} (a b : ℕ)
     → a ≡ b → GoesOn most base tokens a → GoesOn most base tokens b
 count_at {most} {base} {tokens} a b e g = subst (λ n. GoesOn most base tokens n) e g
 
--- a stack and an operand that fits go on to an expression: what is open is closed
+-- a stack and an operand that fits are completed to an expression: what is open is closed
 pub closes : {most base : ℕ} {stack : List Waiting} {depth level : ℕ} {tokens : List TokenKind}
     → Held most base stack depth level tokens → (us : List TokenKind) (tree : Tree)
     → SpellsTree most depth level us tree
@@ -104,7 +105,7 @@ closes {most} {base}
     (goes_at (ts ++ (left ++ sign ∷ us)) ((ts ++ (left ++ sign ∷ [])) ++ us) (simp append_assoc refl)
     (closes h (left ++ sign ∷ us) (Operation op a tree) (Joined op sign below is first s)))
 
--- what is known once operands are taken
+-- what is known after operands were taken
 pub record Taken (most base j count : ℕ) (tokens : List TokenKind) (joint : Joint) : Type 0 where
   pub stack : List Waiting
   pub tree : Tree
@@ -133,7 +134,7 @@ pending_takes : {most base j : ℕ} (left : Tree) (op : Op) (stack : List Waitin
 pending_takes left op stack tree depth count tokens true e taking staying = taking (grind arith)
 pending_takes left op stack tree depth count tokens false e taking staying = staying (grind arith)
 
--- what is held stays where it waits for no operand of this level
+-- what waits stays if it doesn't wait for an operand of this level
 stays : {most base : ℕ} {stack : List Waiting} {depth level : ℕ} {tokens : List TokenKind}
     → Held most base stack depth level tokens
     → (j m : ℕ) (us : List TokenKind) (tree : Tree) → SpellsTree most depth m us tree → level ≤ j → j ≤ m
@@ -153,7 +154,7 @@ stays {stack = stack} {depth} {level} {tokens} h j m us tree s low below = recor
   counted = refl;
 }
 
--- an operand of a high enough level is taken by what is held
+-- what waits takes an operand of a high enough level
 pub takes : {most base : ℕ} {stack : List Waiting} {depth level : ℕ} {tokens : List TokenKind}
     → Held most base stack depth level tokens
     → (j m : ℕ) (us : List TokenKind) (tree : Tree) → SpellsTree most depth m us tree → level ≤ m → j ≤ m

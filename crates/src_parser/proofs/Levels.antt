@@ -1,4 +1,4 @@
--- The levels of operators: an expression of tightly bound operators is one of loosely bound ones.
+-- The levels of operators: an expression of a level is one of each lower level.
 use Rattle.std.proofs.Common.{ℕ, ◌<◌, ◌≤◌, List, arith}
 use Rattle.src_lexer.specs.declared.tokens.TokenKind.{TokenKind}
 use Rattle.gr_word.specs.declared.operations.Op.{Op}
@@ -6,7 +6,7 @@ use Rattle.gr_word.specs.declared.operations.Op.TheVariants as op
 use Rattle.src_tree.specs.Trees.{Tree}
 use Rattle.src_parser.specs.Grammar.{SpellsTree, Numeral, Named, Indexed, Bracketed, Negated, Joined, level_of}
 
--- a tree of a level is one of each lower level
+-- an expression of a level is one of each lower level
 pub lower : {most depth level : ℕ} {tokens : List TokenKind} {tree : Tree} (low : ℕ)
     → low ≤ level → SpellsTree most depth level tokens tree → SpellsTree most depth low tokens tree
 lower low le (Numeral n) = Numeral n
@@ -16,7 +16,7 @@ lower low le (Bracketed room tree) = Bracketed room tree
 lower low le (Negated room tree) = Negated room tree
 lower low le (Joined op sign below is a b) = Joined op sign (omega arith) is a b
 
--- no operation binds as tightly as what stands alone
+-- each operator has a lower level than an operand without operators
 pub level_low : (o : Op) → level_of o < 6
 level_low op.Add = omega arith
 level_low _ = omega arith

@@ -28,15 +28,15 @@ use Rattle.src_parser.specs.Grammar.{operator_of, comparison_of, keyword_of}
 use Rattle.src_parser.specs.Printable.{IsFree}
 use Rattle.src_parser.proofs.Rendered.{Renders, behind_white, IsAlone, run_alone, single_alone, double_alone}
 
--- a token with a space behind it
+-- a token and a space
 pub space : {bytes : List ℕ} {k : TokenKind} → IsAlone bytes k → Renders (spaced bytes) (k ∷ [])
 space a = behind_white 32 (inl refl) a
 
--- a token with a line feed behind it
+-- a token and a line feed
 pub line : {bytes : List ℕ} {k : TokenKind} → IsAlone bytes k → Renders (line_of_token bytes) (k ∷ [])
 line a = behind_white 10 (inr refl) a
 
--- a sign or a keyword alone is its token
+-- the bytes of each sign and keyword, before white space, are its token
 pub record LoneTokens : Type 0 where
   pub lparen : IsAlone (codes "(") kind.LParen
   pub rparen : IsAlone (codes ")") kind.RParen
@@ -51,7 +51,7 @@ pub record LoneTokens : Type 0 where
   pub while_word : IsAlone (codes "while") kind.While
   pub int_word : IsAlone (codes "int") kind.Int
 
--- signs and keywords
+-- the signs and keywords
 pub lone : LoneTokens
 unfolding sign_of word_run
 lone = record {
@@ -69,7 +69,7 @@ lone = record {
   int_word = run_alone (codes "int") kind.Int (omega arith) refl refl;
 }
 
--- a label's keyword alone
+-- a label's keyword
 pub label_alone : (l : Label) → IsAlone (label_keyword l) (keyword_of l)
 unfolding word_run
 label_alone label.Public = run_alone (codes "public") kind.Public (omega arith) refl refl
@@ -81,7 +81,7 @@ pub record OpSign (o : Op) : Type 0 where
   pub alone : IsAlone (op_sign o) k
   pub is : operator_of k ≡ Some o
 
--- the sign of an operation that the source has
+-- the sign of each operation of the source language
 pub op_alone : (o : Op) → o ≢ op.Remu → OpSign o
 unfolding sign_of pair_of
 op_alone op.Add h = record { k = kind.Plus; alone = single_alone 43 kind.Plus refl refl refl; is = refl }
@@ -114,7 +114,7 @@ cmp_alone cmp.Ge = record { k = kind.Ge; alone = double_alone 62 61 kind.Ge refl
 some_bytes : (n : ℕ) → nat_le 1 n ≡ true → 0 < n
 some_bytes n h = grind arith
 
--- a name that is no keyword, alone
+-- a name that isn't a keyword
 pub name_alone : (name : List ℕ) → IsFree name → IsAlone name (kind.Word name)
 name_alone name f =
     let long = and_parts (nat_le 1 (length name)) _ f.fits in
@@ -130,7 +130,7 @@ digits_name [] h = refl
 digits_name (x ∷ xs) h =
     let p = and_parts (is_ascii_digit x) _ h in and_from (is_name_byte x) _ (digit_name x p.0) (digits_name xs p.1)
 
--- a number, by its digits and its value
+-- a number, from its digits and its value
 abbrev number_by : ℕ → ℕ → ℕ → LetterRun
 number_by size all value =
     if nat_lt (2 ^ 63 - 1) value then Big else (if size == all then Is (kind.Num (pos value)) else Mixed size)
@@ -166,7 +166,7 @@ starts_run : (run : List ℕ) (r : LetterRun) → is_ascii_digit (slice_index ru
     → letter_run_of run ≡ r
 starts_run run r h is = rw h is
 
--- the digits of a number are a longest run, and that number
+-- the digits of a number are a longest run, and are that number
 pub record IsNumberRun (n : ℕ) : Type 0 where
   pub some : 0 < length (decimal n)
   pub each : list_all is_name_byte (decimal n) ≡ true
@@ -184,6 +184,6 @@ number_run_of n h =
           (digits_run (decimal n) n each (numeral_value n (omega arith)) h);
     }
 
--- a number alone
+-- a number
 pub number_alone : (n : ℕ) → n < 2 ^ 63 → IsAlone (decimal n) (kind.Num (pos n))
 number_alone n h = let r = number_run_of n h in run_alone (decimal n) (kind.Num (pos n)) r.some r.each r.is

@@ -1,4 +1,4 @@
--- A text spells one program at most.
+-- A text encodes at most one program.
 use Rattle.std.proofs.Common.{◌≡◌, ℕ, List, subst, Ok, Err}
 use Rattle.src_lexer.specs.declared.tokens.Token.{Token}
 use Rattle.src_lexer.specs.declared.errors.LexError.{LexError}
@@ -10,7 +10,7 @@ use Rattle.src_parser.specs.Refusals.{token_kinds}
 use Rattle.src_parser.specs.Source.{SpellsSource}
 use Rattle.src_parser.proofs.Refused.{one_tree}
 
--- a text spells one program at most
+-- a text encodes at most one program
 pub one_program : (text : List ℕ) (p q : Source) → SpellsSource text p → SpellsSource text q → p ≡ q
 one_program text p q s t =
     let e = same_tokens 0 text t.tokens s.tokens t.split s.split in
@@ -19,6 +19,6 @@ one_program text p q s t =
 no_both : (a : List Token) (e : LexError) → ◌≡◌ {A = Lexed} (Ok a) (Err e) → ⊥
 no_both a e f = cc
 
--- the text of a program has no fault of its bytes
+-- the text of a program splits into tokens without an error
 pub no_fault : (text : List ℕ) (p : Source) (e : LexError) → SpellsSource text p → Splits 0 text (Err e) → ⊥
 no_fault text p e s f = no_both s.tokens e (one_reading 0 text (Ok s.tokens) (Err e) s.split f)

@@ -1,4 +1,4 @@
--- Of tokens one refusal is true at most: tokens that begin a sentence begin one with each token among them.
+-- At most one error is true of tokens: tokens that begin a sentence also begin one up to each token among them.
 use Rattle.std.proofs.Common.{◌≡◌, ℕ, ◌+◌, ◌-◌, List, [], ◌∷◌, ◌++◌, refl, sym, ap, ◌∙◌, subst, append_assoc}
 use Rattle.std.proofs.lemmas.List.{map-append}
 use Rattle.src_lexer.specs.declared.tokens.TokenKind.{TokenKind}
@@ -8,7 +8,7 @@ use Rattle.src_parser.specs.Grammar.{Limits, limits}
 use Rattle.src_parser.specs.Refusals.{token_kinds, Shallow}
 use Rattle.src_parser.specs.Tokenwise.{Begins, Stray, Deeper, Cut}
 
--- how two places of one list lie: they are one, or one of them lies before the other
+-- two places of a list: they are the same, or one of them is before the other
 data TwoPlaces {A : Type 0} (a : List A) (x : A) (b : List A) (y : A) : Type 0 where
   OnePlace : a ≡ b → x ≡ y → TwoPlaces a x b y
   Earlier : (between : List A) → b ≡ a ++ x ∷ between → TwoPlaces a x b y
@@ -33,7 +33,7 @@ shallow_front most depth (kind.LBrace ∷ a) b s = (s.0, shallow_front most (dep
 shallow_front most depth (kind.RBrace ∷ a) b s = shallow_front most (depth - 1) a b s
 shallow_front most depth (_ ∷ a) b s = shallow_front most depth a b s
 
--- the first token with which no sentence begins within the limits
+-- the first token together with which the tokens before it begin no sentence within the limits
 record Stops {P : Type 0} (Sentence : Limits → List TokenKind → P → Type 0) (tokens before : List Token)
     (token : Token) : Type 0 where
   after : List Token
@@ -53,7 +53,7 @@ module _ {P : Type 0} {Sentence : Limits → List TokenKind → P → Type 0} wh
         (append_assoc a b s.more) s.sentence;
   }
 
-  -- tokens that begin a sentence begin one up to each token among them
+  -- tokens that begin a sentence also begin one up to each token among them
   token_begins : {most : Limits} (before between tokens : List Token) (token : Token)
       → tokens ≡ before ++ token ∷ between → Begins Sentence most (token_kinds tokens)
       → Begins Sentence most (token_kinds before ++ token.kind ∷ [])
@@ -89,7 +89,7 @@ module _ {P : Type 0} {Sentence : Limits → List TokenKind → P → Type 0} wh
       → at ≡ to
   one_deeper s t = s.place ∙ (ap (λ (x : Token). x.start) (one_stop (deeper_stops s) (deeper_stops t)).1 ∙ sym t.place)
 
-  -- a token with which no sentence begins, however much may be nested, is not one that nests too deep
+  -- a token together with which the tokens before it begin no sentence, for any limits, isn't one that nests too deep
   pub stray_or_deeper : {tokens : List Token} {at to : ℕ} → Stray Sentence tokens at → Deeper Sentence tokens to → ⊥
   stray_or_deeper s t =
       let same = one_stop (stray_stops s) (deeper_stops t) in
@@ -97,7 +97,7 @@ module _ {P : Type 0} {Sentence : Limits → List TokenKind → P → Type 0} wh
       (subst (λ (z : Token). Begins Sentence t.wider (token_kinds t.before ++ z.kind ∷ [])) (sym same.1)
       t.begins_wider))
 
-  -- no token is at fault where all tokens begin a sentence
+  -- if all tokens begin a sentence, no token has an error
   pub stray_or_cut : {tokens : List Token} {at : ℕ} → Stray Sentence tokens at → Cut Sentence tokens → ⊥
   stray_or_cut {tokens = tokens} s c = s.none limits (token_begins s.before s.after tokens s.token s.split c.begins)
 

@@ -1,4 +1,4 @@
--- What is a program by the grammar is read as that program.
+-- A program by the grammar is read as that program.
 use Rattle.std.proofs.Common.{◌≡◌, ℕ, ◌<◌, List, [], ◌∷◌, ◌++◌, length, Option, Some, None, refl, sym, ap, ◌∙◌, append_assoc, arith}
 use Rattle.std.specs.Prelude.{nat_lt}
 use Rattle.std.proofs.lemmas.List.{append-nil}
@@ -59,7 +59,7 @@ settled most decls outer here test first [] h = settled_end decls outer here tes
 settled most decls outer here test first (k ∷ ks) h =
     ap (λ t. after_advance t (λ next. parsed most next ks)) (settled_kind most decls outer here test first k ks h)
 
--- a part in a statement goes on as its tokens are read
+-- a part in a statement is read as its tokens are read
 part_runs : (most : Limits) (decls : List Decl) (outer : List Outer) (here : List Statement)
     → PartRuns most (λ s ks. parsed most (with_part decls outer here s) ks)
 part_runs most decls outer here = record {
@@ -182,7 +182,7 @@ heads most (Array {decls = decls} Secret name n rest) before back =
     heads most rest (before ++ declared Secret name (Some n) ∷ []) back
     ∙ ap (λ z. parsed most (Between z) back) (append_assoc before (declared Secret name (Some n) ∷ []) decls)
 
--- a program's tokens lead to the program
+-- a program's tokens are read as the program
 pub sentence_parsed : {most : Limits} {tokens : List TokenKind} {source : Source}
     → Sentence most tokens source → parsed most (Between []) tokens ≡ Some source
 sentence_parsed {most} (Program {front = front} {back = back} {decls = decls} {body = body} d w) =

@@ -1,4 +1,4 @@
--- The tokens of a whole part of a statement are read as what it makes, whatever comes of it.
+-- The tokens of a whole part of a statement are read as that part, for any result.
 use Rattle.std.proofs.Common.{◌≡◌, ◌≢◌, ℕ, ◌+◌, ◌≤◌, List, [], ◌∷◌, ◌++◌, Some, None, refl, ap, ◌∙◌, subst, append_assoc, arith}
 use Rattle.gr_word.specs.declared.operations.Cmp.{Cmp}
 use Rattle.src_lexer.specs.declared.tokens.TokenKind.{TokenKind}
@@ -10,7 +10,7 @@ use Rattle.src_parser.specs.Tokenwise.{Goes}
 use Rattle.src_parser.specs.Parts.{Form, Asked, Value, Place, Stored, Left, Right, Part, Target, Placed, Guarding, Inside, VariableSet, ElementSet, GuardRead, PartState, Still, Done, in_expression, part_advanced}
 use Rattle.src_parser.proofs.Complete.{Runs, Follows, closer, complete}
 
--- a reading of parts that goes on by `part_advanced`, whatever comes of it
+-- a reading of parts that continues with `part_advanced`, for any result
 pub record PartRuns (most : Limits) {R : Type 0} (go : PartState → List TokenKind → R) : Type 0 where
   pub goes : (part : Part) (s : PartState) (k : TokenKind) (ks : List TokenKind) → part_advanced most part k ≡ Goes s
       → go (Still part) (k ∷ ks) ≡ go s ks
@@ -40,7 +40,7 @@ pub semicolon : Follows 0 kind.Semi
 semicolon = closer 0 kind.Semi (λ e. absurd (cc)) refl
 
 module _ {R : Type 0} (most : Limits) (go : PartState → List TokenKind → R) (runs : PartRuns most go) where
-  -- an expression in a part goes on as its tokens are read
+  -- an expression in a part is read as its tokens are read
   expression_runs : (asked : Asked) → Runs most (λ x ks. go (Still (Inside asked x)) ks)
   expression_runs asked = record {
     moves = λ x y k ks e. runs.goes (Inside asked x) (Still (Inside asked y)) k ks (ap (in_expression asked k) e);

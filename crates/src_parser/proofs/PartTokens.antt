@@ -1,5 +1,5 @@
--- Every state of a part of a statement has read some tokens, and these go on to a whole part by tokens that are no
--- names.
+-- Each state of a part of a statement has read some tokens, and these are completed to a whole part by tokens that
+-- aren't names.
 use Rattle.std.proofs.Common.{◌≡◌, ℕ, ◌+◌, ◌≤◌, pos, List, [], ◌∷◌, ◌++◌, Option, Some, None, refl, sym, subst, append_assoc, arith}
 use Rattle.std.proofs.lemmas.List.{append-nil}
 use Rattle.gr_word.specs.declared.operations.Cmp.{Cmp}
@@ -20,7 +20,7 @@ abbrev pub word_of : Form → TokenKind
 word_of ForChoice = kind.If
 word_of ForLoop = kind.While
 
--- these tokens of a statement lead to where an expression is asked for, at so many open brackets and used operators
+-- these tokens of a statement lead to where an expression is expected, with this many open brackets and used operators
 pub data Asks (most : Limits) : Asked → (base start : ℕ) → List TokenKind → Type 0 where
   AsksValue : (name : List ℕ) → Asks most (Value name) 0 0 (kind.Word name ∷ kind.Assign ∷ [])
   AsksPlace : (name : List ℕ) → Asks most (Place name) 1 0 (kind.Word name ∷ kind.LBracket ∷ [])
@@ -32,7 +32,7 @@ pub data Asks (most : Limits) : Asked → (base start : ℕ) → List TokenKind 
       → comparison_of sign ≡ Some cmp → SpellsTree most.brackets 0 0 left a
       → Asks most (Right form cmp a) 0 (operators a) (word_of form ∷ kind.LParen ∷ (left ++ sign ∷ []))
 
--- these tokens lead to where a part stands
+-- these tokens lead to this state of a part
 pub data PartStands (most : Limits) : Part → List TokenKind → Type 0 where
   IsTarget : (name : List ℕ) → PartStands most (Target name) (kind.Word name ∷ [])
   IsPlaced : {at : List TokenKind} {index : Tree} {used : ℕ} (name : List ℕ)
@@ -140,7 +140,7 @@ inside_steps {before = before} {us = us} x a r k (Moves y) is s e =
 inside_steps x a r k (Stops y) is s e = ending_where_steps x y a r k is (whole y) refl s e
 inside_steps x a r k Deep is s e = absurd (cc)
 
--- a token of a part leads on
+-- a token of a part that is read
 pub part_steps : {most : Limits} {part : Part} {tokens : List TokenKind} → PartStands most part tokens
     → (k : TokenKind) (s : PartState) → part_advanced most part k ≡ Goes s → StateStands most s (tokens ++ k ∷ [])
 part_steps {most} (IsTarget name) k s e = targeting_steps most name k s e
@@ -148,7 +148,7 @@ part_steps {most} (IsPlaced name i is fits) k s e = placing_steps most name i is
 part_steps {most} (IsGuarding form) k s e = guarding_steps most form k s e
 part_steps {most} (IsInside {x = x} a r) k s e = inside_steps x a r k (reads most x k) refl s e
 
--- some more tokens, none of them a name, make a whole part
+-- some more tokens, none of which is a name, complete a part
 pub record PartCompletes (most : Limits) (tokens : List TokenKind) : Type 0 where
   pub more : List TokenKind
   pub nameless : HasNoName more

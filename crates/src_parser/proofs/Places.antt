@@ -1,4 +1,4 @@
--- What the refusals of any parser that reads token by token say (`specs/Tokenwise`), in the words of programs.
+-- What the errors of any parser that reads token by token (`specs/Tokenwise`) mean for programs.
 use Rattle.std.proofs.Common.{◌≡◌, ℕ, List, [], ◌∷◌, ◌++◌}
 use Rattle.src_lexer.specs.declared.tokens.TokenKind.{TokenKind}
 use Rattle.src_lexer.specs.declared.tokens.Token.{Token}
@@ -42,7 +42,7 @@ too_deep tokens at s = record {
 pub cut_short : (tokens : List Token) → Cut Sentence tokens → CutShort tokens
 cut_short tokens c = record { begins = begun c.begins; none = c.none }
 
--- and the other way round
+-- `Unexpected`, `TooDeep` and `CutShort` as `Stray`, `Deeper` and `Cut` of the grammar's sentences
 pub stray : {tokens : List Token} {at : ℕ} → Unexpected tokens at → Stray Sentence tokens at
 stray s = record {
   before = s.before;
@@ -70,7 +70,7 @@ deeper s = record {
 pub cut : {tokens : List Token} → CutShort tokens → Cut Sentence tokens
 cut c = record { begins = begins c.begins; none = c.none }
 
--- with its next token a front of a program begins one
+-- each prefix of a program, with the next token, begins a program
 pub next_begins : (tokens before after : List Token) (token : Token) (p : Source) → tokens ≡ before ++ token ∷ after
     → Sentence limits (token_kinds tokens) p → ProgramBegins limits (token_kinds before ++ token.kind ∷ [])
 next_begins tokens before after token p split s =

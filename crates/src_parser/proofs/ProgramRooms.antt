@@ -1,4 +1,4 @@
--- What a token of a program does depends on the limits in one way only: it is read where there is room.
+-- The effect of a token of a program depends on the limits in only one way: it is read if there is room.
 use Rattle.std.proofs.Common.{◌≢◌, List, [], ◌∷◌, length}
 use Rattle.src_lexer.specs.declared.tokens.TokenKind.{TokenKind}
 use Rattle.src_lexer.specs.declared.tokens.TokenKind.TheVariants as kind

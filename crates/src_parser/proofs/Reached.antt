@@ -1,4 +1,4 @@
--- Every reading that tokens lead to has read these tokens, and they go on to an expression.
+-- Each reading to which tokens lead has read these tokens, and they can be completed to an expression.
 use Rattle.std.proofs.Common.{◌≡◌, ℕ, ◌+◌, ◌≤◌, pos, negsuc, Bool, true, false, List, [], ◌∷◌, ◌++◌, Option, Some, None, refl, sym, subst, append_assoc, arith}
 use Rattle.std.specs.Prelude.{◌&&◌, nat_lt}
 use Rattle.std.proofs.lemmas.Bool.{and_parts, ltb-true}
@@ -25,7 +25,7 @@ pub data Reached (most : Limits) (base start : ℕ) : Reading → List TokenKind
       → used ≡ start + (weight stack + operators tree) → used ≤ most.operators
       → Reached most base start (At stack depth used (Given tree)) (tokens ++ us)
 
--- no operand has to bind tighter than what stands alone
+-- no operand has to bind tighter than one without operators
 held_level : {most base : ℕ} {stack : List Waiting} {depth level : ℕ} {tokens : List TokenKind}
     → Held most base stack depth level tokens → level ≤ 6
 held_level Start = omega arith
@@ -40,7 +40,7 @@ reached_at : {most : Limits} {base start : ℕ} {x : Reading} (ts us : List Toke
     → ts ≡ us → Reached most base start x ts → Reached most base start x us
 reached_at {most} {base} {start} {x} ts us e r = subst (λ z. Reached most base start x z) e r
 
--- a reading for which there was room
+-- a reading for which there is room
 with_room : {most : Limits} {base start : ℕ} {tokens : List TokenKind} (b : Bool) (x y : Reading)
     → where_room b x ≡ Moves y → (b ≡ true → Reached most base start x tokens) → Reached most base start y tokens
 with_room true x y e r = moved x y e (r refl)
@@ -115,7 +115,7 @@ having_reaches {most} {base} {start} {stack} {depth} {level} {tokens}
     closing_reaches used k (weight stack + operators tree) (tokens ++ us) (tree_joined 0 stack tree depth) is fits
     (takes h 0 6 us tree s low (omega arith)) y e
 
--- a token behind a name: a bracket, or one behind the operand that the name is
+-- a token after a name: a bracket, or a token after the operand that the name is
 naming_by : {most : Limits} {base start : ℕ} (tokens : List TokenKind) (stack : List Waiting) (depth used : ℕ)
     (name : List ℕ) (k : TokenKind) (y : Reading)
     → (where_room (nat_lt depth most.brackets) (At (Index depth name ∷ stack) (depth + 1) used Wanted) ≡ Moves y
@@ -138,7 +138,7 @@ naming_reaches {most} {base} {start} {stack} {depth} {level} {tokens} used name 
     (simp append_assoc refl) (Wants (Chosen name (ltb-true depth most.brackets t) h) is fits)))
     (having_reaches used (Variable name) h (Named name) (held_level h) (omega arith) fits k (operator_of k) refl y) e
 
--- a token that is read leads on
+-- a token that is read
 pub reaches : {most : Limits} {base start : ℕ} {x : Reading} {tokens : List TokenKind}
     → Reached most base start x tokens →
     (k : TokenKind) (y : Reading) → reads most x k ≡ Moves y → Reached most base start y (tokens ++ k ∷ [])
@@ -147,7 +147,7 @@ reaches (Names {used = used} name h is fits) k y e = naming_reaches used name h 
 reaches (Has {used = used} tree h s low is fits) k y e =
     having_reaches used tree h s low is fits k (operator_of k) refl y e
 
--- the tokens go on to an expression that still fits, by tokens that are no names
+-- the tokens are completed to an expression within the limits, by tokens that aren't names
 pub record Fitting (most : Limits) (base start : ℕ) (tokens : List TokenKind) : Type 0 where
   pub more : List TokenKind
   pub nameless : HasNoName more
@@ -195,7 +195,7 @@ ended_held {most} {base} {start} {back = back} used tree e Start s is fits w =
     subst (λ z. Ended most base start back z used) f (record { spells = s; counted = omega arith; fits = fits })
 ended_held used tree e _ s is fits w = absurd (cc)
 
--- where a token behind an operand ends the expression
+-- a token after an operand that ends the expression
 pub stops_with : (used : ℕ) (k : TokenKind) (stack : List Waiting) (tree : Tree) (depth : ℕ) (y : Reading)
     → closing used k (Joins stack tree depth) ≡ Stops y → y ≡ At stack depth used (Given tree)
 stops_with used kind.RParen (Open d ∷ stack) tree depth y e = absurd (cc)
@@ -257,7 +257,7 @@ wanting_ends most stack depth used kind.LParen y e stop w = room_stops _ _ y sto
 wanting_ends most stack depth used kind.Minus y e stop w = room_stops _ _ y stop
 wanting_ends most stack depth used _ y e stop w = not_whole stack depth used y e stop w
 
--- a token behind a whole expression finds that expression
+-- a token after a whole expression finds that expression
 pub ends : {most : Limits} {base start : ℕ} {x : Reading} {tokens : List TokenKind} → Reached most base start x tokens
     → (k : TokenKind) (y : Reading) (e : Tree) → reads most x k ≡ Stops y → whole y ≡ Some e
     → Ended most base start tokens e (used_of y)

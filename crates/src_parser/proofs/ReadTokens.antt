@@ -1,4 +1,4 @@
--- One expression among tokens: what its reading, token by token, says of the grammar.
+-- One expression among tokens: what reading it token by token says about the grammar.
 use Rattle.std.proofs.Common.{◌≡◌, ◌⊎◌, inl, inr, ℕ, ◌+◌, ◌≤◌, List, [], ◌∷◌, ◌++◌, pos, Option, Some, None, refl, sym, ap, ◌∙◌, subst, append_assoc, arith}
 use Rattle.std.proofs.lemmas.List.{append-nil}
 use Rattle.gr_word.specs.declared.operations.Op.{Op}
@@ -14,11 +14,11 @@ use Rattle.src_parser.proofs.Held.{Start}
 use Rattle.src_parser.proofs.Reached.{Reached, Wants, reaches, fitting, ends, stops_with, room_stops, pending_stops}
 use Rattle.src_parser.proofs.Rooms.{StepShape, Steady, Roomy, reads_shape}
 
--- where an expression begins
+-- the reading before an expression
 abbrev pub first : ℕ → ℕ → Reading
 first opened used = At [] opened used Wanted
 
--- what is read leads there
+-- the reading to which tokens lead is reached
 reach_step : {most : Limits} {base start : ℕ} (tokens : List TokenKind) (k : TokenKind) (ks : List TokenKind)
     (x : Reading) (s : TokenStep) (y : Reading)
     → ((z : Reading) → Reached most base start z (tokens ++ k ∷ []) → reads_all most z ks ≡ Moves y
@@ -52,7 +52,7 @@ begins most opened used ks x few e =
     let f = fitting (reached most opened used ks x few e) in
     record { more = f.more; tree = f.tree; whole = record { spells = f.spells; fits = f.fits } }
 
--- what no expression goes on with leaves the expression that was read
+-- a token with which no expression continues leaves the expression that was read
 pub is_expression : (most : Limits) (opened used : ℕ) (ks : List TokenKind) (x y : Reading) (k : TokenKind)
     (tree : Tree) → used ≤ most.operators → reads_all most (first opened used) ks ≡ Moves x
     → reads most x k ≡ Stops y → whole y ≡ Some tree → IsExpression most opened used ks tree
@@ -78,7 +78,7 @@ read_whole most opened used ks tree is =
     complete most (read_to_end most) (runs most) is.spells [] used (used + operators tree) kind.Semi []
     (omega arith) semicolon refl is.fits
 
--- whatever the limits, a token that is read leads to the same reading, or is too much
+-- for any limits, a token that is read leads to the same reading, or exceeds a limit
 same_shape : {f : Limits → TokenStep} → StepShape f → (most other : Limits) (y : Reading) → f most ≡ Moves y
     → (f other ≡ Moves y) ⊎ (f other ≡ Deep)
 same_shape (Steady s h is) most other y e = let a = is most in let b = is other in inl (cc)
@@ -92,7 +92,7 @@ same_shape {f = f} (Roomy brackets count z moves deep) most other y e =
       ]
     ]
 
--- whatever the limits, a token that doesn't go on is that
+-- an expression that doesn't continue with a token for some limits doesn't continue with it for any
 stop_shape : {f : Limits → TokenStep} → StepShape f → (most other : Limits) (y : Reading) → f most ≡ Stops y
     → f other ≡ Stops y
 stop_shape (Steady s h is) most other y e = let a = is most in let b = is other in cc
@@ -102,7 +102,7 @@ stop_shape {f = f} (Roomy brackets count z moves deep) most other y e =
       | inr r ↦ (let b : f most ≡ Moves z = moves most r.0 r.1 in absurd (cc))
     ]
 
--- tokens that are read lead on to what is read behind them
+-- after tokens that are read, the rest is read from the reading to which they lead
 through_step : (most other : Limits) (k : TokenKind) (ks more : List TokenKind) (x : Reading) (s : TokenStep)
     (y : Reading) (tree : Tree)
     → ((z : Reading) → reads_all most z ks ≡ Moves y → read_to_end other z (ks ++ more) ≡ Some tree
@@ -142,7 +142,7 @@ something : (more : List TokenKind) (y : Reading) (next : Reading → Option Tre
 something [] y next tree e = absurd (let f : None ≡ Some tree = e in cc)
 something (k ∷ more) y next tree e = absurd (let f : None ≡ Some tree = e in cc)
 
--- with a token that doesn't go on no expression begins
+-- the tokens begin no expression together with a token with which it doesn't continue
 pub stops_all : (most other : Limits) (opened used : ℕ) (ks : List TokenKind) (x y : Reading) (k : TokenKind)
     → reads_all most (first opened used) ks ≡ Moves x → reads most x k ≡ Stops y
     → ExpressionBegins other opened used (ks ++ k ∷ []) → ⊥
@@ -152,7 +152,7 @@ stops_all most other opened used ks x y k e stop b =
     (λ n. read_to_end other n (b.more ++ kind.Semi ∷ []))) (stop_shape (reads_shape x k) most other y stop))
     ∙ goes_on most other opened used ks x k b e)
 
--- with a token that is too much none begins within the limits
+-- the tokens begin no expression within the limits together with a token that exceeds them
 pub deep_none : (most : Limits) (opened used : ℕ) (ks : List TokenKind) (x : Reading) (k : TokenKind)
     → reads_all most (first opened used) ks ≡ Moves x → reads most x k ≡ Deep
     → ExpressionBegins most opened used (ks ++ k ∷ []) → ⊥
@@ -162,7 +162,7 @@ deep_none most opened used ks x k e deep b =
     ∙ goes_on most most opened used ks x k b e in
     absurd (cc)
 
--- a reading that doesn't end here has read no expression
+-- a reading that doesn't end here hasn't read an expression
 pub unfinished : (most : Limits) (opened used : ℕ) (ks : List TokenKind) (x : Reading) (tree : Tree)
     → reads_all most (first opened used) ks ≡ Moves x → ended most x ≡ None
     → IsExpression most opened used ks tree → ⊥
@@ -177,7 +177,7 @@ unfinished most opened used ks x tree e none is =
     last (Stops y) n f = absurd (cc)
     last Deep n f = absurd (cc)
 
--- a reading ends alike at each token that it doesn't go on with
+-- a reading ends alike at each token with which it doesn't continue
 having_alike : (most : Limits) (stack : List Waiting) (depth used : ℕ) (tree : Tree) (k : TokenKind) (o : Option Op)
     (y : Reading) → having most stack depth used tree k o ≡ Stops y
     → having most stack depth used tree kind.Semi None ≡ Stops y
@@ -209,7 +209,7 @@ alike most (At stack depth used Wanted) y k e = wanting_alike most stack depth u
 alike most (At stack depth used (Named name)) y k e = naming_alike most stack depth used name k y e
 alike most (At stack depth used (Given tree)) y k e = having_alike most stack depth used tree k (operator_of k) y e
 
--- within wider limits what was read is read too
+-- what was read is read within wider limits too
 wide_shape : {f : Limits → TokenStep} → StepShape f → (most wide : Limits) (y : Reading)
     → most.brackets ≤ wide.brackets → most.operators ≤ wide.operators → f most ≡ Moves y → f wide ≡ Moves y
 wide_shape (Steady s h is) most wide y p q e = let a = is most in let b = is wide in cc
@@ -236,7 +236,7 @@ wide_all most wide [] x y p q e = e
 wide_all most wide (k ∷ ks) x y p q e =
     wide_step most wide k ks x (reads most x k) y p q (λ z g. wide_all most wide ks z y p q g) refl e
 
--- one token more
+-- one more token
 more_step : (most : Limits) (k : TokenKind) (ks : List TokenKind) (s : TokenStep) (y z : Reading)
     → ((n : Reading) → reads_all most n ks ≡ Moves y → reads_all most n (ks ++ k ∷ []) ≡ Moves z)
     → then_read s (λ n. reads_all most n ks) ≡ Moves y → then_read s (λ n. reads_all most n (ks ++ k ∷ [])) ≡ Moves z
@@ -252,7 +252,7 @@ one_more most [] k x y z e g =
 one_more most (k1 ∷ ks) k x y z e g =
     more_step most k ks (reads most x k1) y z (λ n h. one_more most ks k n y z h g) e
 
--- with a token that is too much one begins within wider limits
+-- together with a token that exceeds the limits, the tokens begin an expression within wider limits
 pub record WiderExpression (opened used : ℕ) (ks : List TokenKind) : Type 0 where
   pub wide : Limits
   pub begins : ExpressionBegins wide opened used ks

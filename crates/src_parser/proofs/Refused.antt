@@ -1,5 +1,5 @@
--- The laws of single tokens and of states by which a program is read token by token, so that each refusal says what it
--- means.
+-- The laws of single tokens and of states when a program is read token by token, from which the meaning of each error
+-- follows.
 use Rattle.std.proofs.Common.{◌≡◌, List, [], refl}
 use Rattle.src_lexer.specs.declared.tokens.TokenKind.{TokenKind}
 use Rattle.src_tree.specs.Trees.{Source}

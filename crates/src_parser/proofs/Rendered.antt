@@ -10,13 +10,13 @@ use Rattle.src_lexer.specs.Splits.{Lexed, with_token, token_at, Splits, Blank, W
 use Rattle.src_lexer.proofs.FirstPieces.{place_at}
 use Rattle.src_parser.specs.Refusals.{token_kinds}
 
--- a text that splits into tokens of these kinds, whatever stands behind it
+-- a text that splits into tokens of these kinds, before a given rest
 pub record Rendering (at : ℕ) (text rest : List ℕ) (ks : List TokenKind) (more : List Token) : Type 0 where
   pub tokens : List Token
   pub split : Splits at (text ++ rest) (Ok tokens)
   pub same : token_kinds tokens ≡ ks ++ token_kinds more
 
--- a text is these tokens, whatever stands behind it
+-- a text splits into tokens of these kinds, before any rest
 pub record Renders (text : List ℕ) (ks : List TokenKind) : Type 0 where
   pub render : (at : ℕ) (rest : List ℕ) (more : List Token)
       → Splits (at + length text) rest (Ok more) → Rendering at text rest ks more
@@ -24,13 +24,13 @@ pub record Renders (text : List ℕ) (ks : List TokenKind) : Type 0 where
 split_at : {r : Lexed} {at : ℕ} (xs ys : List ℕ) → xs ≡ ys → Splits at xs r → Splits at ys r
 split_at {r} {at} xs ys e s = subst (λ z. Splits at z r) e s
 
--- the empty text is no token
+-- the empty text has no tokens
 pub nothing : Renders [] []
 nothing = record {
   render = λ at rest more s. record { tokens = more; split = place_at (at + 0) at (omega arith) s; same = refl };
 }
 
--- two texts one behind the other are their tokens
+-- two texts in sequence
 pub both : {a b : List ℕ} {ks ls : List TokenKind} → Renders a ks → Renders b ls → Renders (a ++ b) (ks ++ ls)
 both {a} {b} {ks} {ls} r q = record {
   render = λ at rest more s.
@@ -46,7 +46,7 @@ both {a} {b} {ks} {ls} r q = record {
       };
 }
 
--- bytes that are this token before white space
+-- bytes that are this token if white space follows
 pub record IsAlone (bytes : List ℕ) (k : TokenKind) : Type 0 where
   pub alone : (at b : ℕ) (rest : List ℕ) (r : Lexed) → (b ≡ 32) ⊎ (b ≡ 10) → Splits (at + length bytes) (b ∷ rest) r
       → Splits at (bytes ++ b ∷ rest) (with_token (token_at k at (length bytes)) r)
@@ -59,7 +59,7 @@ ends_name : (b : ℕ) → (b ≡ 32) ⊎ (b ≡ 10) → is_name_byte b ≡ false
 ends_name b (inl e) = subst (λ z. is_name_byte z ≡ false) (sym e) refl
 ends_name b (inr e) = subst (λ z. is_name_byte z ≡ false) (sym e) refl
 
--- a token with white space behind it
+-- a token and white space
 pub behind_white : {bytes : List ℕ} {k : TokenKind} (b : ℕ)
     → (b ≡ 32) ⊎ (b ≡ 10) → IsAlone bytes k → Renders (bytes ++ b ∷ []) (k ∷ [])
 behind_white {bytes} {k} b w a = record {

@@ -1,6 +1,5 @@
--- What a token does depends on the limits in one way only: it is read where there is room, and is too much where there
--- is none. This is shown of expressions, of parts of statements and of declarations, and is kept by what is made of
--- them.
+-- The effect of a token depends on the limits in only one way: it is read if there is room, and exceeds a limit
+-- otherwise. This holds for expressions, for parts of statements and for declarations, and for what is made of them.
 use Rattle.std.proofs.Common.{◌≡◌, ◌≢◌, ◌⊎◌, inl, inr, ℕ, ◌+◌, ◌≤◌, pos, Bool, true, false, List, ◌∷◌, Option, Some, None, refl, ap, arith}
 use Rattle.std.specs.Prelude.{◌&&◌, nat_lt}
 use Rattle.std.proofs.lemmas.Bool.{and_parts, and_from, ltb-true, lt-ltb}
@@ -16,8 +15,8 @@ use Rattle.src_parser.specs.Parts.{Form, Asked, Value, Place, Stored, Left, Righ
 use Rattle.src_parser.specs.Headings.{Heading, Labelled, Typed, Titled, Sizing, Sized, Closing, heading_advanced}
 use Rattle.src_parser.proofs.Tokenwise.{Shape, Always, Where}
 
--- a token of an expression: the same whatever the limits; or read where so many brackets may be open and so many
--- operators used
+-- a token of an expression: the effect is the same for any limits; or it is read if this many brackets may be open and
+-- this many operators used
 pub data StepShape (f : Limits → TokenStep) : Type 0 where
   Steady : (s : TokenStep) → s ≢ Deep → ((most : Limits) → f most ≡ s) → StepShape f
   Roomy : (brackets operators : ℕ) (y : Reading)
@@ -91,7 +90,7 @@ reads_shape (At stack depth used Wanted) k = wanting_shape stack depth used k
 reads_shape (At stack depth used (Named name)) k = naming_shape stack depth used name k
 reads_shape (At stack depth used (Given tree)) k = having_shape stack depth used tree k (operator_of k)
 
--- an advance that is the same whatever the limits
+-- an advance that is the same for any limits
 pub constant : {S : Type 0} {k : TokenKind} {count : ℕ} (t : Advance S) → t ≢ TooMuch → Shape S k count (λ most. t)
 constant t h = Always t h (λ most. refl)
 

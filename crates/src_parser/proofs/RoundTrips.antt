@@ -1,4 +1,4 @@
--- The canonical text of a printable program is read again as that program.
+-- The canonical text of a printable program is read as that program again.
 use Rattle.std.proofs.Common.{◌≡◌, ℕ, ◌+◌, ◌<◌, ◌≤◌, pos, negsuc, List, [], ◌∷◌, ◌++◌, refl, sym, ◌∙◌, subst, append_assoc, arith, Option, Some, None, Ok}
 use Rattle.std.proofs.lemmas.List.{append-nil}
 use Rattle.src_lexer.specs.declared.tokens.TokenKind.{TokenKind}
@@ -192,7 +192,7 @@ decls_rendered : (decls : List Decl) → DeclsFit decls → DeclsText decls
 decls_rendered [] f = record { ks = []; renders = nothing; declares = NoMore }
 decls_rendered (decl ∷ decls) f = decl_rendered decl decls decl.length refl f.0 f.1 (decls_rendered decls f.2)
 
--- what is printed is read again
+-- what is printed is read as the same program
 pub read_again : (p : Source) → IsPrintable p → SpellsSource (source_text p) p
 read_again p f =
     let d = decls_rendered p.decls f.decls in

@@ -1,4 +1,4 @@
--- Every state that tokens lead to has read these tokens, and they go on to a program.
+-- Each state to which tokens lead has read these tokens, and they can be completed to a program.
 use Rattle.std.proofs.Common.{◌≡◌, ℕ, ◌+◌, ◌<◌, List, [], ◌∷◌, ◌++◌, length, refl, sym, ap, ◌∙◌, subst, append_assoc, arith}
 use Rattle.std.proofs.lemmas.List.{append-nil}
 use Rattle.src_lexer.specs.declared.tokens.TokenKind.{TokenKind}
@@ -13,7 +13,7 @@ use Rattle.src_parser.specs.Advances.{Outer, InFirst, InSecond, InLoop, Phase, R
 use Rattle.src_parser.proofs.HeadingTokens.{declares_both, Heads, rest_of, heading_completes}
 use Rattle.src_parser.proofs.PartTokens.{word_of, PartStands, Makes, MakesVariable, MakesElement, MakesGuard, PartCompletes, part_completes}
 
--- these tokens lead into these open blocks, of which there are so many, with these statements in the innermost
+-- these tokens lead into `depth` open blocks, with these statements in the innermost
 pub data Enclosed (most : Limits) : List Decl → List Outer → (depth : ℕ) → List Statement → List TokenKind
     → Type 0 where
   Top : {front back : List TokenKind} {decls : List Decl} {here : List Statement}
@@ -35,7 +35,7 @@ pub data Enclosed (most : Limits) : List Decl → List Outer → (depth : ℕ) �
       → Enclosed most decls (InLoop test before ∷ outer) (depth + 1) here
       (tokens ++ (kind.While ∷ kind.LParen ∷ (guard ++ kind.RParen ∷ kind.LBrace ∷ inner)))
 
--- these tokens of a statement lead to where it stands
+-- these tokens of a statement lead to this phase
 pub data Stands (most : Limits) (depth : ℕ) : Phase → List TokenKind → Type 0 where
   IsReady : Stands most depth Ready []
   IsMayElse : {guard inner : List TokenKind} {test : Test} {first : List Statement}
@@ -61,7 +61,7 @@ pub data Standing (most : Limits) : ParserState → List TokenKind → Type 0 wh
       {ts us : List TokenKind} → Enclosed most decls outer depth here ts → Stands most depth mode us
       → Standing most (Doing decls outer here mode) (ts ++ us)
 
--- how deep a block lies
+-- the number of open blocks is the depth
 pub enclosed_depth : {most : Limits} {decls : List Decl} {outer : List Outer} {depth : ℕ} {here : List Statement}
     {ts : List TokenKind} → Enclosed most decls outer depth here ts → length outer ≡ depth
 enclosed_depth (Top d w) = refl
@@ -69,7 +69,7 @@ enclosed_depth (First e g room w) = let h = enclosed_depth e in omega arith
 enclosed_depth (Second e g room w v) = let h = enclosed_depth e in omega arith
 enclosed_depth (Looped e g room w) = let h = enclosed_depth e in omega arith
 
--- one block and another behind it
+-- two blocks in sequence
 abbrev pub followed : Block → Block → Block
 followed Nothing block = block
 followed (Then s rest) block = Then s (followed rest block)
@@ -122,7 +122,7 @@ one_statement {here = here} {us = us} s
 one_statement {here = here} {us = us} s (Looped {tokens = tokens} {guard = guard} {inner = inner} e g room w) v =
     enclosed_at _ _ (simp append_assoc refl) (Looped e g room (writes_one_more here s w v))
 
--- some more tokens make a program
+-- with some more tokens, these are a program
 abbrev pub Completes : Limits → List TokenKind → Type 0
 Completes = tokenwise.Completes Sentence
 
@@ -136,7 +136,7 @@ shorter {most} ts us c = record {
   sentence = subst (λ z. Sentence most z c.tree) (append_assoc ts us c.more) c.sentence;
 }
 
--- what is open is closed
+-- open blocks are closed
 pub block_completes : {most : Limits} {decls : List Decl} (outer : List Outer) {depth : ℕ} {here : List Statement}
     {ts : List TokenKind} → Enclosed most decls outer depth here ts → Completes most ts
 block_completes {most} [] (Top {front = front} {back = back} {decls = decls} {here = here} d w) = record {
@@ -158,7 +158,7 @@ block_completes (InLoop test before ∷ outer)
     shorter _ (kind.RBrace ∷ []) (completes_at _ _ (simp append_assoc refl)
     (block_completes outer (one_statement (Loop test (block_of here)) e (Repeats g room w Ends))))
 
--- a statement that some more tokens make whole
+-- a statement that some more tokens complete
 statement_completes : {most : Limits} {decls : List Decl} {outer : List Outer} {depth : ℕ} {here : List Statement}
     {ts : List TokenKind} (us more : List TokenKind) (s : Statement) → Enclosed most decls outer depth here ts
     → Writes most depth (us ++ more) (Then s Nothing) → Completes most (ts ++ us)
@@ -177,7 +177,7 @@ form_completes {test = test} ForChoice us more e room g is =
 form_completes {test = test} ForLoop us more e room g is =
     statement_completes us more (Loop test Nothing) e (writes_at _ _ is (Repeats g room Ends Ends))
 
--- a part that some more tokens make whole, with an empty block behind a guard
+-- a part that some more tokens complete, with an empty block after a guard
 made_completes : {most : Limits} {decls : List Decl} {outer : List Outer} {depth : ℕ} {here : List Statement}
     {ts all : List TokenKind} {made : Made} (us more : List TokenKind) → Enclosed most decls outer depth here ts
     → depth < most.braces → Makes most made all → all ≡ us ++ more → Completes most (ts ++ us)
@@ -221,7 +221,7 @@ declared_completes {most} {decls} {front} d = record {
   sentence = Program d Ends;
 }
 
--- tokens that lead to a state within the braces go on to a program
+-- tokens that lead to a state within the limit of braces can be completed to a program
 pub standing_completes : {most : Limits} {state : ParserState} {tokens : List TokenKind}
     → Standing most state tokens → open_braces state < most.braces → Completes most tokens
 standing_completes (InBetween d) room = declared_completes d

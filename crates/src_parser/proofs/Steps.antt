@@ -1,4 +1,4 @@
--- A token that is read leads from state to state, and a whole program is a sentence of the grammar.
+-- A token that is read leads from one state to another, and a complete program is a sentence of the grammar.
 use Rattle.std.proofs.Common.{◌≡◌, ℕ, ◌+◌, ◌<◌, Bool, true, false, List, [], ◌∷◌, ◌++◌, length, Some, refl, sym, subst, append_assoc, arith}
 use Rattle.std.proofs.lemmas.List.{append-nil}
 use Rattle.std.proofs.lemmas.Bool.{ltb-true}
@@ -50,7 +50,7 @@ beginning_stands o kind.While next e = went _ next e (InBlock o (IsPart (IsGuard
 beginning_stands o kind.RBrace next e = leaving_stands o next e
 beginning_stands o _ next e = absurd (cc)
 
--- a token behind the first block of a choice, once that stands as a statement
+-- a token after the first block of a choice, which was added as a statement
 elsing_begins : {most : Limits} {decls : List Decl} {outer : List Outer} {depth : ℕ} {here : List Statement}
     {ts : List TokenKind} {test : Test} (first : List Statement)
     → Enclosed most decls outer depth (chosen here test first) ts
@@ -99,7 +99,7 @@ otherwise_stands {most} {outer = outer} {ts = ts} {guard = guard} {inner = inner
     (λ t. standing_at _ _ (simp (append_assoc, append-nil) refl) (InBlock (Second o g room w Ends) IsReady))
 otherwise_stands first o g room w _ next e = absurd (cc)
 
--- a part, or what it has made
+-- a part, or the statement or the guard that it is when it is complete
 state_stands : {most : Limits} {decls : List Decl} {outer : List Outer} {depth : ℕ} {here : List Statement}
     {ts : List TokenKind} (us : List TokenKind) → Enclosed most decls outer depth here ts → (s : PartState)
     → StateStands most s us
@@ -149,7 +149,7 @@ between_stands : {most : Limits} {decls : List Decl} {front : List TokenKind} �
 between_stands {most} {decls} {front} d k next e =
     between_begins d (subst (λ z. Enclosed most decls [] 0 [] z) (append-nil front) (Top {here = []} d Ends)) k next e
 
--- a declaration that is begun, or one more
+-- a declaration that has begun, or one more that is complete
 declaration_stands : {most : Limits} {decls : List Decl} {front : List TokenKind} (us : List TokenKind)
     → Declares front decls
     → (s : HeadingState) → HeadingStands s us → Standing most (with_heading decls s) (front ++ us)
@@ -164,7 +164,7 @@ heading_stands {most} {front = front} us d k s h next e =
     subst (λ z. Standing most z ((front ++ us) ++ k ∷ [])) e
     (standing_at _ _ (sym (append_assoc front us (k ∷ []))) (declaration_stands (us ++ k ∷ []) d s h))
 
--- a token leads on
+-- a token that is read
 pub steps : {most : Limits} {state : ParserState} {tokens : List TokenKind} → Standing most state tokens
     → (k : TokenKind) (next : ParserState) → advanced most state k ≡ Goes next → Standing most next (tokens ++ k ∷ [])
 steps (InBetween d) k next e = between_stands d k next e
@@ -201,7 +201,7 @@ whole_block {most} {decls} (Top {front = front} {back = back} {here = here} d w)
     f (whole_top (one_statement (Choice test (block_of first) Nothing) (Top d w) (Chooses g room v Ends)))
 whole_block _ s source e = absurd (cc)
 
--- a state with a whole program has read its tokens
+-- a state with a complete program has read its tokens
 pub finished : {most : Limits} {state : ParserState} {tokens : List TokenKind}
     → Standing most state tokens → (source : Source) → program_of state ≡ Some source → Sentence most tokens source
 finished {most} (InBetween {decls = decls} {front = front} d) source e =

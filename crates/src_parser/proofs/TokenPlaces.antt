@@ -8,7 +8,7 @@ read_so_far : (tokens : List Token) (i : ℕ) (token : Token)
     → i < length tokens → token ≡ get_or tokens i token → take (i + 1) tokens ≡ take i tokens ++ token ∷ []
 read_so_far tokens i token h is = take_more tokens i token h ∙ ap (λ t. take i tokens ++ t ∷ []) (sym is)
 
--- the token at a place stands behind those before it and before the rest
+-- the token at a place is after the tokens before it and before the rest
 pub split_at : (tokens : List Token) (i : ℕ) (token : Token)
     → i < length tokens → token ≡ get_or tokens i token → tokens ≡ take i tokens ++ token ∷ drop (i + 1) tokens
 split_at tokens i token h is =

@@ -1,4 +1,4 @@
--- A parser that reads token by token: what its advances say of the grammar, from a few laws of single tokens.
+-- A parser that reads token by token: what its advances say about the grammar, from a few laws of single tokens.
 use Rattle.std.proofs.Common.{◌≡◌, ◌≢◌, ◌⊎◌, inl, inr, ℕ, ◌+◌, ◌<◌, ◌≤◌, List, [], ◌∷◌, ◌++◌, length, take, drop, get_or, Option, Some, None, refl, sym, ap, ◌∙◌, subst, append_assoc, arith}
 use Rattle.std.proofs.lemmas.Bool.{cases_lt}
 use Rattle.std.proofs.lemmas.List.{append-nil, map-append, take_all}
@@ -22,9 +22,8 @@ Counted kind.LBrace most before after = (before < most) × (after ≡ before + 1
 Counted kind.RBrace most before after = before ≡ after + 1
 Counted _ most before after = after ≡ before
 
--- what a token does depends on the limits in one way only: it is read where there is room, and is too much where
--- there is
--- none; braces matter only to a `{`
+-- the effect of a token depends on the limits in only one way: it is read if there is room, and exceeds a limit
+-- otherwise; the limit of braces matters only for a `{`
 pub data Shape (S : Type 0) (k : TokenKind) (count : ℕ) (f : Limits → Advance S) : Type 0 where
   Always : (t : Advance S) → t ≢ TooMuch → ((most : Limits) → f most ≡ t) → Shape S k count f
   Where : (need : Limits) (next : S) → ((most : Limits) → Fits need most → f most ≡ Goes next)
@@ -46,7 +45,7 @@ wider_shape {f = f} (Where need s goes much braces) most wide next fits e =
           let y : f most ≡ Goes s = goes most w in cc)
     ]
 
--- whatever the limits, a token that is read leads to the same state
+-- for any limits, a token that is read leads to the same state, or exceeds a limit
 same_shape : {S : Type 0} {k : TokenKind} {count : ℕ} {f : Limits → Advance S} → Shape S k count f
     → (most other : Limits) (next : S)
     → f most ≡ Goes next → (f other ≡ Goes next) ⊎ (f other ≡ TooMuch)
@@ -60,14 +59,14 @@ same_shape {f = f} (Where need s goes much braces) most other next e =
       ]
     ]
 
--- whatever the limits, a token that doesn't belong there is wrong
+-- a token that is wrong for some limits is wrong for any
 wrong_shape : {S : Type 0} {k : TokenKind} {count : ℕ} {f : Limits → Advance S}
     → Shape S k count f → (most other : Limits) → f most ≡ Wrong → f other ≡ Wrong
 wrong_shape (Always t h is) most other e = let a = is most in let b = is other in cc
 wrong_shape {f = f} (Where need s goes much braces) most other e =
     elim (much most) [ inl m ↦ absurd (cc) | inr w ↦ (let y : f most ≡ Goes s = goes most w in absurd (cc)) ]
 
--- what is too much is read within some wider limits
+-- what exceeds the limits is read within some wider limits
 pub record ReadWider (S : Type 0) (most : Limits) (f : Limits → Advance S) : Type 0 where
   pub wide : Limits
   pub next : S
@@ -88,7 +87,7 @@ deep_shape (Where need s goes much braces) most e = record {
   goes = goes _ (record { brackets = omega arith; braces = omega arith; operators = omega arith });
 }
 
--- where only the braces differ, only a brace is too much
+-- if two limits differ only in the braces, only a brace can exceed one and not the other
 brace_shape : {S : Type 0} {k : TokenKind} {count : ℕ} {f : Limits → Advance S} → Shape S k count f
     → (most other : Limits) (next : S)
     → most.brackets ≡ other.brackets → most.operators ≡ other.operators
@@ -133,7 +132,7 @@ deeper_step most before after kind.LBrace ks c s = subst (λ n. Shallow most n k
 deeper_step most before after kind.RBrace ks c s = subst (λ n. Shallow most n ks) (omega arith) s
 deeper_step most before after _ ks c s = subst (λ n. Shallow most n ks) (sym c) s
 
--- what is known of single tokens, and of the states that tokens lead to (`Standing`)
+-- what is known about single tokens, and about the states to which tokens lead (`Standing`)
 pub record Laws {S P : Type 0} (advanced : Limits → S → TokenKind → Advance S) (gives : S → Option P)
     (open_braces : S → ℕ)
     (start : S) (Sentence : Limits → List TokenKind → P → Type 0) (Standing : Limits → S → List TokenKind → Type 0)
@@ -187,7 +186,7 @@ module _ {S P : Type 0} {advanced : Limits → S → TokenKind → Advance S} {g
       stands_step most tokens k ks state (advanced most state k) last
       (λ next r g. stands_many most ks (tokens ++ k ∷ []) next last r g) s refl e
 
-  -- each state that tokens lead to has read them
+  -- each state to which tokens lead has read them
   stands : (most : Limits) (tokens : List TokenKind) (last : S) → goes_over most start tokens ≡ Goes last
       → Standing most last tokens
   stands most tokens last e = stands_many most tokens [] start last (laws.nothing_read most) e
@@ -217,7 +216,7 @@ module _ {S P : Type 0} {advanced : Limits → S → TokenKind → Advance S} {g
   read_step most state k ks Wrong last rest is e = absurd (cc)
   read_step most state k ks TooMuch last rest is e = absurd (cc)
 
-  -- the goes_over that go on read their tokens
+  -- tokens that are read are within the limit of braces
   pub read : (most : Limits) (tokens : List TokenKind) (state last : S)
       → goes_over most state tokens ≡ Goes last → Read most state tokens last
   read most [] state last e =
@@ -244,7 +243,7 @@ module _ {S P : Type 0} {advanced : Limits → S → TokenKind → Advance S} {g
       wider_step most wide k ks state (advanced most state k) last fits
       (λ next g. advances_wider most wide ks next last fits g) refl e
 
-  -- tokens that were read begin a program
+  -- tokens that were read begin a sentence
   pub begins : (most : Limits) (tokens : List TokenKind) (last : S)
       → goes_over most start tokens ≡ Goes last → ProgramBegins most tokens
   begins most tokens last e =
@@ -282,7 +281,7 @@ module _ {S P : Type 0} {advanced : Limits → S → TokenKind → Advance S} {g
   through_step most other k ks more state Wrong last p rest is e w = absurd (cc)
   through_step most other k ks more state TooMuch last p rest is e w = absurd (cc)
 
-  -- a program is read through the states that its first tokens lead to, whatever the limits
+  -- for any limits, a sentence is read through the states to which its first tokens lead
   pub through : (most other : Limits) (ks more : List TokenKind) (state last : S) (p : P)
       → goes_over most state ks ≡ Goes last → tree_of other state (ks ++ more) ≡ Some p → tree_of other last more
       ≡ Some p
@@ -300,7 +299,7 @@ module _ {S P : Type 0} {advanced : Limits → S → TokenKind → Advance S} {g
       through most other tokens (k ∷ more) start last p e
       (sym (ap (λ z. tree_of other start z) (append_assoc tokens (k ∷ []) more)) ∙ laws.read _ _ _ s)
 
-  -- with a token that is wrong no program begins
+  -- together with a token that is wrong, tokens begin no sentence
   pub wrong_begins : (most other : Limits) (tokens : List TokenKind) (k : TokenKind) (last : S)
       → goes_over most start tokens ≡ Goes last → advanced most last k ≡ Wrong → ProgramBegins other (tokens ++ k ∷ [])
       → ⊥
@@ -328,7 +327,7 @@ module _ {S P : Type 0} {advanced : Limits → S → TokenKind → Advance S} {g
   much_step most other tokens k last more p Wrong a b is w e s = absurd (cc)
   much_step most other tokens k last more p TooMuch a b is w e s = absurd (cc)
 
-  -- with a token that is too much no program begins within the limits
+  -- together with a token that exceeds the limits, tokens begin no sentence within the limits
   pub much_begins : (most : Limits) (tokens : List TokenKind) (k : TokenKind) (last : S)
       → goes_over most start tokens ≡ Goes last → advanced most last k ≡ TooMuch → ProgramBegins most (tokens ++ k ∷ [])
       → ⊥
@@ -339,7 +338,7 @@ module _ {S P : Type 0} {advanced : Limits → S → TokenKind → Advance S} {g
       ((read most tokens start last e).deeper (k ∷ [])
       (subst (λ n. Shallow most.braces n (tokens ++ k ∷ [])) (sym laws.starts) b.shallow))
 
-  -- one token more
+  -- one more token
   pub advance_at : (t : Advance S) (next : S → Advance S) (last : S) → t ≡ Goes last → then_advance t next ≡ next last
   advance_at t next last e = ap (λ z. then_advance z next) e
 
@@ -351,7 +350,7 @@ module _ {S P : Type 0} {advanced : Limits → S → TokenKind → Advance S} {g
   more_step most k ks Wrong last next rest e = absurd (cc)
   more_step most k ks TooMuch last next rest e = absurd (cc)
 
-  -- one advance more
+  -- one more advance
   pub one_more_advance : (most : Limits) (ks : List TokenKind) (k : TokenKind) (state last next : S)
       → goes_over most state ks ≡ Goes last → advanced most last k ≡ Goes next → goes_over most state (ks ++ k ∷ [])
       ≡ Goes next
@@ -361,12 +360,12 @@ module _ {S P : Type 0} {advanced : Limits → S → TokenKind → Advance S} {g
   one_more_advance most (k1 ∷ ks) k state last next e g =
       more_step most k ks (advanced most state k1) last next (λ s h. one_more_advance most ks k s last next h g) e
 
-  -- with a token that is too much one begins within wider limits
+  -- tokens that begin a sentence within wider limits
   pub record WiderBegins (tokens : List TokenKind) : Type 0 where
     pub wide : Limits
     pub begins : ProgramBegins wide tokens
 
-  -- a token that nests too deep would go on with wider limits
+  -- together with a token that exceeds the limits, tokens begin a sentence within wider limits
   pub wider_begins : (most : Limits) (tokens : List TokenKind) (k : TokenKind) (last : S)
       → goes_over most start tokens ≡ Goes last → advanced most last k ≡ TooMuch → WiderBegins (tokens ++ k ∷ [])
   wider_begins most tokens k last e w =
@@ -377,12 +376,12 @@ module _ {S P : Type 0} {advanced : Limits → S → TokenKind → Advance S} {g
         begins = begins d.wide (tokens ++ k ∷ []) d.next (one_more_advance d.wide tokens k start last d.next f d.goes);
       }
 
-  -- tokens that lead to a whole program are one
+  -- tokens that lead to a complete tree are a sentence
   pub whole_sentence : (most : Limits) (tokens : List TokenKind) (last : S) (p : P)
       → goes_over most start tokens ≡ Goes last → program_of last ≡ Some p → Sentence most tokens p
   whole_sentence most tokens last p e w = laws.finished most last tokens (stands most tokens last e) p w
 
-  -- tokens that lead to no whole program are none
+  -- tokens that lead to no complete tree aren't a sentence
   pub no_sentence : (most : Limits) (tokens : List TokenKind) (last : S) (p : P)
       → goes_over most start tokens ≡ Goes last → program_of last ≡ None → Sentence most tokens p → ⊥
   no_sentence most tokens last p e w s =
@@ -391,7 +390,7 @@ module _ {S P : Type 0} {advanced : Limits → S → TokenKind → Advance S} {g
       (ap (λ z. tree_of most start z) (append-nil tokens) ∙ laws.read _ _ _ s) in
       absurd (cc)
 
-  -- tokens of which a program is read are read one by one
+  -- the tokens of a sentence are read one by one
   pub record Reads (most : Limits) (tokens : List TokenKind) (state : S) : Type 0 where
     pub last : S
     pub advances_to : goes_over most state tokens ≡ Goes last
@@ -411,13 +410,13 @@ module _ {S P : Type 0} {advanced : Limits → S → TokenKind → Advance S} {g
   reads_front most (k ∷ ks) more state p e =
       reads_step most k ks more state (advanced most state k) p (λ next g. reads_front most ks more next p g) refl e
 
-  -- each front of a program begins one
+  -- each prefix of a sentence begins one
   pub front_begins : (most : Limits) (front back : List TokenKind) (p : P)
       → Sentence most (front ++ back) p → ProgramBegins most front
   front_begins most front back p s =
       let r = reads_front most front back start p (laws.read _ _ _ s) in begins most front r.last r.advances_to
 
-  -- a token that the goes_over take
+  -- a token that is read
   pub goes_at : (tokens : List Token) (i : ℕ) (token : Token) (state next : S)
       → i < length tokens → token ≡ get_or tokens i token → goes_over limits start (token_kinds (take i tokens))
       ≡ Goes state
@@ -427,7 +426,7 @@ module _ {S P : Type 0} {advanced : Limits → S → TokenKind → Advance S} {g
       ap (λ ks. goes_over limits start ks) (kinds_more tokens i token h is)
       ∙ one_more_advance limits (token_kinds (take i tokens)) token.kind start state next before now
 
-  -- a token that can't stand where it stands
+  -- a token with which no sentence can continue
   pub unexpected_at : (tokens : List Token) (i : ℕ) (token : Token) (state : S)
       → i < length tokens → token ≡ get_or tokens i token → goes_over limits start (token_kinds (take i tokens))
       ≡ Goes state
@@ -467,7 +466,7 @@ module _ {S P : Type 0} {advanced : Limits → S → TokenKind → Advance S} {g
   all_read tokens i state h e = subst (λ ts. goes_over limits start (token_kinds ts) ≡ Goes state)
       (take_all i tokens h) e
 
-  -- tokens that end before the program does
+  -- tokens that end before a sentence does
   pub cut_short_at : (tokens : List Token) (i : ℕ) (state : S) → length tokens ≤ i
       → goes_over limits start (token_kinds (take i tokens)) ≡ Goes state → program_of state ≡ None
       → Cut Sentence tokens
@@ -476,7 +475,7 @@ module _ {S P : Type 0} {advanced : Limits → S → TokenKind → Advance S} {g
     none = λ p s. no_sentence limits (token_kinds tokens) state p (all_read tokens i state h e) none s;
   }
 
-  -- tokens that end where the program does
+  -- tokens that end where a sentence does
   pub sentence_at : (tokens : List Token) (i : ℕ) (state : S) (p : P)
       → length tokens ≤ i → goes_over limits start (token_kinds (take i tokens)) ≡ Goes state → program_of state
       ≡ Some p
@@ -484,7 +483,7 @@ module _ {S P : Type 0} {advanced : Limits → S → TokenKind → Advance S} {g
   sentence_at tokens i state p h e some = whole_sentence limits (token_kinds tokens) state p
       (all_read tokens i state h e) some
 
-  -- with its next token a front of a program begins one
+  -- each prefix of a sentence, with the next token, begins one
   pub next_begins : (tokens before after : List Token) (token : Token) (p : P) → tokens ≡ before ++ token ∷ after
       → Sentence limits (token_kinds tokens) p → ProgramBegins limits (token_kinds before ++ token.kind ∷ [])
   next_begins tokens before after token p split s =

@@ -10,13 +10,13 @@ use Rattle.src_parser.specs.Headings.{Heading, Labelled, HeadingState, Begun, De
 use Rattle.src_parser.specs.Parts.{Form, ForChoice, ForLoop, Part, Target, Guarding, VariableSet, ElementSet, GuardRead, PartState, Still, Done, part_advanced}
 use Rattle.src_parser.specs.Tokenwise.{Advance, Goes, Wrong, mapped, with_braces}
 
--- a block that is open, with its guard, the statements before its statement, and the first block of its choice
+-- an open block, with its guard, the statements before its statement, and the first block of its choice
 pub data Outer : Type 0 where
   InFirst : (test : Test) (before : List Statement) → Outer
   InSecond : (test : Test) (first before : List Statement) → Outer
   InLoop : (test : Test) (before : List Statement) → Outer
 
--- where the reading of statements stands
+-- how far statements were read
 pub data Phase : Type 0 where
   Ready : Phase
   MayElse : (test : Test) (first : List Statement) → Phase
@@ -47,16 +47,16 @@ between_statements decls outer here kind.While = Goes (Doing decls outer here (I
 between_statements decls outer here kind.RBrace = leaving decls outer here
 between_statements decls outer here _ = Wrong
 
--- the statements once a choice has no second block
+-- the statements after a choice that has no second block
 abbrev pub chosen : List Statement → Test → List Statement → List Statement
 chosen here test first = here ++ Choice test (block_of first) Nothing ∷ []
 
--- a token behind the first block of a choice
+-- a token after the first block of a choice
 abbrev pub elsing : List Decl → List Outer → List Statement → Test → List Statement → TokenKind → Advance ParserState
 elsing decls outer here test first kind.Else = Goes (Doing decls outer here (Otherwise test first))
 elsing decls outer here test first k = between_statements decls outer (chosen here test first) k
 
--- a part, or what it has made
+-- a part, or the statement or the guard that it is when it is complete
 abbrev pub with_part : List Decl → List Outer → List Statement → PartState → ParserState
 with_part decls outer here (Still part) = Doing decls outer here (InPart part)
 with_part decls outer here (Done (VariableSet name value)) =
@@ -65,7 +65,7 @@ with_part decls outer here (Done (ElementSet name index value)) =
     Doing decls outer (here ++ SetElement name index value ∷ []) Ready
 with_part decls outer here (Done (GuardRead form test)) = Doing decls outer here (Guarded form test)
 
--- the block behind a guard
+-- the block after a guard
 abbrev pub block_opened : Form → Test → List Statement → Outer
 block_opened ForChoice test here = InFirst test here
 block_opened ForLoop test here = InLoop test here
@@ -89,24 +89,24 @@ does most decls outer here (InPart part) k = mapped (with_part decls outer here)
 does most decls outer here (Guarded form test) k = entering most decls outer here form test k
 does most decls outer here (Otherwise test first) k = otherwise most decls outer here test first k
 
--- a token between declarations, or the first of the statements
+-- a token between declarations, or the first token of the statements
 abbrev pub between : List Decl → TokenKind → Advance ParserState
 between decls kind.Public = Goes (Declaring decls (Labelled Public))
 between decls kind.Secret = Goes (Declaring decls (Labelled Secret))
 between decls k = between_statements decls [] [] k
 
--- a declaration that is begun, or one more
+-- a declaration that has begun, or one more that is complete
 abbrev pub with_heading : List Decl → HeadingState → ParserState
 with_heading decls (Begun heading) = Declaring decls heading
 with_heading decls (Declared decl) = Between (decls ++ decl ∷ [])
 
--- a token
+-- a token of a program
 abbrev pub advanced : Limits → ParserState → TokenKind → Advance ParserState
 advanced most (Between decls) k = between decls k
 advanced most (Declaring decls heading) k = mapped (with_heading decls) (heading_advanced heading k)
 advanced most (Doing decls outer here mode) k = does most decls outer here mode k
 
--- the program that was read, where it is whole
+-- the program that was read, if it is complete
 abbrev pub program_of : ParserState → Option Source
 program_of (Between decls) = Some (record { decls = decls; body = Nothing })
 program_of (Doing decls [] here Ready) = Some (record { decls = decls; body = block_of here })
@@ -114,7 +114,7 @@ program_of (Doing decls [] here (MayElse test first)) =
     Some (record { decls = decls; body = block_of (chosen here test first) })
 program_of _ = None
 
--- how many braces are open
+-- the number of open braces
 abbrev pub open_braces : ParserState → ℕ
 open_braces (Doing decls outer here mode) = length outer
 open_braces _ = 0

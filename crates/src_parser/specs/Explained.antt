@@ -1,4 +1,4 @@
--- What each refusal of the parser says of the tokens. (This project's profile.)
+-- What each error of the parser says about the tokens. (This project's profile.)
 use Rattle.std.specs.Prelude.{List}
 use Rattle.src_lexer.specs.declared.tokens.Token.{Token}
 use Rattle.src_parser.specs.declared.errors.ParseError.{ParseError}

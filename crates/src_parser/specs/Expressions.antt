@@ -1,6 +1,6 @@
--- What is found where one expression is read among tokens: it begins with the first of them, as if it stood inside
--- `opened` open brackets and signs of its statement, with `used` operators and signs of its statement before it. It goes
--- as far as the tokens begin an expression, whatever may be nested (this project's profile).
+-- The results of reading one expression among tokens. It begins with the first token, as if it were inside `opened`
+-- open brackets and signs of its statement, and after `used` of the statement's operators and signs. It extends as far
+-- as the tokens begin an expression for any limits of nesting (this project's profile).
 use Rattle.std.specs.Prelude.{◌≡◌, ℕ, ◌+◌, ◌<◌, ◌≤◌, List, [], ◌∷◌, ◌++◌, length, take}
 use Rattle.src_lexer.specs.declared.tokens.TokenKind.{TokenKind}
 use Rattle.src_lexer.specs.declared.tokens.Token.{Token}
@@ -21,16 +21,16 @@ pub record ExpressionBegins (most : Limits) (opened used : ℕ) (tokens : List T
   pub tree : Tree
   pub whole : IsExpression most opened used (tokens ++ more) tree
 
--- the first `count` tokens are an expression with this tree, and with the next one none begins, however much may be
--- nested
+-- the first `count` tokens are an expression with this tree, and together with the next token they begin none, for any
+-- limits of nesting
 pub record FoundExpression (tokens : List Token) (opened used : ℕ) (tree : Tree) (count : ℕ) : Type 0 where
   pub within : count ≤ length tokens
   pub is : IsExpression limits opened used (token_kinds (take count tokens)) tree
   pub ends : count < length tokens → (most : Limits)
       → ExpressionBegins most opened used (token_kinds (take (count + 1) tokens)) → ⊥
 
--- an expression begins with the tokens before this one, and they are none; with it none begins, however much may be
--- nested
+-- the tokens before this one begin an expression and aren't one; together with it they begin none, for any limits of
+-- nesting
 pub record StrayToken (tokens : List Token) (opened used at : ℕ) : Type 0 where
   pub before : List Token
   pub token : Token
@@ -41,8 +41,8 @@ pub record StrayToken (tokens : List Token) (opened used at : ℕ) : Type 0 wher
   pub unfinished : (tree : Tree) → IsExpression limits opened used (token_kinds before) tree → ⊥
   pub none : (most : Limits) → ExpressionBegins most opened used (token_kinds before ++ token.kind ∷ []) → ⊥
 
--- an expression begins with the tokens before this one; with it none begins within the limits, but one would if more
--- might be nested
+-- the tokens before this one begin an expression; together with it they begin none within the limits, but they do
+-- within some other limits
 pub record TokenTooDeep (tokens : List Token) (opened used at : ℕ) : Type 0 where
   pub before : List Token
   pub token : Token
@@ -54,7 +54,7 @@ pub record TokenTooDeep (tokens : List Token) (opened used at : ℕ) : Type 0 wh
   pub wider : Limits
   pub begins_wider : ExpressionBegins wider opened used (token_kinds before ++ token.kind ∷ [])
 
--- an expression begins with all these tokens, and they are none
+-- all these tokens begin an expression and aren't one
 pub record CutExpression (tokens : List Token) (opened used : ℕ) : Type 0 where
   pub begins : ExpressionBegins limits opened used (token_kinds tokens)
   pub unfinished : (tree : Tree) → IsExpression limits opened used (token_kinds tokens) tree → ⊥

@@ -12,8 +12,8 @@ use Rattle.src_lexer.specs.declared.tokens.TokenKind.TheVariants as kind
 use Rattle.src_tree.specs.declared.trees.Decl.{Decl}
 use Rattle.src_tree.specs.Trees.{Tree, Number, Variable, Element, Operation, Test, Block, Nothing, Then, SetVariable, SetElement, Choice, Loop, Source}
 
--- how much may be nested: round and square brackets and signs that are open in one statement's own expressions, braces
--- that are open, and operators and signs of one statement's own expressions
+-- limits of nesting: how many parentheses, brackets and signs may be open in one statement's own expressions, how many
+-- braces may be open, and how many operators and signs one statement's own expressions may have
 pub record Limits : Type 0 where
   pub brackets : ℕ
   pub braces : ℕ
@@ -23,7 +23,7 @@ pub record Limits : Type 0 where
 abbrev pub limits : Limits
 limits = record { brackets = 32; braces = 32; operators = 256 }
 
--- the operation that a sign between two operands stands for
+-- the operation of a sign between two operands
 abbrev pub operator_of : TokenKind → Option Op
 operator_of kind.Plus = Some Add
 operator_of kind.Minus = Some Sub
@@ -37,7 +37,7 @@ operator_of kind.Shl = Some Shl
 operator_of kind.Shr = Some Shr
 operator_of _ = None
 
--- how tightly an operation binds its operands, 5 the most; 6 is left for what stands alone
+-- how tightly an operator binds its operands, 5 the most; 6 is the level of an operand without operators
 abbrev pub level_of : Op → ℕ
 level_of Or = 0
 level_of Xor = 1
@@ -51,7 +51,7 @@ level_of Div = 5
 level_of Rem = 5
 level_of Remu = 5
 
--- the comparison that a sign stands for
+-- the comparison of a sign
 abbrev pub comparison_of : TokenKind → Option Cmp
 comparison_of kind.Eq = Some Eq
 comparison_of kind.Ne = Some Ne
@@ -66,15 +66,15 @@ abbrev pub keyword_of : Label → TokenKind
 keyword_of Public = kind.Public
 keyword_of Secret = kind.Secret
 
--- how many operators and signs a tree has
+-- the number of operators and signs of a tree
 abbrev pub operators : Tree → ℕ
 operators (Number z) = 0
 operators (Variable x) = 0
 operators (Element x i) = operators i
 operators (Operation op a b) = operators a + operators b + 1
 
--- tokens that are an expression with this tree. It stands inside `depth` open brackets and signs, of which at most
--- `most` may be open, and all its operators that stand in no brackets of its own have this level or a higher one.
+-- Tokens that are an expression with this tree. The expression is inside `depth` open brackets and signs, of which at
+-- most `most` may be open. All its operators outside of its own brackets have at least this level.
 pub data SpellsTree (most : ℕ) : (depth level : ℕ) → List TokenKind → Tree → Type 0 where
   Numeral : {depth level : ℕ} (n : ℕ) → SpellsTree most depth level (kind.Num (pos n) ∷ []) (Number (pos n))
   Named : {depth level : ℕ} (name : List ℕ) → SpellsTree most depth level (kind.Word name ∷ []) (Variable name)
@@ -87,7 +87,7 @@ pub data SpellsTree (most : ℕ) : (depth level : ℕ) → List TokenKind → Tr
   Negated : {depth level : ℕ} {tokens : List TokenKind} {tree : Tree} →
       depth < most → SpellsTree most (depth + 1) 6 tokens tree →
       SpellsTree most depth level (kind.Minus ∷ tokens) (Operation Sub (Number (pos 0)) tree)
-  -- operators of one level group to the left
+  -- operators of the same level group to the left
   Joined : {depth level : ℕ} {left right : List TokenKind} {a b : Tree} (op : Op) (sign : TokenKind) →
       level ≤ level_of op → operator_of sign ≡ Some op →
       SpellsTree most depth (level_of op) left a → SpellsTree most depth (level_of op + 1) right b →

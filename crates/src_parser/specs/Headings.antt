@@ -1,5 +1,5 @@
--- For the proofs and for private clauses only: how a declaration is read token by token, once its label was read.
--- Parsers of larger things read it so too.
+-- For the proofs and for private clauses, and for parsers of larger languages: how a declaration is read token by
+-- token, after its label.
 use Rattle.std.specs.Prelude.{ℕ, pos, List, Option, Some, None}
 use Rattle.gr_word.specs.declared.variables.Label.{Label}
 use Rattle.src_lexer.specs.declared.tokens.TokenKind.{TokenKind}
@@ -7,7 +7,7 @@ use Rattle.src_lexer.specs.declared.tokens.TokenKind.TheVariants as kind
 use Rattle.src_tree.specs.declared.trees.Decl.{Decl}
 use Rattle.src_parser.specs.Tokenwise.{Advance, Goes, Wrong}
 
--- where the reading of a declaration stands
+-- how far a declaration was read
 pub data Heading : Type 0 where
   Labelled : (label : Label) → Heading
   Typed : (label : Label) → Heading

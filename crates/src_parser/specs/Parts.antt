@@ -1,5 +1,5 @@
--- For the proofs and for private clauses only: how the part of a statement that stands before its block, or all of an
--- assignment, is read token by token. Parsers of larger things read it so too.
+-- For the proofs and for private clauses, and for parsers of larger languages: how the part of a statement before its
+-- block, or a whole assignment, is read token by token.
 use Rattle.std.specs.Prelude.{ℕ, List, [], Option, Some, None}
 use Rattle.gr_word.specs.declared.operations.Cmp.{Cmp}
 use Rattle.src_lexer.specs.declared.tokens.TokenKind.{TokenKind}
@@ -9,12 +9,13 @@ use Rattle.src_parser.specs.Grammar.{Limits, comparison_of}
 use Rattle.src_parser.specs.Tokenwise.{Advance, Goes, Wrong, TooMuch}
 use Rattle.src_parser.specs.Operands.{Reading, At, Wanted, TokenStep, Moves, Stops, Deep, reads, whole, used_of}
 
--- whether a guard is that of a choice or of a loop
+-- whether a guard belongs to a choice or to a loop
 pub data Form : Type 0 where
   ForChoice : Form
   ForLoop : Form
 
--- what an expression is read for: a variable's value; an element's index, then its value; the sides of a guard
+-- the purpose of an expression: a variable's value; an element's index, and then its value; the left and the right side
+-- of a guard
 pub data Asked : Type 0 where
   Value : (name : List ℕ) → Asked
   Place : (name : List ℕ) → Asked
@@ -22,14 +23,14 @@ pub data Asked : Type 0 where
   Left : (form : Form) → Asked
   Right : (form : Form) (cmp : Cmp) (left : Tree) → Asked
 
--- where the reading of a part stands
+-- how far a part was read
 pub data Part : Type 0 where
   Target : (name : List ℕ) → Part
   Placed : (name : List ℕ) (index : Tree) (used : ℕ) → Part
   Guarding : (form : Form) → Part
   Inside : (asked : Asked) (reading : Reading) → Part
 
--- what a part is once it is whole: an assignment, or the guard of a block
+-- a part that is complete: an assignment, or the guard of a block
 pub data Made : Type 0 where
   VariableSet : (name : List ℕ) (value : Tree) → Made
   ElementSet : (name : List ℕ) (index value : Tree) → Made
@@ -39,13 +40,13 @@ pub data PartState : Type 0 where
   Still : (part : Part) → PartState
   Done : (made : Made) → PartState
 
--- what a token of an expression does, where its reading goes on, and where it ends with the token
+-- the effect of a token of an expression: the reading continues, or ends before the token
 abbrev pub after_step : {S : Type 0} → (Reading → S) → (Reading → Advance S) → TokenStep → Advance S
 after_step on over (Moves x) = Goes (on x)
 after_step on over (Stops x) = over x
 after_step on over Deep = TooMuch
 
--- a token behind the name of an assignment
+-- a token after the name in an assignment
 abbrev pub targeting : List ℕ → TokenKind → Advance PartState
 targeting name kind.Assign = Goes (Still (Inside (Value name) (At [] 0 0 Wanted)))
 targeting name kind.LBracket = Goes (Still (Inside (Place name) (At [] 1 0 Wanted)))
@@ -59,12 +60,12 @@ abbrev pub guarding : Form → TokenKind → Advance PartState
 guarding form kind.LParen = Goes (Still (Inside (Left form) (At [] 0 0 Wanted)))
 guarding form _ = Wrong
 
--- a comparison, or none
+-- a comparison, if there is one
 abbrev pub comparing : Form → Tree → ℕ → Option Cmp → Advance PartState
 comparing form left used (Some cmp) = Goes (Still (Inside (Right form cmp left) (At [] 0 used Wanted)))
 comparing form left used None = Wrong
 
--- a token behind the whole expression that was asked for
+-- a token after the whole expression
 abbrev pub behind_expression : Asked → Tree → ℕ → TokenKind → Advance PartState
 behind_expression (Value name) tree used kind.Semi = Goes (Done (VariableSet name tree))
 behind_expression (Value name) tree used _ = Wrong
@@ -81,7 +82,7 @@ abbrev pub ending_where : Asked → Option Tree → ℕ → TokenKind → Advanc
 ending_where asked None used k = Wrong
 ending_where asked (Some tree) used k = behind_expression asked tree used k
 
--- a token where an expression is read
+-- a token in an expression
 abbrev pub in_expression : Asked → TokenKind → TokenStep → Advance PartState
 in_expression asked k s =
     after_step (λ x. Still (Inside asked x)) (λ x. ending_where asked (whole x) (used_of x) k) s

@@ -1,4 +1,4 @@
--- Programs whose canonical text is read again as that program (this project's profile).
+-- Programs whose canonical text is read as that program again (this project's profile).
 use Rattle.std.specs.Prelude.{◌≡◌, ◌≢◌, ℕ, ◌+◌, ◌^◌, ◌<◌, ◌≤◌, pos, negsuc, List, [], ◌∷◌, length, Option, Some, None, IsTrue}
 use Rattle.gr_word.specs.Names.{is_name}
 use Rattle.gr_word.specs.declared.operations.Op.TheVariants.{Remu}
@@ -10,12 +10,12 @@ use Rattle.src_tree.specs.Heights.{height_of}
 use Rattle.src_tree.specs.Printed.{source_text}
 use Rattle.src_parser.specs.Grammar.{operators}
 
--- a name that is no keyword
+-- a name that isn't a keyword
 pub record IsFree (name : List ℕ) : Type 0 where
   pub fits : IsTrue (is_name name)
   pub no_keyword : letter_run_of name ≡ Is (kind.Word name)
 
--- numbers that aren't negative, names that are no keywords, and no Remu
+-- numbers that aren't negative, names that aren't keywords, and no Remu
 abbrev pub IsPlain : Tree → Type 0
 IsPlain (Number (pos n)) = n < 2 ^ 63
 IsPlain (Number (negsuc n)) = ⊥
@@ -32,7 +32,7 @@ pub record TestFits (test : Test) : Type 0 where
   pub right : IsLow test.right
   pub few : operators test.left + operators test.right ≤ 256
 
--- a statement inside so many braces, and a block
+-- a statement inside this many braces, and a block
 abbrev mutual
   pub StatementFits : Statement → ℕ → Type 0
   StatementFits (SetVariable name value) depth = IsFree name × IsLow value × (operators value ≤ 256)

@@ -1,4 +1,4 @@
--- For the proofs and for private clauses only: several tokens of an expression, and the expression that they end with.
+-- For the proofs and for private clauses only: several tokens of an expression, and the expression that they end.
 use Rattle.std.specs.Prelude.{List, [], ◌∷◌, Option, None}
 use Rattle.src_lexer.specs.declared.tokens.TokenKind.{TokenKind}
 use Rattle.src_lexer.specs.declared.tokens.TokenKind.TheVariants as kind
@@ -15,17 +15,17 @@ abbrev pub reads_all : Limits → Reading → List TokenKind → TokenStep
 reads_all most x [] = Moves x
 reads_all most x (k ∷ ks) = then_read (reads most x k) (λ y. reads_all most y ks)
 
--- what a token that no expression goes on with leaves
+-- the expression that is left by a token with which it doesn't continue
 abbrev pub left_whole : TokenStep → Option Tree
 left_whole (Moves x) = None
 left_whole (Stops x) = whole x
 left_whole Deep = None
 
--- the expression that a reading is, where it ends here
+-- the expression that was read, if it ends here
 abbrev pub ended : Limits → Reading → Option Tree
 ended most x = left_whole (reads most x kind.Semi)
 
--- the expression that all tokens but the last are, where the last is the first that doesn't go on with it
+-- the expression of all tokens but the last, if the last is the first with which it doesn't continue
 abbrev pub after_read : TokenStep → List TokenKind → (Reading → Option Tree) → Option Tree
 after_read (Moves x) ks next = next x
 after_read (Stops x) [] next = whole x

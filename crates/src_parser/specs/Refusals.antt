@@ -1,4 +1,4 @@
--- Why tokens are no program: the three refusals of the parser, each at its first place (this project's profile).
+-- Why tokens aren't a program: the three errors of the parser, each at its first place (this project's profile).
 use Rattle.std.specs.Prelude.{◌≡◌, ℕ, ◌+◌, ◌-◌, ◌<◌, List, [], ◌∷◌, ◌++◌, map}
 use Rattle.src_lexer.specs.declared.tokens.TokenKind.{TokenKind}
 use Rattle.src_lexer.specs.declared.tokens.TokenKind.TheVariants as kind
@@ -6,18 +6,19 @@ use Rattle.src_lexer.specs.declared.tokens.Token.{Token}
 use Rattle.src_tree.specs.Trees.{Source}
 use Rattle.src_parser.specs.Grammar.{Limits, limits, Sentence}
 
--- what the tokens are, without their places
+-- the kinds of tokens, without their places
 abbrev pub token_kinds : List Token → List TokenKind
 token_kinds tokens = map (λ token. token.kind) tokens
 
--- each `{` of these tokens stands inside fewer than `most` open ones, `depth` of which stand before these tokens
+-- each `{` of these tokens is inside fewer than `most` open ones, of which `depth` are before these tokens
 abbrev pub Shallow : (most depth : ℕ) → List TokenKind → Type 0
 Shallow most depth [] = Unit {0}
 Shallow most depth (kind.LBrace ∷ tokens) = (depth < most) × Shallow most (depth + 1) tokens
 Shallow most depth (kind.RBrace ∷ tokens) = Shallow most (depth - 1) tokens
 Shallow most depth (token ∷ tokens) = Shallow most depth tokens
 
--- a program begins with these tokens, which pass no limit: some more make one, however deep the braces that they open
+-- these tokens begin a program and exceed no limit: with some more tokens they are a program, however deep the nesting
+-- of the braces that they open
 pub record ProgramBegins (most : Limits) (tokens : List TokenKind) : Type 0 where
   pub shallow : Shallow most.braces 0 tokens
   pub braces : ℕ
@@ -26,7 +27,7 @@ pub record ProgramBegins (most : Limits) (tokens : List TokenKind) : Type 0 wher
   pub sentence : Sentence (record { brackets = most.brackets; braces = braces; operators = most.operators })
       (tokens ++ more) program
 
--- the tokens before this one begin a program; with it none begins, however much may be nested
+-- the tokens before this one begin a program; together with it they begin none, for any limits of nesting
 pub record Unexpected (tokens : List Token) (at : ℕ) : Type 0 where
   pub before : List Token
   pub token : Token
@@ -36,8 +37,8 @@ pub record Unexpected (tokens : List Token) (at : ℕ) : Type 0 where
   pub begins : ProgramBegins limits (token_kinds before)
   pub none : (most : Limits) → ProgramBegins most (token_kinds before ++ token.kind ∷ []) → ⊥
 
--- the tokens before this one begin a program; with it none begins within the limits, but one would if more might be
--- nested
+-- the tokens before this one begin a program; together with it they begin none within the limits, but they do within
+-- some other limits
 pub record TooDeep (tokens : List Token) (at : ℕ) : Type 0 where
   pub before : List Token
   pub token : Token
@@ -49,7 +50,7 @@ pub record TooDeep (tokens : List Token) (at : ℕ) : Type 0 where
   pub wider : Limits
   pub begins_wider : ProgramBegins wider (token_kinds before ++ token.kind ∷ [])
 
--- the tokens begin a program and are none
+-- the tokens begin a program and aren't one
 pub record CutShort (tokens : List Token) : Type 0 where
   pub begins : ProgramBegins limits (token_kinds tokens)
   pub none : (program : Source) → Sentence limits (token_kinds tokens) program → ⊥

@@ -1,4 +1,4 @@
--- The parser's own types as the proofs see them, and as parsers of larger things see the reading of expressions, of
+-- How the proofs see the parser's own types, and how parsers of larger languages see the reading of expressions, of
 -- parts of statements and of declarations.
 use Rattle.std.specs.Prelude.{List, map, reverse}
 use Rattle.src_tree.specs.Trees.{expr_tree, test_of, statement_of, Statement}
@@ -50,7 +50,7 @@ frame_of (frame.Index depth name) = Index depth name
 frame_of (frame.Sign depth) = Sign depth
 frame_of (frame.Pending left op) = Pending (expr_tree left) op
 
--- the last first
+-- the items that wait, the last one first
 abbrev pub stack_of : List frames.Waiting → List Waiting
 stack_of stack = reverse (map frame_of stack)
 
@@ -62,7 +62,7 @@ operand_of (operand.Given tree) = Given (expr_tree tree)
 abbrev pub reading_of : readings.Reading → Reading
 reading_of x = At (stack_of x.stack.items) x.depth x.used (operand_of x.operand)
 
--- by the reading that is left
+-- the effect of a token on an expression, with the reading that is left
 abbrev pub step_of : steps.TokenStep → Reading → TokenStep
 step_of step.Moves x = Moves x
 step_of step.Stops x = Stops x
@@ -96,7 +96,7 @@ made_of (made.Variable name value) = VariableSet name (expr_tree value)
 made_of (made.Element name index value) = ElementSet name (expr_tree index) (expr_tree value)
 made_of (made.Guard f guard) = GuardRead (form_of f) (test_of guard)
 
--- by the part that is left
+-- the effect of a token on a part, with the part that is left
 abbrev pub part_advance_of : part_advances.PartAdvance → Part → Advance PartState
 part_advance_of part_advance.Moves p = Goes (Still p)
 part_advance_of (part_advance.Ends m) p = Goes (Done (made_of m))
@@ -125,7 +125,7 @@ outer_of (outer.InSecond guard first before) =
     InSecond (test_of guard) (statements_seen first.items) (statements_seen before.items)
 outer_of (outer.InLoop guard before) = InLoop (test_of guard) (statements_seen before.items)
 
--- the last first
+-- the open blocks, the innermost first
 abbrev pub outers_of : List outers.Outer → List Outer
 outers_of outer = reverse (map outer_of outer)
 
@@ -147,7 +147,7 @@ state_of (state.Between decls) = Between decls.items
 state_of (state.Declaring decls h) = Declaring decls.items (heading_of h)
 state_of (state.Doing b mode) = doing b (mode_of mode)
 
--- by the state that is left
+-- the effect of a token on a program, with the state that is left
 abbrev pub advance_of : advances.Advance → ParserState → Advance ParserState
 advance_of advance.Goes s = Goes s
 advance_of advance.Wrong s = Wrong

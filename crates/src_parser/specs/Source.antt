@@ -1,4 +1,4 @@
--- What a source text is: its pieces are tokens, and these are a program (this project's profile).
+-- A source text: it splits into tokens, and these are a program (this project's profile).
 use Rattle.std.specs.Prelude.{ℕ, List, Ok}
 use Rattle.src_lexer.specs.declared.tokens.Token.{Token}
 use Rattle.src_lexer.specs.Splits.{Splits}
@@ -6,7 +6,7 @@ use Rattle.src_tree.specs.Trees.{Source}
 use Rattle.src_parser.specs.Grammar.{limits, Sentence}
 use Rattle.src_parser.specs.Refusals.{token_kinds}
 
--- a text that spells a program
+-- a text encodes a program
 pub record SpellsSource (text : List ℕ) (program : Source) : Type 0 where
   pub tokens : List Token
   pub split : Splits 0 text (Ok tokens)

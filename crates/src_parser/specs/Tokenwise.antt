@@ -1,5 +1,5 @@
--- A parser that reads token by token, whatever its states and what it gives; and what its refusals say, by the grammar
--- alone (`Sentence`).
+-- A parser that reads token by token, with any states and any results; and what its errors mean, by the grammar only
+-- (`Sentence`).
 use Rattle.std.specs.Prelude.{◌≡◌, ℕ, Bool, true, false, List, [], ◌∷◌, ◌++◌, Option, None}
 use Rattle.src_lexer.specs.declared.tokens.TokenKind.{TokenKind}
 use Rattle.src_lexer.specs.declared.tokens.Token.{Token}
@@ -11,13 +11,13 @@ pub data Advance (S : Type 0) : Type 0 where
   Wrong : Advance S
   TooMuch : Advance S
 
--- an advance of a part, as one of the whole
+-- an advance of a part, as an advance of the whole
 abbrev pub mapped : {A B : Type 0} → (A → B) → Advance A → Advance B
 mapped f (Goes state) = Goes (f state)
 mapped f Wrong = Wrong
 mapped f TooMuch = TooMuch
 
--- one that opens a brace, where there is room
+-- an advance that opens a brace, if there is room
 abbrev pub with_braces : {S : Type 0} → Bool → S → Advance S
 with_braces true state = Goes state
 with_braces false state = TooMuch
@@ -42,14 +42,15 @@ parsed advanced gives most state [] = gives state
 parsed advanced gives most state (k ∷ ks) =
     after_advance (advanced most state k) (λ next. parsed advanced gives most next ks)
 
--- some more tokens make a sentence
+-- with some more tokens, these are a sentence
 pub record Completes {P : Type 0} (Sentence : Limits → List TokenKind → P → Type 0) (most : Limits)
     (tokens : List TokenKind) : Type 0 where
   pub more : List TokenKind
   pub tree : P
   pub sentence : Sentence most (tokens ++ more) tree
 
--- a sentence begins with these tokens, which pass no limit: some more make one, however deep the braces that they open
+-- these tokens begin a sentence and exceed no limit: with some more tokens they are a sentence, however deep the
+-- nesting of the braces that they open
 pub record Begins {P : Type 0} (Sentence : Limits → List TokenKind → P → Type 0) (most : Limits)
     (tokens : List TokenKind) : Type 0 where
   pub shallow : Shallow most.braces 0 tokens

@@ -4,19 +4,20 @@ ghost use Rattle.src_parser.specs.declared.errors.ParseError.TheVariants.{Memory
 use std::alloc::{AllocError, AllocFailed};
 use thiserror::Error;
 
-/// Why tokens are no program. The number is the first byte of the token at fault.
+/// Why tokens aren't a program. The number is the place of the token's first byte.
 #[derive(Debug, Drop, PartialEq, Eq, Error)]
 pub enum ParseError {
-    /// The tokens before this one begin a program, and with it none begins.
+    /// No program can continue with this token: the tokens before it begin a program, and together with it they begin
+    /// none.
     #[error("no program goes on with the token at byte {0}")]
     Unexpected(u32),
-    /// All tokens together begin a program and are none.
+    /// The text ends too early: all tokens together begin a program, but aren't one.
     #[error("the text ends within a program")]
     EndOfText,
-    /// With this token more is nested than is allowed.
+    /// With this token, the program would exceed a limit of nesting.
     #[error("too much is nested at byte {0}")]
     TooDeep(u32),
-    /// Memory ran out, which says nothing of the tokens.
+    /// Memory ran out, which says nothing about the tokens.
     #[error("out of memory")]
     Memory,
 }

@@ -17,7 +17,7 @@ use src_tree::Expr;
 use std::alloc::Global;
 use std::mem;
 
-// The operation that a sign between two operands stands for.
+// The operation of a sign between two operands.
 pub(crate) fn operator(kind: &TokenKind) -> Option<Op>
     ensures { result ≡ operator_of kind.now }
 {
@@ -36,7 +36,7 @@ pub(crate) fn operator(kind: &TokenKind) -> Option<Op>
     }
 }
 
-// How tightly an operation binds its operands.
+// How tightly an operator binds its operands.
 pub(crate) fn level(op: Op) -> u32
     ensures { result ≡ level_of op }
 {
@@ -57,14 +57,14 @@ fn operation(alloc: Global, op: Op, left: Expr, right: Expr) -> Result<Expr, Mem
     Ok(Expr::Bin(op, Box::new(alloc, left)?, Box::new(alloc, right)?))
 }
 
-// An expression with a sign before it.
+// The negative of an expression.
 fn negated(alloc: Global, tree: Expr) -> Result<Expr, Memory>
     ensures { IfOk result (λ e. expr_tree e ≡ Operation Sub (Number (pos 0)) (expr_tree tree)) }
 {
     operation(alloc, Op::Sub, Expr::Num(0), tree)
 }
 
-// What waits last stays.
+// Pushes the last waiting item again.
 fn put_back(mut stack: Vec<Waiting>, last: Waiting, tree: Expr, depth: u32) -> Result<Joint, Memory>
     ensures { IfOk result (λ j. joint_of j ≡ Joins (frame_of last ∷ stack_of stack.items) (expr_tree tree) depth) }
 {
@@ -72,8 +72,8 @@ fn put_back(mut stack: Vec<Waiting>, last: Waiting, tree: Expr, depth: u32) -> R
     Ok(Joint { stack, tree, depth })
 }
 
-// Ends all operations and signs that wait for an operand and bind at this level or tighter: each takes what stands
-// behind it, from the last on.
+// Completes all operations and signs that wait for an operand and bind at this level or tighter: each takes what
+// follows it as its operand, from the last on.
 fn join(
     alloc: Global,
     least: u32,
@@ -106,7 +106,7 @@ fn join(
     Ok(Joint { stack, tree, depth })
 }
 
-// Opens a bracket, an index or a sign, where one more may be open.
+// Opens a bracket, an index or a sign, if one more may be open.
 fn opened(reading: &mut Reading, frame: Waiting, used: u32) -> Result<TokenStep, Memory>
     requires { reading.old.depth < 2 ^ 32 - 1 }
     ensures { IfOk result (λ s. step_of s (reading_of reading.new)
@@ -156,7 +156,7 @@ fn number(reading: &mut Reading, value: i64) -> TokenStep
     TokenStep::Moves
 }
 
-// A token where an operand is wanted.
+// Reads a token where an operand is expected.
 fn want(alloc: Global, reading: &mut Reading, kind: &TokenKind) -> Result<TokenStep, Memory>
     ensures { IfOk result (λ s. step_of s (reading_of reading.new)
         ≡ wanting limits (stack_of reading.old.stack.items) reading.old.depth reading.old.used kind.now) }
@@ -177,7 +177,7 @@ fn want(alloc: Global, reading: &mut Reading, kind: &TokenKind) -> Result<TokenS
     }
 }
 
-// An operator behind an operand.
+// Reads an operator after an operand.
 fn pend(reading: &mut Reading, op: Op, joint: Joint) -> Result<TokenStep, Memory>
     ensures { IfOk result (λ s. step_of s (reading_of reading.new)
         ≡ pending limits op reading.old.used (joint_of joint)) }
@@ -199,7 +199,7 @@ fn pend(reading: &mut Reading, op: Op, joint: Joint) -> Result<TokenStep, Memory
     Ok(TokenStep::Moves)
 }
 
-// The operand is there.
+// Stores the operand that was read.
 fn give(reading: &mut Reading, stack: Vec<Waiting>, depth: u32, tree: Expr)
     ensures { reading_of reading.new ≡ At (stack_of stack.items) depth reading.old.used (Given (expr_tree tree)) }
 {
@@ -208,7 +208,7 @@ fn give(reading: &mut Reading, stack: Vec<Waiting>, depth: u32, tree: Expr)
     put(&mut reading.operand, OperandState::Given(tree));
 }
 
-// What waits last stays, and the expression ends before the token.
+// Pushes the last waiting item again; the expression ends before the token.
 fn stay(
     reading: &mut Reading,
     mut stack: Vec<Waiting>,
@@ -224,7 +224,7 @@ fn stay(
     Ok(TokenStep::Stops)
 }
 
-// A `)` behind an operand.
+// Reads a `)` after an operand.
 fn close_bracket(reading: &mut Reading, joint: Joint) -> Result<TokenStep, Memory>
     ensures { IfOk result (λ s. step_of s (reading_of reading.new) ≡ closing reading.old.used RParen (joint_of joint)) }
 {
@@ -258,7 +258,7 @@ fn element(alloc: Global, name: Name, index: Expr) -> Result<Expr, Memory>
     Ok(Expr::Item(name, Box::new(alloc, index)?))
 }
 
-// A `]` behind an operand.
+// Reads a `]` after an operand.
 fn close_index(alloc: Global, reading: &mut Reading, joint: Joint) -> Result<TokenStep, Memory>
     ensures { IfOk result (λ s. step_of s (reading_of reading.new)
         ≡ closing reading.old.used RBracket (joint_of joint)) }
@@ -285,7 +285,7 @@ fn close_index(alloc: Global, reading: &mut Reading, joint: Joint) -> Result<Tok
     }
 }
 
-// A token behind an operand that is no operator.
+// Reads a token after an operand that isn't an operator.
 fn close(
     alloc: Global,
     reading: &mut Reading,
@@ -306,7 +306,7 @@ fn close(
     }
 }
 
-// A token behind an operand.
+// Reads a token after an operand.
 fn have(
     alloc: Global,
     reading: &mut Reading,
@@ -341,7 +341,7 @@ fn index(reading: &mut Reading, name: Name) -> Result<TokenStep, Memory>
     opened(reading, Waiting::Index(depth, name), used)
 }
 
-// A token behind a name.
+// Reads a token after a name.
 fn behind_name(
     alloc: Global,
     reading: &mut Reading,
@@ -357,8 +357,8 @@ fn behind_name(
     }
 }
 
-/// The reading of an expression before its first token, as if it stood inside `depth` open brackets and signs of its
-/// statement, with `used` operators and signs of its statement before it.
+/// The reading of an expression before its first token, as if it were inside `depth` open brackets and signs of its
+/// statement, and after `used` of the statement's operators and signs.
 pub fn fresh(alloc: Global, depth: u32, used: u32) -> Reading
     ensures { reading_of result ≡ At [] depth used Wanted }
 {
@@ -370,8 +370,9 @@ pub fn fresh(alloc: Global, depth: u32, used: u32) -> Reading
     }
 }
 
-/// The next token of an expression, which is read, or ends it, or passes a limit of nesting; after that, as after
-/// `Memory`, which says nothing of the tokens, the reading is of no use.
+/// Reads the next token of an expression. The token is read, or the expression ends before it, or it exceeds a limit of
+/// nesting. After a limit was exceeded the reading is of no use; nor is it after `Memory`, which says nothing about the
+/// tokens.
 pub fn read(alloc: Global, reading: &mut Reading, kind: &TokenKind) -> Result<TokenStep, Memory>
     ensures { IfOk result (λ s. step_of s (reading_of reading.new) ≡ reads limits (reading_of reading.old) kind.now) }
 {
@@ -382,7 +383,7 @@ pub fn read(alloc: Global, reading: &mut Reading, kind: &TokenKind) -> Result<To
     }
 }
 
-/// The whole expression, where nothing waits, which is taken out of the reading.
+/// Takes the complete expression out of the reading, or returns `None` if it has none.
 pub fn finish(reading: &mut Reading) -> Option<Expr>
     ensures { option_map expr_tree result ≡ whole (reading_of reading.old) }
 {

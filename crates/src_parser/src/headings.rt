@@ -10,7 +10,7 @@ use src_lexer::TokenKind;
 use src_tree::Decl;
 use std::alloc::Global;
 
-/// Where the reading of a declaration stands, once its label was read.
+/// How far a declaration was read, from its label on.
 #[derive(Drop)]
 pub enum Heading {
     Labelled(Label),
@@ -21,7 +21,7 @@ pub enum Heading {
     Closing(Label, Name, u64),
 }
 
-/// What a token does to a declaration: it is read; it ends the declaration; none goes on with it.
+/// The effect of a token on a declaration: it is read; it ends the declaration; no declaration can continue with it.
 #[derive(Drop)]
 pub enum HeadingAdvance {
     Goes(Heading),
@@ -29,7 +29,7 @@ pub enum HeadingAdvance {
     Wrong,
 }
 
-// The whole declaration.
+// The declaration is complete.
 fn end(label: Label, name: Name, length: Option<u64>) -> HeadingAdvance
     ensures { heading_advance_of result ≡ Goes (Declared (declared label name length)) }
 {
@@ -40,7 +40,7 @@ fn end(label: Label, name: Name, length: Option<u64>) -> HeadingAdvance
     })
 }
 
-// The length of an array.
+// Reads the length of an array.
 fn size(label: Label, name: Name, value: i64) -> HeadingAdvance
     ensures { heading_advance_of result ≡ heading_advanced (Sizing label name) (Num value) }
 {
@@ -62,7 +62,7 @@ fn typed(alloc: Global, label: Label, kind: &TokenKind) -> Result<HeadingAdvance
     }
 }
 
-/// The next token of a declaration. `Memory` says nothing of the tokens.
+/// Reads the next token of a declaration. `Memory` says nothing about the tokens.
 pub fn read_heading(
     alloc: Global,
     heading: Heading,

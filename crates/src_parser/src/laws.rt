@@ -13,12 +13,12 @@ ghost use Rattle.src_tree.specs.Printed.{source_text};
 ghost use Rattle.src_parser.specs.Refusals.{token_kinds, Unexpected, TooDeep, CutShort};
 ghost use Rattle.src_tree.specs.Trees.{Source};
 
-/// A law: tokens are one program at most.
+/// A law: tokens are at most one program.
 pub fn one_tree()
     ensures { (tokens : List TokenKind) (p q : Source) → Sentence limits tokens p → Sentence limits tokens q → p ≡ q }
 {}
 
-/// A law: of tokens that are a program no refusal is true.
+/// A law: no error is true of tokens that are a program.
 pub fn no_refusal()
     ensures unexpected { (tokens : List Token) (p : Source) (at : ℕ)
         → Sentence limits (token_kinds tokens) p → Unexpected tokens at → ⊥ }
@@ -28,14 +28,15 @@ pub fn no_refusal()
         → ⊥ }
 {}
 
-/// A law: of tokens one refusal is true at most, with its reason and its place. `Memory` says nothing of them.
+/// A law: at most one error is true of tokens, with its reason and its place. `Memory` says nothing about them.
 pub fn one_refusal()
     ensures { (tokens : List Token) (a b : ParseError) → ExplainsTokens a tokens → ExplainsTokens b tokens
         → a ≢ Memory → b ≢ Memory → a ≡ b }
 {}
 
-/// Laws of source texts: the canonical text of a printable program spells that program, so that its tokens are read as
-/// that program again; a text spells one program at most; and a text that spells a program has no wrong piece.
+/// Laws of source texts. The canonical text of a printable program encodes that program, so its tokens are read as that
+/// program again. A text encodes at most one program. A text that encodes a program splits into tokens without an
+/// error.
 pub fn source_laws()
     ensures read_again { (p : Source) → IsPrintable p → SpellsSource (source_text p) p }
     ensures one_program { (text : List ℕ) (p q : Source) → SpellsSource text p → SpellsSource text q → p ≡ q }

@@ -1,13 +1,13 @@
 //! Trees of the source language from its tokens.
 //!
-//! [`parse`] gives the tree of tokens that are a program by the grammar of `specs/Grammar`, within its limits of
-//! nesting; otherwise it says where they first cease to begin one, by `specs/Refusals`. Tokens are one
-//! program at most, and the canonical text of a printable program is read again as that program (`laws`).
+//! [`parse`] returns the tree of tokens that are a program by the grammar of `specs/Grammar`, within its limits of
+//! nesting; otherwise it returns where they first cease to begin one, as `specs/Refusals` defines it. Tokens are at
+//! most one program, and the canonical text of a printable program is read as that program again (`laws`).
 //!
-//! [`expr_at`] reads one expression among tokens, as far as it goes (`specs/Expressions`). A parser of larger things
-//! reads expressions, parts of statements and declarations token by token ([`expressions`], [`parts`], [`headings`]),
-//! and owes for itself the laws of single tokens of `proofs/Tokenwise`, which say where its tokens cease to begin what
-//! it reads (`specs/Tokenwise`). [`parse`] is the first such parser.
+//! [`expr_at`] reads one expression among tokens, as far as it extends (`specs/Expressions`). A parser of a larger
+//! language can read expressions, parts of statements and declarations token by token ([`expressions`], [`parts`],
+//! [`headings`]). It has to prove the laws of single tokens of `proofs/Tokenwise`, which then show where its tokens
+//! cease to begin what it reads (`specs/Tokenwise`). [`parse`] is the first such parser.
 #![tactic(auto)]
 
 pub mod errors;

@@ -13,7 +13,7 @@ use src_lexer::{Token, TokenKind};
 use src_tree::Expr;
 use std::alloc::Global;
 
-// The expression that was read, where it ends here.
+// The expression that was read, if it ends here.
 fn last(alloc: Global, reading: &mut Reading) -> Result<Option<Expr>, Memory>
     ensures { IfOk result (λ e. option_map expr_tree e ≡ ended limits (reading_of reading.old)) }
 {
@@ -24,14 +24,14 @@ fn last(alloc: Global, reading: &mut Reading) -> Result<Option<Expr>, Memory>
     }
 }
 
-// The reading is dropped here alone.
+// Only this function drops the reading.
 fn end(alloc: Global, mut reading: Reading) -> Result<Option<Expr>, Memory>
     ensures { IfOk result (λ e. option_map expr_tree e ≡ ended limits (reading_of reading)) }
 {
     last(alloc, &mut reading)
 }
 
-// The expression that the first tokens are, and their number.
+// The expression at the beginning of the tokens, and its number of tokens.
 fn expression(
     alloc: Global,
     tokens: &[Token],
@@ -71,13 +71,13 @@ fn expression(
     }
 }
 
-/// The expression that begins with token number `from`, and the number of the token behind it. It goes as far as the
-/// tokens begin an expression, as if it stood inside `opened` open brackets and signs of its statement, with `used`
-/// operators and signs of its statement before it.
+/// The expression that begins with token number `from`, and the number of the token after it. It extends as far as the
+/// tokens begin an expression, as if it were inside `opened` open brackets and signs of its statement, and after `used`
+/// of the statement's operators and signs.
 ///
-/// `TooDeep` names the first token that passes a limit of nesting, `Unexpected` the first with which no expression
-/// begins, where those before it are none. `EndOfText` says that the tokens begin an expression and are none. `Memory`
-/// says nothing of the tokens.
+/// `TooDeep` names the first token that exceeds a limit of nesting. `Unexpected` names the first token with which no
+/// expression can continue, if the tokens before it aren't one. `EndOfText` means that all tokens begin an expression
+/// but aren't one. `Memory` says nothing about the tokens.
 pub fn expr_at(
     alloc: Global,
     tokens: &[Token],

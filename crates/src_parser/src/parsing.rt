@@ -18,7 +18,7 @@ use src_tree::{Decl, Program};
 use std::alloc::Global;
 use std::mem;
 
-// The first token of the statements.
+// Reads the first token of the statements.
 fn start(
     alloc: Global,
     state: &mut ParserState,
@@ -38,7 +38,7 @@ fn start(
     advance
 }
 
-// A token between declarations, or the first of the statements.
+// Reads a token between declarations, or the first token of the statements.
 fn begin_declaration(
     alloc: Global,
     state: &mut ParserState,
@@ -66,7 +66,7 @@ fn begin_declaration(
     }
 }
 
-// The next token of a declaration.
+// Reads the next token of a declaration.
 fn declare(
     alloc: Global,
     state: &mut ParserState,
@@ -91,7 +91,7 @@ fn declare(
     }
 }
 
-// The next token of a program.
+// Reads the next token of a program.
 fn take(alloc: Global, state: &mut ParserState, kind: &TokenKind) -> Result<Advance, Memory>
     ensures { IfOk result (λ t. advance_of t (state_of state.new) ≡ advanced limits (state_of state.old) kind.now) }
 {
@@ -119,7 +119,7 @@ fn whole(blocks: Blocks) -> Option<Program>
     Some(Program { decls, body: here })
 }
 
-// The program, where its statements stand between two parts and are whole.
+// The program, if its statements are complete between two parts.
 fn paused(alloc: Global, mut blocks: Blocks, pause: Pause) -> Result<Option<Program>, Memory>
     ensures { IfOk result (λ p. option_map source_of p ≡ program_of (doing blocks (pause_of pause))) }
 {
@@ -140,7 +140,7 @@ fn paused(alloc: Global, mut blocks: Blocks, pause: Pause) -> Result<Option<Prog
     }
 }
 
-// The program, where its statements are whole.
+// The program, if its statements are complete.
 fn settle(alloc: Global, blocks: Blocks, mode: Phase) -> Result<Option<Program>, Memory>
     ensures { IfOk result (λ p. option_map source_of p ≡ program_of (doing blocks (mode_of mode))) }
 {
@@ -153,7 +153,7 @@ fn settle(alloc: Global, blocks: Blocks, mode: Phase) -> Result<Option<Program>,
     }
 }
 
-// The program, where it is whole.
+// The program, if it is complete.
 fn conclude(alloc: Global, state: ParserState) -> Result<Option<Program>, Memory>
     ensures { IfOk result (λ p. option_map source_of p ≡ program_of (state_of state)) }
 {
@@ -170,12 +170,12 @@ fn conclude(alloc: Global, state: ParserState) -> Result<Option<Program>, Memory
     }
 }
 
-/// The tree of a program. The tokens are read once, from the first to the last, with what is open on a stack.
+/// The tree of a program. The tokens are read once, from the first to the last, with a stack of what is open.
 ///
-/// `Unexpected` and `TooDeep` name the first byte of the first token at fault: with `Unexpected` no program goes on
-/// with it, with `TooDeep` it passes a limit of nesting (32 open brackets and signs of a statement's own expressions,
-/// 32 open braces, 256 operators and signs of a statement's own expressions). `EndOfText` says that the tokens begin a
-/// program and are none. `Memory` says nothing of the tokens.
+/// `Unexpected` and `TooDeep` name the first byte of the token with the first error. With `Unexpected`, no program can
+/// continue with that token. With `TooDeep`, it exceeds a limit of nesting: 32 open brackets and signs of a statement's
+/// own expressions, 32 open braces, 256 operators and signs of a statement's own expressions. `EndOfText` means that
+/// the tokens begin a program but aren't one. `Memory` says nothing about the tokens.
 pub fn parse(alloc: Global, tokens: &[Token]) -> Result<Program, ParseError>
     ensures parsed { IfOk result (λ program. Sentence limits (token_kinds tokens.now) (source_of program)) }
     ensures refused { IfErr result (λ error. ExplainsTokens error tokens.now) }

@@ -14,14 +14,15 @@ use src_tree::{Expr, Guard};
 use std::alloc::Global;
 use std::mem;
 
-/// Whether a guard is that of a choice or of a loop.
+/// Whether a guard belongs to a choice or to a loop.
 #[derive(Clone, Copy)]
 pub enum Form {
     Choice,
     Loop,
 }
 
-/// What an expression is read for: a variable's value; an element's index, then its value; the sides of a guard.
+/// The purpose of an expression: a variable's value; an element's index, and then its value; the left and the right
+/// side of a guard.
 #[derive(Drop)]
 pub enum Asked {
     Value(Name),
@@ -31,8 +32,8 @@ pub enum Asked {
     Right(Form, Cmp, Expr),
 }
 
-/// What stands before an expression: the name of an assignment; a name with its index, and the operators and signs that
-/// were used; the keyword of a guard.
+/// The tokens before an expression: the name in an assignment; a name with its index, and the operators and signs that
+/// were used; the keyword before a guard.
 #[derive(Drop)]
 pub enum Lead {
     Target(Name),
@@ -40,14 +41,14 @@ pub enum Lead {
     Guarding(Form),
 }
 
-/// Where the reading of a part of a statement stands: of an assignment, or of a guard.
+/// How far a part of a statement was read: an assignment, or a guard.
 #[derive(Drop)]
 pub enum Part {
     Before(Lead),
     Inside(Asked, Reading),
 }
 
-/// What a part is once it is whole.
+/// A part that is complete.
 #[derive(Drop)]
 pub enum Made {
     Variable(Name, Expr),
@@ -55,7 +56,7 @@ pub enum Made {
     Guard(Form, Guard),
 }
 
-/// What a token does to a part: it is read; it ends the part; none goes on with it; it passes a limit.
+/// The effect of a token on a part: it is read; it ends the part; no part can continue with it; it exceeds a limit.
 #[derive(Drop)]
 pub enum PartAdvance {
     Moves,
@@ -64,7 +65,7 @@ pub enum PartAdvance {
     TooMuch,
 }
 
-// The comparison that a sign stands for.
+// The comparison of a sign.
 fn comparison(kind: &TokenKind) -> Option<Cmp>
     ensures { result ≡ comparison_of kind.now }
 {
@@ -79,7 +80,7 @@ fn comparison(kind: &TokenKind) -> Option<Cmp>
     }
 }
 
-// A token before an expression.
+// Reads a token before an expression.
 fn lead_on(alloc: Global, part: &mut Part, lead: Lead, kind: &TokenKind) -> PartAdvance
     ensures { part_advance_of result (part_of part.new) ≡ part_advanced limits (lead_of lead) kind.now }
 {
@@ -115,7 +116,7 @@ fn lead_on(alloc: Global, part: &mut Part, lead: Lead, kind: &TokenKind) -> Part
     }
 }
 
-// A token behind the left side of a guard.
+// Reads a token after the left side of a guard.
 fn compare(
     alloc: Global,
     part: &mut Part,
@@ -139,7 +140,7 @@ fn compare(
     }
 }
 
-// A token behind the whole expression that was asked for.
+// Reads a token after the whole expression.
 fn end(
     alloc: Global,
     part: &mut Part,
@@ -182,7 +183,7 @@ fn end(
     }
 }
 
-/// The next token of a part. `Memory` says nothing of the tokens.
+/// Reads the next token of a part. `Memory` says nothing about the tokens.
 pub fn read_part(alloc: Global, part: &mut Part, kind: &TokenKind) -> Result<PartAdvance, Memory>
     ensures { IfOk result (λ t. part_advance_of t (part_of part.new) ≡ part_advanced limits (part_of part.old) kind.now) }
 {

@@ -1,14 +1,14 @@
 use gr_word::{Name, Op};
 use src_tree::Expr;
 
-// The most round and square brackets and signs that are open in one statement's own expressions.
+// The most parentheses, brackets and signs that may be open in one statement's own expressions.
 pub(crate) const MAX_BRACKETS: u32 = 32;
 
 // The most operators and signs of one statement's own expressions.
 pub(crate) const MAX_OPERATORS: u32 = 256;
 
-/// What waits for an operand: a bracket, an index or a sign, each with how many stood open before it, or an operation
-/// with its left operand.
+/// An item that waits for an operand: a bracket, an index or a sign, each with how many were open before it, or an
+/// operation with its left operand.
 #[derive(Drop)]
 pub enum Waiting {
     Open(u32),
@@ -17,7 +17,7 @@ pub enum Waiting {
     Pending(Expr, Op),
 }
 
-/// Whether an operand is wanted, was a name that may get an index, or is there.
+/// Whether an operand is expected, was a name that may get an index, or was read.
 #[derive(Drop)]
 pub enum OperandState {
     Wanted,
@@ -25,8 +25,8 @@ pub enum OperandState {
     Given(Expr),
 }
 
-/// Where the reading of an expression stands: what waits, the last behind the others; how many brackets and signs are
-/// open; how many operators and signs the statement has used. It can begin inside brackets and behind operators.
+/// How far an expression was read: what waits, with the last item at the end; how many brackets and signs are open; and
+/// how many operators and signs the statement has used. It may begin inside brackets and after operators.
 #[derive(Drop)]
 pub struct Reading {
     pub stack: Vec<Waiting>,
@@ -35,7 +35,7 @@ pub struct Reading {
     pub operand: OperandState,
 }
 
-/// What a token does to an expression: it is read; it doesn't go on with it; it passes a limit.
+/// The effect of a token on an expression: it is read; the expression doesn't continue with it; it exceeds a limit.
 #[derive(Drop)]
 pub enum TokenStep {
     Moves,
@@ -43,7 +43,7 @@ pub enum TokenStep {
     Deep,
 }
 
-// What waits and the operand, once the operand was taken by all that binds tightly enough.
+// What still waits, and the operand, after everything that binds tightly enough has taken its operand.
 #[derive(Drop)]
 pub(crate) struct Joint {
     pub stack: Vec<Waiting>,

@@ -15,7 +15,7 @@ use src_tree::{Guard, Stmt};
 use std::alloc::Global;
 use std::mem;
 
-// One more statement, and then the next may begin.
+// Adds a statement; the next one may begin.
 fn add(blocks: &mut Blocks, mode: &mut Phase, statement: Stmt) -> Result<Advance, Memory>
     ensures { IfOk result (λ t. advance_of t (doing blocks.new (mode_of mode.new))
         ≡ Goes (Doing blocks.old.decls.items (outers_of blocks.old.outer.items)
@@ -26,7 +26,7 @@ fn add(blocks: &mut Blocks, mode: &mut Phase, statement: Stmt) -> Result<Advance
     Ok(Advance::Goes)
 }
 
-// A block ends, and its statement is behind those before it.
+// Ends a block, and adds its statement to those before it.
 fn end_block(blocks: &mut Blocks, mode: &mut Phase, outer: Outer) -> Result<Advance, Memory>
     ensures { IfOk result (λ t. advance_of t (doing blocks.new (mode_of mode.new))
         ≡ leaving blocks.old.decls.items (outer_of outer ∷ outers_of blocks.old.outer.items)
@@ -49,7 +49,7 @@ fn end_block(blocks: &mut Blocks, mode: &mut Phase, outer: Outer) -> Result<Adva
     }
 }
 
-// A closing brace.
+// Reads a closing brace.
 fn leave(blocks: &mut Blocks, mode: &mut Phase) -> Result<Advance, Memory>
     ensures { IfOk result (λ t. advance_of t (doing blocks.new (mode_of mode.new))
         ≡ leaving blocks.old.decls.items (outers_of blocks.old.outer.items) (statements_seen blocks.old.here.items)) }
@@ -60,7 +60,7 @@ fn leave(blocks: &mut Blocks, mode: &mut Phase) -> Result<Advance, Memory>
     }
 }
 
-// A token between statements.
+// Reads a token between statements.
 pub(crate) fn begin(
     alloc: Global,
     blocks: &mut Blocks,
@@ -98,7 +98,7 @@ pub(crate) fn begin(
     }
 }
 
-// The statements once a choice has no second block.
+// Adds a choice that has no second block.
 pub(crate) fn choose(
     alloc: Global,
     blocks: &mut Blocks,
@@ -114,7 +114,7 @@ pub(crate) fn choose(
     Ok(())
 }
 
-// A token behind the first block of a choice.
+// Reads a token after the first block of a choice.
 fn may_else(
     alloc: Global,
     blocks: &mut Blocks,
@@ -139,7 +139,7 @@ fn may_else(
     }
 }
 
-// What a part has made.
+// Adds a part that is complete.
 fn settle(blocks: &mut Blocks, mode: &mut Phase, made: Made) -> Result<Advance, Memory>
     ensures { IfOk result (λ t. advance_of t (doing blocks.new (mode_of mode.new))
         ≡ Goes (with_part blocks.old.decls.items (outers_of blocks.old.outer.items)
@@ -155,7 +155,7 @@ fn settle(blocks: &mut Blocks, mode: &mut Phase, made: Made) -> Result<Advance, 
     }
 }
 
-// Opens a block, where one more may be open. The statements before it are in `next`.
+// Opens a block, if one more may be open. `next` has the statements before it.
 fn nest(
     alloc: Global,
     blocks: &mut Blocks,
@@ -176,7 +176,7 @@ fn nest(
     Ok(Advance::Goes)
 }
 
-// The block behind a guard.
+// Opens the block after a guard.
 fn enter(
     alloc: Global,
     blocks: &mut Blocks,
@@ -204,7 +204,7 @@ fn enter(
     }
 }
 
-// The block behind `else`.
+// Opens the block after `else`.
 fn other(
     alloc: Global,
     blocks: &mut Blocks,
@@ -229,7 +229,7 @@ fn other(
     }
 }
 
-// A token between two parts.
+// Reads a token between two parts.
 fn go_on(
     alloc: Global,
     blocks: &mut Blocks,
@@ -249,7 +249,7 @@ fn go_on(
     }
 }
 
-// The next token of a statement.
+// Reads the next token of a statement.
 pub(crate) fn perform(
     alloc: Global,
     blocks: &mut Blocks,

@@ -2,10 +2,10 @@ use crate::headings::Heading;
 use crate::parts::{Form, Part};
 use src_tree::{Decl, Guard, Stmt};
 
-// The most braces that are open.
+// The most braces that may be open.
 pub(crate) const MAX_BRACES: usize = 32;
 
-// A block that is open, with its guard, the first block of its choice, and the statements before its statement.
+// An open block, with its guard, the first block of its choice, and the statements before its statement.
 #[derive(Drop)]
 pub(crate) enum Outer {
     InFirst(Guard, Vec<Stmt>),
@@ -13,7 +13,8 @@ pub(crate) enum Outer {
     InLoop(Guard, Vec<Stmt>),
 }
 
-// What stands between two parts of statements: nothing; the first block of a choice; the guard of a block; an `else`.
+// What comes before the next part of a statement: nothing; the first block of a choice; the guard of a block; an
+// `else`.
 #[derive(Drop)]
 pub(crate) enum Pause {
     Ready,
@@ -22,15 +23,15 @@ pub(crate) enum Pause {
     Otherwise(Guard, Vec<Stmt>),
 }
 
-// Where the reading of statements stands.
+// How far statements were read.
 #[derive(Drop)]
 pub(crate) enum Phase {
     Between(Pause),
     InPart(Part),
 }
 
-// What was read of the statements: the declarations, the open blocks, the last behind the others, and the statements of
-// the innermost.
+// What was read of the statements: the declarations, the open blocks, with the innermost at the end, and the statements
+// of the innermost block.
 #[derive(Drop)]
 pub(crate) struct Blocks {
     pub decls: Vec<Decl>,
@@ -38,7 +39,7 @@ pub(crate) struct Blocks {
     pub here: Vec<Stmt>,
 }
 
-// What was read of a program, and where the reading stands: between declarations, in one, or among statements.
+// What was read of a program, and how far: between declarations, in a declaration, or among statements.
 #[derive(Drop)]
 pub(crate) enum ParserState {
     Between(Vec<Decl>),
@@ -46,7 +47,7 @@ pub(crate) enum ParserState {
     Doing(Blocks, Phase),
 }
 
-// What a token does to a program: it is read; none goes on with it; it passes a limit.
+// The effect of a token on a program: it is read; no program can continue with it; it exceeds a limit.
 #[derive(Drop)]
 pub(crate) enum Advance {
     Goes,
