@@ -1,4 +1,4 @@
--- What is asked of a statement sees its number only up to 2^64 - 1.
+-- The error of a statement depends on the statement's number only up to 2^64 - 1.
 use Rattle.std.proofs.Common.{◌≡◌, ℕ, not, ◌||◌, Option, Some, None, refl, ap, ◌∙◌, arith}
 use Rattle.std.specs.Option.{option_or}
 use Rattle.gr_word.specs.declared.variables.Label.{Label}
@@ -16,7 +16,7 @@ use Rattle.flow_types.proofs.Walked.{IsCapped}
 same_place : (n : ℕ) → shown_place (shown_number n) ≡ shown_place n
 same_place n = omega arith
 
--- a number is capped once
+-- capping a number twice is capping it once
 pub same_number : (n : ℕ) → shown_number (shown_number n) ≡ shown_number n
 same_number n = omega arith
 
@@ -38,7 +38,7 @@ names_capped known n (Operation op a b) =
 both_capped : (a b c d : Option TypeError) → a ≡ b → c ≡ d → option_or a c ≡ option_or b d
 both_capped a b c d e f = ap (λ x. option_or x c) e ∙ ap (option_or b) f
 
--- a typing fault names a statement's number as it is capped
+-- an error of typing depends only on the capped number of its statement
 pub typing_capped : (known : Context) → IsCapped (typing_fault known)
 typing_capped known code n (SetVariable x e) =
     both_capped _ _ _ _ (both_capped _ _ _ _ (kind_capped n Scalar (known x)) (names_capped known n e))
@@ -63,7 +63,7 @@ typing_capped known code n (Loop t a) =
     (same_place n))
     (ap (λ k. where_true (secret_label code) (LoopInSecret k)) (same_place n)))
 
--- so does a fault of heights
+-- an error of heights depends only on the capped number of its statement
 pub height_capped : IsCapped height_fault
 height_capped code n (SetVariable x e) = ap (λ k. where_true (too_high e) (Limit Height k)) (same_number n)
 height_capped code n (SetElement x i e) =

@@ -1,4 +1,4 @@
--- The variables of a typed program within the limits have names that differ, and a scalar is one word.
+-- The variables of a well typed program within the limits have different names, and a scalar has one word.
 use Rattle.std.proofs.Common.{◌≡◌, ◌≢◌, ℕ, suc, ◌<◌, List, [], ◌∷◌, length, get_or, Option, Some, None, Result, Ok, Err, refl, sym, ap, ◌∙◌, subst, arith}
 use Rattle.std.specs.Prelude.{IfOk}
 use Rattle.std.specs.declared.vec.Vec.{Vec}
@@ -36,7 +36,7 @@ wants_are_variables p typed = record {
       (λ k d within. one-word (get_or p.decls k d).length);
 }
 
--- the wants that were made of its declarations are variables
+-- the wants that are made of its declarations are variables
 pub made-are-variables : {Z E : Type 0} (made : Result (Vec Want Z) E) (p : Source) (decls : List Decl)
     → decls ≡ p.decls → IsTyped p → IfOk made (λ wants. wants.items ≡ declared_wants decls)
     → IfOk made (λ wants. AreVariables wants.items)

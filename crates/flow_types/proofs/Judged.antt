@@ -1,4 +1,5 @@
--- What is found in a program is its first fault, and none is found exactly where it is well typed and within limits.
+-- The error that is found in a program is its first error, and none is found exactly if the program is well typed and
+-- within the limits.
 use Rattle.std.proofs.Common.{◌≡◌, ℕ, ◌≤◌, nat_lt, Bool, true, false, [], Option, Some, None, Result, Ok, Err, refl, sym, ap, ◌∙◌, arith}
 use Rattle.std.specs.Option.{option_or}
 use Rattle.std.proofs.lemmas.Bool.{ltb-true, ltb-false, lt-ltb, le-ltb}
@@ -22,19 +23,19 @@ use Rattle.flow_types.proofs.KnownNames.{Says, gathers}
 said : (p : Source) → Says (twice_fault [] p.decls) p.decls (names_gathered nothing_known 0 p.decls)
 said p = gathers [] p.decls
 
--- a refusal of declarations is the first fault
+-- an error of declarations is the first error
 refused : (p : Source) (e : TypeError) (r : Result Context TypeError) → Says (twice_fault [] p.decls) p.decls r
     → r ≡ Err e → first_fault p ≡ Some e
 refused p e (Ok known) s f = absurd cc
 refused p e (Err g) s f = ap (λ a. option_or a (behind p)) s ∙ (let h : Err g ≡ Err e = f in cc)
 
--- what declarations are refused for explains the program
+-- an error of declarations explains the program
 pub declarations_refused : (p : Source) (e : TypeError) → IsRefusal e (names_gathered nothing_known 0 p.decls)
     → ExplainsProgram e p
 declarations_refused p error.Memory h = tt
 declarations_refused p e h = cause p e (refused p e (names_gathered nothing_known 0 p.decls) (said p) h)
 
--- what the names of all declarations are
+-- the names of all declarations
 pub record Named (p : Source) (known : Context) : Type 0 where
   pub once : twice_fault [] p.decls ≡ None
   pub context : known ≡ context_of p.decls
@@ -50,7 +51,7 @@ named_as p known (Err e) s f = absurd cc
 pub named : (p : Source) (known : Context) → names_gathered nothing_known 0 p.decls ≡ Ok known → Named p known
 named p known e = named_as p known (names_gathered nothing_known 0 p.decls) (said p) e
 
--- a weight is compared and named up to 2^64 - 1
+-- a weight is tested and reported up to 2^64 - 1
 same_test : (w : ℕ) (b : Bool) → nat_lt max_weight w ≡ b → nat_lt max_weight (shown_number w) ≡ nat_lt max_weight w
 same_test w true e = lt-ltb max_weight (shown_number w) (let h = ltb-true max_weight w e in omega arith) ∙ sym e
 same_test w false e = le-ltb max_weight (shown_number w) (let h = ltb-false max_weight w e in omega arith) ∙ sym e
@@ -60,17 +61,17 @@ weighed w =
     ap (λ b. where_true b (error.Limit Weight (shown_number (shown_number w)))) (same_test w (nat_lt max_weight w) refl)
     ∙ ap (λ n. where_true (nat_lt max_weight w) (error.Limit Weight n)) (same_number w)
 
--- the names of all declarations are known, and the weight of the body by them
+-- the names of all declarations are known, and so is the weight of the body
 pub record IsJudged (p : Source) (known : Context) (w : ℕ) : Type 0 where
   pub names : names_gathered nothing_known 0 p.decls ≡ Ok known
   pub weight : w ≡ shown_number (block_weight known Public p.body)
 
--- that weight is the program's
+-- the weight that is known of the body is the program's
 pub weight_named : {p : Source} {known : Context} {w : ℕ} → IsJudged p known w → w ≡ shown_number (weight_of p)
 weight_named {p} {known} h = h.weight
     ∙ ap (λ k. shown_number (block_weight k Public p.body)) (named p known h.names).context
 
--- what is found, with the names and the weight of the program, is the first fault
+-- with the names and the weight of the program, the error that is found is the first
 pub first_found : {p : Source} {known : Context} {w : ℕ} → IsJudged p known w → found known w p ≡ first_fault p
 first_found {p} {known} {w} h =
     let n = named p known h.names in
@@ -96,11 +97,11 @@ first_found {p} {known} {w} h =
     heights : Source → Option TypeError
     heights q = statements_fault height_fault q
 
--- the first fault as a refusal
+-- the first error explains the program
 pub explained : (p : Source) (e : TypeError) → first_fault p ≡ Some e → ExplainsProgram e p
 explained p error.Memory h = tt
 explained p e h = cause p e h
 
--- the weight of a program without a fault is exact
+-- the weight of a program without an error is exact
 pub weight_exact : (p : Source) (w : ℕ) → w ≡ shown_number (weight_of p) → first_fault p ≡ None → w ≡ weight_of p
 weight_exact p w is e = let h : weight_of p ≤ max_weight = (fine p e).within.weight in omega arith

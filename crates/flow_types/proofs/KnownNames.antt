@@ -1,4 +1,4 @@
--- Names in a map, as a context; and the names of declarations, read one after another.
+-- Names in a map, as a context; and the names of declarations, read in sequence.
 use Rattle.std.proofs.Common.{◌≡◌, ℕ, ◌+◌, Bool, true, false, cond, List, [], ◌∷◌, ◌++◌, length, Option, Some, None, Result, Ok, Err, refl, sym, ap, subst, append_assoc, arith}
 use Rattle.std.specs.Prelude.{is_some, if◌then◌else◌}
 use Rattle.std.specs.Option.{option_or}
@@ -25,12 +25,12 @@ pub with_one : (m n : BTreeMap (Bor (List ℕ)) (Label × Shape)) (k : Bor (List
     → found_under n ≡ with_name (found_under m) k.now kind
 with_one m n k kind h = fun_ext (name_added m n k kind h)
 
--- the last of some declarations, where its name is new
+-- one more declaration, if its name is new
 context_last : (ds : List Decl) (d : Decl) → context_of ds d.name ≡ None
     → with_name (context_of ds) d.name (label_and_shape d) ≡ context_of (ds ++ d ∷ [])
 context_last ds d new = fun_ext (declared_last ds d new)
 
--- the names of all declarations, or the fault
+-- the names of all declarations, or the error
 abbrev pub Says : Option TypeError → List Decl → Result Context TypeError → Type 0
 Says fault decls (Ok known) = (fault ≡ None) × (known ≡ context_of decls)
 Says fault decls (Err e) = fault ≡ Some e
@@ -45,7 +45,7 @@ one_longer : (ds : List Decl) (d : Decl) → length (ds ++ d ∷ []) ≡ length 
 one_longer [] d = refl
 one_longer (x ∷ ds) d = let h = one_longer ds d in omega arith
 
--- what gathering declarations says, behind those before
+-- the result of reading declarations after others
 pub gathers : (before ds : List Decl)
     → Says (twice_fault before ds) (before ++ ds) (names_gathered (context_of before) (length before) ds)
 gathers before [] = (refl, ap context_of (sym (append-nil before)))

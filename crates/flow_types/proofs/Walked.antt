@@ -1,4 +1,4 @@
--- The walk over the statements meets the first of them with which something is wrong, whatever is asked.
+-- The walk over the statements meets the first error among them, for any kind of error.
 use Rattle.std.proofs.Common.{◌≡◌, ℕ, ◌+◌, Option, Some, None, Result, Ok, refl, ap, ◌∙◌, arith}
 use Rattle.std.specs.Option.{option_or}
 use Rattle.gr_base.specs.Results.{◌>>=◌}
@@ -13,14 +13,14 @@ use Rattle.src_tree.specs.PartByPart.{count_of, block_count, statement_fault, bl
 use Rattle.flow_types.specs.Walk.{finish, fault_of, walk_statement, walk_block}
 use Rattle.src_tree.proofs.InOrder.{block_first}
 
--- what is asked of a statement sees its number only up to 2^64 - 1
+-- an error depends on a statement's number only up to 2^64 - 1
 abbrev pub IsCapped : StatementFault → Type 0
 IsCapped fault = (code : Label) (n : ℕ) (s : Statement) → fault code (shown_number n) s ≡ fault code n s
 
 pub capped_twice : (n m : ℕ) → shown_number (shown_number n + m) ≡ shown_number (n + m)
 capped_twice n m = omega arith
 
--- one fault and then others, which begin at the next number
+-- the error of one statement, and then those of others, which are numbered from the next one on
 then_walk : (a b : Option TypeError) (n m : ℕ) (f : ℕ → Result ℕ TypeError) → f (shown_number n) ≡ finish b m
     → (finish a n >>= f) ≡ finish (option_or a b) m
 then_walk None b n m f h = h
@@ -95,7 +95,7 @@ fault_walked known fault capped code b =
     ap fault_of (block_walked known fault capped code 0 b)
     ∙ fault_finished (block_fault known fault code 0 b) (0 + block_count b)
 
--- the walk over a whole block meets the first fault among its statements
+-- the walk over a whole block meets the first error among its statements
 pub first_walked : (known : Context) (fault : StatementFault) (capped : IsCapped fault) (code : Label) (b : Block)
     → fault_of (walk_block known fault code 0 b) ≡ first_among fault 0 (in_order known code b)
 first_walked known fault capped code b = fault_walked known fault capped code b ∙ block_first known fault code 0 b

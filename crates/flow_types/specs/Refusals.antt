@@ -1,10 +1,10 @@
--- What each refusal of typing says of the program. (This project's profile.)
+-- What each error of typing says about the program. (This project's profile.)
 use Rattle.src_tree.specs.Trees.{Source}
 use Rattle.src_tree.specs.declared.faults.TypeError.{TypeError}
 use Rattle.src_tree.specs.declared.faults.TypeError.TheVariants as error
 use Rattle.src_tree.specs.Causes.{IsFirstFault}
 
--- it is the program's first fault; want of memory says nothing
+-- the error is the program's first; out of memory says nothing
 abbrev pub ExplainsProgram : TypeError → Source → Type 0
 ExplainsProgram error.Memory p = Unit {0}
 ExplainsProgram e p = IsFirstFault p e

@@ -1,5 +1,5 @@
--- For the proofs and for private clauses only: one walk over the declarations and one over the statements, which hands
--- on the number of the next.
+-- For the proofs and for private clauses only: one walk over the declarations and one over the statements, which passes
+-- on the number of the next one.
 use Rattle.std.specs.Prelude.{◌≡◌, ℕ, ◌+◌, List, [], ◌∷◌, Option, Some, None, Result, Ok, Err, is_some, bytes_eq, if◌then◌else◌}
 use Rattle.std.specs.Option.{option_or}
 use Rattle.gr_base.specs.Results.{◌>>=◌}
@@ -22,7 +22,7 @@ nothing_known name = None
 abbrev pub with_name : Context → List ℕ → Label × Shape → Context
 with_name known x kind name = if bytes_eq x name then Some kind else known name
 
--- the names of declarations from number n on, or the first that is known already
+-- the names of declarations that are numbered from n on, or the error of the first name that is known already
 abbrev pub names_gathered : Context → ℕ → List Decl → Result Context TypeError
 names_gathered known n [] = Ok known
 names_gathered known n (d ∷ ds) =
@@ -30,17 +30,17 @@ names_gathered known n (d ∷ ds) =
     else names_gathered (with_name known d.name (label_and_shape d))
     (n + 1) ds
 
--- a refusal is what the reading of declarations met, or want of memory
+-- an error is the one that reading the declarations met, or out of memory
 abbrev pub IsRefusal : TypeError → Result Context TypeError → Type 0
 IsRefusal Memory r = Unit {0}
 IsRefusal e r = r ≡ Err e
 
--- what is asked of each statement
+-- the error for which each statement is tested
 abbrev pub cause_of : Question → Context → StatementFault
 cause_of question.IsTyped known = typing_fault known
 cause_of question.IsLow known = height_fault
 
--- the number of the next statement, or a fault
+-- the number of the next statement, or an error
 abbrev pub finish : Option TypeError → ℕ → Result ℕ TypeError
 finish None n = Ok (shown_number n)
 finish (Some e) n = Err e
@@ -60,16 +60,16 @@ abbrev mutual
   walk_block known fault code n (Then s rest) =
       walk_statement known fault code n s >>= λ m. walk_block known fault code m rest
 
--- the fault that a walk met
+-- the error that a walk met, if it met one
 abbrev pub fault_of : Result ℕ TypeError → Option TypeError
 fault_of (Ok n) = None
 fault_of (Err e) = Some e
 
--- the limits on declarations
+-- the first error of the limits on declarations
 abbrev pub sizes_fault : Source → Option TypeError
 sizes_fault p = option_or (variables_fault p.decls) (option_or (length_fault 0 p.decls) (words_fault 0 0 p.decls))
 
--- what is found in a program whose names and whose weight are given
+-- the first error of a program with these names and this weight
 abbrev pub found : Context → ℕ → Source → Option TypeError
 found known weight p =
     option_or (fault_of (walk_block known (typing_fault known) Public 0 p.body))

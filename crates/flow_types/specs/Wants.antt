@@ -1,5 +1,5 @@
--- The variables of a program, as inputs must fit them: in the order of declaration, a scalar as one word.
--- (This project's profile.)
+-- What the inputs of a program must fit: its variables in the order of declaration, a scalar as one word. (This
+-- project's profile.)
 use Rattle.std.specs.Prelude.{List, map}
 use Rattle.gr_word.specs.declared.variables.Want.{Want}
 use Rattle.src_tree.specs.declared.trees.Decl.{Decl}

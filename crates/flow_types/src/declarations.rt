@@ -21,7 +21,7 @@ const MAX_LENGTH: u64 = 1048576;
 // The most words of all variables together.
 const MAX_WORDS: u64 = 4194304;
 
-// Adds a name, with what it was declared as.
+// Adds a name, with what it is declared as.
 fn add_name<'a>(
     names: &mut Names<'a>,
     name: &'a [u8],
@@ -36,7 +36,7 @@ fn add_name<'a>(
     }
 }
 
-// The names of declarations, or the second declaration of a name.
+// The names of declarations, or the error that a name is declared again.
 pub(crate) fn gather<'a>(alloc: Global, decls: &'a [Decl]) -> Result<Names<'a>, TypeError>
     ensures gathered { IfOk result (λ names. names_gathered nothing_known 0 decls.now ≡ Ok (found_under names)) }
     ensures refused { IfErr result (λ e. IsRefusal e (names_gathered nothing_known 0 decls.now)) }
@@ -55,7 +55,7 @@ pub(crate) fn gather<'a>(alloc: Global, decls: &'a [Decl]) -> Result<Names<'a>, 
     Ok(names)
 }
 
-// Whether an array's length is within the limits; a scalar has none.
+// Whether an array's length is within the limits; a scalar has no length.
 fn length_fits(length: Option<u64>) -> bool
     ensures { result ≡ length_fits length }
 {

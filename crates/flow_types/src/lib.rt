@@ -1,8 +1,8 @@
 //! Typing of programs, and the limits of a program that don't depend on a machine.
 //!
-//! [`type_program`] answers a [`Typed`] exactly where a program is well typed and within the limits; otherwise it
-//! answers the program's first fault. The rules, the limits and the order of faults are those of `src_tree/specs`
-//! (`Typing`, `Limits`, `FirstFault`).
+//! [`type_program`] returns a [`Typed`] exactly if a program is well typed and within the limits; otherwise it returns
+//! the program's first error. `src_tree/specs` has the rules, the limits and the order of errors (`Typing`, `Limits`,
+//! `FirstFault`).
 #![tactic(auto)]
 
 mod declarations;

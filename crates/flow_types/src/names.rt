@@ -16,14 +16,14 @@ pub(crate) fn is_secret(label: Label) -> bool
     }
 }
 
-// Whether a secret would flow to what is public.
+// Whether a value with the first label must not flow to a variable with the second.
 pub(crate) fn leaks(from: Label, to: Label) -> bool
     ensures { result ≡ leaks from to }
 {
     is_secret(from) && !is_secret(to)
 }
 
-// The place of a refusal.
+// The place of an error.
 pub(crate) fn place(number: u64) -> u32
     ensures { result ≡ shown_place number }
 {
@@ -45,7 +45,7 @@ fn same_shape(a: Shape, b: Shape) -> bool
     }
 }
 
-// What is wrong with a name that is used by a shape.
+// The error of a name that should be declared with this shape.
 pub(crate) fn use_fault<'a>(
     names: &Names<'a>,
     number: u64,
@@ -66,7 +66,7 @@ pub(crate) fn use_fault<'a>(
     }
 }
 
-// The first name of an expression with which something is wrong.
+// The first error of the names of an expression.
 pub(crate) fn names_fault<'a>(names: &Names<'a>, number: u64, e: &'a Expr) -> Option<TypeError>
     ensures { result ≡ names_fault (found_under names.now) number (expr_tree e.now) }
 {
@@ -86,7 +86,7 @@ pub(crate) fn names_fault<'a>(names: &Names<'a>, number: u64, e: &'a Expr) -> Op
     }
 }
 
-// What an expression shows: its label, and whether a public array has a secret index in it.
+// What matters of an expression: its label, and whether a public array has a secret index in it.
 #[derive(Clone, Copy)]
 pub(crate) struct Shown {
     pub label: Label,
@@ -104,7 +104,7 @@ pub(crate) fn both(a: Shown, b: Shown) -> Shown
     }
 }
 
-// An element of an array with a label, by its index.
+// An element of an array with a label, from its index.
 pub(crate) fn indexed(array: Label, index: Shown) -> Shown
     ensures label { result.label ≡ higher array index.label }
     ensures leaks { result.leaks ≡ (leaks index.label array || index.leaks) }
@@ -150,7 +150,7 @@ pub(crate) fn look_at_guard<'a>(names: &Names<'a>, guard: &'a Guard) -> Shown
     both(left, right)
 }
 
-// The label of the arms of a choice in code of a label.
+// The label of the arms of a choice that is in code with a label.
 pub(crate) fn inside<'a>(names: &Names<'a>, code: Label, guard: &'a Guard) -> Label
     ensures { result ≡ inside (found_under names.now) code (test_of guard.now) }
 {

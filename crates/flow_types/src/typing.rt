@@ -19,10 +19,10 @@ use src_tree::{Names, Program, TypeError, Which};
 use std::alloc::Global;
 use std::marker::Model;
 
-// The most weight of a program.
+// The greatest weight of a program.
 const MAX_WEIGHT: u64 = 8192;
 
-// The fault that a walk met.
+// The error that a walk met, if it met one.
 fn fault_of(walked: Result<u64, TypeError>) -> Option<TypeError>
     ensures { result ≡ fault_of walked }
 {
@@ -38,7 +38,7 @@ fn weight_fault(weight: u64) -> Option<TypeError>
     where_true(weight > MAX_WEIGHT, TypeError::Limit(Which::Weight, weight))
 }
 
-// The limits on declarations.
+// The first error of the limits on declarations.
 fn sizes_fault(p: &Program) -> Option<TypeError>
     ensures { result ≡ sizes_fault (source_of p.now) }
 {
@@ -51,7 +51,7 @@ fn sizes_fault(p: &Program) -> Option<TypeError>
     }
 }
 
-// The first fault of a program whose names are these, and whose weight is this one.
+// The first error of a program with these names and this weight.
 fn fault_in<'a>(names: &Names<'a>, weight: u64, p: &'a Program) -> Option<TypeError>
     ensures { result ≡ found (found_under names.now) weight (source_of p.now) }
 {
@@ -68,7 +68,7 @@ fn fault_in<'a>(names: &Names<'a>, weight: u64, p: &'a Program) -> Option<TypeEr
     }
 }
 
-// The weight of a program, or its first fault.
+// The weight of a program, or its first error.
 fn judge(alloc: Global, p: &Program) -> Result<u64, TypeError>
     ensures accepted { IfOk result (λ weight. weight ≡ weight_of (source_of p.now)) }
     ensures faultless { OnOk result (first_fault (source_of p.now) ≡ None) }
@@ -86,7 +86,7 @@ fn judge(alloc: Global, p: &Program) -> Result<u64, TypeError>
     }
 }
 
-/// A program that is well typed and within the limits. It is seen as that program.
+/// A program that is well typed and within the limits. Contracts see it as that program.
 #[derive(Debug, Drop)]
 pub struct Typed {
     program: Program,
@@ -121,9 +121,9 @@ impl Typed {
         &self.program
     }
 
-    /// What the program weighs: an expression its nodes, an assignment one more than its expressions, a loop and a
-    /// choice one more than its guard and its parts, where the parts of a choice in secret code, or with a secret
-    /// guard, count twice.
+    /// The weight of the program. An expression weighs the number of its nodes. An assignment weighs 1 more than its
+    /// expressions. A loop and a choice weigh 1 more than their guard and their blocks; the blocks of a choice count
+    /// twice if it is in secret code or its guard is secret.
     pub fn weight(&self) -> u64
         ensures { result ≡ weight_of (source_of self.now) }
     {
@@ -139,11 +139,12 @@ impl Typed {
     }
 }
 
-/// Types a program. It answers the program exactly where that is well typed and within the limits that don't depend on
-/// a machine; otherwise it drops the program and answers its first fault: declarations come first, then the statements
-/// in the order of their first tokens, then the limits. Within a statement the names of its own expressions come first,
-/// as they are read, then a secret index of a public array, then a flow into what is public, or a secret guard of a
-/// loop and a loop in secret code. `Memory` says nothing of the program.
+/// Types a program. The result is the program exactly if it is well typed and within the limits that don't depend on a
+/// machine. Otherwise the program is dropped, and the result is its first error: declarations come first, then
+/// statements in the order of their first tokens, then limits. Within a statement the names of its own expressions come
+/// first, in the order of the text, and then a secret index of a public array. In an assignment a flow to a public
+/// variable follows; in a loop a secret guard, and then that the loop is in secret code. `Memory` says nothing about
+/// the program.
 pub fn type_program(alloc: Global, p: Program) -> Result<Typed, TypeError>
     ensures same { IfOk result (λ typed. typed ≡ p) }
     ensures typed { OnOk result (IsTyped (source_of p)) }

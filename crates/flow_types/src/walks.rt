@@ -29,25 +29,25 @@ use crate::names::{
 use gr_word::{Label, Name, Shape};
 use src_tree::{Expr, Guard, Names, Stmt, TypeError, Which, height, higher, label_at};
 
-// The most height of an expression.
+// The greatest height of an expression.
 const MAX_HEIGHT: u32 = 16;
 
-// What is asked of each statement.
+// The kind of error for which each statement is tested.
 #[derive(Clone, Copy)]
 pub(crate) enum Question {
     IsTyped,
     IsLow,
 }
 
-// A refusal where a test holds.
+// An error if a test is true.
 pub(crate) fn where_true(test: bool, fault: TypeError) -> Option<TypeError>
     ensures { result ≡ where_true test fault }
 {
     if test { Some(fault) } else { None }
 }
 
-// The first fault of an assignment besides those of its names: a secret index of a public array, else a flow into what
-// is public.
+// The first error of an assignment apart from its names: a secret index of a public array, or otherwise a flow to a
+// public variable.
 fn flow_fault(value: Label, target: Label, indexes: bool, number: u64) -> Option<TypeError>
     ensures { result ≡ flow_fault number indexes value target }
 {
@@ -84,7 +84,7 @@ fn set_fault<'a>(
     }
 }
 
-// The names of an assignment to an element, as they are read.
+// The first error of the names of an assignment to an element, in the order of the text.
 fn put_names_fault<'a>(
     names: &Names<'a>,
     number: u64,
@@ -131,7 +131,7 @@ fn put_fault<'a>(
     }
 }
 
-// The names of a guard, and then a secret index of a public array.
+// The first error of a guard: of its names, or otherwise a secret index of a public array.
 fn guard_fault<'a>(names: &Names<'a>, number: u64, guard: &'a Guard) -> Option<TypeError>
     ensures { result ≡ guard_fault (found_under names.now) number (test_of guard.now) }
 {
@@ -147,7 +147,7 @@ fn guard_fault<'a>(names: &Names<'a>, number: u64, guard: &'a Guard) -> Option<T
     }
 }
 
-// A secret guard of a loop, and then a loop in secret code.
+// The first error of a loop apart from its guard's: a secret guard, or otherwise that it is in secret code.
 fn loop_fault(guard: Label, code: Label, number: u64) -> Option<TypeError>
     ensures { result ≡ loop_fault number guard code }
 {
@@ -157,7 +157,7 @@ fn loop_fault(guard: Label, code: Label, number: u64) -> Option<TypeError>
     where_true(is_secret(code), TypeError::LoopInSecret(place(number)))
 }
 
-// What is wrong with a statement itself.
+// The error of typing of a statement, apart from the statements in its blocks.
 fn typing_fault<'a>(names: &Names<'a>, code: Label, number: u64, s: &'a Stmt) -> Option<TypeError>
     ensures { result ≡ typing_fault (found_under names.now) code number (statement_of s.now) }
 {
@@ -178,7 +178,7 @@ fn too_high(e: &Expr) -> bool
     height(e) > MAX_HEIGHT
 }
 
-// Whether an expression of a statement is too high.
+// The error that an expression of a statement is too high.
 fn height_fault(number: u64, s: &Stmt) -> Option<TypeError>
     ensures { result ≡ height_fault Public number (statement_of s.now) }
 {
@@ -206,7 +206,7 @@ fn cause<'a>(
     }
 }
 
-// The number of the next statement, or a fault of this one.
+// The number of the next statement, or the error of this one.
 fn next(fault: Option<TypeError>, number: u64) -> Result<u64, TypeError>
     ensures { result ≡ finish fault (number + 1) }
 {
@@ -216,8 +216,8 @@ fn next(fault: Option<TypeError>, number: u64) -> Result<u64, TypeError>
     }
 }
 
-// Asks a question of one statement of this number, in code of this label, and of those in its blocks. Answers the
-// number of the statement behind it, or the first fault.
+// Tests one statement, which has this number and is in code with this label, and the statements in its blocks. Returns
+// the number of the statement after it, or the first error.
 #[cycle(walks)]
 fn walk_statement<'a>(
     question: Question,
@@ -242,7 +242,7 @@ fn walk_statement<'a>(
     }
 }
 
-// The same of statements in order, of which the first has this number.
+// The same for statements in order, of which the first has this number.
 #[cycle(walks)]
 pub(crate) fn walk_block<'a>(
     question: Question,

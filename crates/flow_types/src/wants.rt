@@ -9,7 +9,7 @@ use gr_word::Want;
 use src_tree::{Decl, shape_of};
 use std::alloc::Global;
 
-// What a variable wants of inputs.
+// What inputs must fit for a variable.
 fn declared_want(alloc: Global, decl: &Decl) -> Result<Want, Memory>
     requires { LengthFits decl.now.length }
     ensures { IfOk result (λ want. want ≡ declared_want decl.now) }
@@ -24,7 +24,7 @@ fn declared_want(alloc: Global, decl: &Decl) -> Result<Want, Memory>
     })
 }
 
-// What variables want of inputs, in their order.
+// What inputs must fit, one want for each variable in order.
 pub(crate) fn declared_wants(alloc: Global, decls: &[Decl]) -> Result<Vec<Want>, Memory>
     requires { AllByRecursion (λ d. LengthFits d.length) decls.now }
     ensures { IfOk result (λ wants. wants.items ≡ declared_wants decls.now) }

@@ -7,7 +7,7 @@ use crate::names::inside;
 use gr_word::Label;
 use src_tree::{Expr, Guard, Names, Stmt};
 
-// The nodes of an expression, up to 2^64 - 1.
+// The number of nodes of an expression, up to 2^64 - 1.
 fn tree_weight(e: &Expr) -> u64
     ensures { result ≡ min (tree_weight (expr_tree e.now)) (2 ^ 64 - 1) }
 {
@@ -31,7 +31,7 @@ fn test_weight(guard: &Guard) -> u64
     left.saturating_add(right)
 }
 
-// The parts of a choice count twice in secret code.
+// The blocks of a choice count twice in secret code.
 fn parts_weight(inside: Label, parts: u64) -> u64
     ensures { result ≡ min (parts_weight inside parts) (2 ^ 64 - 1) }
 {
@@ -41,7 +41,7 @@ fn parts_weight(inside: Label, parts: u64) -> u64
     }
 }
 
-// What a statement weighs in code of a label, up to 2^64 - 1.
+// The weight of a statement in code with a label, up to 2^64 - 1.
 #[cycle(weights)]
 fn statement_weight<'a>(names: &Names<'a>, code: Label, s: &'a Stmt) -> u64
     ensures { result ≡ min (statement_weight (found_under names.now) code (statement_of s.now)) (2 ^ 64 - 1) }
@@ -67,7 +67,7 @@ fn statement_weight<'a>(names: &Names<'a>, code: Label, s: &'a Stmt) -> u64
     }
 }
 
-// What statements weigh together in code of a label, up to 2^64 - 1.
+// The weight of statements in code with a label, up to 2^64 - 1.
 #[cycle(weights)]
 pub(crate) fn block_weight<'a>(names: &Names<'a>, code: Label, statements: &'a [Stmt]) -> u64
     ensures { result ≡ min (block_weight (found_under names.now) code (block_of_all statements.now)) (2 ^ 64 - 1) }

@@ -15,7 +15,7 @@ returns-in-Err-clause-refused c =
     (subst (λ ds. IsRefusal c.in-Err.fault
     (names_gathered nothing_known 0 ds)) c.as_slice.ensures.value c.in-Err.ensures.refused)
 
--- the names and the weight by which faults are found
+-- the names and the weight by which errors are found
 judged : (c : After-fault_in)
     → IsJudged (source_of c.args.p.now) (found_under c.in-Ok.names) c.block_weight-weight.result
 judged c = record {
