@@ -1,4 +1,4 @@
--- Actions one behind the other.
+-- Actions in sequence.
 use Rattle.std.proofs.Common.{◌≡◌, ℕ, ◌+◌, ◌<◌, ◌≤◌, List, [], ◌∷◌, ◌++◌, length, get_or, drop, refl, sym, ap, ◌∙◌, add-one, drop-cons}
 use Rattle.std.proofs.Math.ListN.{drop_of_length-le}
 use Rattle.src_tree.specs.declared.trees.Decl.{Decl}
@@ -7,19 +7,19 @@ use Rattle.src_tree.specs.Trees.{statement_of, block_of_all}
 use Rattle.source_meaning.specs.declared.placed.Step.{Step}
 use Rattle.source_meaning.specs.Placed.{Actions, NoAction, Before, placed_statement, placed_block, action_of, actions_of_all, actions_joined}
 
--- nothing joined behind actions
+-- no actions after others
 pub joined_none : (actions : Actions) → actions_joined actions NoAction ≡ actions
 joined_none NoAction = refl
 joined_none (Before first rest) = ap (Before first) (joined_none rest)
 
--- actions joined behind a list that grew by one
+-- actions after a list that has grown by one
 pub joined_push : (steps : List Step) (step : Step) (rest : Actions)
     → actions_joined (actions_of_all (steps ++ step ∷ [])) rest
     ≡ actions_joined (actions_of_all steps) (Before (action_of step) rest)
 joined_push [] step rest = refl
 joined_push (first ∷ steps) step rest = ap (Before (action_of first)) (joined_push steps step rest)
 
--- the statements that are placed so far, and one more
+-- the statements that were placed so far, and one more
 pub placed_more : (decls : List Decl) (steps more : List Step) (step : Step) (statements : List Stmt) (i : ℕ) (s : Stmt)
     (whole : Actions) → i < length statements → more ≡ steps ++ step ∷ [] → s ≡ get_or statements i s
     → action_of step ≡ placed_statement decls (statement_of s)
@@ -35,7 +35,7 @@ placed_more decls steps more step statements i s whole below grown read placed s
     (sym (drop-cons statements i s below ∙ ap (λ n. get_or statements i s ∷ drop n statements) (sym (add-one i))))
     ∙ so_far
 
--- all of them
+-- all of them were placed
 pub placed_all : (decls : List Decl) (steps : List Step) (statements : List Stmt) (i : ℕ) (whole : Actions)
     → length statements ≤ i
     → actions_joined (actions_of_all steps) (placed_block decls (block_of_all (drop i statements))) ≡ whole

@@ -1,4 +1,4 @@
--- Where a word of a store is another, the store fits the variables that it fitted.
+-- If a word of a store is replaced, the store still fits the variables that it fitted.
 use Rattle.std.proofs.Common.{ℕ, zero, suc, ℤ, List, [], ◌∷◌, ◌∙◌}
 use Rattle.std.proofs.lemmas.List.{length-set}
 use Rattle.std.proofs.lemmas.List.Elements.{All-set}
@@ -8,11 +8,11 @@ use Rattle.gr_word.specs.Words.{IsWord}
 use Rattle.src_tree.specs.Meaning.{Store, with_word}
 use Rattle.source_meaning.specs.Kept.{KeepsFit}
 
--- a store keeps its own shape
+-- a store fits what it fits
 pub keeps_same : (store : Store) → KeepsFit store store
 keeps_same store = record { fits = λ wants fits. fits }
 
--- what is kept twice is kept
+-- what is kept in two steps is kept
 pub keeps_then : (first second third : Store) → KeepsFit first second → KeepsFit second third → KeepsFit first third
 keeps_then first second third one two = record { fits = λ wants fits. two.fits wants (one.fits wants fits) }
 
@@ -26,6 +26,6 @@ fits_set (want ∷ wants) (words ∷ store) zero at word is fits =
 fits_set (want ∷ wants) (words ∷ store) (suc k) at word is fits =
     (fits.0, fits.1, fits_set wants store k at word is fits.2)
 
--- a word that is written keeps the shape
+-- a word that is written keeps what the store fits
 pub keeps_word : (store : Store) (k at : ℕ) (word : ℤ) → IsWord word → KeepsFit store (with_word store k at word)
 keeps_word store k at word is = record { fits = λ wants fits. fits_set wants store k at word is fits }

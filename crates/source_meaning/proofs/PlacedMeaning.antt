@@ -1,4 +1,4 @@
--- A program whose names are placed means what the program means, and its turns never rise.
+-- A program whose names are replaced by numbers has the same meaning, and its iterations never increase.
 use Rattle.std.proofs.Common.{◌≡◌, ℕ, Bool, true, false, if◌then◌else◌, Option, Some, None, List, refl, ap, ◌∙◌}
 use Rattle.std.specs.Option.{option_and_then, option_map}
 use Rattle.gr_word.specs.Words.{applied, compared}
@@ -73,19 +73,19 @@ mutual
       }
   act_falls (Repeat t a) = loop_falls (holds_at t) (act_all a) (acts_fall a)
 
-  -- the turns that are left don't rise over actions
+  -- actions never increase the iterations that are left
   pub acts_fall : (actions : Actions) → TurnsFall (act_all actions)
   acts_fall NoAction = record { fall = λ before after e. one_falls before after before.store e }
   acts_fall (Before first rest) = both_fall (act first) (act_all rest) (act_falls first) (acts_fall rest)
 
--- the meaning of a program, by its placed statements
+-- the meaning of a program, from its placed statements
 pub meaning_placed : (p : Source) (store : Store) (turns : ℕ)
     → option_map (λ (left : Left). left.store) (act_all (placed_block p.decls p.body) (left_with store turns))
     ≡ meaning p store turns
 meaning_placed p store turns =
     ap (option_map (λ (left : Left). left.store)) (acts_same p.decls p.body (left_with store turns))
 
--- where the actions end, their store is the meaning
+-- if the actions finish, their store is the meaning
 pub meaning_done : (p : Source) (store after : Store) (turns more : ℕ) (actions : Actions)
     → actions ≡ placed_block p.decls p.body
     → Some (left_with after more) ≡ act_all actions (left_with store turns) → Some after ≡ meaning p store turns
@@ -93,7 +93,7 @@ meaning_done p store after turns more actions placed ran =
     ap (option_map (λ (left : Left). left.store)) (ran ∙ ap (λ a. act_all a (left_with store turns)) placed)
     ∙ meaning_placed p store turns
 
--- where the actions run out of turns, there is no meaning within them
+-- if the actions are spent, the program has no meaning within these iterations
 pub meaning_spent : (p : Source) (store : Store) (turns : ℕ) (actions : Actions) → actions ≡ placed_block p.decls p.body
     → None ≡ act_all actions (left_with store turns) → None ≡ meaning p store turns
 meaning_spent p store turns actions placed ran =

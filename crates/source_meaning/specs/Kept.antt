@@ -1,4 +1,4 @@
--- What a run keeps of a store: the variables that it fits. Only proofs and private clauses speak of it.
+-- For the proofs and for private clauses only: what an execution keeps of a store, namely the variables that it fits.
 use Rattle.std.specs.Prelude.{List}
 use Rattle.gr_word.specs.declared.variables.Want.{Want}
 use Rattle.gr_word.specs.Fitting.{FitsWants}

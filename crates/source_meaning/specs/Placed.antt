@@ -1,5 +1,5 @@
--- Programs as they are run, with the number of a variable in the place of each name. Only proofs and private clauses of
--- this crate speak of them: their meaning is that of the program they were made of.
+-- For the proofs and for private clauses only: programs as they are executed, with numbers of variables instead of
+-- names. Their meaning is that of the program from which they are made.
 use Rattle.std.specs.Prelude.{ℕ, ℤ, Bool, if◌then◌else◌, List, [], ◌∷◌, map, Option, Some, None}
 use Rattle.gr_word.specs.Words.{applied, compared}
 use Rattle.gr_word.specs.declared.operations.Op.{Op}
@@ -37,7 +37,7 @@ mutual
     NoAction : Actions
     Before : (first : Action) (rest : Actions) → Actions
 
--- a tree with its names placed
+-- a tree whose names are replaced by numbers
 abbrev pub placed_tree : List Decl → Tree → Placed
 placed_tree decls (Number z) = Constant z
 placed_tree decls (Variable x) = ScalarAt (variable_number decls x)
@@ -59,7 +59,7 @@ abbrev mutual
   placed_block decls Nothing = NoAction
   placed_block decls (Then s rest) = Before (placed_statement decls s) (placed_block decls rest)
 
--- what the code's values stand for
+-- what the code's values represent
 abbrev pub placed_of : Term → Placed
 placed_of (term.Constant z) = Constant z
 placed_of (term.Scalar k) = ScalarAt k
@@ -90,7 +90,7 @@ abbrev pub actions_joined : Actions → Actions → Actions
 actions_joined NoAction others = others
 actions_joined (Before first rest) others = Before first (actions_joined rest others)
 
--- what they mean
+-- the meaning of such trees
 abbrev pub value_at : Store → Placed → ℤ
 value_at store (Constant z) = z
 value_at store (ScalarAt k) = scalar store k
@@ -112,7 +112,7 @@ abbrev mutual
   act_all NoAction before = Some before
   act_all (Before first rest) before = in_turn (act first) (act_all rest) before
 
--- a store with a number of turns that are left, none where they are spent
+-- a store with the iterations that are left, or nothing if it is spent
 abbrev pub left_with : Store → ℕ → Left
 left_with store turns = record { store = store; turns = turns }
 

@@ -15,15 +15,15 @@ use std::alloc::Global;
 /// How an evaluation ends.
 #[derive(Drop)]
 pub enum Outcome {
-    /// The program is done, and this is what its variables hold, in the order of declaration.
+    /// The program has finished with these values of its variables, in the order of declaration.
     Done(Inputs),
-    /// Its loops would take more turns than there were.
+    /// Its loops need more iterations than there were.
     Spent,
 }
 
-/// Evaluates a program on the values of its variables. All its loops together may take `turns` turns. It answers
-/// exactly the program's meaning. All memory is taken before the run, for a copy of the program that has the numbers of
-/// variables in place of their names.
+/// Evaluates a program on the values of its variables. All its loops together may execute `turns` iterations. The
+/// result is exactly the program's meaning. All memory is taken before the evaluation, for a copy of the program that
+/// has numbers of variables instead of names.
 pub fn eval(alloc: Global, t: &Typed, s: Inputs, turns: u64) -> Result<Outcome, Memory>
     requires { FitsWants (declared_wants t.now.decls.items) s }
     ensures left { IfOk result (λ outcome. left_of outcome ≡ meaning (source_of t.now) s turns) }

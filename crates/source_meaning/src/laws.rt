@@ -3,8 +3,9 @@ ghost use Rattle.src_tree.specs.declared.trees.Decl.{Decl};
 ghost use Rattle.src_tree.specs.Trees.{Test, Block, Loop};
 ghost use Rattle.src_tree.specs.Meaning.{Store, guard_holds, in_turn, run_of, run_of_block};
 
-/// Laws of loops, as the language has them. One whose guard fails leaves all as it is. One whose guard holds is spent
-/// where no turn is left, and else it is its body with one turn less, and then the loop itself again.
+/// Laws of loops, as the language defines them. A loop whose guard is false leaves everything as it is. A loop whose
+/// guard is true is spent if no iteration is left; otherwise it executes its body with one fewer iteration, and then
+/// the loop again.
 pub fn loop_laws()
     ensures ends { (decls : List Decl) (guard : Test) (body : Block) (store : Store) (turns : ℕ)
         → guard_holds decls store guard ≡ false

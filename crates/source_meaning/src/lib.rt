@@ -1,8 +1,8 @@
-//! The meaning of programs, worked out.
+//! The meaning of programs, computed.
 //!
-//! [`eval`] answers exactly the meaning of a typed program by `src_tree/specs/Meaning`: the final values of its
-//! variables, or that its loops take more turns than there were. Names are replaced by numbers of variables once,
-//! before the run. [`loop_laws`] says what a loop means, in the language's own words.
+//! [`eval`] returns exactly the meaning of a typed program by `src_tree/specs/Meaning`: the final values of its
+//! variables, or that its loops need more iterations than there were. Names are replaced by numbers of variables once,
+//! before the evaluation. [`loop_laws`] states what a loop means, in the language's own terms.
 #![tactic(auto)]
 
 pub mod evaluation;

@@ -1,6 +1,6 @@
 use gr_word::{Cmp, Op};
 
-// An expression with the number of a variable in the place of each name.
+// An expression with numbers of variables instead of names.
 #[derive(Drop)]
 pub(crate) enum Term {
     Constant(i64),

@@ -8,8 +8,8 @@ use gr_base::Memory;
 use src_tree::{Decl, Expr, Guard, Stmt};
 use std::alloc::Global;
 
-// The number of the variable of this name; where none is declared, how many declarations there are. They are looked
-// through one by one: there are at most 256, and a program has at most 8,192 names.
+// The number of a name's variable, or the number of declarations if the name isn't declared. The declarations are
+// searched one by one: there are at most 256, and a program has at most 8,192 names.
 fn number_of(decls: &[Decl], name: &[u8]) -> usize
     ensures { result ≡ variable_number decls.now name.now }
 {
@@ -80,7 +80,7 @@ fn place_statement(alloc: Global, decls: &[Decl], s: &Stmt) -> Result<Step, Memo
     }
 }
 
-// Replaces each name by the number of its variable, in statements in their order.
+// Replaces each name by the number of its variable, in statements in order.
 #[cycle(placing)]
 #[tactic(auto, using(crate::proofs::Joined::joined_none, crate::proofs::Joined::joined_push))]
 pub(crate) fn place_block(

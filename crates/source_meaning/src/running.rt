@@ -30,7 +30,7 @@ fn passes(store: &Inputs, check: &Check) -> bool
     holds(check.cmp, left, right)
 }
 
-// Runs one statement, and gives the turns that are left, none where a loop wanted one more.
+// Executes one statement. Returns the iterations that are left, or `None` if a loop needed one more.
 #[cycle(running)]
 #[tactic(auto, using(crate::proofs::Keeping::keeps_same, crate::proofs::Keeping::keeps_then))]
 fn run_step(store: &mut Inputs, turns: u64, step: &Step) -> Option<u64>
@@ -82,7 +82,7 @@ fn run_loop(store: &mut Inputs, turns: u64, check: &Check, body: &[Step]) -> Opt
     Some(turns)
 }
 
-// Runs statements in their order.
+// Executes statements in order.
 #[cycle(running)]
 #[tactic(auto, using(crate::proofs::Keeping::keeps_same, crate::proofs::Keeping::keeps_then))]
 pub(crate) fn run_steps(store: &mut Inputs, turns: u64, steps: &[Step]) -> Option<u64>

@@ -5,7 +5,7 @@ ghost use Rattle.source_meaning.specs.Kept.{KeepsFit};
 
 use gr_word::Inputs;
 
-// An index without its sign, modulo a number of words.
+// An index, as an unsigned number, modulo a number of words.
 fn wrapped(length: usize, index: i64) -> usize
     requires { 0 < length }
     ensures { result ≡ unsigned_of index % length }
@@ -13,14 +13,14 @@ fn wrapped(length: usize, index: i64) -> usize
     (index.cast_unsigned() % (length as u64)) as usize
 }
 
-// The first of some words.
+// The first of some words, or 0 if there are none.
 fn first_word(words: &[i64]) -> i64
     ensures { result ≡ slice_index_or words.now 0 (pos 0) }
 {
     if words.is_empty() { 0 } else { words[0] }
 }
 
-// The word that an index names.
+// The word at an index, or 0 if there are no words.
 fn word_at(words: &[i64], index: i64) -> i64
     ensures { result ≡ slice_index_or words.now (wrapped words.now index) (pos 0) }
 {
@@ -31,7 +31,7 @@ fn word_at(words: &[i64], index: i64) -> i64
     }
 }
 
-// The only word of variable number `k`, and 0 where there is none.
+// The first word of variable number `k`, or 0 if there is none.
 pub(crate) fn scalar(store: &Inputs, k: usize) -> i64
     ensures { result ≡ scalar store.now k }
 {
@@ -42,7 +42,7 @@ pub(crate) fn scalar(store: &Inputs, k: usize) -> i64
     }
 }
 
-// The word of variable number `k` that an index names, and 0 where there is none.
+// The word of variable number `k` at an index, or 0 if there is none.
 pub(crate) fn element(store: &Inputs, k: usize, index: i64) -> i64
     ensures { result ≡ element store.now k index }
 {
@@ -53,7 +53,7 @@ pub(crate) fn element(store: &Inputs, k: usize, index: i64) -> i64
     }
 }
 
-// Changes a word, where there is one.
+// Replaces a word, if it exists.
 #[tactic(auto, using(crate::proofs::Keeping::keeps_same, crate::proofs::Keeping::keeps_word))]
 fn set_word(store: &mut Inputs, k: usize, at: usize, word: i64)
     ensures set { store.new ≡ with_word store.old k at word }
@@ -66,7 +66,7 @@ fn set_word(store: &mut Inputs, k: usize, at: usize, word: i64)
     }
 }
 
-// How many words variable number `k` has.
+// The number of words of variable number `k`.
 fn count(store: &Inputs, k: usize) -> usize
     ensures { result ≡ length (slice_index_or store.now k []) }
 {
