@@ -1,5 +1,5 @@
 -- In the statements of a frame's program each index of an array of plain or encrypted memory is public.
-use Rattle.std.proofs.Common.{[], ◌++◌, refl, ap, ◌∙◌}
+use Rattle.std.proofs.Common.{[], ◌++◌, refl}
 use Rattle.std.specs.List.{All}
 use Rattle.std.proofs.lemmas.List.Elements.{All-append, All-cons, All-contains, All-nil}
 use Rattle.gr_word.specs.declared.variables.Label.{Label}

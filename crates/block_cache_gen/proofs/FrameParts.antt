@@ -14,7 +14,7 @@ use Rattle.src_tree.specs.Contexts.{context_of}
 use Rattle.src_tree.specs.Labels.{label_at}
 use Rattle.block_cache_gen.specs.declared.frames.Frame.{Frame}
 use Rattle.block_cache_gen.specs.declared.variables.Variable.{Variable}
-use Rattle.block_cache_gen.specs.Homes.{Pin, Setting, home_of, pin_at}
+use Rattle.block_cache_gen.specs.Homes.{Setting, home_of, pin_at}
 use Rattle.block_cache_gen.specs.Notes.{claim_by, claimed_where_used, slot_claims}
 use Rattle.block_cache_gen.specs.Settings.{IsFrame, setting_of}
 use Rattle.block_cache_gen.specs.Variables.{claim_in, claims_in, home_in, variable_of}

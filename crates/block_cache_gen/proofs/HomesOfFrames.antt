@@ -1,9 +1,8 @@
 -- The homes of a frame's variables are in their ranges.
-use Rattle.std.proofs.Common.{◌≡◌, ℕ, ◌+◌, ◌*◌, ◌^◌, ◌<◌, ◌≤◌, length, get_or, Option, Some, None, ⊎_elim, refl, sym, ap, ◌∙◌, subst, arith}
+use Rattle.std.proofs.Common.{◌≡◌, ℕ, ◌+◌, ◌*◌, ◌^◌, ◌<◌, ◌≤◌, length, get_or, Option, Some, None, ⊎_elim, refl, sym, ◌∙◌, subst, arith}
 use Rattle.std.proofs.lemmas.Bool.{cases_lt}
 use Rattle.std.proofs.Math.Nat.{mul-le-mul_left}
 use Rattle.std.proofs.Math.Pow.{pow_mono}
-use Rattle.lt_isa.specs.Limits.{most_blocks}
 use Rattle.lt_isa.proofs.SymbolPlaces.{most_blocks-le}
 use Rattle.src_tree.specs.Meaning.{variable_number}
 use Rattle.src_tree.specs.Trees.{Source, source_of}

@@ -1,5 +1,5 @@
 -- An object whose variables are at the places of a sound plan has the homes of its code's setting.
-use Rattle.std.proofs.Common.{◌≡◌, ◌↔◌, ℕ, zero, suc, ◌+◌, ◌*◌, ◌^◌, ◌<◌, ◌≤◌, Bool, true, false, List, [], ◌∷◌, length, get_or, Option, Some, None, inl, inr, refl, sym, ap, ◌∙◌, subst, ⊎_elim, arith}
+use Rattle.std.proofs.Common.{◌≡◌, ◌↔◌, ℕ, zero, suc, ◌+◌, ◌*◌, ◌^◌, ◌<◌, ◌≤◌, true, false, List, [], ◌∷◌, length, get_or, Option, Some, None, inl, inr, refl, sym, ap, ◌∙◌, subst, ⊎_elim, arith}
 use Rattle.std.specs.Prelude.{is_some}
 use Rattle.std.proofs.lemmas.Bool.{cases_lt, false≢true}
 use Rattle.std.proofs.lemmas.List.{get_or-map, length-map}
@@ -21,7 +21,7 @@ use Rattle.bank_alloc.specs.Apart.{IsBankOf, scalar_bank}
 use Rattle.bank_alloc.specs.Layout.{IsLaidOut}
 use Rattle.bank_alloc.proofs.Apart.{length_at}
 use Rattle.scratch_alloc.specs.Plans.{Plan, IsSoundPlan, IsSoundByPin, pin_of_slot, no_decl, no_place}
-use Rattle.block_cache_gen.specs.Homes.{Home, Pin, Setting, HasHomes, IsScalarHome, IsResidentHome, IsArrayHome, home_of, pin_at, HomesApart, no_home}
+use Rattle.block_cache_gen.specs.Homes.{Home, Pin, Setting, HasHomes, IsScalarHome, IsResidentHome, IsArrayHome, pin_at, HomesApart, no_home}
 use Rattle.block_cache_gen.specs.declared.frames.Frame.{Frame}
 use Rattle.block_cache_gen.specs.Settings.{home_at, homes_at, setting_of, plan_of, IsFrame}
 

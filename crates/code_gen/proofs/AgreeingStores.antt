@@ -1,5 +1,5 @@
 -- Stores that agree on the public variables of a program are inputs that agree on the public symbols of its object.
-use Rattle.std.proofs.Common.{◌≡◌, ℕ, suc, ◌<◌, ℤ, List, [], ◌∷◌, length, map, get_or, refl, sym, ap, ◌∙◌, arith}
+use Rattle.std.proofs.Common.{◌≡◌, ℕ, suc, ◌<◌, ℤ, List, [], ◌∷◌, length, map, get_or, sym, ap, ◌∙◌, arith}
 use Rattle.std.proofs.lemmas.Option.{slice_get-get_or}
 use Rattle.gr_word.specs.Fitting.{FitsWants}
 use Rattle.gr_word.specs.declared.variables.Label.TheVariants.{Public}
