@@ -1,6 +1,6 @@
 //! Bytes with which no token begins, and what is meant by them, as one table.
 
-use crate::habits::{OUTPUT, PRINTING};
+use crate::habits::{FOR, OUTPUT, PRINTING};
 use crate::texts::{Source, is_word_of, piece};
 use crate::tokens::{Tokens, tokens_of};
 use crate::words::Words;
@@ -15,6 +15,13 @@ const LISTS: &str =
     "There are no lists of values: assign each element, as in `a[0] = 1; a[1] = 2;`, or give them by the inputs.";
 
 const TEXTS: &[Text] = &[
+    ["for", "", "", FOR],
+    [
+        "def fn func function",
+        "",
+        ":",
+        "A procedure is written `proc f(secret int p; int a[]) { .. }`, and needs the option --procs.",
+    ],
     [PRINTING, "", "\" ' .", OUTPUT],
     ["", "", ":=", "An assignment is written with `=`: `x = 1;`."],
     [
@@ -77,6 +84,12 @@ const TEXTS: &[Text] = &[
         "0",
         "x X",
         "Numbers are decimal digits alone: write 31 for `0x1f`.",
+    ],
+    [
+        "",
+        "0",
+        "b B o O",
+        "Numbers are decimal digits alone: write 3 for `0b11`.",
     ],
     [
         "",

@@ -93,8 +93,13 @@ impl Tokens<'_> {
 
     fn undeclared(&self, alloc: Global, at: usize, end: &str, out: &mut Words) {
         self.put(at, " is not declared", out);
-        if is_word_of("true false TRUE FALSE True False", self.word(at)) {
-            return out.line("There are only integers: write 1 for true and 0 for false.");
+        if is_word_of(
+            "true false TRUE FALSE True False NULL null nil None",
+            self.word(at),
+        ) {
+            return out.line(
+                "There are only integers: write 1 for true and 0 for false or nothing.",
+            );
         }
         match self.nearest_declared(alloc, at) {
             Ok(Some(nearest)) => {
