@@ -1,4 +1,4 @@
--- From what is said to why: the exits of a verb.
+-- From the text that a verb prints to its cause: the exits of a verb.
 use Rattle.std.proofs.Common.{◌≡◌, ◌⊎◌, inl, inr, ℕ, ℤ, Bool, true, false, List, [], ◌∷◌, length, map, Option, Some, None, is_some, Result, Ok, Err, IfOk, IfErr, OnErr, IsErrAnd, refl, sym, ap, ◌∙◌, subst, arith}
 use Rattle.std.specs.Prelude.{option_and_then}
 use Rattle.std.specs.Borrow.{Bor}
@@ -50,7 +50,7 @@ starved-yet (Ok status) shelf between now asked same unwritten starved = tt
 starved-yet (Err reply) shelf between now asked same unwritten starved =
     NoRoomYet (same-only (unwritten ∙ same)) starved
 
--- what a call left to say was said, which explains it
+-- the text that a call left to be printed was printed, and explains the call
 pub left-said : (shelf now : ShelfSeen) (before between after : SinkSeen) (status : ℕ) (asked : Option Work)
     (what : Said) → LeavesToSay shelf now asked what → between ≡ before
     → PutsSaid between after what status ⊎ PutsSaid between after no_memory status
@@ -75,7 +75,7 @@ left-said shelf now before between after status asked what leaves unput put =
 
 -- ---- what was done
 
--- the lines of events and a verdict were put
+-- the lines of events and a verdict were printed
 pub judged-said : (shelf now : ShelfSeen) (before after : SinkSeen) (status : ℕ) (work : Work) (seen : Seen)
     (verdict : Verdict) → HasLeft shelf work (Ends seen verdict) → now ≡ shelf
     → PutsSaid before after (said_at (IsVerdict seen verdict)) status
@@ -162,7 +162,7 @@ given-stops shelf between now object input o what next found same stops =
     stops-later shelf between now (with_accepted object (λ p. with_inputs p input (next p)))
     (with_inputs o input (next o)) what same (found (λ p. with_inputs p input (next p))) (stops (next o))
 
--- the text of a trace was put
+-- the text of a trace was printed
 pub traced-said : (shelf now : ShelfSeen) (before after : SinkSeen) (status : ℕ) (object input : List ℕ)
     (cycles seed : ℕ) (paths recursive : Bool) (o : Parts) (inputs : List (List ℤ)) (told : List WatcherTold)
     (Are : List (List (Option ℕ)) → Type 0)

@@ -1,4 +1,4 @@
--- What stands behind an ending, by the root of the work.
+-- The files after an ending, by the root of the work.
 use Rattle.std.proofs.Common.{◌≡◌, ◌≢◌, ◌⊎◌, inl, inr, ℕ, List, Option, Some, refl, subst}
 use Rattle.ghost_cli.specs.Questions.{Answer, IsRight}
 use Rattle.ghost_cli.specs.Work.{Work, Ends, Writes, Reads, Asks, Ending, IsUnread, IsTooLong, IsVerdict, IsWritten, MayEnd, Ended, Wrote, Missing, TooLong, Found, Answered, said_at}
@@ -13,7 +13,7 @@ OfWork G (Reads name limit next) ending =
 OfWork G (Asks question next) ending =
     (answer : Answer question) × IsRight question answer × MayEnd G (next answer) ending
 
--- what a work comes to is of that work
+-- the ending of a work is one of that work
 pub behind-it : (G : List ℕ → Option (List ℕ) → Type 0) (work : Work) (ending : Ending)
     → MayEnd G work ending → OfWork G work ending
 behind-it G work ending (Ended seen verdict) = refl

@@ -55,7 +55,7 @@ same-halts (o ∷ os) (d ∷ ds) n all (h ∷ halts) (g ∷ others) first second
     ap₂ (λ (x : Option ℕ) (l : List (Option ℕ)). x ∷ l) (one-halt o all.0 d all.1 n h g first.0 second.0)
     (same-halts os ds n all.2 halts others first.1 second.1)
 
--- ---- the work behind the halts
+-- ---- the work after the halts
 
 record Halting (G : List ℕ → Option (List ℕ) → Type 0) (n : ℕ) (os : List Parts) (ds : List (List (List ℤ)))
     (next : List (Option ℕ) → Work) (ending : Ending) : Type 0 where
@@ -73,7 +73,7 @@ halting G n (o ∷ os) (d ∷ ds) next ending comes =
     let rest = halting G n os ds (λ more. next (first.0 ∷ more)) ending first.2 in
     record { halts = first.0 ∷ rest.halts; are = (first.1, rest.are); comes = rest.comes }
 
--- the work that is left once it is known when each run halts, and what it comes to
+-- the work that is left once it is known when each run halts, and its ending
 abbrev pub joins-on : ℕ → List Parts → List (List (List ℤ)) → List (Option ℕ) → Work
 joins-on n os ds halts =
     Asks (WhatIsJoined os ds n) (λ joined. Ends (bus_seen joined halts) (Shared (all_halted halts)))

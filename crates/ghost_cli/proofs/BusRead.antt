@@ -1,4 +1,4 @@
--- Words of many names and of options are walked over use by use: names that stand together are one use.
+-- Words of many names and of options are read use by use: adjacent names are one use.
 use Rattle.std.proofs.Common.{◌≡◌, ◌∙◌, refl, sym, ap, ℕ, Bool, true, false, List, [], ◌∷◌, ◌++◌, Some, None}
 use Rattle.std.specs.Prelude.{codes}
 use Rattle.std.specs.Str.{bytes_eq}
@@ -21,7 +21,7 @@ module _ (id : Text) where
     runs (AnOption name value ∷ parts) = use_of (option_rule name) (value ∷ []) ∷ runs parts
     runs (AFlag flag ∷ parts) = runs parts
 
-    -- and what they use behind names that they may go on with
+    -- and what they use after names that they may continue
     pub within : List Text → List Part → List Use
     within names [] = use_of (names_rule id) names ∷ []
     within names (AName name ∷ parts) = within (names ++ name ∷ []) parts
@@ -96,7 +96,7 @@ module _ (s : Shape) (id : Text) (index : arg_by_index s.rules 1 ≡ Some (names
   unfolding walk_fault
   nothing-more h trailing = record { faults = sym (or-nil (settling s h)); rows = refl; goes_on = refl }
 
-  -- names behind `--`
+  -- names after `--`
   more-behind : (words : List Text) (rows : List Row) (names : List Text) (skip : ℕ)
       → GoesOn (with_names rows names skip true) rows words (within id names (all_names words))
   more-behind [] rows names skip =
@@ -166,7 +166,7 @@ module _ (s : Shape) (id : Text) (index : arg_by_index s.rules 1 ≡ Some (names
         (rest (hold s (settled s.rules h).rows (Some (name, value ∷ [])) h.skip) (other name among))
 
     mutual
-      -- the words of a line, where no name was met last, and behind names
+      -- the words of a line, if the last word wasn't a name, and after names
       pub walks-runs : (words : List Text) (parts : List Part) → IsLine options [] words parts → (h : Held)
           → is_pending (names_rule id) h.pending ≡ false → Walks s (at s h idle 1 false) words (runs id parts)
       walks-runs words parts Ended h free = nothing-more h false

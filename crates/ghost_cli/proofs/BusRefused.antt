@@ -68,7 +68,7 @@ module _ (s : Shape) (options : List Text) (table : Table s options []) where
   module _ (id : Text) (index : arg_by_index s.rules 1 ≡ Some (names_rule id))
       (by_id : arg_by_id s.rules id ≡ Some (names_rule id))
       (other : (x : Text) → IsAmong options x → bytes_eq x id ≡ false) where
-    -- a word behind `--`, where a value is awaited
+    -- a word after `--`, where a value is expected
     settles-waits : (h : Held) (name : Text) (word : Text) → is_pending (names_rule id) h.pending ≡ false
         → turn_fault s [] (at s h (option name) 1 true) word ≡ settling s h
     unfolding clap_on_literals
@@ -90,7 +90,7 @@ module _ (s : Shape) (options : List Text) (table : Table s options []) where
       pub waits : (rows : List Row) (name : Text) → IsAmong options name
           → wrong s (at s (hold s rows (Some (name, [])) 0) (option name) 1 false) words ≡ [] → SaysValue options words
 
-    -- behind a name
+    -- after a name
     behind-name : (w : Walk) (word : Text) (words : List Text) (faults : Kinds) (rows : List Row)
         (pending : Option (Text × List Text)) → Claims words
         → Leads s w word faults (at s (hold s rows pending 0) positional 1 false)

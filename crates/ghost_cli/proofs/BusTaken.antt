@@ -1,5 +1,5 @@
--- A command of many names under one rule, and of options, takes just the words whose names stand together and whose
--- options stand once.
+-- A command of many names under one rule, and of options, takes exactly the words whose names are adjacent and whose
+-- options occur once.
 use Rattle.std.proofs.Common.{◌≡◌, ◌∙◌, refl, sym, ap, subst, Bool, true, false, cond, ◌||◌, List, [], ◌∷◌, Option, Some, None, fold}
 use Rattle.std.specs.Prelude.{is_some, not}
 use Rattle.std.specs.Str.{bytes_eq}

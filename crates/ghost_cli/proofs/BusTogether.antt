@@ -1,4 +1,4 @@
--- Names that stand together, and options that stand once, are used once each.
+-- Adjacent names, and options that occur once, are used once each.
 use Rattle.std.proofs.Common.{◌≡◌, inl, inr, ⊎_elim, ◌∙◌, refl, sym, ap, Bool, false, cond, List, [], ◌∷◌, ◌++◌, map, append-nil, append_assoc, length, Option, Some, None, true≢false}
 use Rattle.std.specs.Str.{bytes_eq}
 use Rattle.clap.specs.Kinds.{range_kinds}
@@ -38,7 +38,7 @@ module _ (id : Text) (options : List Text) (other : (x : Text) → IsAmong optio
           (names-set s plain id names, (option-sets s plain name value, runs-set parts))
       within-set names (AFlag flag ∷ parts) = (names-set s plain id names, runs-set parts)
 
-  -- ---- what is used once stands together
+  -- ---- names that are used once are adjacent
 
   head-new : (parts : List Part) (names before : List Text) → AreNew before (ids_of (within id names parts))
       → IsAmong before id → ⊥
@@ -47,7 +47,7 @@ module _ (id : Text) (options : List Text) (other : (x : Text) → IsAmong optio
   head-new (AnOption name value ∷ parts) names before new = new.0
   head-new (AFlag flag ∷ parts) names before new = new.0
 
-  -- behind the names no more stand
+  -- no names follow after the names
   names-gone : (parts : List Part) (before : List Text) → IsAmong before id → PartsOf options [] parts
       → AreNew before (ids_of (runs id parts)) → names_in parts ≡ []
   names-gone [] before among of new = refl
@@ -109,7 +109,7 @@ module _ (id : Text) (options : List Text) (other : (x : Text) → IsAmong optio
       )
   new-together (AFlag flag ∷ parts) before of new = absurd of.0
 
-  -- and its options stand once
+  -- and its options occur once
   abbrev IsWithin : List Text → List Text → Type 0
   IsWithin few many = (x : Text) → IsAmong few x → IsAmong many x
 
@@ -140,7 +140,7 @@ module _ (id : Text) (options : List Text) (other : (x : Text) → IsAmong optio
     )
     within-once (AFlag flag ∷ parts) names few many all of new = absurd of.0
 
-  -- ---- what stands together is used once
+  -- ---- adjacent names are used once
 
   within-split : (more names : List Text) (after : List Part) → names_in after ≡ []
       → PartsOf options [] (map AName more ++ after)
@@ -155,7 +155,7 @@ module _ (id : Text) (options : List Text) (other : (x : Text) → IsAmong optio
       within-split more (names ++ name ∷ []) after none of
       ∙ ap (λ (l : List Text). use_names l ∷ runs id after) (append_assoc names (name ∷ []) more)
 
-  -- the parts, where names stand together, and what they use
+  -- the parts, if names are adjacent, and what they use
   abbrev pub split : List Part → Text → List Text → List Part → List Part
   split before name more after = before ++ (map AName (name ∷ more) ++ after)
 

@@ -17,7 +17,7 @@ abbrev pub ids_of : List Use → List Text
 ids_of [] = []
 ids_of (u ∷ us) = u.rule.id ∷ ids_of us
 
--- none stands twice, where these stand before
+-- none occurs twice, given those that occur before
 abbrev pub AreNew : List Text → List Text → Type 0
 AreNew before [] = Unit {0}
 AreNew before (x ∷ xs) = (IsAmong before x → ⊥) × AreNew (x ∷ before) xs
@@ -38,7 +38,7 @@ abbrev pub AllSized : List Use → Type 0
 AllSized [] = Unit {0}
 AllSized (u ∷ us) = (size_fault u ≡ []) × AllSized us
 
--- rows have just what stands before
+-- rows have exactly what occurs before
 pub record Stands (before : List Text) (rows : List Row) : Type 0 where
   pub has : (x : Text) → IsAmong before x → has_row x rows ≡ true
   pub lacks : (x : Text) → (IsAmong before x → ⊥) → has_row x rows ≡ false

@@ -1,4 +1,4 @@
--- What a sink holds of the lines of transfers that a watcher of a bus puts on it.
+-- The bytes of a sink to which a watcher of a bus writes the lines of transfers.
 use Rattle.std.proofs.Common.{◌≡◌, ℕ, ◌<◌, true, false, List, [], ◌∷◌, ◌++◌, length, Option, Some, None, IfSome, sym, ap, ◌∙◌, subst, arith, length-append}
 use Rattle.std.proofs.lemmas.List.{append-nil}
 use Rattle.std.proofs.lemmas.Grind.{flat_map-append}

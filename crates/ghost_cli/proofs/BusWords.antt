@@ -157,7 +157,7 @@ then-given : {A C : Type 0} (f : A → Option C) (c : C) (a : Option A) → opti
 then-given {C = C} f c None e = absurd (let g : ◌≡◌ {A = Option C} None (Some c) = e in cc)
 then-given f c (Some x) e = (x, refl, e)
 
--- the rows of parts whose names stand together
+-- the rows of parts whose names are adjacent
 module _ (words : List Text) (parts : List Part) (name : Text) (more : List Text)
     (st : StandTogether (name ∷ more) parts) (line : IsLine run_options [] words parts) where
   abbrev rows : List Row

@@ -24,7 +24,7 @@ own-runs p target bytes typed limits compiled = record {
   halts = compiled.implements.halts;
 }
 
--- it is the only one that its bytes spell
+-- it is the only object that its bytes encode
 pub compiled-runs : CompiledRuns
 compiled-runs p target bytes o typed limits compiled spells =
     subst (RunsAsMeant p)

@@ -117,7 +117,7 @@ module _ (p : Source) (target : Target) (bytes : List ℕ) (typed : IsTyped p) (
   own-texts : TextsAsMeant p compiled.o
   own-texts = record { given = text-given; fits = text-fits; shown = text-shown; written = text-written }
 
--- it is the only one that its bytes spell
+-- it is the only object that its bytes encode
 pub compiled-texts : CompiledTexts
 compiled-texts p target bytes o typed limits compiled spells =
     subst (TextsAsMeant p)

@@ -1,4 +1,4 @@
--- From a program and the object file that is made of it to what is said.
+-- From a program and its object file to the text that is printed.
 use Rattle.std.proofs.Common.{◌≡◌, Bool, inl, inr, ℕ, List, Some, Result, Ok, Err, IfOk, refl, sym, subst, arith}
 use Rattle.gr_base.specs.Lists.{Within}
 use Rattle.gr_outside.specs.Shelf.{ShelfSeen}
@@ -55,7 +55,7 @@ usual-latencies latencies is = subst LatenciesFit (sym is) (record {
   oram = (omega arith, omega arith);
 })
 
--- the spelling of an object that was compiled for it
+-- the bytes of an object that was compiled for it
 pub spelling-compiled : (p : Source) (target : Target) (latencies : Latencies) (o : Parts)
     → latencies ≡ usual_latencies → HasRoom target.fast p target.profile.block_log → IsInRange o → Accepts o
     → Implements p o → HasLayoutFor target.fast p target.profile.block_log o → IsFor target.profile latencies o
@@ -71,7 +71,7 @@ spelling-compiled p target latencies o usually room ranges accepted implements l
   stores = stores;
 }
 
--- ---- what is said
+-- ---- the printed text
 
 -- an object file was to be written
 pub compiled-said : (shelf between now : ShelfSeen) (before after : SinkSeen) (result : Result ℕ Reply)
@@ -87,7 +87,7 @@ compiled-said shelf between now before after result source output target procs p
     Compiled (leads-on shelf (compile_work source output target procs) (WhichCompiled p target) (on_compiled output)
     (Ok bytes) leads done) same is left
 
--- what is said of a program that wasn't compiled ends the work
+-- the line about a program that wasn't compiled ends the work
 pub room-refuses : (p : Source) (target : Target) (e : CompileError) (said : Said)
     → LacksRoom target.fast e p target.profile.block_log → SaysSource (room_fault e) said → (output : List ℕ)
     → EndsWorkWith (WhichCompiled p target) (on_compiled output) said

@@ -1,4 +1,4 @@
--- What work that is done has read and asked: files that are there, and answers that are no faults.
+-- What a finished work has read and asked: files that exist, and results that aren't faults.
 use Rattle.std.proofs.Common.{◌≡◌, ◌≢◌, inl, inr, ℕ, ℤ, Bool, List, Option, Some, None, Result, Ok, Err, refl, subst, arith}
 use Rattle.std.specs.FinMap.{get}
 use Rattle.gr_outside.specs.Shelf.{Files}
@@ -23,7 +23,7 @@ use Rattle.ghost_cli.specs.Texts.{verdict_status}
 use Rattle.ghost_cli.specs.Work.{Asks, Ending, Holds, MayEnd, Reads, Work, said_at}
 use Rattle.ghost_cli.proofs.Behind.{behind-it, not-done}
 
--- the file spells an object, and the rest of the work ends so with it
+-- the file encodes an object, and the rest of the work ends so with it
 pub record Spelled (files : Files) (name : List ℕ) (next : Parts → Work) (ending : Ending) : Type 0 where
   pub bytes : List ℕ
   pub there : get files name ≡ Some bytes
@@ -36,7 +36,7 @@ pub record Checked (files : Files) (object : List ℕ) (next : Parts → Work) (
   pub safe : IsSafe files object
   pub comes : MayEnd (Holds files) (next safe.o) ending
 
--- the file spells a well-typed program
+-- the file parses as a well-typed program
 pub record Programmed (procs : Bool) (files : Files) (name : List ℕ) (next : Source → Work) (ending : Ending)
     : Type 0 where
   pub text : List ℕ
@@ -65,7 +65,7 @@ module _ (files : Files) (ending : Ending) (done : IsDone (said_at ending).statu
         ]
       ]
 
-  -- an answer was found, and is no fault
+  -- a result was found, and isn't a fault
   found-on : {X E : Type 0} (verdict : E → Verdict) → ((e : E) → verdict_status (verdict e) ≢ 0)
       → ((e : E) → verdict_status (verdict e) ≢ 10) → (next : X → Work) (answer : Result X E)
       → MayEnd (Holds files) (or_ends verdict next answer) ending

@@ -1,4 +1,4 @@
--- How a work may end: its statuses, the names in its endings, and where the files are told.
+-- How a work may end: its statuses, the names in its endings, and its endings if the contents of files are known.
 use Rattle.std.proofs.Common.{◌≡◌, ◌⊎◌, inl, inr, ℕ, ◌≤◌, true, false, List, length, Option, Some, None, refl, arith}
 use Rattle.std.specs.FinMap.{get}
 use Rattle.gr_base.specs.Counts.{Rose}
@@ -47,7 +47,7 @@ then G question next answer (IsTooLong name most) is = tt
 then G question next answer (IsVerdict seen verdict) is = tt
 then G question next answer (IsWritten name bytes done) is = WritesThen question next answer name is
 
--- an ending names files of the work alone
+-- an ending names only files of the work
 pub names : (G : List ℕ → Option (List ℕ) → Type 0) (work : Work) (ending : Ending)
     → MayEnd G work ending → Names G work ending
 names G work ending (Ended seen verdict) = tt
@@ -59,7 +59,7 @@ names G work ending (Found name limit next bytes ending' gives short comes) =
 names G work ending (Answered question next answer ending' right comes) =
     then G question next answer ending' (names G (next answer) ending' comes)
 
--- where the files are told, a work ends as it does with these files, or a file that is there couldn't be read
+-- if the contents of files are known, a work ends as it does with these files, or an existing file couldn't be read
 pub data ToldTo (files : Files) (before now : ℕ) (work : Work) (ending : Ending) : Type 0 where
   Same : MayEnd (Holds files) work ending → ToldTo files before now work ending
   Unreadable : (name bytes : List ℕ)
@@ -87,7 +87,7 @@ missing-so : (files : Files) (before now : ℕ) (name : List ℕ) (limit : ℕ) 
 missing-so files before now name limit next None is rose = Same (Missing name limit next is)
 missing-so files before now name limit next (Some bytes) is rose = Unreadable name bytes refl is rose
 
--- what a work comes to where files are told
+-- the ending of a work if the contents of files are known
 pub told : (files : Files) (before now : ℕ) (work : Work) (ending : Ending)
     → MayEnd (Gives (Some files) before now) work ending → ToldTo files before now work ending
 told files before now work ending (Ended seen verdict) = Same (Ended seen verdict)

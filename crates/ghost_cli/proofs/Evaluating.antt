@@ -1,4 +1,4 @@
--- From a program, its inputs and what it leaves to what is said.
+-- From a program, its inputs and its final values to the text that is printed.
 use Rattle.std.proofs.Common.{◌≡◌, Bool, ℕ, ℤ, List, Some, None, Result, IfOk, sym, subst}
 use Rattle.gr_word.specs.declared.variables.Want.{Want}
 use Rattle.gr_outside.specs.Shelf.{ShelfSeen}

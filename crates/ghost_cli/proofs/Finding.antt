@@ -15,7 +15,7 @@ use Rattle.ghost_cli.proofs.Progressing.{leads-on, refused-stops}
 abbrev pub ReadsTo : ShelfSeen → List ℕ → ℕ → List ℕ → Type 0
 ReadsTo before name limit bytes = (next : List ℕ → Work) → HasLeft before (Reads name limit next) (next bytes)
 
--- bytes that give an answer lead on
+-- bytes with a result continue the work
 pub bytes-found : (before : ShelfSeen) (name : List ℕ) (limit : ℕ) (ask : List ℕ → Question)
     (next : (b : List ℕ) → Answer (ask b) → Work) (bytes slice : List ℕ) (answer : (b : List ℕ) → Answer (ask b))
     → slice ≡ bytes → ReadsTo before name limit bytes → IsRight (ask slice) (answer slice)

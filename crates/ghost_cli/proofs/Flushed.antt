@@ -1,4 +1,4 @@
--- A call whose sink can't hand on what it holds back ends with 4, for the same reason as before.
+-- A call whose sink can't pass on its buffered bytes ends with 4, for the same reason as before.
 use Rattle.std.proofs.Common.{◌≡◌, ℕ, ◌≤◌, inr, List, Option, Some, None, refl, sym, subst, ⊎_elim}
 use Rattle.gr_base.specs.Added.{AddsLess}
 use Rattle.gr_base.specs.Counts.{Rose}
@@ -9,13 +9,13 @@ use Rattle.ghost_cli.specs.Outside.{Outside, outside, PutsSaid, LeftBy, Unread, 
 use Rattle.ghost_cli.specs.Texts.{Said, usage, unread, unwritten, no_memory, too_long, wrote}
 use Rattle.ghost_cli.specs.Work.{Ending, IsVerdict, Work, said_at}
 
--- of a sink that tells nothing, nothing is said
+-- nothing is stated about a sink that reveals no bytes
 untold : (before now : Option (List ℕ)) (text : List ℕ) → now ≡ None → AddsLess before now text
 untold (Some held) None text none = tt
 untold None None text none = tt
 untold before (Some held) text none = absurd (let f : ◌≡◌ {A = Option (List ℕ)} (Some held) None = none in cc)
 
--- Behind a call, the sink's count rose and it tells nothing.
+-- After a call, the sink's count rose and it reveals no bytes.
 module _ {mid now : SinkSeen} (none : mid.held ≡ None) (same : now.held ≡ mid.held)
     (rose : Rose mid.faults now.faults) (count : mid.faults ≤ now.faults) where
   cut_put : (before : SinkSeen) (said : Said) (status : ℕ) → PutsSaid before mid said status

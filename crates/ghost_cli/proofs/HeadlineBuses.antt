@@ -122,7 +122,7 @@ pairs-few names pairs is = by (ltb 16 (length names)) refl is
     by true e is = absurd (let f : ◌≡◌ {A = Option (List Pair)} None (Some pairs) = is in cc)
     by false e is = omega (arith, ltb-false 16 (length names) e, pairs-double names pairs is)
 
--- ---- what is said
+-- ---- the printed text
 
 shared-text : (joined : List Transfer) (halts : List (Option ℕ))
     → (said_at (IsVerdict (bus_seen joined halts) (Shared (all_halted halts)))).text

@@ -43,7 +43,7 @@ use Rattle.ghost_cli.specs.Work.{Asks, Ends, MayWrite, Reads, Work, Writes, Writ
 use Rattle.ghost_cli.specs.Headline.{NameOutput}
 use Rattle.ghost_cli.proofs.VerbWords.{words-ask}
 
--- ---- what stands behind a write
+-- ---- the files after a write
 
 abbrev OfWrite : Work → List ℕ → Type 0
 OfWrite (Ends seen verdict) name = ⊥

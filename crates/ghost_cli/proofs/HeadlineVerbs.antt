@@ -86,7 +86,7 @@ typed-program : (procs : Bool) (text : List ℕ) (p : Source) → SpellsTyped pr
 typed-program procs text p spells =
     spells-program procs text p spells.spells (means-its-calls procs text p spells.spells)
 
--- what is compiled of a text that spells a program
+-- what is compiled from a text that parses as a program
 pub compiled-program : (procs : Bool) (text : List ℕ) (p : Source) (target : Target) (bytes : List ℕ)
     → SpellsTyped procs text p → IsCompiledTo p target bytes → IsObjectOf procs text bytes
 compiled-program procs text p target bytes spells compiled = record {
@@ -151,7 +151,7 @@ has-run files object input parts status cycles next ending within ran done = rec
   done = done;
 }
 
--- what `trace` shows ends with this verdict, and is the trace alone without paths
+-- the output of `trace` ends with this verdict, and is only the trace without paths
 record ShownSo (paths : Bool) (o : Parts) (d : List (List ℤ)) (cycles : ℕ) (halt : Option ℕ) (ending : Ending)
     : Type 0 where
   seen : Seen

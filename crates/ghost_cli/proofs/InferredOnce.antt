@@ -29,7 +29,7 @@ none-some a e = absurd (let f : ◌≡◌ {A = Option ℕ} None (Some a) = e in 
 some-once : (a b : ℕ) → ◌≡◌ {A = Option ℕ} (Some a) (Some b) → a ≡ b
 some-once a b e = cc
 
--- what is said of a slot
+-- the claim about a slot
 slot-once : (a b : ℕ) → claimed_bank a ≡ claimed_bank b → a ≡ b
 slot-once a b same =
     ⊎_elim

@@ -1,4 +1,4 @@
--- From an object and its least notes to what is said, and what is written by `infer` that is done.
+-- From an object and its least notes to the text that is printed, and the file that a successful `infer` writes.
 use Rattle.std.proofs.Common.{◌≡◌, ◌≢◌, inl, inr, Bool, cond, ℕ, ◌<◌, List, length, Option, Some, None, Result, Ok, Err, IfOk, refl, sym, ap, ◌∙◌, subst, arith}
 use Rattle.std.proofs.lemmas.Cmp.{eq_by_cmp_equiv}
 use Rattle.std.specs.Cmp.Lexicographic.{nat_list_cmp_total}
@@ -30,7 +30,7 @@ use Rattle.ghost_cli.proofs.DoneWork.{spelled-on}
 use Rattle.ghost_cli.proofs.Progressing.{leads-on}
 use Rattle.ghost_cli.proofs.Promised.{answers-of}
 
--- ---- what is said
+-- ---- the printed text
 
 -- the object with its least notes was to be written
 pub inferred-said : (shelf between now : ShelfSeen) (before after : SinkSeen) (result : Result ℕ Reply)

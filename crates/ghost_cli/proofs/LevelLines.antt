@@ -1,4 +1,4 @@
--- The lines of levels that were put so far.
+-- The lines of levels that were printed so far.
 use Rattle.std.proofs.Common.{◌≡◌, ℕ, ◌+◌, ◌-◌, ◌^◌, ◌<◌, ◌≤◌, List, [], ◌∷◌, ◌++◌, length, Option, Some, None, Err, sym, ap, ◌∙◌, subst, arith, append_assoc, length-append}
 use Rattle.std.specs.Prelude.{codes, flat_map}
 use Rattle.std.proofs.lemmas.List.{append-nil}
@@ -17,7 +17,7 @@ use Rattle.run_data.specs.Putting.{PutsText}
 use Rattle.run_data.proofs.PathTexts.{behind-text, behind-parts}
 use Rattle.ghost_cli.specs.Levels.{OfOram, StandNow}
 
--- a piece of a text was put less than whole, behind others
+-- part of a text was printed after others
 pub cut-so : (old mid new : SinkSeen) (done piece more text : List ℕ) (e : SinkFailed)
     → Adds old.held mid.held done → mid.faults ≡ old.faults → 0 < length piece → AddsLess mid.held new.held piece
     → Rose mid.faults new.faults → mid.faults ≤ new.faults → (mid.faults ≡ 2 ^ 64 - 1 → new.faults ≡ 2 ^ 64 - 1)
@@ -32,7 +32,7 @@ cut-so old mid new done piece more text e put calm some less rose count stays is
   count_stays = λ full. stays (calm ∙ full);
 }
 
--- the head, and the levels behind it
+-- the head, and the levels after it
 pub one-more : (head : List ℕ) (levels : List (Option ℕ)) (level : Option ℕ)
     → head ++ flat_map level_text (levels ++ level ∷ []) ≡ (head ++ flat_map level_text levels) ++ level_text level
 one-more head levels level =
@@ -40,7 +40,7 @@ one-more head levels level =
     ∙ ap (λ text. flat_map level_text levels ++ text) (append-nil (level_text level)))
     ∙ sym (append_assoc head (flat_map level_text levels) (level_text level))
 
--- a front of a line's levels, and the rest of the line
+-- a prefix of a line's levels, and the rest of the line
 pub line-parts : (b : ℕ) (first more : List (Option ℕ))
     → (levels_head b ++ flat_map level_text first) ++ (flat_map level_text more ++ codes "\n")
     ≡ levels_line b (first ++ more)

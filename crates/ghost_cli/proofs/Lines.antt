@@ -145,7 +145,7 @@ gained-none (Some b) None text name other less gained = gained
 gained-none None (Some a) text name other less gained = gained
 gained-none None None text name other less gained = gained
 
--- the line that can't be put, by what was put of it
+-- the line that can't be printed, by the prefix of it that was
 pub line-of : {asked : Option Work} {before after : Outside} {status : ℕ} → Explains before after status asked
     → status ≡ 4 → (name : List ℕ) → Gained before.sink.held after.sink.held (unwritten name).text
     → Rose before.shelf.write_faults after.shelf.write_faults

@@ -1,4 +1,4 @@
--- The text of a trace with no levels behind it.
+-- The text of a trace without levels after it.
 use Rattle.std.proofs.Common.{◌≡◌, inl, inr, ℕ, ◌≤◌, Bool, true, false, List, [], ◌++◌, length, Option, Some, None, is_some, refl, sym, ◌∙◌, subst, arith}
 use Rattle.gr_base.specs.Counts.{Rose}
 use Rattle.gr_base.specs.Added.{Adds, AddsLess}
@@ -19,7 +19,7 @@ longs true = omega arith
 longs false = omega arith
 
 module _ (before mid after : SinkSeen) (events : List Stamped) (shown : List WatcherTold) where
-  -- the lines were put, and then a last line
+  -- the lines were printed, and then a last line
   pub ended : (halt : Option ℕ) → HaltOf events halt → Adds before.held mid.held (shown_lines shown)
       → mid.faults ≡ before.faults → (status answer : ℕ) (line : List ℕ)
       → line ≡ (comes_to (Traced (is_some halt))).text → status ≡ (comes_to (Traced (is_some halt))).status

@@ -1,4 +1,4 @@
--- For told files a work whose questions have one right answer comes to one ending.
+-- If the contents of files are known, a work whose questions have one right answer each has one ending.
 use Rattle.std.proofs.Common.{◌≡◌, ℕ, ◌+◌, ◌<◌, ◌≤◌, ℤ, Bool, false, List, [], ◌∷◌, length, Option, Some, None, is_some, Result, Ok, Err, refl, sym, ap, ap₂, ◌∙◌, subst, arith}
 use Rattle.std.specs.FinMap.{get}
 use Rattle.gr_outside.specs.Shelf.{Files}
@@ -58,7 +58,7 @@ use Rattle.ghost_cli.proofs.InferredOnce.{inferred-once}
 use Rattle.ghost_cli.proofs.Pairing.{none-read, one-read}
 use Rattle.ghost_cli.proofs.Saying.{traces-agree}
 
--- ---- what stands behind an ending, where the files are told
+-- ---- the files after an ending, if the contents of files are known
 
 pub data OfRead (files : Files) (name : List ℕ) (limit : ℕ) (next : List ℕ → Work) : Ending → Type 0 where
   Lacks : get files name ≡ None → OfRead files name limit next (IsUnread name)
@@ -392,7 +392,7 @@ record Traces (o : Parts) (d : List (List ℤ)) (cycles : ℕ) (ending : Ending)
   halts : HaltOf (trace o d cycles) halt
   is : ending ≡ IsVerdict (events_alone (trace o d cycles)) (Traced (is_some halt))
 
--- what a call comes to that has such files
+-- the ending of a call that has such files
 trace-of : (files : Files) (object input : List ℕ) (o : Parts) (d : List (List ℤ)) (cycles seed : ℕ)
     (recursive : Bool) → HoldRun files object input o d → (ending : Ending)
     → MayEnd (Holds files) (trace_work object input cycles seed false recursive) ending → Traces o d cycles ending

@@ -22,7 +22,7 @@ use Rattle.ghost_cli.specs.Texts.{Said, comes_to}
 use Rattle.ghost_cli.specs.Work.{IsVerdict, Work, said_at}
 use Rattle.ghost_cli.proofs.Progressing.{ends-at, leads-later, read-starved, stops-later}
 
--- ---- what the plan answers is what is worked out
+-- ---- the plan's result is the computed one
 
 pub refused-worked : (plan : List Share) (o : Parts) (cause : BusError) → IsPlan plan → IsInRange o
     → (cause ≡ bus.Memory) ⊎ PlanRefuses plan (share_of o) cause
@@ -65,7 +65,7 @@ module _ (shelf : ShelfSeen) (pair : Pair) (k : ℕ) (read : Read) (next : Read 
   refused-as now cause same other why =
       ⊎_elim (λ memory. absurd (other memory)) (λ is. core-refused now cause same is) why
 
-  -- so it is said
+  -- so this is printed
   pub core-off : (now : ShelfSeen) (cause : BusError) → now ≡ shelf
       → (cause ≡ bus.Memory) ⊎ (refusal read.plan (share_of o) ≡ Some cause)
       → Stops shelf now (with_core pair k read next) (bus_said k cause)
@@ -100,7 +100,7 @@ next-pair [] i d within = absurd (omega arith)
 next-pair (p ∷ pairs) zero d within = refl
 next-pair (p ∷ pairs) (suc i) d within = next-pair pairs i d (omega arith)
 
--- the work on some pairs has come to those that are left
+-- the work on some pairs has reached the remaining ones
 abbrev pub HasRead : ShelfSeen → List Pair → ℕ → Read → Type 0
 HasRead shelf pairs i read =
     (next : Read → Work) → HasLeft shelf (with_cores pairs 0 none_read next) (with_cores (drop i pairs) i read next)

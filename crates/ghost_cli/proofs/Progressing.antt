@@ -1,4 +1,4 @@
--- How a work goes on, step by step, and how it stops.
+-- How a work continues, step by step, and how it stops.
 use Rattle.std.proofs.Common.{◌≡◌, ◌⊎◌, inl, inr, ℕ, ◌+◌, ◌<◌, ◌≤◌, List, length, take, Option, Some, None, MatchOption, IfSome, refl, sym, ap, ◌∙◌, subst, arith}
 use Rattle.std.specs.Option.{option_map}
 use Rattle.std.specs.FinMap.{get}
@@ -38,7 +38,7 @@ gives-whole : (files : Option Files) (before now : ℕ) (name : List ℕ) (n : �
 gives-whole None before now name n bytes read short = tt
 gives-whole (Some all) before now name n bytes read short = front-whole (get all name) n bytes read short
 
--- a file within the limit leads on
+-- a file within the limit continues the work
 pub read-leads : (before : ShelfSeen) (name : List ℕ) (n : ℕ) (bytes : List ℕ)
     → IfSome before.files (λ all. front_of all name (n + 1) ≡ Some bytes) → length bytes ≤ n
     → (next : List ℕ → Work) → HasLeft before (Reads name n next) (next bytes)
@@ -90,7 +90,7 @@ read-starved before after work same = NoRoomLeft (same-only same) refl
 
 -- ---- a question
 
--- a question with its right answer leads on
+-- a question with its right answer continues the work
 pub leads-on : (before : ShelfSeen) (work : Work) (question : Question) (next : Answer question → Work)
     (answer : Answer question) → HasLeft before work (Asks question next) → IsRight question answer
     → HasLeft before work (next answer)
@@ -111,7 +111,7 @@ refused-stops before after work question next said leads same refuses = elim ref
       (Answered question next why.0 (IsVerdict nothing_seen why.1) why.2 ended)) same why.4
 ]
 
--- what was found is still so behind reads that changed nothing
+-- what was found still holds after reads that changed nothing
 pub stops-later : (before between after : ShelfSeen) (work rest : Work) (said : Said)
     → between ≡ before → HasLeft before work rest → Stops between after rest said → Stops before after work said
 stops-later before between after work rest said same leads stops = go (subst (λ b. Stops b after rest said) same stops)
@@ -120,7 +120,7 @@ stops-later before between after work rest said same leads stops = go (subst (λ
     go (NoRoomLeft only is) = NoRoomLeft only is
     go (StopsAt ending comes left is) = StopsAt ending (leads after.read_faults ending comes) left is
 
--- what leads on twice leads on
+-- two steps in sequence are a step
 pub leads-later : (before between : ShelfSeen) (work rest last : Work)
     → between ≡ before → HasLeft before work rest → HasLeft between rest last → HasLeft before work last
 leads-later before between work rest last same leads on now ending comes =
@@ -134,9 +134,9 @@ ends-at before after work verdict leads same =
     StopsAt (IsVerdict nothing_seen verdict)
     (leads after.read_faults (IsVerdict nothing_seen verdict) (Ended nothing_seen verdict)) same refl
 
--- ---- what is said
+-- ---- the printed text
 
--- what is said of a work that stops explains the call
+-- the text that is printed for a work that stops explains the call
 pub stopped : (before after : Outside) (status : ℕ) (work : Work) (said : Said)
     → Stops before.shelf after.shelf work said
     → PutsSaid before.sink after.sink said status ⊎ PutsSaid before.sink after.sink no_memory status

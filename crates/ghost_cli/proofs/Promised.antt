@@ -16,9 +16,9 @@ use Rattle.ghost_cli.specs.Promises.{Answers, NoAnswer, AnswersSo, IsAnswered, I
 use Rattle.gr_outside.proofs.WrittenFiles.{remove_with_file}
 use Rattle.ghost_cli.proofs.Endings.{plain, names, ToldTo, Same, Unreadable, told}
 
--- ---- a text that is put
+-- ---- a text that is printed
 
--- a put that isn't refused: the status is that of the text, which was added whole
+-- if the sink takes the text, the status is that of the text, which was added whole
 pub record Whole (before after : SinkSeen) (said : Said) (status : ℕ) : Type 0 where
   pub is : status ≡ said.status
   pub put : Adds before.held after.held said.text
@@ -31,12 +31,12 @@ whole put other = elim put [
   | inr short ↦ absurd (other short.0)
 ]
 
--- a status is the one that was said, or 4
+-- a status is that of the text, or 4
 pub status-of : {A B C D : Type 0} {status s : ℕ}
     → ((status ≡ s) × A × B) ⊎ ((status ≡ 4) × C × D) → (status ≡ s) ⊎ (status ≡ 4)
 status-of put = elim put [ inl done ↦ inl done.0 | inr short ↦ inr short.0 ]
 
--- a text of another status than 4 and the one that is answered can't have been put
+-- a text whose status is neither 4 nor the exit status can't have been printed
 pub not-put : {X A B C D : Type 0} {status s : ℕ}
     → ((status ≡ s) × A × B) ⊎ ((status ≡ 4) × C × D) → status ≢ s → status ≢ 4 → X
 not-put put other four = absurd (elim (status-of put) [ inl is ↦ other is | inr is ↦ four is ])
@@ -46,7 +46,7 @@ pub record Cut (before after : SinkSeen) (said : Said) : Type 0 where
   pub failed : Rose before.faults after.faults
   pub less : AddsLess before.held after.held said.text
 
--- what stands where a line couldn't be put
+-- the files if a line couldn't be printed
 pub cut : {before after : SinkSeen} {said : Said} {status : ℕ}
     → PutsSaid before after said status → status ≡ 4 → said.status ≢ 4 → Cut before after said
 cut put four other = elim put [
@@ -120,7 +120,7 @@ unread-of (Worked work ending comes (NotWritten name bytes done refused rose cal
 unread-of (Worked work ending comes (Starved name bytes done refused rose calm put)) three =
     not-put put (λ is. omega (arith, three, is)) (λ is. omega (arith, three, is))
 
--- of a write or a put that failed
+-- about a write or a print that failed
 pub failed-of : {asked : Option Work} {before after : Outside} {status : ℕ} → Explains before after status asked
     → status ≡ 4 → Rose before.sink.faults after.sink.faults ⊎ WriteFailed asked before after
 failed-of (NoWork same put) four = inl (cut put four (λ is. omega (arith, is))).failed
@@ -290,7 +290,7 @@ last-of (Worked work ending comes (Starved name bytes done refused rose calm put
 abbrev told-at : ShelfSeen → Bool
 told-at s = is_some s.files
 
--- of whether files are told
+-- about whether the contents of files are known
 pub tells-of : {asked : Option Work} {before after : Outside} {status : ℕ}
     → Explains before after status asked → is_some after.shelf.files ≡ is_some before.shelf.files
 tells-of (NoWork same put) = ap told-at same
@@ -303,7 +303,7 @@ tells-of {before = before} (Worked work ending comes (Written name bytes done wr
 tells-of (Worked work ending comes (NotWritten name bytes done refused rose calm put)) = refused.tells
 tells-of (Worked work ending comes (Starved name bytes done refused rose calm put)) = refused.tells
 
--- ---- where the files are told
+-- ---- if the contents of files are known
 
 told-of : (files : Files) (seen : Option Files) (before now : ℕ) (work : Work) (ending : Ending)
     → seen ≡ Some files → MayEnd (Gives seen before now) work ending → ToldTo files before now work ending
@@ -323,7 +323,7 @@ answered other (Same comes) = comes
 answered other (Unreadable name bytes is there rose) =
     absurd (let f : ◌≡◌ {A = Option (List ℕ)} (Some name) None = sym (ap name-of is) ∙ other in cc)
 
--- so it is an answer, and where its text was put whole, it is the answer
+-- so it is an answer, and if its text was printed whole, it is the answer
 answers-so : (files : Files) (before after : Outside) (work : Work) (ending : Ending)
     → name-of ending ≡ None → before.shelf.files ≡ Some files
     → MayEnd (Gives before.shelf.files before.shelf.read_faults after.shelf.read_faults) work ending
@@ -348,7 +348,7 @@ is-answered files before after status work ending other is comes left put four =
       left = left;
     }
 
--- of the answer where files are told
+-- about the answer if the contents of files are known
 pub answers-of : {asked : Option Work} {before after : Outside} {status : ℕ}
     → Explains before after status asked → (files : Files) → before.shelf.files ≡ Some files → status ≢ 4 → status ≢ 5
     → IsAnswered asked before after status files ⊎ IsUnreadable asked before after status files
@@ -404,7 +404,7 @@ answers-of (Worked work ending comes (NotWritten name bytes done refused rose ca
 answers-of (Worked work ending comes (Starved name bytes done refused rose calm put)) files is four five =
     not-put put five four
 
--- of what stands at status 4
+-- about the files at status 4
 pub stands-of : {asked : Option Work} {before after : Outside} {status : ℕ}
     → Explains before after status asked → (files : Files) → before.shelf.files ≡ Some files → status ≡ 4
     → (Rose before.shelf.write_faults after.shelf.write_faults → ⊥) → StandsAtFour asked before after files

@@ -22,7 +22,7 @@ use Rattle.ghost_cli.specs.Steps.{on_judged, or_ends}
 use Rattle.ghost_cli.specs.Texts.{Said, comes_to, no_memory}
 use Rattle.ghost_cli.specs.Work.{Ends, Work, Writes}
 
--- a work that is no verdict, and the verdict of one that is
+-- a work that isn't a verdict, and the verdict of one that is
 abbrev some-write : Work
 some-write = Writes [] [] Compiled
 

@@ -1,11 +1,11 @@
--- Texts that are put one behind the other.
+-- Texts that are printed in sequence.
 use Rattle.std.proofs.Common.{ℕ, ◌<◌, List, ◌++◌, length, Option, Result, Ok, Err, ◌∙◌, subst, arith}
 use Rattle.gr_base.proofs.Added.{Adds-then, AddsLess-then, AddsLess-more}
 use Rattle.gr_base.specs.Counts.{Rose}
 use Rattle.gr_outside.specs.declared.sink.SinkFailed.{SinkFailed}
 use Rattle.run_data.specs.Putting.{PutsText}
 
--- a text was put, and then another one, or a part of that
+-- a text was printed, and then another one or a prefix of it
 pub puts-then : (old middle new : Option (List ℕ)) (before between now : ℕ) (first second : List ℕ)
     (result : Result (Unit {0}) SinkFailed) → PutsText old middle before between first (Ok tt) → 0 < length second
     → PutsText middle new between now second result → PutsText old new before now (first ++ second) result
@@ -26,7 +26,7 @@ puts-then old middle new before between now first second (Err e) one some two = 
   count_stays = λ most. two.count_stays (one.count_stays most);
 }
 
--- the first was put in part
+-- a prefix of the first text was printed
 pub puts-cut : (old new : Option (List ℕ)) (before now : ℕ) (first second : List ℕ) (e : SinkFailed)
     → PutsText old new before now first (Err e) → PutsText old new before now (first ++ second) (Err e)
 puts-cut old new before now first second e one = record {

@@ -1,11 +1,11 @@
--- What a sink holds of lines that a watcher puts on it, one behind the other.
+-- The bytes of a sink to which a watcher writes lines in sequence.
 use Rattle.std.proofs.Common.{◌≡◌, ℕ, ◌+◌, ◌<◌, Bool, true, false, List, [], ◌++◌, length, take, drop, Option, Some, None, IfSome, refl, sym, ap, ◌∙◌, subst, arith, length-append, append_assoc}
 use Rattle.std.proofs.lemmas.List.{append-nil, take-append-le}
 use Rattle.std.proofs.Math.Seq.{take-append-add, take-append_seam, drop-append_seam}
 use Rattle.gr_base.specs.Added.{Adds, AddsLess}
 use Rattle.ghost_cli.specs.Watched.{Lines, HoldsLines, HoldsPart, Grows}
 
--- a line was put whole behind lines that are all
+-- a line was written whole after complete lines
 more-lines : (before now : List ℕ) (start stop mark : ℕ) (text line : List ℕ)
     → now ≡ before ++ line → Lines before start stop true text → Lines now start mark true (text ++ line)
 more-lines before now start stop mark text line added lines = record {
@@ -30,7 +30,7 @@ line_held (Some b) None start stop mark line added text lines = tt
 line_held None (Some n) start stop mark line added text lines = absurd added
 line_held None None start stop mark line added text lines = tt
 
--- less than a line was put behind lines that are all
+-- a proper prefix of a line was written after complete lines
 less-lines : (before now : List ℕ) (start stop mark n : ℕ) (text : List ℕ) (line : List ℕ)
     → now ≡ before ++ take n line → mark ≡ length before → Lines before start stop true text
     → Lines now start mark false text
@@ -56,7 +56,7 @@ part_held (Some b) None start stop mark line less marked text lines = tt
 part_held None (Some n) start stop mark line less marked text lines = absurd less
 part_held None None start stop mark line less marked text lines = tt
 
--- a part of a line stands behind the mark
+-- a part of a line follows after the mark
 pub torn_line : (b n : List ℕ) (mark : ℕ) (line : List ℕ)
     → (less : AddsLess (Some b) (Some n) line) → mark ≡ length b → HoldsPart n mark line
 torn_line b n mark line less marked = (
@@ -78,7 +78,7 @@ cut_grows (Some b) None piece less = tt
 cut_grows None (Some n) piece less = absurd less
 cut_grows None None piece less = tt
 
--- what stood there when the watcher was made is the head of the lines
+-- what the sink held when the watcher was made is the head of the lines
 head-first : (before now : List ℕ) (start stop stop' : ℕ) (whole : Bool) (text : List ℕ)
     → Lines before start stop true [] → (more : List ℕ) → now ≡ before ++ more
     → (lines : Lines now start stop' whole text) → lines.head ≡ before
@@ -94,7 +94,7 @@ head-first before now start stop stop' whole text made more grew lines =
     ∙ take-append_seam lines.head (text ++ lines.tail) in
     sym front' ∙ ap (λ n. take n now) same_length ∙ front
 
--- all the lines were put
+-- all the lines were written
 pub lines_put : (before now : Option (List ℕ)) (start stop stop' : ℕ) (text : List ℕ)
     → HoldsLines before start stop true [] → Grows before now → HoldsLines now start stop' true text
     → Adds before now text

@@ -35,7 +35,7 @@ sample-ends G fast n output ending comes =
     let run = behind-it G (samples_on n output made.0) ending made.2 in
     halt-ends G n output made.0 run.0 ending run.2
 
--- a text of a status that is done was put, or its put failed
+-- the text of a successful status was printed, or printing it failed
 put-done : {A B C D : Type 0} {status s : ℕ}
     → IsDone s → ((status ≡ s) × A × B) ⊎ ((status ≡ 4) × C × D) → IsDone status ⊎ (status ≡ 4) ⊎ (status ≡ 5)
 put-done done put = elim (status-of put) [ inl is ↦ inl (subst IsDone (sym is) done) | inr is ↦ inr (inl is) ]

@@ -15,7 +15,7 @@ unfolding histogram_number
 number_at-small zero = omega arith
 number_at-small (suc k) = omega arith
 
--- the number behind one
+-- the next number
 pub number_at-next : (k : ℕ) → histogram_number (suc k) ≡ next_number (histogram_number k)
 unfolding histogram_number
 number_at-next k = refl

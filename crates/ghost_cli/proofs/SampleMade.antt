@@ -1,5 +1,4 @@
--- The sample's text is always a program that is compiled and accepted: what is said in place of it is that memory ran
--- out.
+-- The sample's text is always a program that is compiled and accepted: the only other outcome is that memory ran out.
 use Rattle.std.proofs.Common.{◌≡◌, inl, inr, Bool, true, false, ℕ, ◌^◌, ◌<◌, ◌≤◌, List, [], Option, Some, None, Result, Ok, Err, length, sym, ◌∙◌, subst, arith, length-append}
 use Rattle.std.specs.Prelude.{codes, decimal, ◌++◌}
 use Rattle.std.proofs.lemmas.Fmt.{length-decimal-le}
@@ -69,13 +68,13 @@ sample-short n few =
       length-append front (decimal n ++ (middle ++ (decimal n ++ last))),
     )
 
--- whatever program it spells is the tree
+-- any program that it parses as is the tree
 pub is-sample : (n : ℕ) → n < 2 ^ 63 → (p : Source) → SpellsTyped false (sample_text n) p → p ≡ sample_program n
 is-sample n small p spells = one_program (sample_text n) p (sample_program n) spells.spells (sample_spells n small)
 
 -- ---- faults that a program hasn't
 
--- a work that is no verdict
+-- a work that isn't a verdict
 abbrev elsewhere : Work
 elsewhere = Writes [] [] Compiled
 
@@ -133,7 +132,7 @@ no-first n few shown (InProgram p e spells explains is) =
     (faultless (sample_program n) (record { typed = sample_typed n; within = sample_within n few }))
     (subst (ExplainsProgram e) same explains) is
 
--- ---- what is said
+-- ---- the printed text
 
 source-starved : (n : ℕ) → Within 1 65536 n → (verdict : Verdict) (answer : Result Source SourceFault)
     → IsRight (WhichSource false (sample_text n)) answer → or_ends BadSource
@@ -141,7 +140,7 @@ source-starved : (n : ℕ) → Within 1 65536 n → (verdict : Verdict) (answer 
 source-starved n few verdict (Ok p) right ends = not-elsewhere verdict ends
 source-starved n few verdict (Err shown) first ends = no-first n few shown first
 
--- its text is refused for want of memory alone
+-- its text is rejected only for want of memory
 pub text-starved : (n : ℕ) → Within 1 65536 n → (text : List ℕ) → text ≡ sample_text n → (said : Said)
     → ((next : Source → Work) → EndsWorkWith (WhichSource false text) (or_ends BadSource next) said) → said ≡ no_memory
 text-starved n few text is said refuses =
@@ -187,7 +186,7 @@ compile-starved fast n few p spells said refuses =
       | inr why ↦ absurd (object-starved fast n few why.1 why.0 why.2 why.3)
     ]
 
--- the object of a compiled program is the one that is spelled, and so accepted
+-- the object of a compiled program is the one that its bytes encode, and so accepted
 pub compiled-object : (p : Source) (target : Target) (o : Parts)
     → IsInRange o → (compiled : IsCompiledTo p target (spelling o)) → compiled.o ≡ o
 compiled-object p target o range compiled =

@@ -61,7 +61,7 @@ sample_within n few = record {
 
 -- ---- the banks
 
--- a bank that no variable lies in
+-- a bank without variables
 taken-none : (b : ℕ) (q : Place) → (q.bank == b) ≡ false → blocks_taken 512 b q ≡ 0
 taken-none b q other = ap (λ t. cond (t && is_array q) (blocks_for 512 q.length) 0) other
 

@@ -1,4 +1,4 @@
--- The sample's text spells its tree.
+-- The sample's text parses as its tree.
 use Rattle.std.proofs.Common.{◌≡◌, inr, ℕ, ◌+◌, ◌^◌, ◌<◌, pos, Bool, true, false, cond, List, [], ◌∷◌, ◌++◌, length, refl, sym, ap, subst, arith, Some, Ok}
 use Rattle.std.specs.Prelude.{codes, decimal, ◌==◌, slice_index}
 use Rattle.std.specs.List.{list_all}
@@ -262,7 +262,7 @@ sentence n =
     (Repeats (Compared Lt kind.Lt refl (Named (codes "i")) (Numeral n) (omega arith))
     (omega arith) turn_written grammar.Ends))
 
--- the sample's text spells its program
+-- the sample's text parses as its program
 pub sample_spells : (n : ℕ) → n < 2 ^ 63 → SpellsSource (sample_text n) (sample_program n)
 sample_spells n small =
     let r = read n small 0 in

@@ -1,4 +1,4 @@
--- From what is made of a sample to what is said.
+-- From the parts of a sample to the text that is printed.
 use Rattle.std.proofs.Common.{◌≡◌, Bool, ℕ, ℤ, ◌<◌, List, [], ◌∷◌, Some, None, Result, IfOk, length, refl, sym, ◌∙◌, subst, arith}
 use Rattle.gr_outside.specs.Shelf.{ShelfSeen}
 use Rattle.gr_outside.specs.Sink.{SinkSeen}
@@ -103,7 +103,7 @@ counts-listed n (i ∷ []) fits = absurd fits.2
 counts-listed n (i ∷ a ∷ []) fits = absurd fits.2.2
 counts-listed n (i ∷ a ∷ c ∷ values) fits = (omega arith, fits.2.2.0, fits.2.2.1)
 
--- ---- what is said
+-- ---- the printed text
 
 -- nothing is asked of a file
 from-first : (shelf : ShelfSeen) (work : Work) → HasLeft shelf work work
@@ -115,7 +115,7 @@ leads-run fast shelf n output made is =
     leads-on shelf (sample_work fast n output) (WhatIsMade fast n) (samples_on n output) made
     (from-first shelf (sample_work fast n output)) is
 
--- what is said of the sample
+-- the lines of the sample
 pub sampled-said : (fast : Bool) (shelf now : ShelfSeen) (before after : SinkSeen) (result : Result ℕ Reply) (n : ℕ)
     (output slice : List ℕ) (file : SampleFile) → IsFileOf fast n file → slice ≡ file.bytes.items
     → IfOk result (λ status.

@@ -1,4 +1,4 @@
--- From a fault to what is said of it, and from events to the text of a trace.
+-- From a fault to its line, and from events to the text of a trace.
 use Rattle.std.proofs.Common.{◌≡◌, ◌≢◌, ◌⊎◌, inl, inr, Bool, true, false, ℕ, zero, suc, ℤ, List, [], ◌∷◌, Option, Some, None, Ok, Err, IfSome, refl, sym, ap, ◌∙◌, arith}
 use Rattle.gr_word.specs.declared.variables.Want.{Want}
 use Rattle.lt_isa.specs.Object.{Parts}
@@ -46,7 +46,7 @@ use Rattle.ghost_cli.specs.Progress.{EndsWorkWith, SaysObject, SaysText, SaysSou
 use Rattle.processor.specs.Ends.{NoHalt}
 use Rattle.ghost_cli.specs.Runs.{TracesAgree, TextsAgree}
 
--- the line of bytes that are no object names their first fault
+-- the line about bytes that don't encode an object names their first fault
 pub no-object : (bytes : List ℕ) (fault : DecodeError) (said : Said)
     → (fault ≢ object.Memory → IsFirstObjectFault bytes fault) → SaysObject fault said
     → (next : Parts → Work) → EndsWorkWith (WhichObject bytes) (or_ends Malformed next) said
@@ -85,7 +85,7 @@ pub token-first : (procs : Bool) (text : List ℕ) (tokens : List Token) (shown 
 token-first procs text tokens None splits wrong = tt
 token-first procs text tokens (Some fault) splits wrong = InTokens tokens splits wrong
 
--- where they are no program, or no file with procedures
+-- if they aren't a program or a file with procedures
 pub plain-first : (tokens : List Token) (e : ParseError) (shown : Option SourceFault)
     → shown ≡ token_fault e → ExplainsTokens e tokens → IfSome shown (IsTokensFault false tokens)
 plain-first tokens e None is explains = tt
@@ -110,13 +110,13 @@ pub program-first : (procs : Bool) (text : List ℕ) (p : Source) (e : TypeError
 program-first procs text p e None is spells explains = tt
 program-first procs text p e (Some fault) is spells explains = InProgram p e spells explains (sym is)
 
--- a text whose tokens give a program spells it
+-- a text whose tokens parse as a program parses as that program
 pub spells-of : (procs : Bool) (text : List ℕ) (tokens : List Token) (p : Source) → Splits 0 text (Ok tokens)
     → AreProgram procs tokens p → Spells procs text p
 spells-of false text tokens p splits are = record { tokens = tokens; split = splits; sentence = are }
 spells-of true text tokens p splits are = record { tokens = tokens; split = splits; of_file = are }
 
--- the line of a text that spells no object names its first fault
+-- the line about a text that isn't an object names its first fault
 pub no-assembly : (bytes : List ℕ) (fault : AsmError) (said : Said)
     → (fault ≢ text.Memory → IsFirstTextFault bytes fault) → SaysText fault said
     → (next : Parts → Work) → EndsWorkWith (WhichAssembly bytes) (or_ends BadAssembly next) said

@@ -1,4 +1,4 @@
--- From the runs of a bus to the lines that are put, and how its work ends.
+-- From the runs on a bus to the printed lines, and how its work ends.
 use Rattle.std.proofs.Common.{◌≡◌, inl, inr, ℕ, zero, suc, ◌+◌, ◌<◌, ◌≤◌, ℤ, Bool, true, false, ◌&&◌, List, [], ◌∷◌, ◌++◌, length, drop, get_or, map, take, take-append-drop, Option, Some, None, is_some, refl, sym, ap, ap₂, ◌∙◌, subst, arith, append_assoc, length-append}
 use Rattle.std.specs.Prelude.{codes, decimal, slice_get}
 use Rattle.std.proofs.lemmas.List.{append-nil, length-map, length-take-le}
@@ -174,7 +174,7 @@ lines-some k [] some = absurd (omega (arith, some))
 lines-some k (h ∷ halts) some =
     omega (arith, length-append (core_line k h) (core_lines (k + 1) halts), line-some k h)
 
--- two lists of halts, one behind the other
+-- two lists of halts, concatenated
 lines-both : (k : ℕ) (halts others : List (Option ℕ))
     → core_lines k (halts ++ others) ≡ core_lines k halts ++ core_lines (k + length halts) others
 lines-both k [] others = ap (λ n. core_lines n others) (let e : k ≡ k + 0 = omega arith in e)
@@ -229,7 +229,7 @@ module _ (cores : List (Core (Oram ChaCha))) (k : ℕ) (halt : Option ℕ) (with
       is ∙ ap (λ b. b && is_some halt) are ∙ sym (halted-more (take k (halts_of cores)) halt)
       ∙ sym (ap all_halted halts-more)
 
-  -- the whole text, where this line was put in part
+  -- the whole text, if a prefix of this line was printed
   halts-whole : core_lines 0 (halts_of cores)
       ≡ (core_lines 0 (take k (halts_of cores)) ++ core_line k halt)
       ++ core_lines (0 + length (take (k + 1) (halts_of cores))) (drop (k + 1) (halts_of cores))
@@ -255,7 +255,7 @@ module _ (cores : List (Core (Oram ChaCha))) (k : ℕ) (halt : Option ℕ) (with
     some = λ e. omega (arith, halts-within);
   }
 
--- ---- what is put
+-- ---- the printed text
 
 tail-text : (joined : List Transfer) (halts : List (Option ℕ))
     → transfer_lines joined ++ core_lines 0 halts ≡ transfer_lines joined ++ (core_lines 0 halts ++ [])
@@ -318,7 +318,7 @@ leads-halts shelf work n (o ∷ os) (d ∷ ds) (h ∷ halts) next leads are =
     (leads-on shelf work (WhenItHalts o d n) (λ halt. with_halts n os ds (λ more. next (halt ∷ more))) h leads are.0)
     are.1
 
--- the lines were put of what was read
+-- the lines for what was read were printed
 pub shared-said : (shelf now : ShelfSeen) (before after : SinkSeen) (status : ℕ) (pairs : List Pair) (cycles : ℕ)
     (read : Read) → HasLeft shelf (bus_work pairs cycles) (shares_bus cycles read) → now ≡ shelf
     → PutsShared before after (traces_on read.objects read.inputs cycles) status

@@ -82,7 +82,7 @@ module _ (o : Parts) (range : IsInRange o) (inputs : List (List ℤ)) (fits : Fi
           oram.places ends.after (touched o inputs cycles b) levels begins.first begins.words ends.come ends.are;
     }
 
-    -- what the run showed is the answer
+    -- the trace of the run is the answer
     pub is-shown : (levels : List (List (Option ℕ))) → AllStand o (start_state o inputs) cycles orams levels → IsShown o
         inputs cycles seed (run_seen (run_shown shows o (start_state o inputs) orams cycles) levels)
     is-shown levels stand = record {

@@ -44,7 +44,7 @@ module _ (o : Parts) (range : IsInRange o) (inputs : List (List ℤ)) (fits : Fi
         (sym (length-map (all_trees oram) size_of));
   }
 
-  -- what the run showed is the answer
+  -- the trace of the run is the answer
   pub is-shown : IsShownInTrees o inputs cycles seed
       (run_seen (run_shown shows o (start_state o inputs) orams cycles) [])
   is-shown = record {

@@ -1,4 +1,4 @@
--- From what a machine shows to the text of a trace, and the levels behind it.
+-- From the trace of a machine to its text, and the levels after it.
 use Rattle.std.proofs.Common.{◌≡◌, ◌≢◌, inl, inr, ℕ, zero, suc, ◌+◌, ◌-◌, ◌<◌, ◌≤◌, Bool, true, false, List, [], ◌∷◌, ◌++◌, length, get_or, All, Option, Some, None, is_some, refl, sym, ap, ◌∙◌, subst, ⊎_elim, arith, append_assoc, length-append}
 use Rattle.std.proofs.lemmas.Bool.{cases_lt}
 use Rattle.std.proofs.lemmas.List.{append-nil}
@@ -80,7 +80,7 @@ module _ (Are : ℕ → List (Option ℕ) → Type 0) where
 abbrev Advances : Oram ChaCha → List ℕ → Oram ChaCha → Type 0
 Advances before blocks now = ComesBy before.places (stream_from before.words) blocks now.places (stream_from now.words)
 
--- where the blocks stand now, they may have come to by the accesses
+-- the accesses may have moved the blocks to where they are now
 stood : (before now : Option (Oram ChaCha)) (blocks : List ℕ) (levels : List (Option ℕ))
     → OfBoth before now (λ old new. Advances old blocks new) → OfOram now (λ oram. AreLevels oram.places levels)
     → OfOram before (λ oram. MayEndOn oram blocks levels)
@@ -115,7 +115,7 @@ module _ (o : Parts) (s : State) (cycles : ℕ) (orams : List (Oram ChaCha)) whe
     pub more : List (List (Option ℕ))
     pub are : AreBehind paths o s cycles orams (first ++ more)
 
-  -- levels that were put are gone on with to those of all banks
+  -- levels that were printed are followed by those of the other banks
   behind : (paths : Bool) → MayRun o s cycles orams → (first : List (List (Option ℕ))) → (paths ≡ false → first ≡ [])
       → length first ≤ length o.banks - 2 → FirstBanks (StandAfter o s cycles orams) first → Behind paths first
   behind false may first none most are = record { more = []; are = append-nil first ∙ none refl }
@@ -125,7 +125,7 @@ module _ (o : Parts) (s : State) (cycles : ℕ) (orams : List (Oram ChaCha)) whe
       (some-levels may) first (omega (arith, most)) are in
       record { more = rest.more; are = record { count = rest.count; banks = rest.are } }
 
-  -- those of all banks were put
+  -- the levels of all banks were printed
   whole-behind : (paths : Bool) → (first : List (List (Option ℕ))) → (paths ≡ false → first ≡ [])
       → (paths ≡ true → length first ≡ length o.banks - 2) → FirstBanks (StandAfter o s cycles orams) first
       → AreBehind paths o s cycles orams first
@@ -134,7 +134,7 @@ module _ (o : Parts) (s : State) (cycles : ℕ) (orams : List (Oram ChaCha)) whe
 
 -- ---- the text
 
--- what stands around a last line
+-- the text around a last line
 parted : (lines line : List ℕ) (levels : List (List (Option ℕ)))
     → levels_behind (lines ++ line) 2 levels ≡ lines ++ levels_behind line 2 levels
 parted lines line levels =
@@ -154,7 +154,7 @@ some-text line levels some =
 
 module _ (before mid after : SinkSeen) (o : Parts) (s : State) (cycles : ℕ) (orams now : List (Oram ChaCha))
     (paths : Bool) (events : List Stamped) (shown : List WatcherTold) (may : MayRun o s cycles orams) where
-  -- the lines were put, and then a last line with its levels
+  -- the lines were printed, and then a last line with its levels
   pub ended-put : (halt : Option ℕ) → HaltOf events halt → Adds before.held mid.held (shown_lines shown)
       → mid.faults ≡ before.faults → ComeBy Advances orams (accesses_from o s cycles) now
       → (banks status answer : ℕ) (line : List ℕ) → banks ≡ length o.banks

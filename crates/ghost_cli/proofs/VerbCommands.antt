@@ -294,7 +294,7 @@ passes row test =
       flags_plain = five.1;
     }
 
--- ---- a row whose words stand one by one
+-- ---- a row whose words occur one by one
 
 module _ (row : VerbRow) (pass : Passes row) where
   abbrev s : Shape

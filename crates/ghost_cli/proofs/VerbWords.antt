@@ -63,7 +63,7 @@ some-work : (a b : Work) → ◌≡◌ {A = Option Work} (Some a) (Some b) → b
 some-work a b e = cc
 
 module _ (row : VerbRow) where
-  -- what words ask for behind the row's verb, and what is found where they say these parts
+  -- the work that words request after the row's verb, and what is found if they consist of these parts
   abbrev asked_behind : List Text → Option Work
   asked_behind words = asked_by (command_of row) row.asks (row.name ∷ words)
 
@@ -486,7 +486,7 @@ sample-words words work texts = (
       ∙ ap Some (sym asks.is)),
 )
 
--- a word that is no verb
+-- a word that isn't a verb
 no-verb : (first : Text) (words : List Text) → (IsAmong verb_names first → ⊥) → work_of (first ∷ words) ≡ None
 unfolding verb_named
 no-verb first words none =

@@ -1,4 +1,4 @@
--- What a sink holds of the lines of events that a watcher puts on it.
+-- The bytes of a sink to which a watcher writes the lines of events.
 use Rattle.std.proofs.Common.{◌≡◌, ℕ, ◌<◌, Bool, true, false, List, [], ◌∷◌, ◌++◌, length, map, take, Option, Some, None, IfSome, refl, sym, ap, ◌∙◌, subst, arith, length-append}
 use Rattle.std.proofs.lemmas.List.{append-nil}
 use Rattle.std.proofs.lemmas.Grind.{flat_map-append}
@@ -13,7 +13,7 @@ use Rattle.ghost_cli.specs.Watched.{Lines, HoldsLines, HoldsTold, Tears, Grows, 
 use Rattle.ghost_cli.proofs.PutLines.{cut_at_next, line_held, lines_put, part_held, torn_line}
 use Rattle.ghost_cli.specs.Showing.{IsTraceText, shown_line, shown_lines}
 
--- what is told in two parts
+-- events that the watcher received in two parts
 kept-append : (paths : Bool) (xs ys : List WatcherTold) → kept paths (xs ++ ys) ≡ kept paths xs ++ kept paths ys
 kept-append paths [] ys = refl
 kept-append paths (AnEvent event ∷ xs) ys = ap (λ rest. AnEvent event ∷ rest) (kept-append paths xs ys)
@@ -21,7 +21,7 @@ kept-append true (APath stamp bank leaves ∷ xs) ys =
     ap (λ rest. APath stamp bank leaves ∷ rest) (kept-append true xs ys)
 kept-append false (APath stamp bank leaves ∷ xs) ys = kept-append false xs ys
 
--- with paths everything has a line, and without them the events alone
+-- with paths everything has a line, and without them only the events
 pub kept-all : (shown : List WatcherTold) → kept true shown ≡ shown
 kept-all [] = refl
 kept-all (AnEvent event ∷ shown) = ap (λ rest. AnEvent event ∷ rest) (kept-all shown)
@@ -33,7 +33,7 @@ kept-events [] = refl
 kept-events (AnEvent event ∷ shown) = ap (λ rest. AnEvent event ∷ rest) (kept-events shown)
 kept-events (APath stamp bank leaves ∷ shown) = kept-events shown
 
--- the lines of events alone are those of a trace's text
+-- the lines of events without paths are those of a trace's text
 pub lines-alone : (events : List Stamped)
     → shown_lines (map AnEvent events) ≡ flat_map (λ s. event_line s.stamp s.event) events
 lines-alone [] = refl
@@ -44,7 +44,7 @@ lines-more : (events : List WatcherTold) (s : WatcherTold) → shown_lines (even
 lines-more events s = flat_map-append shown_line events (s ∷ [])
     ∙ ap (λ l. shown_lines events ++ l) (append-nil (shown_line s))
 
--- something was told that has a line
+-- the watcher received something that has a line
 told_line : (paths : Bool) (before now : Option (List ℕ)) (start stop mark : ℕ) (s : WatcherTold)
     → kept paths (s ∷ []) ≡ s ∷ [] → Adds before now (shown_line s)
     → TellsMore (HoldsTold paths before start stop true) (HoldsTold paths now start mark true) (s ∷ [])
@@ -54,20 +54,20 @@ told_line paths before now start stop mark s has added told lines =
     ∙ lines-more (kept paths told) s))
     (line_held before now start stop mark (shown_line s) added (shown_lines (kept paths told)) lines)
 
--- an event's line is told
+-- the line of an event
 pub seen_told : (paths : Bool) (before now : Option (List ℕ)) (start stop mark : ℕ) (s : Stamped)
     → Adds before now (shown_line (AnEvent s))
     → TellsMore (HoldsTold paths before start stop true) (HoldsTold paths now start mark true) (AnEvent s ∷ [])
 seen_told paths before now start stop mark s added = told_line paths before now start stop mark (AnEvent s) refl added
 
--- a path's line is told
+-- the line of a path
 pub path_told : (before now : Option (List ℕ)) (start stop mark stamp bank : ℕ) (leaves : Leaves)
     → Adds before now (shown_line (APath stamp bank leaves)) → TellsMore (HoldsTold true before start stop true)
     (HoldsTold true now start mark true) (APath stamp bank leaves ∷ [])
 path_told before now start stop mark stamp bank leaves added =
     told_line true before now start stop mark (APath stamp bank leaves) refl added
 
--- paths were told, which have no line
+-- the watcher received paths, which have no line
 pub path_untold : (held : Option (List ℕ)) (start stop : ℕ) (whole : Bool) (stamp bank : ℕ) (leaves : Leaves)
     → TellsMore (HoldsTold false held start stop whole) (HoldsTold false held start stop whole)
     (APath stamp bank leaves ∷ [])
@@ -99,7 +99,7 @@ path_torn (Some b) None mark stamp bank leaves less marked = tt
 path_torn None (Some n) mark stamp bank leaves less marked = absurd less
 path_torn None None mark stamp bank leaves less marked = tt
 
--- all the lines were put
+-- all the lines were written
 pub events_put : (before now : Option (List ℕ)) (start stop stop' : ℕ) (events : List WatcherTold)
     → HoldsLines before start stop true [] → Grows before now → HoldsLines now start stop' true (shown_lines events)
     → Adds before now (shown_lines events)
@@ -146,7 +146,7 @@ events_cut paths (Some b) None start stop stop' shown told next rest front made 
 events_cut paths None (Some n) start stop stop' shown told next rest front made grew heard torn = absurd grew
 events_cut paths None None start stop stop' shown told next rest front made grew heard torn = tt
 
--- the text of events alone
+-- the text of events without paths
 pub text-alone : IsTraceText
 text-alone events true = ap (λ lines. lines ++ codes "end halted\n") (lines-alone events)
 text-alone events false = ap (λ lines. lines ++ codes "end spent\n") (lines-alone events)

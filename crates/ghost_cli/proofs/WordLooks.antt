@@ -1,4 +1,4 @@
--- What a word looks like: a name, `--` alone, a long option, or short flags.
+-- The form of a word: a name, a bare `--`, a long option, or short flags.
 use Rattle.std.proofs.Common.{◌≡◌, ◌≢◌, ◌⊎◌, inl, inr, ◌∙◌, refl, sym, ap, subst, ℕ, zero, suc, ◌==◌, ◌||◌, Bool, true, false, List, [], ◌∷◌, ◌++◌, length, Some, None, arith, true≢false}
 use Rattle.std.specs.Prelude.{codes}
 use Rattle.std.specs.List.{list_any}
@@ -31,7 +31,7 @@ lacks-test (x ∷ xs) none = by (cases_eq x 61) (lacks-test xs)
         absurd (true≢false (subst (λ (y : ℕ). ((y == 61) || list_any (λ z. z == 61) xs) ≡ false) is none))
     by (inr other) rest = Lacks-cons x xs other (rest (tail (x == 61) none))
 
--- a text is a name with a value behind `=`, or has no `=`
+-- a text is a name with a value after `=`, or has no `=`
 pub data Cut (text : Text) : Type 0 where
   AtEquals : (name value : Text) → text ≡ name ++ 61 ∷ value → Lacks 61 name → Cut text
   Uncut : Lacks 61 text → Cut text

@@ -141,7 +141,7 @@ module _ (s : Shape) where
     goes = rw (dashes, long, is) refl;
   }
 
-  -- a name in its place
+  -- a name at its position
   pub settles-first : (b : Bool) (x y : Kinds) → cond (b && false) x y ≡ y
   settles-first true x y = refl
   settles-first false x y = refl

@@ -43,7 +43,7 @@ gone true true d n e = ap (λ t. cond t (Some n) None) (sym e)
 gone true false d n e = refl
 gone false b d n e = refl
 
--- digits that `parse` doesn't read as so many bits are no number in the range
+-- digits that `parse` doesn't read as a number of this many bits aren't a number in the range
 pub number-none : (least most bits : ℕ) → most < 2 ^ bits → (text : List ℕ) → are_digits text ≡ true
     → (IsNumeral 10 (without_leading_plus text) × (digits_value 10 (without_leading_plus text) < 2 ^ bits) → ⊥)
     → ◌≡◌ {A = Option ℕ} None (option_within least most text)

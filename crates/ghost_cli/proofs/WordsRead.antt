@@ -145,7 +145,7 @@ module _ (s : Shape) where
             (led-last s (at s h idle p trailing) next word words (settling s h) leads) ∙ walks.goes_on;
       }
 
-  -- names behind `--`
+  -- names after `--`
   pub walks-behind : (words : List Text) (h : Held) (p : ℕ) (ids : List Text) → Places p ids
       → NamesFit (all_names words) ids → Walks (at s h idle p true) words (uses (all_names words) p ids)
   unfolding walk_fault

@@ -182,7 +182,7 @@ module _ (s : Shape) where
         (λ (help : arg_by_short s.rules first.0 ≡ Some built_help). inr (is ∙ help)) (table.short first.0))
         (short-part (45 ∷ x ∷ xs) x xs rows pending (short-word x xs other) none))
 
-    -- names behind `--`
+    -- names after `--`
     fit-behind : (words : List Text) (h : Held) (p : ℕ) (ids : List Text) → Places s p ids
         → wrong s (at s h idle p true) words ≡ [] → NamesFit (all_names words) ids
     fit-behind [] h p ids places none = tt

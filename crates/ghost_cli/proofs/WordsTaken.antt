@@ -33,7 +33,7 @@ no-defaults (a ∷ rules) none rows =
     λ i. or_else (here i) (no-defaults rules none.1 (with_default rows a) i)
 
 module _ (s : Shape) (options flags ids : List Text) (table : Table s options flags) (places : Places s 1 ids) where
-  -- what is found behind the words that say these parts
+  -- what is found after the words that consist of these parts
   abbrev pub rows_said : List Part → List Row
   rows_said parts = fold with_default (uses_rows s [] (uses parts 1 ids)) s.rules
 

@@ -1,4 +1,4 @@
--- What parts use is wrong exactly where an option or a flag stands twice; else it is what is found.
+-- The use of parts is wrong exactly if an option or a flag occurs twice; otherwise it is what is found.
 use Rattle.std.proofs.Common.{◌≡◌, ◌⊎◌, inl, inr, ⊎_elim, ◌∙◌, refl, sym, ap, subst, ℕ, Bool, true, false, cond, not, min, ◌+◌, ◌&&◌, ◌||◌, List, [], ◌∷◌, ◌++◌, append-nil, append_assoc, Some, None, true≢false}
 use Rattle.std.specs.Prelude.{codes}
 use Rattle.std.specs.Str.{bytes_eq}
@@ -181,7 +181,7 @@ module _ (s : Shape) (plain : s.args_override_self ≡ false) where
             ∙ append_assoc rows (flag_row flag ∷ []) (rows_of_parts parts ids),
       )
 
--- ---- fresh rows are those of parts that stand once
+-- ---- fresh rows are those of parts that occur once
 
 pub text-is : (a b : Text) → bytes_eq a b ≡ true → a ≡ b
 text-is a b e = (bytes_eq-Decides a b).0 e
@@ -215,7 +215,7 @@ AreOf Either (AName name ∷ parts) = AreOf Either parts
 AreOf Either (AnOption name value ∷ parts) = Either name × AreOf Either parts
 AreOf Either (AFlag flag ∷ parts) = Either flag × AreOf Either parts
 
--- rows have what stands before, and none of the names to come
+-- rows have what occurs before, and none of the names to come
 pub record Stand (Either : Text → Type 0) (before ids : List Text) (rows : List Row) : Type 0 where
   pub has : (x : Text) → IsAmong before x → has_row x rows ≡ true
   pub lacks : (x : Text) → Either x → (IsAmong before x → ⊥) → has_row x rows ≡ false

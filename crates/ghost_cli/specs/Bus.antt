@@ -117,7 +117,7 @@ bus_app = command_of bus_row
 unfoldable pub bus_of : List Text → Option Work
 bus_of words = asked_by bus_app bus_asks words
 
--- what is said where the plan takes no object as core k
+-- the line if the plan takes no object as core k
 abbrev pub bus_said : ℕ → BusError → Said
 bus_said k bus.NoWindow = comes_to (OffBus k bus.NoWindow)
 bus_said k (bus.OtherPeriod period) = comes_to (OffBus k (bus.OtherPeriod period))

@@ -8,8 +8,8 @@ use Rattle.bus_arbiter.specs.declared.shares.Share.{Share}
 use Rattle.ghost_cli.specs.Bus.{shares_bus}
 use Rattle.ghost_cli.specs.Work.{Ending, Holds, MayEnd, said_at}
 
--- Two calls have read oblivious objects, each with inputs, and the inputs of each object agree: they come to the same
--- text and the same status, whatever their files are.
+-- Two calls have read oblivious objects, each with inputs, and the inputs of each object agree: both calls print the
+-- same text and exit with the same status, for any files.
 abbrev pub BusAgrees : Type 0
 BusAgrees =
     (plan : List Share) (os : List Parts) (ds es : List (List (List ℤ))) (cycles : ℕ) → AllFit os ds → AllOblivious os

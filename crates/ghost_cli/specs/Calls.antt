@@ -8,8 +8,8 @@ use Rattle.src_procs.specs.CallMeaning.{call_meaning}
 use Rattle.ghost_cli.specs.CompiledRuns.{IsStoreOf}
 use Rattle.ghost_cli.specs.Sources.{Spells, SpellsCalls}
 
--- On every store of the program, whatever its new variables hold there, the program is spent exactly where the file is,
--- and else leaves in the file's own variables what the file leaves in them.
+-- On every store of the program, with any values of its new variables, the program exceeds the limit exactly if the
+-- file does; otherwise it leaves in the file's own variables what the file leaves in them.
 abbrev pub MeansCalls : File → Source → Type 0
 MeansCalls f p = (store : Store) (turns : ℕ) → IsStoreOf p store
     → option_map (take (length f.decls)) (meaning p store turns) ≡ call_meaning f (take (length f.decls) store) turns

@@ -1,4 +1,4 @@
--- The words behind a verb as people write them: names in their places, options with a value, and flags, in any order.
+-- The words after a verb as people write them: names in their order, options with a value, and flags, in any order.
 -- (The usual conventions: POSIX, Utility Syntax Guidelines; GNU, long options.)
 use Rattle.std.specs.Prelude.{◌≡◌, ◌≢◌, ◌⊎◌, ℕ, Bool, false, ◌||◌, List, [], ◌∷◌, ◌++◌, map, codes, Option, Some, None, if◌then◌else◌}
 use Rattle.std.specs.Str.{IsUtf8, bytes_eq}
@@ -11,7 +11,7 @@ abbrev pub AreTexts : List Text → Type 0
 AreTexts [] = Unit {0}
 AreTexts (word ∷ words) = IsUtf8 word × AreTexts words
 
--- a word that is no option: it doesn't begin with a hyphen, or is one alone
+-- a word that isn't an option: it doesn't begin with a hyphen, or is a single hyphen
 abbrev pub IsPlain : Text → Type 0
 IsPlain [] = Unit {0}
 IsPlain (c ∷ []) = Unit {0}
@@ -28,8 +28,8 @@ abbrev pub IsAmong : List Text → Text → Type 0
 IsAmong [] name = ⊥
 IsAmong (x ∷ more) name = (name ≡ x) ⊎ IsAmong more name
 
--- Words that say these parts, where there are these options and flags. An option's value stands behind `=` in the same
--- word, or in the next word, which then is no option. Behind `--` all words are names.
+-- Words that consist of these parts, given these options and flags. An option's value follows `=` in the same word, or
+-- is the next word, which then isn't an option. After `--` all words are names.
 pub data IsLine (options flags : List Text) : List Text → List Part → Type 0 where
   Ended : IsLine options flags [] []
   Named : (word : Text) (words : List Text) (parts : List Part) → IsPlain word
@@ -67,7 +67,7 @@ has_flag name (AName other ∷ parts) = has_flag name parts
 has_flag name (AnOption option value ∷ parts) = has_flag name parts
 has_flag name (AFlag flag ∷ parts) = bytes_eq flag name || has_flag name parts
 
--- no option and no flag stands twice, where these stand before
+-- no option and no flag occurs twice, given those that occur before
 abbrev pub AreOnce : List Text → List Part → Type 0
 AreOnce before [] = Unit {0}
 AreOnce before (AName name ∷ parts) = AreOnce before parts
@@ -88,7 +88,7 @@ run_options = codes "cycles" ∷ codes "seed" ∷ []
 abbrev pub compile_options : List Text
 compile_options = codes "block-log" ∷ codes "window" ∷ []
 
--- these names stand together: before the first and behind the last stand options and flags, and none between two of them
+-- these names are adjacent: options and flags come before the first and after the last, and none between two of them
 pub record StandTogether (names : List Text) (parts : List Part) : Type 0 where
   pub before : List Part
   pub after : List Part

@@ -35,9 +35,9 @@ LacksRoom true e p w = ExplainsResidents e p w
 abbrev pub HasLayoutFor : Bool → Source → ℕ → Parts → Type 0
 HasLayoutFor fast p w o = IsLaidOut p w (plan_for fast p w).places (plan_for fast p w).blocks o
 
--- There is room for the program's variables. The bytes spell an object that is accepted, that does what the program
--- means, and that has the program's layout for the profile's blocks, that profile and the usual latencies, and as many
--- stores of a word as the padding makes.
+-- There is room for the program's variables. The bytes encode an object that is accepted, that computes what the
+-- program means, and that has the program's layout for the profile's blocks, that profile with the usual latencies, and
+-- the number of stores of a word that the padding makes.
 pub record IsCompiledTo (p : Source) (target : Target) (bytes : List ℕ) : Type 0 where
   pub room : HasRoom target.fast p target.profile.block_log
   pub o : Parts
@@ -48,7 +48,7 @@ pub record IsCompiledTo (p : Source) (target : Target) (bytes : List ℕ) : Type
   pub machine : IsFor target.profile usual_latencies o
   pub stores : stored_words o.code ≡ stores_by p (plan_for target.fast p target.profile.block_log) target.profile
 
--- what lacks room as it is shown; want of memory is no fault
+-- what lacks room, as it is printed; want of memory isn't a fault
 abbrev pub room_fault : CompileError → Option SourceFault
 room_fault (room.TooManyScalars label) = Some (fault.Scalars label)
 room_fault (room.BankFull bank) = Some (fault.BankFull bank)

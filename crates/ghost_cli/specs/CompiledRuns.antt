@@ -36,7 +36,7 @@ pub record RunsAsMeant (p : Source) (o : Parts) : Type 0 where
   pub halts : (store left : Store) (n : ℕ) → IsStoreOf p store → meaning p store n ≡ Some left
       → Halts o (by_name p o store) (greatest_costs o o.code * (n + 1))
 
--- whatever object a compiled program's bytes spell runs as the program means
+-- any object that a compiled program's bytes encode runs as the program means
 abbrev pub CompiledRuns : Type 0
 CompiledRuns = (p : Source) (target : Target) (bytes : List ℕ) (o : Parts) → IsTyped p → IsWithinLimits p
     → IsCompiledTo p target bytes → SpellsObject bytes o → RunsAsMeant p o

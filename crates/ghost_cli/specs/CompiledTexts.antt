@@ -18,10 +18,10 @@ use Rattle.ghost_cli.specs.CompiledRuns.{IsStoreOf}
 use Rattle.ghost_cli.specs.Objects.{SpellsObject}
 use Rattle.ghost_cli.specs.Runs.{run_outputs}
 
--- A text gives the object, by name, the store that it gives the program, or is refused for both with one fault. What it
--- gives the program is a store of it. The output text of a store's words by name is that of the store. So where a text
--- gives the program a store, and the program leaves values on it, whatever `run` writes for the object on that text,
--- once halted, is what `eval` writes for the program: the output text of those values.
+-- An input text gives the object, by name, the store that it gives the program, or is rejected for both with the same
+-- fault. The store that it gives the program is one of the program. The output text of a store's words by name is that
+-- of the store. So if an input text gives the program a store, and the program leaves values on it, then `run` of the
+-- object on that text, once halted, writes what `eval` of the program writes: the output text of those values.
 pub record TextsAsMeant (p : Source) (o : Parts) : Type 0 where
   pub given : (text : List ℕ) → inputs_of (wants_of o) (json_of text)
       ≡ result_map_both (by_name p o) (λ fault. fault) (inputs_of (declared_wants p.decls) (json_of text))
@@ -35,7 +35,7 @@ pub record TextsAsMeant (p : Source) (o : Parts) : Type 0 where
       → inputs_of (wants_of o) (json_of text) ≡ Ok inputs → Halts o inputs cycles
       → run_outputs o inputs cycles ≡ output_of (declared_wants p.decls) left
 
--- whatever object a compiled program's bytes spell reads and writes what the program does
+-- any object that a compiled program's bytes encode reads and writes what the program does
 abbrev pub CompiledTexts : Type 0
 CompiledTexts = (p : Source) (target : Target) (bytes : List ℕ) (o : Parts) → IsTyped p → IsWithinLimits p
     → IsCompiledTo p target bytes → SpellsObject bytes o → TextsAsMeant p o

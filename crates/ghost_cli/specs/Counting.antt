@@ -34,8 +34,8 @@ is_second Halted = false
 abbrev pub how_many : (Observed → Bool) → List Stamped → ℕ
 how_many kind events = count_by (λ s. kind s.event) events
 
--- One more where an event is of a kind. A count stands still at 2^32 - 1, and so it is right where the number is below
--- 2^32. (This and what follows is for private clauses and proofs.)
+-- One more if an event is of a kind. A count stops at 2^32 - 1, and so it is right if the number is below 2^32. (This
+-- and what follows is for private clauses and proofs.)
 abbrev pub counted : Bool → ℕ → ℕ
 counted true count = min (count + 1) (2 ^ 32 - 1)
 counted false count = count

@@ -15,7 +15,7 @@ use Rattle.ghost_cli.specs.Options.{flag_given, number_given}
 use Rattle.ghost_cli.specs.declared.verbs.Argument.TheVariants.{Word}
 use Rattle.ghost_cli.specs.VerbRows.{VerbRow}
 
--- the values that a program leaves are written, where its loops took no more than so many turns
+-- the values that a program leaves are written, if its loops took at most this many iterations
 abbrev pub on_left : Source → List ℕ → ℕ → Option (List (List ℤ)) → Work
 on_left p output turns (Some left) = Writes output (output_of (declared_wants p.decls) left) Evaluated
 on_left p output turns None = Ends nothing_seen (Spent turns)

@@ -43,13 +43,13 @@ use Rattle.ghost_cli.specs.declared.verbs.Verb.TheVariants.{Bus, Check, Compile,
 
 -- ---- what files hold
 
--- the file of this name spells the object
+-- the file of this name encodes the object
 pub record HoldsObject (files : Files) (name : Text) (o : Parts) : Type 0 where
   pub bytes : List ℕ
   pub there : get files name ≡ Some bytes
   pub spells : SpellsObject bytes o
 
--- the file of this name spells an object that shows only what is public
+-- the file of this name encodes an object that reveals only public data
 pub record HoldsOblivious (files : Files) (name : Text) : Type 0 where
   pub o : Parts
   pub held : HoldsObject files name o
@@ -61,8 +61,8 @@ pub record HoldsInputs (files : Files) (name : Text) (wants : List Want) (inputs
   pub there : get files name ≡ Some json
   pub given : inputs_of wants (json_of json) ≡ Ok inputs
 
--- The text spells a file with procedures. The program has the file's variables, followed by new ones, and does with the
--- file's variables what its calls mean.
+-- The text parses as a file with procedures. The program has the file's variables, followed by new ones, and does with
+-- the file's variables what its calls mean.
 pub record SpellsForCalls (text : List ℕ) (p : Source) : Type 0 where
   pub tokens : List Token
   pub split : Splits 0 text (Ok tokens)
@@ -72,7 +72,7 @@ pub record SpellsForCalls (text : List ℕ) (p : Source) : Type 0 where
   pub decls : p.decls ≡ file.decls ++ new
   pub means : MeansCalls file p
 
--- the text spells the program, with procedures or without
+-- the text parses as the program, with procedures or without
 abbrev pub SpellsProgram : Bool → List ℕ → Source → Type 0
 SpellsProgram false text p = SpellsSource text p
 SpellsProgram true text p = SpellsForCalls text p
@@ -116,7 +116,7 @@ pub record Runs (files afterwards : Files) (object input output : Text) (parts :
   pub left : afterwards
       ≡ with_output output (option_map (λ at. run_outputs of.o of.inputs of.cycles) of.halt) files
 
--- the bytes spell an object that runs as the program of the text means, and takes and gives text as it does
+-- the bytes encode an object that runs as the program of the text means, and reads and writes text as it does
 pub record IsObjectOf (procs : Bool) (text bytes : List ℕ) : Type 0 where
   pub p : Source
   pub program : SpellsProgram procs text p
@@ -148,7 +148,7 @@ pub record Evaluates (files afterwards : Files) (source input output : Text) (pa
       ≡ with_output output (option_map (output_of (declared_wants p.decls)) (meaning p store turns)) files
   pub done : status ≡ done_status (is_some (meaning p store turns))
 
--- the output file spells an oblivious object, the same as that of the other file but for its notes
+-- the output file encodes an oblivious object that differs from that of the other file only in its notes
 pub record Infers (files afterwards : Files) (object output : Text) : Type 0 where
   pub o : Parts
   pub held : HoldsObject files object o

@@ -1,4 +1,5 @@
--- The headline of a call, if the shelf tells its files and the sink its bytes, follows from what the call promises.
+-- The headline of a call, if the bytes of the shelf's files and of the sink are known, follows from what the call
+-- promises.
 use Rattle.std.specs.Prelude.{◌≡◌, ℕ, List, ◌++◌, Some}
 use Rattle.gr_outside.specs.Shelf.{Files}
 use Rattle.ghost_cli.specs.CommandLines.{AreTexts, Text}

@@ -1,4 +1,4 @@
--- What `sample` compiles and runs: the source text of a program that counts how often each remainder by 16 stands among
+-- What `sample` compiles and runs: the source text of a program that counts how often each remainder by 16 occurs among
 -- N numbers, and its input. (The histogram of GhostRider, ASPLOS 2015. The text is this project's profile. So are the
 -- numbers, a linear congruential sequence with the constants of the example of `rand` in ISO C.)
 use Rattle.std.specs.Prelude.{Bool, false, ℕ, suc, zero, ◌+◌, ◌*◌, ◌%◌, ◌^◌, ℤ, pos, ◌+ℤ◌, if◌then◌else◌, List, ◌++◌, map, replicate, fold, codes, decimal, bytes_eq, Option, Some, None}
@@ -64,8 +64,8 @@ sample_cycles = 4294967295
 abbrev pub sample_trace : Parts → List Stamped
 sample_trace o = trace o (sample_inputs (wants_of o)) sample_cycles
 
--- What is made for n numbers: the program that the text spells, the bytes of its object file, and the object that they
--- spell.
+-- The parts of a sample of n numbers: the program that the text parses as, the bytes of its object file, and the object
+-- that they encode.
 pub record Made : Type 0 where
   pub program : Source
   pub bytes : List ℕ
@@ -85,7 +85,7 @@ abbrev pub sum_left : Source → Option Store → ℤ
 sum_left p (Some left) = sum_of (words_of_number left (variable_number p.decls (codes "c")))
 sum_left p None = pos 0
 
--- what is put of the run: how many accesses to each memory it shows before it halts at a cycle, and the sum of the
+-- what is printed about the run: the number of accesses to each memory before it halts at a cycle, and the sum of the
 -- counts that the program means
 abbrev pub figures_of : ℕ → Made → ℕ → Figures
 figures_of n made at = record {

@@ -29,7 +29,7 @@ OfOram (Some oram) holds = holds oram
 abbrev pub FirstBanks : (ℕ → List (Option ℕ) → Type 0) → List (List (Option ℕ)) → Type 0
 FirstBanks Are levels = (b : ℕ) → 2 ≤ b → b < length levels + 2 → Are b (slice_index_or levels (b - 2) [])
 
--- the blocks of bank b stand on these levels
+-- the blocks of bank b are on these levels
 abbrev pub StandNow : List (Oram ChaCha) → ℕ → List (Option ℕ) → Type 0
 StandNow orams b levels = OfOram (oram_of orams b) (λ oram. AreLevels oram.places levels)
 
@@ -44,7 +44,7 @@ abbrev pub StandAfter : Parts → State → ℕ → List (Oram ChaCha) → ℕ �
 StandAfter o s cycles orams b levels =
     OfOram (oram_of orams b) (λ oram. MayEndOn oram (in_bank b (accesses_from o s cycles)) levels)
 
--- the levels behind a run: none without paths, and with them those of all oblivious banks
+-- the levels after a run: none without paths, and with them those of all oblivious banks
 pub record AllStand (o : Parts) (s : State) (cycles : ℕ) (orams : List (Oram ChaCha))
     (levels : List (List (Option ℕ))) : Type 0 where
   pub count : length levels ≡ length o.banks - 2
@@ -54,20 +54,20 @@ abbrev pub AreBehind : Bool → Parts → State → ℕ → List (Oram ChaCha) �
 AreBehind false o s cycles orams levels = levels ≡ []
 AreBehind true o s cycles orams levels = AllStand o s cycles orams levels
 
--- before a run each block of a bank stands once, and its accesses are to blocks that there are
+-- before a run each block of a bank occurs once, and its accesses are to existing blocks
 abbrev pub MayRun : Parts → State → ℕ → List (Oram ChaCha) → Type 0
 MayRun o s cycles orams = (b : ℕ) → 2 ≤ b → b < length o.banks
     → OfOram (oram_of orams b) (λ oram.
     IsWhole oram.places × All (λ block. block < length oram.places.leaves) (in_bank b (accesses_from o s cycles)))
 
--- The line of a bank's levels was put; or the sink failed at it.
+-- The line of a bank's levels was printed, or the sink failed at it.
 pub record PutsBank (before after : SinkSeen) (b : ℕ) (places : Places)
     (result : Result (Unit {0}) SinkFailed) : Type 0 where
   pub levels : List (Option ℕ)
   pub are : AreLevels places levels
   pub put : PutsText before.held after.held before.faults after.faults (levels_line b levels) result
 
--- The lines of levels were put, of all banks; or the sink failed at the last of these.
+-- The lines of levels of all banks were printed, or the sink failed at the last of these.
 pub record PutsLevels (before after : SinkSeen) (banks : ℕ) (orams : List (Oram ChaCha))
     (result : Result (Unit {0}) SinkFailed) : Type 0 where
   pub levels : List (List (Option ℕ))
@@ -77,7 +77,7 @@ pub record PutsLevels (before after : SinkSeen) (banks : ℕ) (orams : List (Ora
   pub some : OnErr result (1 ≤ length levels)
   pub put : PutsText before.held after.held before.faults after.faults (levels_behind [] 2 levels) result
 
--- A last line was put with its levels behind it; or the sink failed at the line, or at the last of these levels.
+-- A last line was printed with its levels after it, or the sink failed at the line or at the last of these levels.
 pub record PutsLast (before after : SinkSeen) (paths : Bool) (banks : ℕ) (orams : List (Oram ChaCha)) (status : ℕ)
     (line : List ℕ) (answer : ℕ) : Type 0 where
   pub levels : List (List (Option ℕ))

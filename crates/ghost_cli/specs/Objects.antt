@@ -1,4 +1,4 @@
--- Object files: their limit, and what their bytes spell.
+-- Object files: their limit, and what their bytes encode.
 use Rattle.std.specs.Prelude.{◌≡◌, ℕ, List}
 use Rattle.lt_isa.specs.Object.{Parts}
 use Rattle.lt_isa.specs.Ranges.{IsInRange}
@@ -8,7 +8,7 @@ use Rattle.object_file.specs.Spelling.{spelling}
 abbrev pub object_limit : ℕ
 object_limit = 33554432
 
--- the bytes spell an object, each field of which is in its range
+-- the bytes encode an object, each field of which is in its range
 pub record SpellsObject (bytes : List ℕ) (o : Parts) : Type 0 where
   pub in_range : IsInRange o
   pub spelled : bytes ≡ spelling o

@@ -1,6 +1,6 @@
--- For told files and asked work there is one answer: one status, one text, and one map of files. (This project's
--- profile.) Of verbs whose refusals aren't said to be one it is said where the work is done. Free are the object that
--- `compile` and `sample` make, and with `--paths` where blocks lie.
+-- If the contents of files and the requested work are known, there is one answer: one status, one text, and one map of
+-- files. (This project's profile.) For verbs whose rejections may differ, this is stated if the work is done. Two
+-- things are left open: the object that `compile` and `sample` make, and the levels of blocks with `--paths`.
 use Rattle.std.specs.Prelude.{◌≡◌, ℕ, ◌≤◌, ℤ, Bool, false, List, length, Some, None, Ok}
 use Rattle.std.specs.FinMap.{get}
 use Rattle.gr_outside.specs.Shelf.{Files, SameBut}
@@ -24,20 +24,20 @@ use Rattle.ghost_cli.specs.Texts.{Said, usage}
 use Rattle.ghost_cli.specs.Trace.{trace_work}
 use Rattle.ghost_cli.specs.Work.{Work}
 
--- whatever the files are, two answers for a work are one
+-- for any files, two answers for a work are equal
 abbrev pub HasOneAnswer : Work → Type 0
 HasOneAnswer work =
     (files : Files) (said other : Said) (left right : Files) → Answers files (Some work) said left
     → Answers files (Some work) other right → (said ≡ other) × (left ≡ right)
 
--- two answers by which the work is done are one
+-- two answers by which the work is done are equal
 abbrev pub IsDoneOnce : Work → Type 0
 IsDoneOnce work =
     (files : Files) (said other : Said) (left right : Files) → Answers files (Some work) said left
     → Answers files (Some work) other right → IsDone said.status → IsDone other.status
     → (said ≡ other) × (left ≡ right)
 
--- two answers by which the work is done say the same, and leave the same files but for one
+-- two answers by which the work is done have the same text, and leave the same files except for one
 abbrev pub IsDoneBut : List ℕ → Work → Type 0
 IsDoneBut output work =
     (files : Files) (said other : Said) (left right : Files) → Answers files (Some work) said left
@@ -73,9 +73,9 @@ pub record HoldRun (files : Files) (object input : List ℕ) (o : Parts) (inputs
   pub few : length json ≤ input_limit
   pub read : AreInputs (wants_of o) json (Ok inputs)
 
--- Two calls of `trace` without `--paths` on one accepted object, with as many cycles, on inputs that agree on what is
--- public, put the same bytes with the same status, under any two seeds, and change no file. (GhostRider, ASPLOS 2015:
--- memory-trace obliviousness.)
+-- Two calls of `trace` without `--paths` on one accepted object, with the same number of cycles, on inputs that agree
+-- on public values, print the same bytes with the same status, under any two seeds, and change no file. (GhostRider,
+-- ASPLOS 2015: memory-trace obliviousness.)
 abbrev pub TraceAgrees : Type 0
 TraceAgrees =
     (files others : Files) (object input object' input' : List ℕ) (o : Parts) (d e : List (List ℤ))

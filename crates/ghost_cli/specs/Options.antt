@@ -1,4 +1,4 @@
--- The words behind a verb, as `clap` states them for the verb's command, and the numbers among them.
+-- The words after a verb, as `clap` states them for the verb's command, and the numbers among them.
 use Rattle.std.specs.Prelude.{◌≡◌, ℕ, Bool, true, false, ◌&&◌, nat_lt, nat_le, List, [], ◌∷◌, codes, length, map, Option, Some, None, option_and_then, if◌then◌else◌}
 use Rattle.std.specs.Borrow.{Bor}
 use Rattle.std.specs.Option.{option_map}

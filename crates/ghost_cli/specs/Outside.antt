@@ -1,4 +1,4 @@
--- What a call of the program comes to, whether or not the shelf tells its files and the sink its bytes.
+-- The outcome of a call of the program, whether or not the bytes of the shelf's files and of the sink are known.
 use Rattle.std.specs.Prelude.{◌≡◌, ◌⊎◌, ℕ, ◌≤◌, List, Option, Some, None, is_some}
 use Rattle.std.specs.Option.{option_map}
 use Rattle.std.specs.FinMap.{get}
@@ -20,16 +20,16 @@ pub record Outside : Type 0 where
 abbrev pub outside : ShelfSeen → SinkSeen → Outside
 outside shelf sink = record { shelf = shelf; sink = sink }
 
--- What reading a file gives: its contents as told, or some bytes where the files aren't told. It gives none where the
--- told files lack it, or the shelf's count of failed reads rose from before to now.
+-- The result of reading a file: its known contents, or some bytes if the contents of files aren't known. There are none
+-- if the known files lack it, or if the shelf's count of failed reads rose from before to now.
 abbrev pub Gives : Option Files → ℕ → ℕ → List ℕ → Option (List ℕ) → Type 0
 Gives None before now name None = Rose before now
 Gives None before now name (Some bytes) = Unit {0}
 Gives (Some files) before now name None = (get files name ≡ None) ⊎ Rose before now
 Gives (Some files) before now name (Some bytes) = get files name ≡ Some bytes
 
--- The text was put whole, and its status is the answer. Or the sink failed: the answer is 4, its count rose, and it
--- gained nothing or a part of the text from its front.
+-- The text was printed whole, and the exit status is its status. Or the sink failed: the exit status is 4, its count
+-- rose, and it gained nothing or a proper prefix of the text.
 abbrev pub PutsSaid : SinkSeen → SinkSeen → Said → ℕ → Type 0
 PutsSaid before after said status =
     ((status ≡ said.status) × Adds before.held after.held said.text × (after.faults ≡ before.faults))
@@ -46,8 +46,8 @@ pub record RefusedWrite (name : List ℕ) (before after : ShelfSeen) : Type 0 wh
   pub tells : is_some after.files ≡ is_some before.files
   pub reads : after.read_faults ≡ before.read_faults
 
--- What is left of an ending, with the status that is answered. A file that couldn't be written is said in place of what
--- was done, and so is want of memory of that write itself. Where it is written, nothing else of the shelf changed.
+-- The files after an ending, with the exit status. A file that couldn't be written is reported instead of the finished
+-- work, and so is want of memory in that write. If it is written, nothing else of the shelf changed.
 pub data LeftBy (before after : Outside) (status : ℕ) : Ending → Type 0 where
   Unread : (name : List ℕ) → OnlyReads before.shelf after.shelf → PutsSaid before.sink after.sink (unread name) status
       → LeftBy before after status (IsUnread name)

@@ -1,6 +1,6 @@
 -- The paths that a run shows, and the levels that its blocks have at the end, over the random words that a seed makes.
--- (Stefanov et al., Path ORAM, CCS 2013. Nothing is said of chance: the words are those that their source is said to
--- give.)
+-- (Stefanov et al., Path ORAM, CCS 2013. Nothing is stated about probability: the words are those that their source is
+-- specified to give.)
 use Rattle.std.specs.Prelude.{◌≡◌, ℕ, ◌+◌, ◌-◌, ◌<◌, ◌≤◌, ℤ, List, [], length, map, Option, slice_index_or}
 use Rattle.lt_isa.specs.Object.{Parts, blocks_of}
 use Rattle.lt_isa.specs.Start.{trace}
@@ -20,8 +20,8 @@ abbrev pub words_drawn : Parts → List (List ℤ) → ℕ → ℕ → ℕ → L
 words_drawn o inputs cycles seed b =
     first_words (blocks_of o b + length (touched o inputs cycles b)) (seeded_words seed 0 b)
 
--- Bank b shows one path an access, with the leaf of the word that the access reads. At the end its blocks stand on
--- levels to which the accesses may lead.
+-- Bank b shows one path for each access, with the leaf of the word that the access reads. At the end its blocks are on
+-- levels that the accesses may reach.
 pub record OfBank (o : Parts) (inputs : List (List ℤ)) (cycles seed b : ℕ) (paths : List Leaves)
     (levels : List (Option ℕ)) : Type 0 where
   pub height : ℕ

@@ -18,7 +18,7 @@ use Rattle.ghost_cli.specs.Showing.{nothing_seen}
 use Rattle.ghost_cli.specs.Work.{Work, Ends, Ending, MayEnd, said_at}
 use Rattle.ghost_cli.specs.Outside.{Gives, OnlyReads, LeavesShelf}
 
--- what is left of a work is this one, whatever later reads do to the shelf's count
+-- the rest of a work is this one, regardless of what later reads do to the shelf's count
 abbrev pub HasLeft : ShelfSeen → Work → Work → Type 0
 HasLeft before work rest = (now : ℕ) (ending : Ending) → MayEnd (Gives before.files before.read_faults now) rest ending
     → MayEnd (Gives before.files before.read_faults now) work ending
@@ -30,8 +30,8 @@ pub data Stops (before after : ShelfSeen) (work : Work) (said : Said) : Type 0 w
       → MayEnd (Gives before.files before.read_faults after.read_faults) work ending → LeavesShelf ending before after
       → said ≡ said_at ending → Stops before after work said
 
--- A call that put nothing leaves this to be said: the words ask for no work, or memory ran out before a write, or the
--- work ends so without one.
+-- A call that printed nothing leaves this to be printed: the words request no work, or memory ran out before a write,
+-- or the work ends so without one.
 pub data LeavesToSay (before after : ShelfSeen) (asked : Option Work) (said : Said) : Type 0 where
   NothingAsked : asked ≡ None → after ≡ before → said ≡ usage → LeavesToSay before after asked said
   NoRoomYet : OnlyReads before after → said ≡ no_memory → LeavesToSay before after asked said
@@ -44,12 +44,12 @@ EndsWorkWith question next said = (said ≡ no_memory)
     × (next answer ≡ Ends nothing_seen verdict)
     × (said ≡ comes_to verdict))
 
--- what is said of a fault of inputs: it, or that memory ran out
+-- the line for a fault of inputs: the fault, or that memory ran out
 abbrev pub SaysInputs : InputError → Said → Type 0
 SaysInputs first said =
     (said ≡ no_memory) ⊎ ((shown : InputFault) × Shows first shown × (said ≡ comes_to (BadInput shown)))
 
--- what is said of bytes that weren't decoded, and of a text that wasn't assembled: their fault, or that memory ran out
+-- the line for bytes that weren't decoded, and for a text that wasn't assembled: their fault, or that memory ran out
 abbrev pub SaysObject : DecodeError → Said → Type 0
 SaysObject object.Memory said = said ≡ no_memory
 SaysObject (object.Truncated at) said = said ≡ comes_to (Malformed (object.Truncated at))
@@ -66,12 +66,12 @@ SaysText (text.UnknownName n) said = said ≡ comes_to (BadAssembly (text.Unknow
 SaysText (text.TwiceNamed n) said = said ≡ comes_to (BadAssembly (text.TwiceNamed n))
 SaysText (text.OverLimit n) said = said ≡ comes_to (BadAssembly (text.OverLimit n))
 
--- what is said of a source's fault, or where there is none because memory ran out
+-- the line for a source's fault, or, without a fault, that memory ran out
 abbrev pub SaysSource : Option SourceFault → Said → Type 0
 SaysSource (Some shown) said = said ≡ comes_to (BadSource shown)
 SaysSource None said = said ≡ no_memory
 
--- what is said of an object that gets no notes: why, or that memory ran out
+-- the line for an object that gets no notes: the reason, or that memory ran out
 abbrev pub SaysNotes : InferError → Said → Type 0
 SaysNotes notes.Memory said = said ≡ no_memory
 SaysNotes (notes.Dead pc) said = said ≡ comes_to (NoNotes (notes.Dead pc))

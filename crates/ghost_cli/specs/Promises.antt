@@ -28,7 +28,7 @@ use Rattle.ghost_cli.specs.Work.{Work, Ending, MayEnd, Holds, MayRead, MayWrite,
 use Rattle.ghost_cli.specs.Steps.{with_accepted}
 use Rattle.ghost_cli.specs.Outside.{Outside, Explains, OnlyReads, RefusedWrite}
 
--- The answers of the program: what is said, and the files afterwards, where the shelf has these files and nothing
+-- The answers of the program: the printed text and the files afterwards, if the shelf has these files and nothing
 -- fails.
 pub data Answers (files : Files) : Option Work → Said → Files → Type 0 where
   NoAnswer : Answers files None usage files
@@ -51,7 +51,7 @@ pub record IsAnswered (asked : Option Work) (before after : Outside) (status : �
   pub put : Adds before.sink.held after.sink.held said.text
   pub left : after.shelf.files ≡ Some afterwards
 
--- a file that is there couldn't be read: a read failed, and its line was put
+-- an existing file couldn't be read: a read failed, and its line was printed
 pub record IsUnreadable (asked : Option Work) (before after : Outside) (status : ℕ) (files : Files) : Type 0 where
   pub name : List ℕ
   pub bytes : List ℕ
@@ -62,7 +62,7 @@ pub record IsUnreadable (asked : Option Work) (before after : Outside) (status :
   pub put : Adds before.sink.held after.sink.held (unread name).text
   pub left : OnlyReads before.shelf after.shelf
 
--- status 3: the line of a file that was to be read is all that was put; told files lack it, or a read failed
+-- status 3: only the line of a file that was to be read was printed; the known files lack it, or a read failed
 pub record ReadFailed (asked : Option Work) (before after : Outside) : Type 0 where
   pub name : List ℕ
   pub read : IsRead asked name
@@ -71,7 +71,7 @@ pub record ReadFailed (asked : Option Work) (before after : Outside) : Type 0 wh
   pub cause : MatchOption before.shelf.files ⊥ (λ files. get files name ≡ None)
       ⊎ Rose before.shelf.read_faults after.shelf.read_faults
 
--- a write failed, and its whole line was put
+-- a write failed, and its whole line was printed
 pub record WriteFailed (asked : Option Work) (before after : Outside) : Type 0 where
   pub name : List ℕ
   pub output : IsOutput asked name
@@ -85,13 +85,13 @@ pub record WriteStarved (asked : Option Work) (before after : Outside) : Type 0 
   pub starved : Rose before.shelf.starved after.shelf.starved
   pub left : RefusedWrite name before.shelf after.shelf
 
--- status 5: its line is all that was put, and no file and no other count than that of failed reads changed, but by a
--- write that itself wanted memory
+-- status 5: only its line was printed, and no file and no count except that of failed reads changed, unless by a write
+-- that itself ran out of memory
 pub record NoMemory (asked : Option Work) (before after : Outside) : Type 0 where
   pub put : Adds before.sink.held after.sink.held no_memory.text
   pub cause : OnlyReads before.shelf after.shelf ⊎ WriteStarved asked before after
 
--- the counts of failed writes and of failed puts are as before
+-- the counts of failed writes and of failed prints are as before
 pub record IsCalm (before after : Outside) : Type 0 where
   pub writes : after.shelf.write_faults ≡ before.shelf.write_faults
   pub puts : after.sink.faults ≡ before.sink.faults
@@ -102,8 +102,8 @@ pub record OnlyOutput (asked : Option Work) (before after : Outside) : Type 0 wh
   pub output : IsOutput asked name
   pub others : SameBut name before.shelf.files after.shelf.files
 
--- What stands at status 4 where no write failed and the files are told: the files of an answer; or the line of status 3
--- couldn't be put, or that of status 5, and the files are as at that status.
+-- The files at status 4, if no write failed and the contents of files are known: the files of an answer; or the line of
+-- status 3 or of status 5 couldn't be printed, and the files are as at that status.
 pub data StandsAtFour (asked : Option Work) (before after : Outside) (files : Files) : Type 0 where
   OfAnswer : (said : Said) (afterwards : Files)
       → Answers files asked said afterwards → after.shelf.files ≡ Some afterwards
@@ -114,7 +114,7 @@ pub data StandsAtFour (asked : Option Work) (before after : Outside) (files : Fi
   NoMemoryCut : AddsLess before.sink.held after.sink.held no_memory.text
       → OnlyReads before.shelf after.shelf ⊎ WriteStarved asked before after → StandsAtFour asked before after files
 
--- a sink that tells its bytes gained just this text
+-- a sink whose bytes are known gained exactly this text
 abbrev pub Gained : Option (List ℕ) → Option (List ℕ) → List ℕ → Type 0
 Gained (Some before) (Some after) text = after ≡ before ++ text
 Gained (Some before) None text = ⊥
@@ -125,8 +125,8 @@ Gained None None text = ⊥
 abbrev pub IsDone : ℕ → Type 0
 IsDone status = (status ≡ 0) ⊎ (status ≡ 10)
 
--- the file spells an object that is accepted, and so oblivious; its runs on inputs that agree show the same leaves of
--- the oblivious banks, but for a rearrangement of the random words
+-- the file encodes an object that is accepted, and so oblivious; its runs on inputs that agree show the same leaves of
+-- the oblivious banks, up to a permutation of the random words
 pub record IsSafe (files : Files) (name : List ℕ) : Type 0 where
   pub bytes : List ℕ
   pub o : Parts
@@ -136,9 +136,9 @@ pub record IsSafe (files : Files) (name : List ℕ) : Type 0 where
   pub oblivious : IsOblivious o
   pub leaves : LeavesAlike o
 
--- The text spells a program, and of the files only the output changed: it has the bytes of the program's compiled
--- object, whose runs show and leave what the program means, and take and give text as the program does. Where the text
--- was read with procedures, that is what its calls mean.
+-- The text parses as a program, and only the output file changed: it has the bytes of the program's compiled object,
+-- whose runs show and leave what the program means, and read and write text as the program does. If the text was read
+-- with procedures, that is what its calls mean.
 pub record IsWrittenFor (procs : Bool) (files afterwards : Files) (text output : List ℕ) (target : Target)
     : Type 0 where
   pub p : Source
@@ -157,8 +157,8 @@ pub record IsCompiledFile (procs : Bool) (files afterwards : Files) (source outp
   pub there : get files source ≡ Some text
   pub file : IsWrittenFor procs files afterwards text output target
 
--- The file spells an object, and of the files only the output changed: it has the bytes of the object with its least
--- notes. So it is safe.
+-- The file encodes an object, and only the output file changed: it has the bytes of the object with its least notes. So
+-- it is safe.
 pub record IsInferredFile (files afterwards : Files) (object output : List ℕ) : Type 0 where
   pub bytes : List ℕ
   pub o : Parts
@@ -176,32 +176,35 @@ pub record Promises (asked : Option Work) (before after : Outside) (status : ℕ
 
 -- What follows from that, one law a field (`PromisesFollow`).
 pub record CallLaws (asked : Option Work) (before after : Outside) (status : ℕ) : Type 0 where
-  -- Told files: status, text and files are those of an answer, unless a file that is there couldn't be read.
+  -- If the contents of files are known, status, text and files are those of an answer, unless an existing file couldn't
+  -- be read.
   pub answers : (files : Files) → before.shelf.files ≡ Some files → status ≢ 4 → status ≢ 5
       → IsAnswered asked before after status files ⊎ IsUnreadable asked before after status files
-  -- Status 2 says that the words ask for no work; where they ask for none, only a failed put or want of memory hides
-  -- it.
+  -- Status 2 means that the words request no work; if they request none, only a failed print or want of memory gives
+  -- another status.
   pub usage : status ≡ 2 → asked ≡ None
   pub no_work : asked ≡ None → (status ≡ 2) ⊎ (status ≡ 4) ⊎ (status ≡ 5)
-  -- Status 3, 4 and 5 have their causes; the whole line of a failed write stands only where a write failed.
+  -- Statuses 3, 4 and 5 have their causes; the whole line of a failed write is printed only if a write failed.
   pub unread : status ≡ 3 → ReadFailed asked before after
   pub failed : status ≡ 4 → Rose before.sink.faults after.sink.faults ⊎ WriteFailed asked before after
   pub line : status ≡ 4 → (name : List ℕ) → Gained before.sink.held after.sink.held (unwritten name).text
       → Rose before.shelf.write_faults after.shelf.write_faults
   pub no_room : status ≡ 5 → NoMemory asked before after
-  -- At every other status no write, no put and no flush has failed.
+  -- At every other status no write, no print and no flush has failed.
   pub calm : status ≢ 4 → IsCalm before after
   -- No read has failed but at 3, 4 and 5, and no write has wanted memory but at 5 and 4.
   pub reads : status ≢ 3 → status ≢ 4 → status ≢ 5 → after.shelf.read_faults ≡ before.shelf.read_faults
   pub starved : status ≢ 5 → status ≢ 4 → after.shelf.starved ≡ before.shelf.starved
-  -- Only the output changes, and only at the statuses 0, 4 and 5; whether the files are told never does.
+  -- Only the output file changes, and only at the statuses 0, 4 and 5; whether the contents of files are known never
+  -- does.
   pub others : (after.shelf.files ≡ before.shelf.files) ⊎ OnlyOutput asked before after
   pub last : status ≢ 0 → status ≢ 4 → status ≢ 5 → OnlyReads before.shelf after.shelf
   pub tells : is_some after.shelf.files ≡ is_some before.shelf.files
-  -- What stands at status 4.
+  -- The files at status 4.
   pub stands : (files : Files) → before.shelf.files ≡ Some files → status ≡ 4
       → (Rose before.shelf.write_faults after.shelf.write_faults → ⊥) → StandsAtFour asked before after files
-  -- Where the files give an answer that is done, and no count rose, the work is done, unless memory ran out.
+  -- If the files give an answer by which the work is done, and no count rose, then the work is done, unless memory ran
+  -- out.
   pub complete : (files : Files) → before.shelf.files ≡ Some files
       → ((said : Said) (afterwards : Files) → Answers files asked said afterwards → IsDone said.status)
       → (Rose before.shelf.read_faults after.shelf.read_faults → ⊥)
@@ -213,7 +216,7 @@ pub record CallLaws (asked : Option Work) (before after : Outside) (status : ℕ
   -- So is the object of each core of a bus whose work is done.
   pub bus : (pairs : List Pair) (cycles : ℕ) → asked ≡ Some (bus_work pairs cycles) → IsDone status
       → (files : Files) → before.shelf.files ≡ Some files → (p : Pair) → Contains pairs p → IsSafe files p.object
-  -- A compilation that is done leaves the object file of the program that the source spells.
+  -- A successful compilation leaves the object file of the program that the source parses as.
   pub compiled : (source output : List ℕ) (target : Target) (procs : Bool)
       → asked ≡ Some (compile_work source output target procs) → status ≡ 0
       → (files : Files) → before.shelf.files ≡ Some files
@@ -224,8 +227,8 @@ pub record CallLaws (asked : Option Work) (before after : Outside) (status : ℕ
       → (files : Files) → before.shelf.files ≡ Some files
       → (afterwards : Files) × (after.shelf.files ≡ Some afterwards)
       × IsInferredFile files afterwards object output
-  -- A sample is done or spent, or a put, a write or memory failed. One that is done leaves the object file of its
-  -- program.
+  -- A sample is done or exceeds its limit, or a print, a write or memory failed. If it is done, it leaves the object
+  -- file of its program.
   pub sampled : (fast : Bool) (items : ℕ) (output : List ℕ) → asked ≡ Some (sample_work fast items output)
       → IsDone status ⊎ (status ≡ 4) ⊎ (status ≡ 5)
   pub sample : (fast : Bool) (items : ℕ) (output : List ℕ) → asked ≡ Some (sample_work fast items output) → status ≡ 0

@@ -22,8 +22,8 @@ use Rattle.ghost_cli.specs.Ran.{RanTo}
 use Rattle.ghost_cli.specs.Sources.{IsFirstSourceFault, SpellsTyped}
 use Rattle.ghost_cli.specs.Texts.{Said, comes_to, no_memory}
 
--- Why bytes give no accepted object: memory ran out; or they spell no object, and this is their first fault; or the
--- check refuses their object, and this is its first refusal.
+-- Why bytes give no accepted object: memory ran out; or they don't encode an object, and this is their first fault; or
+-- the check rejects their object, and this is its first refusal.
 pub data NotChecked (bytes : List ℕ) (said : Said) : Type 0 where
   NoRoom : said ≡ no_memory → NotChecked bytes said
   NoObject : (fault : DecodeError) → IsFirstObjectFault bytes fault → said ≡ comes_to (Malformed fault)
@@ -31,7 +31,7 @@ pub data NotChecked (bytes : List ℕ) (said : Said) : Type 0 where
   NotAccepted : (o : Parts) (place : ℕ) (reason : Reason) → SpellsObject bytes o → FirstRefusal o place reason
       → said ≡ comes_to (Refused place reason) → NotChecked bytes said
 
--- Why a text gives no object file: memory ran out; or it spells no program, and this is its first fault; or the program
+-- Why a text gives no object file: memory ran out; or it isn't a program, and this is its first fault; or the program
 -- has no room on the machine.
 pub data NotCompiled (procs : Bool) (text : List ℕ) (target : Target) (said : Said) : Type 0 where
   NoRoomLeft : said ≡ no_memory → NotCompiled procs text target said
@@ -40,8 +40,8 @@ pub data NotCompiled (procs : Bool) (text : List ℕ) (target : Target) (said : 
   NoRoomOnMachine : (p : Source) (fault : SourceFault) → SpellsTyped procs text p → IsCompiled p target (Err fault)
       → said ≡ comes_to (BadSource fault) → NotCompiled procs text target said
 
--- Why an object and inputs give no run: memory ran out; or there is no accepted object; or the bytes give it no inputs,
--- and this is their first fault.
+-- Why an object and inputs give no run: memory ran out; or the bytes give no accepted object; or the bytes give it no
+-- inputs, and this is their first fault.
 pub data NotRun (object input : List ℕ) (said : Said) : Type 0 where
   NoRoomToRun : said ≡ no_memory → NotRun object input said
   NotRunnable : NotChecked object said → NotRun object input said

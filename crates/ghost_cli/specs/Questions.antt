@@ -1,4 +1,4 @@
--- What the work of a verb asks of what it has read: the questions, the answers that each may have, and which of them
+-- What the work of a verb asks about what it has read: the questions, the possible answers to each, and which of them
 -- are right. A verb that asks something new adds it here.
 use Rattle.std.specs.Prelude.{◌≡◌, Bool, true, false, ℕ, ℤ, List, Option, Result, Ok, Err, MatchOption, MatchResult}
 use Rattle.gr_word.specs.declared.variables.Want.{Want}
@@ -49,9 +49,9 @@ pub data Question : Type 0 where
   WhatIsInferred : (o : Parts) → Question
 
 -- an object, a program or inputs, or the first fault; the first refusal, if there is one; the cycle of the halt, if
--- there is one; the joined list of several runs; what is shown with its paths; the values that are left, if there are
--- any; an object file of a program, or what lacks room; what is made of so many items; the object with its least notes,
--- or why it gets none
+-- there is one; the joined list of several runs; the trace with its paths; the final values, if there are any; an
+-- object file of a program, or what lacks room; the sample for this many items; the object with its least notes, or why
+-- it gets none
 abbrev pub Answer : Question → Type 0
 Answer (WhichObject bytes) = Result Parts DecodeError
 Answer (WhichAssembly text) = Result Parts AsmError
@@ -81,8 +81,8 @@ AreInputs wants json (Ok inputs) = inputs_of wants (json_of json) ≡ Ok inputs
 AreInputs wants json (Err shown) =
     (first : InputError) × (inputs_of wants (json_of json) ≡ Err first) × Shows first shown
 
--- Which answer is right: by `MatchResult` what is true of what is found, and then of what is wrong; by `MatchOption`
--- what is true where there is nothing, and then of what there is.
+-- Which answer is right: `MatchResult` gives what is true of a result and then of a fault; `MatchOption` gives what is
+-- true if there is none and then of what there is.
 abbrev pub IsRight : (question : Question) → Answer question → Type 0
 IsRight (WhichObject bytes) answer = MatchResult answer (SpellsObject bytes) (IsFirstObjectFault bytes)
 IsRight (WhichAssembly text) answer = MatchResult answer (SpellsInText text) (IsFirstTextFault text)

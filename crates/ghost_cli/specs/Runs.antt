@@ -1,4 +1,4 @@
--- The run of an object on inputs within a number of cycles, and what is put and written of it.
+-- The run of an object on inputs within a number of cycles, and what is printed and written of it.
 use Rattle.std.specs.Prelude.{◌≡◌, ℕ, Bool, ℤ, List, Option, Some, None}
 use Rattle.lt_isa.specs.Object.{Parts}
 use Rattle.lt_isa.specs.Trace.{Stamped, HaltsAt}

@@ -26,8 +26,7 @@ samples_on n output made =
 abbrev pub sample_work : Bool → ℕ → List ℕ → Work
 sample_work fast n output = Asks (WhatIsMade fast n) (samples_on n output)
 
--- The work for so many items and this name, with the seed that an option gives. Whatever the seed is, the work is the
--- same.
+-- The work for this many items and this name, with the seed that an option gives. The work is the same for every seed.
 abbrev pub sample_named : (items output seed fast : Option (List ℕ)) → Option Work
 sample_named items output seed fast =
     option_and_then (λ text. option_and_then

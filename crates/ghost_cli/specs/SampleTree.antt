@@ -1,4 +1,4 @@
--- For the proofs and for private clauses only: the tree of the program that the sample's text spells.
+-- Only for the proofs and for private clauses: the tree of the program that the sample's text parses as.
 use Rattle.std.specs.Prelude.{ℕ, pos, List, [], ◌∷◌, codes, Option, Some, None}
 use Rattle.gr_word.specs.declared.operations.Op.TheVariants.{Add, Rem}
 use Rattle.gr_word.specs.declared.operations.Cmp.TheVariants.{Lt}

@@ -19,7 +19,7 @@ pub record SampleIsReady (fast : Bool) (n : ℕ) (p : Source) (o : Parts) : Type
   pub in_range : IsInRange o
   pub compiled : IsCompiledTo p (sample_target fast) (spelling o)
 
--- the run halted at a cycle and showed so many accesses
+-- the run halted at a cycle and showed this many accesses
 pub record RanSo (o : Parts) (run : CountedRun) : Type 0 where
   pub halts : HaltsAt (sample_trace o) run.cycles
   pub plain : run.counts.ram ≡ how_many is_plain (sample_trace o)

@@ -1,6 +1,6 @@
--- The random words of a run's oblivious banks. Each bank has a source of its own, which the run's seed, the number of
--- its core on a bus and the bank's number make. (rand_chacha: ChaCha20Rng; rand_core: from_seed and next_u64. Which
--- numbers of ChaCha its words are is said there.)
+-- The random words of a run's oblivious banks. Each bank has its own source, made from the run's seed, the number of
+-- its core on a bus and the bank's number. (rand_chacha: ChaCha20Rng; rand_core: from_seed and next_u64, which specify
+-- its words.)
 use Rattle.std.specs.Prelude.{ℕ, List, ◌∷◌, ◌++◌, replicate}
 use Rattle.std.specs.Int.{w64, to_le_bytes}
 use Rattle.rand_core.specs.Stream.{Stream}
@@ -11,7 +11,7 @@ use Rattle.rand_chacha.specs.ChaCha.{ChaCha, next_word, of_seed}
 unfoldable pub seed_bytes : ℕ → ℕ → ℕ → List ℕ
 seed_bytes seed core b = to_le_bytes w64 seed ++ b ∷ core ∷ replicate 22 0
 
--- what a generator of this kind will answer
+-- the words that a generator of this kind will return
 abbrev pub stream_from : ChaCha → Stream
 stream_from source = stream_of (steps_u32 (next_word 10)) source
 

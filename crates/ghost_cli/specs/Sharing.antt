@@ -45,7 +45,7 @@ AreHalts (es ∷ traces) (h ∷ hs) = HaltOf es h × AreHalts traces hs
 abbrev pub halts_of : List (Core (Oram ChaCha)) → List (Option ℕ)
 halts_of cores = map (λ c. c.halted) cores
 
--- a text was put; or the sink failed
+-- a text was printed, or the sink failed
 abbrev pub PutsLines : SinkSeen → SinkSeen → List ℕ → Bool → Type 0
 PutsLines before after text true = Adds before.held after.held text × (after.faults ≡ before.faults)
 PutsLines before after text false = Rose before.faults after.faults × AddsLess before.held after.held text
@@ -56,13 +56,13 @@ pub record PutsJoined (before after : SinkSeen) (traces : List (List Stamped)) (
   pub joins : IsJoined traces joined
   pub put : PutsLines before after (transfer_lines joined) all
 
--- the lines of how cores ended were put, and the status that goes with them is the answer; or the sink failed at one
+-- the lines about how cores ended were printed, and their status is the exit status; or the sink failed at one
 pub record PutsHalts (before after : SinkSeen) (halts : List (Option ℕ)) (status : ℕ) : Type 0 where
   pub put : PutsSaid before after
       (record { status = verdict_status (Shared (all_halted halts)); text = core_lines 0 halts }) status
   pub some : status ≡ 4 → 1 ≤ length halts
 
--- the lines of a bus were put, all, or the sink failed
+-- all lines of a bus were printed, or the sink failed
 pub record PutsShared (before after : SinkSeen) (traces : List (List Stamped)) (status : ℕ) : Type 0 where
   pub joined : List Transfer
   pub joins : IsJoined traces joined

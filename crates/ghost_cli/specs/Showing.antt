@@ -1,5 +1,5 @@
--- What `trace` puts around its last line: the lines of events and of paths, and the levels of blocks. And what `bus`
--- puts: the lines of transfers, and of how each core ended.
+-- What `trace` prints around its last line: the lines of events and of paths, and the levels of blocks. And what `bus`
+-- prints: the lines of transfers, and of how each core ended.
 use Rattle.std.specs.Prelude.{◌≡◌, ℕ, ◌+◌, Bool, List, [], ◌∷◌, ◌++◌, codes, decimal, flat_map, map, take, Option, Some, None}
 use Rattle.lt_isa.specs.Trace.{Stamped}
 use Rattle.processor.specs.Watching.{WatcherTold, AnEvent, APath}
@@ -36,8 +36,8 @@ abbrev pub core_lines : ℕ → List (Option ℕ) → List ℕ
 core_lines core [] = []
 core_lines core (halt ∷ halts) = core_line core halt ++ core_lines (core + 1) halts
 
--- What is seen before the last line, and for each oblivious bank from number 2 on the levels of its blocks behind it.
--- Of a bus its transfers are seen, and how each core ended.
+-- The lines before the last one, and the lines after it: for each oblivious bank from number 2 on the levels of its
+-- blocks. For a bus the lines of its transfers and of how each core ended.
 pub record Seen : Type 0 where
   pub shown : List WatcherTold
   pub levels : List (List (Option ℕ))

@@ -1,5 +1,5 @@
--- Source texts: their limit, and what a text spells that is read with procedures or without, or its first fault (this
--- project's profile).
+-- Source texts: their limit, and what a text parses as, with procedures or without, or its first fault (this project's
+-- profile).
 use Rattle.std.specs.Prelude.{◌≡◌, ℕ, Bool, true, false, List, Option, Some, None, Ok, Err}
 use Rattle.src_lexer.specs.Splits.{Splits}
 use Rattle.src_lexer.specs.declared.tokens.Token.{Token}
@@ -32,8 +32,8 @@ use Rattle.ghost_cli.specs.declared.source_faults.SourceFault.TheVariants as fau
 abbrev pub source_limit : ℕ
 source_limit = 1048576
 
--- Tokens that are a file with procedures, and the program that is made of it: no fault of its calls stands in the way,
--- and the program does with the file's own variables what the file means.
+-- Tokens that are a file with procedures, and the program that is made of it: its calls have no fault, and the program
+-- does with the file's own variables what the file means.
 pub record IsMadeOf (tokens : List Token) (p : Source) : Type 0 where
   pub file : File
   pub spelled : SpellsFile limits (token_kinds tokens) file
@@ -41,7 +41,7 @@ pub record IsMadeOf (tokens : List Token) (p : Source) : Type 0 where
   pub made : p ≡ inlined_file file
   pub means : KeepsMeaning file p
 
--- a text that spells such a file
+-- a text that parses as such a file
 pub record SpellsCalls (text : List ℕ) (p : Source) : Type 0 where
   pub tokens : List Token
   pub split : Splits 0 text (Ok tokens)
@@ -56,7 +56,7 @@ abbrev pub Spells : Bool → List ℕ → Source → Type 0
 Spells false text p = SpellsSource text p
 Spells true text p = SpellsCalls text p
 
--- the text spells a program that is well typed and within the limits that don't depend on a machine
+-- the text parses as a program that is well typed and within the limits that don't depend on a machine
 pub record SpellsTyped (procs : Bool) (text : List ℕ) (p : Source) : Type 0 where
   pub spells : Spells procs text p
   pub typed : IsTyped p

@@ -1,5 +1,5 @@
--- Steps that several verbs take: find the object that a file spells, accepted or not, the program that it spells, and
--- the inputs that it gives.
+-- Steps that several verbs take: find the object that a file encodes, accepted or not, the program that it parses as,
+-- and the inputs that it gives.
 use Rattle.std.specs.Prelude.{ℕ, ℤ, Bool, List, Option, Some, None, Result, Ok, Err}
 use Rattle.gr_word.specs.declared.variables.Want.{Want}
 use Rattle.lt_isa.specs.Object.{Parts}
@@ -30,7 +30,7 @@ abbrev pub on_judged : Work → Option (ℕ × Reason) → Work
 on_judged next None = next
 on_judged next (Some refusal) = Ends nothing_seen (Refused refusal.0 refusal.1)
 
--- with the object that the file of this name spells
+-- with the object that the file of this name encodes
 abbrev pub with_object : List ℕ → (Parts → Work) → Work
 with_object name next = Reads name object_limit (λ bytes. Asks (WhichObject bytes) (or_ends Malformed next))
 
@@ -38,11 +38,11 @@ with_object name next = Reads name object_limit (λ bytes. Asks (WhichObject byt
 abbrev pub with_accepted : List ℕ → (Parts → Work) → Work
 with_accepted name next = with_object name (λ o. Asks (WhetherAccepted o) (on_judged (next o)))
 
--- with the object that the file of this name spells in assembly
+-- with the object that the file of this name writes in assembly
 abbrev pub with_assembly : List ℕ → (Parts → Work) → Work
 with_assembly name next = Reads name text_limit (λ text. Asks (WhichAssembly text) (or_ends BadAssembly next))
 
--- with the well-typed program that the file of this name spells, read with procedures or without
+-- with the well-typed program that the file of this name parses as, with procedures or without
 abbrev pub with_source : Bool → List ℕ → (Source → Work) → Work
 with_source procs name next = Reads name source_limit (λ text. Asks (WhichSource procs text) (or_ends BadSource next))
 

@@ -25,7 +25,7 @@ use Rattle.ghost_cli.specs.declared.replies.Figures.{Figures}
 use Rattle.ghost_cli.specs.declared.replies.Reply.{Reply}
 use Rattle.ghost_cli.specs.declared.replies.Reply.TheVariants as reply
 
--- what is wrong with a file that spells no object, and where
+-- why a file doesn't encode an object, and where
 abbrev pub object_fault : DecodeError → List ℕ
 object_fault (object.Truncated at) = codes "truncated " ++ decimal at
 object_fault object.BadMagic = codes "magic"
@@ -34,7 +34,7 @@ object_fault (object.BadField at) = codes "field " ++ decimal at
 object_fault (object.TrailingBytes at) = codes "trailing " ++ decimal at
 object_fault object.Memory = codes "memory"
 
--- what is wrong with a text that spells no object, and in which line
+-- why a text isn't an object, and in which line
 abbrev pub text_fault : AsmError → List ℕ
 text_fault (text.BadLine n) = codes "line " ++ decimal n
 text_fault (text.BadNumber n) = codes "number " ++ decimal n
@@ -100,8 +100,8 @@ notes_fault (notes.Refused pc reason) = codes "refused " ++ decimal pc ++ codes 
 notes_fault (notes.TooMany count) = codes "notes " ++ decimal count
 notes_fault notes.Memory = codes "memory"
 
--- The line of what a verb's own work comes to, and its status: never 2 to 5, nor 11. A run of a bus has no line of its
--- own: its last ones are those of its cores.
+-- The line about a verb's own work, and its status: never 2 to 5, nor 11. A run of a bus has no line of its own: its
+-- last lines are those of its cores.
 abbrev pub verdict_text : Verdict → List ℕ
 verdict_text Accepted = codes "accepted\n"
 verdict_text (Traced true) = codes "end halted\n"
@@ -149,7 +149,7 @@ done_text Compiled = codes "compiled"
 done_text (Sampled figures) = figures_text figures
 done_text (Inferred count) = codes "inferred " ++ decimal count
 
--- a status and the text that is put with it
+-- a status and its text
 pub record Said : Type 0 where
   pub status : ℕ
   pub text : List ℕ
@@ -178,7 +178,7 @@ comes_to verdict = record { status = verdict_status verdict; text = verdict_text
 abbrev pub wrote : Done → Said
 wrote done = record { status = 0; text = done_text done ++ codes "\n" }
 
--- what is said for a reply
+-- the text of a reply
 abbrev pub said : Reply → Said
 said reply.Usage = usage
 said (reply.Unread name) = unread name.now

@@ -1,4 +1,4 @@
--- The lines of a run over recursive banks were put. For the contract of a private function, and for proofs.
+-- The lines of a run over recursive banks were printed. For the contract of a private function, and for proofs.
 use Rattle.std.specs.Prelude.{◌≡◌, ℕ, ℤ, Bool, List, []}
 use Rattle.gr_outside.specs.Sink.{SinkSeen}
 use Rattle.lt_isa.specs.Object.{Parts}

@@ -7,8 +7,8 @@ use Rattle.ghost_cli.specs.declared.verbs.Argument.TheVariants.{Word, Words, Val
 use Rattle.ghost_cli.specs.Options.{two_named}
 use Rattle.ghost_cli.specs.Work.{Work}
 
--- A word that must stand in its place; 2 to 16 words that must stand there under one name; an option with a value; and
--- an option without one.
+-- A word that is required at its position; 2 to 16 adjacent words under one name; an option with a value; and an option
+-- without one.
 abbrev pub rule_for : Argument → Text → Rule
 rule_for Word name = record (new_rule name) { required = true }
 rule_for Words name = record (new_rule name) {
@@ -18,8 +18,8 @@ rule_for Words name = record (new_rule name) {
 rule_for Valued name = record (new_rule name) { long = Some name }
 rule_for Flag name = record (new_rule name) { long = Some name; action = Some SetTrue }
 
--- The verb's name; how words stand in their places, and under which names; its options with a value; its options without
--- one; and the work that is asked for by what is found for all these.
+-- The verb's name; its positional words and their names; its options with a value; its options without one; and the
+-- work that is requested by what is found for all these.
 pub record VerbRow : Type 0 where
   pub name : Text
   pub place : Argument

@@ -1,4 +1,4 @@
--- What a sink holds of the lines of a trace that is put on it line by line.
+-- The bytes of a sink to which a trace is written line by line.
 use Rattle.std.specs.Prelude.{◌≡◌, false, ℕ, ◌-◌, ◌≤◌, Bool, true, List, [], ◌∷◌, ◌++◌, length, take, drop, Option, Some, None, is_some}
 use Rattle.lt_isa.specs.Trace.{Stamped}
 use Rattle.gr_base.specs.Counts.{Rose}
@@ -14,15 +14,15 @@ use Rattle.bus_arbiter.specs.Transfers.{Transfer}
 use Rattle.ghost_cli.specs.Showing.{run_seen, shown_line, shown_lines, transfer_line, transfer_lines}
 use Rattle.ghost_cli.specs.Work.{IsVerdict, said_at}
 
--- what has a line of what is told: every event, and a path only where paths are put
+-- which of a watcher's observations have a line: every event, and a path only if paths are printed
 abbrev pub kept : Bool → List WatcherTold → List WatcherTold
 kept paths [] = []
 kept paths (AnEvent event ∷ told) = AnEvent event ∷ kept paths told
 kept true (APath stamp bank leaves ∷ told) = APath stamp bank leaves ∷ kept true told
 kept false (APath stamp bank leaves ∷ told) = kept false told
 
--- From a place on the sink holds this text of lines. Where no put has failed, that is all; else the lines stop at a
--- mark, and behind it stands what the failed put left.
+-- From a position on the sink holds this text of lines. If no print has failed, that is all; otherwise the lines end at
+-- a mark, and what the failed print left follows.
 pub record Lines (bytes : List ℕ) (start stop : ℕ) (whole : Bool) (text : List ℕ) : Type 0 where
   pub head : List ℕ
   pub tail : List ℕ
@@ -31,20 +31,20 @@ pub record Lines (bytes : List ℕ) (start stop : ℕ) (whole : Bool) (text : Li
   pub stops : whole ≡ false → length (head ++ text) ≡ stop
   pub nothing_more : whole ≡ true → tail ≡ []
 
--- a sink that doesn't tell its bytes may hold any lines
+-- a sink whose bytes aren't known may hold any lines
 abbrev pub HoldsLines : Option (List ℕ) → ℕ → ℕ → Bool → List ℕ → Type 0
 HoldsLines None start stop whole text = Unit {0}
 HoldsLines (Some bytes) start stop whole text = Lines bytes start stop whole text
 
--- it holds the lines of what was told
+-- it holds the lines of what the watcher received
 abbrev pub HoldsTold : Bool → Option (List ℕ) → ℕ → ℕ → Bool → List WatcherTold → Type 0
 HoldsTold paths held start stop whole told = HoldsLines held start stop whole (shown_lines (kept paths told))
 
--- and the lines of transfers that were told
+-- and the lines of transfers that the watcher received
 abbrev pub HoldsTransfers : Option (List ℕ) → ℕ → ℕ → Bool → List Transfer → Type 0
 HoldsTransfers held start stop whole told = HoldsLines held start stop whole (transfer_lines told)
 
--- behind the whole lines the sink holds a part of this line, from its front, that isn't the whole
+-- after the whole lines the sink holds a proper prefix of this line
 abbrev pub HoldsPart : List ℕ → ℕ → List ℕ → Type 0
 HoldsPart bytes stop line = (n : ℕ) × (n ≤ length line - 1) × (drop stop bytes ≡ take n line)
 
@@ -60,23 +60,23 @@ abbrev pub TearsTransfer : Option (List ℕ) → ℕ → Transfer → Type 0
 TearsTransfer None stop t = Unit {0}
 TearsTransfer (Some bytes) stop t = HoldsPart bytes stop (transfer_line t)
 
--- bytes were only added at the end; a sink that tells them now told them before
+-- bytes were only added at the end; if a sink's bytes are known now, they were known before
 abbrev pub Grows : Option (List ℕ) → Option (List ℕ) → Type 0
 Grows (Some before) (Some now) = (more : List ℕ) × (now ≡ before ++ more)
 Grows (Some before) None = Unit {0}
 Grows None (Some now) = ⊥
 Grows None None = Unit {0}
 
--- The lines of a run that showed these events were put whole, and the run ended so; or the sink failed, its count rose,
--- and it gained less than all the lines.
+-- The lines of a run that showed these events were printed whole, and the run ended so; or the sink failed, its count
+-- rose, and it gained less than all the lines.
 abbrev pub PutsShown : SinkSeen → SinkSeen → List Stamped → List WatcherTold → Option End → Type 0
 PutsShown before after events shown (Some end) =
     EndsAs events end × Adds before.held after.held (shown_lines shown) × (after.faults ≡ before.faults)
 PutsShown before after events shown None =
     Rose before.faults after.faults × AddsLess before.held after.held (shown_lines shown)
 
--- The text of a trace was put, with its last line and levels of this kind behind it, and the status that goes with it
--- is the answer.
+-- The text of a trace was printed, followed by its last line and levels of this kind, and the exit status is its
+-- status.
 pub record PutsTrace (before after : SinkSeen) (events : List Stamped) (shown : List WatcherTold)
     (AreEnd : List (List (Option ℕ)) → Type 0) (status : ℕ) : Type 0 where
   pub halt : Option ℕ

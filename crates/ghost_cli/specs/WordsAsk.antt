@@ -89,7 +89,7 @@ pub record AsksToSample (words : List Text) (work : Work) : Type 0 where
   pub seed_is : seed_given (value_in (codes "seed") parts) ≡ Some seed
   pub is : work ≡ sample_work (has_flag (codes "fast") parts) items output
 
--- its names stand together, and are one pair or more
+-- its names are adjacent, and are one pair or more
 pub record AsksForBus (words : List Text) (work : Work) : Type 0 where
   pub names : List Text
   pub parts : List Part
@@ -104,7 +104,7 @@ pub record AsksForBus (words : List Text) (work : Work) : Type 0 where
   pub seed_is : seed_given (value_in (codes "seed") parts) ≡ Some seed
   pub is : work ≡ bus_work (first ∷ more) cycles
 
--- behind a verb words ask for a work exactly where they say so
+-- after a verb words request a work exactly if they consist of its parts
 abbrev pub AskExactly : Text → (List Text → Work → Type 0) → Type 0
 AskExactly verb Asks =
     (words : List Text) (work : Work) → AreTexts words → (work_of (verb ∷ words) ≡ Some work) ↔ Asks words work
@@ -115,7 +115,7 @@ verb_names =
     codes "check" ∷ codes "trace" ∷ codes "run" ∷ codes "asm" ∷ codes "dis" ∷ codes "eval" ∷ codes "compile"
     ∷ codes "sample" ∷ codes "bus" ∷ codes "infer" ∷ []
 
--- so it is for all verbs; no words, and words whose first is no verb, ask for none
+-- so it is for all verbs; no words, and words whose first isn't a verb, request none
 pub record WordsAsk : Type 0 where
   pub check : AskExactly (codes "check") (AsksByOne check_work)
   pub trace : AskExactly (codes "trace") AsksToTrace

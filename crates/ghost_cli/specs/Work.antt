@@ -8,9 +8,9 @@ use Rattle.ghost_cli.specs.Texts.{Said, comes_to, wrote, unread, too_long}
 use Rattle.ghost_cli.specs.Showing.{Seen, around}
 use Rattle.ghost_cli.specs.Questions.{Question, Answer, IsRight}
 
--- Put what is seen, mostly nothing, around a verdict; write a file and be done; read a file of at most so many bytes
--- and go on with them; ask a question and go on with a right answer. No work ends with a fault of files, of the sink or
--- of memory by itself.
+-- Print the lines of a run, mostly none, around a verdict; write a file and end; read a file of at most this many bytes
+-- and continue with them; ask a question and continue with a right answer. No work by itself ends with a fault of
+-- files, of the sink or of memory.
 pub data Work : Type 0 where
   Ends : (seen : Seen) (verdict : Verdict) → Work
   Writes : (name bytes : List ℕ) (done : Done) → Work
@@ -38,7 +38,7 @@ pub data MayEnd (Gives : List ℕ → Option (List ℕ) → Type 0) : Work → E
   Answered : (question : Question) (next : Answer question → Work) (answer : Answer question) (ending : Ending)
       → IsRight question answer → MayEnd Gives (next answer) ending → MayEnd Gives (Asks question next) ending
 
--- the status and the text of an ending, and the files behind it
+-- the status and the text of an ending, and the files after it
 abbrev pub said_at : Ending → Said
 said_at (IsUnread name) = unread name
 said_at (IsTooLong name limit) = too_long name limit
@@ -55,8 +55,8 @@ files_at (IsWritten name bytes done) files = with_file name bytes files
 abbrev pub Holds : Files → List ℕ → Option (List ℕ) → Type 0
 Holds files name file = get files name ≡ file
 
--- A name that the work may read, and one that it may write, with whatever contents and answers. Which file's read
--- failed isn't said here but by `Explains`: the work comes to the ending `IsUnread` of that very file.
+-- A name that the work may read, and one that it may write, for any contents and answers. Which file couldn't be read
+-- isn't stated here but by `Explains`: the work has the ending `IsUnread` of that very file.
 pub data MayRead : Work → List ℕ → Type 0 where
   ReadsIt : (name : List ℕ) (limit : ℕ) (next : List ℕ → Work) → MayRead (Reads name limit next) name
   ReadsLater : (other name : List ℕ) (limit : ℕ) (next : List ℕ → Work) (bytes : List ℕ) → MayRead (next bytes) name

@@ -24,8 +24,8 @@ pub const WORDS: VerbWords<'static> = VerbWords {
     flags: &[],
 };
 
-/// The verb `asm TEXT OUT`: writes the object file of the object that an assembly text spells. `Err` where nothing was
-/// put yet: the reply is to be said.
+/// The verb `asm TEXT OUT`: writes the object file of an assembly text. `Err` if nothing was printed yet: the reply to
+/// print.
 pub fn assemble<'a, F: Shelf, O: Sink>(
     alloc: Global,
     matches: &ArgMatches<'a>,

@@ -61,8 +61,8 @@ pub struct BusWords<'a> {
 }
 
 /// The verb `bus OBJ INPUT [OBJ INPUT ..] [--cycles n] [--seed s]`: runs each pair's object on its inputs as a core of
-/// one bus, and puts the lines of all transfers and of how each core ended. `Err` where nothing was put yet: the reply
-/// is to be said.
+/// one bus, and prints the lines of all transfers and of how each core ended. `Err` if nothing was printed yet: the
+/// reply to print.
 pub fn bus<'a, F: Shelf, O: Sink>(
     alloc: Global,
     matches: &ArgMatches<'a>,
@@ -168,7 +168,7 @@ fn bus_files<'a, F: Shelf, O: Sink>(
     Ok(share_bus(alloc, cores, asked.cycles, asked.seed, out)?)
 }
 
-/// Runs what was read of the pairs, and puts its lines. `Err` where nothing was put.
+/// Runs the pairs that were read, and prints the lines. `Err` if nothing was printed.
 fn share_bus<O: Sink>(
     alloc: Global,
     cores: Cores,
@@ -238,7 +238,7 @@ impl Model for Cores {
     ghost view = { λ c. record { plan = c.plan; objects = c.objects.items; inputs = c.inputs.items } };
 }
 
-/// What is said where the plan takes no object as this core.
+/// The reply if the plan takes no object as this core.
 fn off_bus<'a>(core: u8, cause: BusError) -> Reply<'a>
     ensures { said result ≡ bus_said core cause }
 {

@@ -15,9 +15,10 @@ use lt_isa::Event;
 use processor::WatchFailed;
 use run_data::put_event;
 
-/// A watcher of a bus that puts the line of each transfer on a sink: the core, a space, and the line of its event.
+/// A watcher of a bus that writes the line of each transfer to a sink: the core, a space, and the line of its event.
 ///
-/// It keeps the sink's mark from when it was made, its mark before the last line, and whether no put has failed.
+/// It keeps the sink's mark from when it was made, its mark before the last line, and whether every write has
+/// succeeded.
 #[derive(Drop)]
 pub struct BusLines<'a, O: Sink> {
     out: &'a mut O,
@@ -27,7 +28,7 @@ pub struct BusLines<'a, O: Sink> {
 }
 
 impl<'a, O: Sink> BusLines<'a, O> {
-    /// A watcher that puts its lines behind what the sink holds.
+    /// A watcher that appends its lines to the sink's bytes.
     pub fn new(out: &'a mut O) -> BusLines<'a, O>
         ensures same_sink { result.out.ghost_name ≡ out.entry.ghost_name }
         ensures same_bytes { (O.seen result.out.now).held ≡ (O.seen out.old).held }

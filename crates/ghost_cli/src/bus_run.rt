@@ -12,7 +12,7 @@ use crate::putting::NOT_PUT;
 use bus_arbiter::Bus;
 use gr_outside::Sink;
 
-/// Runs the cores of a bus, and puts its lines. Nothing here wants memory.
+/// Runs the cores of a bus, and prints its lines. It allocates no memory.
 pub(crate) fn put_bus<O: Sink>(bus: &mut Bus<'_, SeededOram>, cycles: u32, out: &mut O) -> u8
     requires all { length bus.old.cores ≡ length bus.old.plan }
     requires sound { IsTrue bus.old.sound }
@@ -27,7 +27,7 @@ pub(crate) fn put_bus<O: Sink>(bus: &mut Bus<'_, SeededOram>, cycles: u32, out: 
     NOT_PUT
 }
 
-/// Runs the cores of a bus, and puts the lines of their transfers. Answers whether all were put.
+/// Runs the cores of a bus, and prints the lines of their transfers. Returns whether all were printed.
 fn put_joined<O: Sink>(bus: &mut Bus<'_, SeededOram>, cycles: u32, out: &mut O) -> bool
     requires all { length bus.old.cores ≡ length bus.old.plan }
     requires sound { IsTrue bus.old.sound }
@@ -40,7 +40,7 @@ fn put_joined<O: Sink>(bus: &mut Bus<'_, SeededOram>, cycles: u32, out: &mut O) 
     run_watched(bus, cycles, &mut watch)
 }
 
-/// Runs the cores before a watcher that has put nothing yet.
+/// Runs the cores with a watcher that has written nothing yet.
 fn run_watched<O: Sink>(
     bus: &mut Bus<'_, SeededOram>,
     cycles: u32,

@@ -23,8 +23,8 @@ pub const WORDS: VerbWords<'static> = VerbWords {
     flags: &[],
 };
 
-/// The verb `check OBJ`: says that the object of a file is accepted. `Err` where nothing was put yet: the reply is to be
-/// said.
+/// The verb `check OBJ`: prints whether the object of a file is accepted. `Err` if nothing was printed yet: the reply
+/// to print.
 pub fn check<'a, F: Shelf, O: Sink>(
     alloc: Global,
     matches: &ArgMatches<'a>,

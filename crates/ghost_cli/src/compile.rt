@@ -46,8 +46,8 @@ pub struct CompileWords<'a> {
     procs: bool,
 }
 
-/// The verb `compile SRC OUT [--fast] [--block-log w] [--window P:O:C] [--procs]`: writes the object file of the program that a
-/// source text spells. `Err` where nothing was put yet: the reply is to be said.
+/// The verb `compile SRC OUT [--fast] [--block-log w] [--window P:O:C] [--procs]`: writes the object file of a source
+/// text's program. `Err` if nothing was printed yet: the reply to print.
 pub fn compile<'a, F: Shelf, O: Sink>(
     alloc: Global,
     matches: &ArgMatches<'a>,
@@ -118,7 +118,7 @@ fn compile_file<'a, F: Shelf, O: Sink>(
     write_and_say(alloc, asked.output, &bytes, Done::Compiled, shelf, out)
 }
 
-/// The bytes of the program's object file, for this target, or what is said where it has none.
+/// The bytes of the program's object file for this target, or the reply if it has none.
 pub(crate) fn object_bytes<'a>(
     alloc: Global,
     program: &Typed,
@@ -133,7 +133,7 @@ pub(crate) fn object_bytes<'a>(
     Ok(encode(alloc, &object)?)
 }
 
-/// The program's object for this target, or what is said where it has none.
+/// The program's object for this target, or the reply if it has none.
 pub fn object_of<'a>(alloc: Global, program: &Typed, target: &Target) -> Result<Object, Reply<'a>>
     requires { ProfileFits target.now.profile }
     ensures in_range { IfOk result (λ o. IsInRange o) }
@@ -163,7 +163,7 @@ fn compiled(alloc: Global, program: &Typed, target: &Target) -> Result<Object, C
     }
 }
 
-/// What is said of a program that wasn't compiled: what lacks room, or that memory ran out.
+/// The reply for a program that wasn't compiled: what lacks room, or that memory ran out.
 fn no_room<'a>(fault: CompileError) -> Reply<'a>
     ensures { SaysSource (room_fault fault) (said result) }
 {

@@ -6,7 +6,7 @@ use lt_isa::Event;
 use processor::{Leaves, Watch, WatchFailed};
 
 /// A watcher that counts the accesses to plain memory, to encrypted memory and to oblivious bank 2, keeps nothing else
-/// and never fails. A count stands still at 2^32 - 1.
+/// and never fails. A count stops at 2^32 - 1.
 #[derive(Clone, Copy)]
 pub struct CountWatch {
     pub(crate) ram: u32,

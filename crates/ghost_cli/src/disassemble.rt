@@ -24,8 +24,8 @@ pub const WORDS: VerbWords<'static> = VerbWords {
     flags: &[],
 };
 
-/// The verb `dis OBJ OUT`: writes the assembly text of the object that a file spells. `Err` where nothing was put yet:
-/// the reply is to be said.
+/// The verb `dis OBJ OUT`: writes the assembly text of a file's object. `Err` if nothing was printed yet: the reply to
+/// print.
 pub fn disassemble<'a, F: Shelf, O: Sink>(
     alloc: Global,
     matches: &ArgMatches<'a>,

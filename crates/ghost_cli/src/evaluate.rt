@@ -44,8 +44,8 @@ pub struct EvaluateWords<'a> {
     procs: bool,
 }
 
-/// The verb `eval SRC INPUT OUT [--turns n] [--procs]`: evaluates a program on inputs, and writes the values that it
-/// leaves. `Err` where nothing was put yet: the reply is to be said.
+/// The verb `eval SRC INPUT OUT [--turns n] [--procs]`: evaluates a program on inputs, and writes its final values.
+/// `Err` if nothing was printed yet: the reply to print.
 pub fn evaluate<'a, F: Shelf, O: Sink>(
     alloc: Global,
     matches: &ArgMatches<'a>,

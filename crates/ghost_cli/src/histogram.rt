@@ -22,8 +22,8 @@ pub(crate) const SAMPLE_CYCLES: u32 = 4_294_967_295;
 /// The number of the variable of the counts, in the order of declaration.
 const COUNTS: usize = 2;
 
-/// The sample's program for so many items, which counts how often each remainder by 16 stands among them. It is always
-/// one: what is said in its place is that memory ran out.
+/// The sample's program for this many items, which counts how often each remainder by 16 occurs among them. The only
+/// error is want of memory.
 pub(crate) fn sample_program<'a>(alloc: Global, items: u32) -> Result<Typed, Reply<'a>>
     requires { Within 1 65536 items }
     ensures spells { IfOk result (λ p. SpellsTyped false (sample_text items) (source_of p)) }

@@ -29,8 +29,8 @@ pub const WORDS: VerbWords<'static> = VerbWords {
     flags: &[],
 };
 
-/// The verb `infer OBJ OUT`: writes the object file of an object with its least notes in place of its own. `Err` where
-/// nothing was put yet: the reply is to be said.
+/// The verb `infer OBJ OUT`: writes the object file of an object with its least notes instead of its own. `Err` if
+/// nothing was printed yet: the reply to print.
 pub fn infer<'a, F: Shelf, O: Sink>(
     alloc: Global,
     matches: &ArgMatches<'a>,
@@ -76,7 +76,7 @@ fn infer_file<'a, F: Shelf, O: Sink>(
     )
 }
 
-/// The object with its least notes, or what is said where it gets none.
+/// The object with its least notes, or the reply if it gets none.
 fn with_notes<'a>(alloc: Global, object: &Object) -> Result<Object, Reply<'a>>
     ensures found { IfOk result (λ found. IsInferred object.now found) }
     ensures refused { IfErr result (λ reply. (output : List ℕ)
@@ -88,7 +88,7 @@ fn with_notes<'a>(alloc: Global, object: &Object) -> Result<Object, Reply<'a>>
     }
 }
 
-/// What is said of an object that gets no notes.
+/// The reply for an object that gets no notes.
 fn without_notes<'a>(why: InferError) -> Reply<'a>
     ensures { SaysNotes why (said result) }
 {

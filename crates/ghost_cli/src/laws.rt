@@ -10,15 +10,14 @@ ghost use Rattle.ghost_cli.specs.Runs.{TracesAgree, TextsAgree};
 ghost use Rattle.ghost_cli.specs.Showing.{IsTraceText};
 ghost use Rattle.ghost_cli.specs.WordsAsk.{WordsAsk};
 
-/// Does nothing; its clauses are laws: of two runs of one oblivious object on inputs that agree on what is public, at
-/// every number of cycles, the traces are equal, and so is the text that `trace` puts of them.
+/// Does nothing; its clauses are laws: if two runs of one oblivious object have inputs that agree on public values,
+/// then at every number of cycles their traces are equal, and so are the texts that `trace` prints.
 pub fn traces_agree()
     ensures traces { TracesAgree }
     ensures texts { TextsAgree }
 {}
 
-/// Does nothing; its clause is a law: without `--paths` what `trace` puts is the text of its trace, whatever the seed
-/// is.
+/// Does nothing; its clause is a law: without `--paths` the output of `trace` is the text of its trace, for every seed.
 pub fn trace_alone()
     ensures { IsTraceText }
 {}
@@ -36,7 +35,7 @@ pub fn compiled_texts()
 {}
 
 /// Does nothing; its clause is a law: the program of a text that is read with procedures does with the text's own
-/// variables what its calls mean, whatever the program's new variables hold at the start.
+/// variables what its calls mean, for any starting values of the program's new variables.
 pub fn calls_as_meant()
     ensures { CallsAsMeant }
 {}
@@ -46,22 +45,23 @@ pub fn inferred_once()
     ensures { InferredOnce }
 {}
 
-/// Does nothing; its clause is a law: what `bus` puts of oblivious objects, and its status, are the same for inputs
-/// that agree on what is public.
+/// Does nothing; its clause is a law: what `bus` prints for oblivious objects, and its status, are the same for inputs
+/// that agree on public values.
 pub fn bus_agrees()
     ensures { BusAgrees }
 {}
 
-/// Does nothing; its clause is a law: for told files the work of `check`, `run`, `asm`, `dis`, `bus`, and of `trace`
-/// without `--paths`, has one answer: one status, one text and one map of files. So has that of `eval` and `infer` where
-/// it is done, and that of `compile` but for the output's bytes. Free are the object that `compile` and `sample` make,
-/// and where `trace --paths` shows blocks.
+/// Does nothing; its clause is a law: if the contents of files are known, the work of `check`, `run`, `asm`, `dis`,
+/// `bus`, and of `trace` without `--paths`, has one answer: one status, one text and one map of files. So has that of
+/// `eval` and `infer` if it is done, and that of `compile` except for the output's bytes. Two things are left open: the
+/// object that `compile` and `sample` make, and the levels that `trace --paths` shows.
 pub fn one_answer()
     ensures { OneAnswer }
 {}
 
-/// Does nothing; its clause is a law: two calls of `trace` without `--paths` on one accepted object, with as many
-/// cycles, on inputs that agree on what is public, put the same bytes with the same status, under any two seeds.
+/// Does nothing; its clause is a law: two calls of `trace` without `--paths` on one accepted object, with the same
+/// number of cycles, on inputs that agree on public values, print the same bytes with the same status, under any two
+/// seeds.
 pub fn trace_agrees()
     ensures { TraceAgrees }
 {}
@@ -71,10 +71,10 @@ pub fn promises_follow()
     ensures { PromisesFollow }
 {}
 
-/// Does nothing; its clause is a law: the words behind each verb ask for a work exactly where they say it: its names in
-/// their places, for `bus` together and in pairs, and its options and flags in any order, each once at most, with values
-/// in their ranges. An option's value stands behind `=` or in the next word, and behind `--` all words are names. No
-/// words, and words whose first is no verb, ask for none.
+/// Does nothing; its clause is a law: the words after each verb request a work exactly if they consist of its parts:
+/// its names in their order, for `bus` adjacent and in pairs, and its options and flags in any order, each at most
+/// once, with values in their ranges. An option's value follows `=` or is the next word, and after `--` all words are
+/// names. No words, and words whose first isn't a verb, request none.
 pub fn words_ask()
     ensures { WordsAsk }
 {}

@@ -9,8 +9,8 @@ use gr_outside::{Sink, SinkFailed};
 use processor::{Bank, Machine};
 use run_data::{put_level, put_levels_head};
 
-/// Puts a line for each of the oblivious banks of a machine that has so many banks, with the levels of its blocks. It
-/// takes no memory.
+/// Prints a line for each oblivious bank of a machine that has this many banks, with the levels of its blocks. It
+/// allocates no memory.
 pub(crate) fn put_levels<O: Sink>(
     machine: &Machine<'_, SeededOram>,
     banks: u8,

@@ -1,17 +1,17 @@
 //! The program `ghostrider` as one call, over any shelf of files and any sink for text.
 //!
-//! [`ghostrider`] takes the words of a command line, does the work of the verb that they name, puts its text on the
-//! sink and answers the exit status. Its contract says which answer comes, and why.
+//! [`ghostrider`] takes the words of a command line, does the work of the verb that they name, writes its text to the
+//! sink and returns the exit status. Its contract states the outcome and its cause.
 //!
-//! The work of a verb is a tree of steps: read a file, ask a question of what was read, write a file, end. What every
-//! call promises is proved once, for all trees. To add a verb, say its row and its tree in a file of its own in
-//! `specs/`, say the row's words and do the work in a file of its own in `src/`, show in `proofs/` that the one comes to
-//! the other, and add it to the tables in `specs/Verbs.antt`, `src/verbs.rt` and `src/top.rt`, and to
+//! The work of a verb is a tree of steps: read a file, ask a question about what was read, write a file, end. What
+//! every call promises is proved once, for all trees. To add a verb, write its row and its tree in a file of its own in
+//! `specs/`, its words and its work in a file of its own in `src/`, and in `proofs/` a proof that the work is that of
+//! the tree. Then add it to the tables in `specs/Verbs.antt`, `src/verbs.rt` and `src/top.rt`, and to
 //! `proofs/VerbRows.antt`. A new question is added to `specs/Questions.antt`, a new line to `src/replies.rt` with
 //! `specs/Texts.antt`. No other verb's files change.
 //!
-//! A verb's function answers the status where it put its own text. Where nothing was put yet, its `Err` is the reply
-//! that is to be said, want of memory among them: so what a step can't do is passed on by `?`, and said in one place.
+//! A verb's function returns the status if it printed its own text. If nothing was printed yet, its `Err` is the reply
+//! to print, also for want of memory: so a step passes its errors on by `?`, and they are printed in one place.
 #![tactic(auto)]
 
 mod assemble;

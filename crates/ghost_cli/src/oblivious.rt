@@ -111,7 +111,7 @@ pub fn load_seeded<'a, B: Seeded + Drop>(
     load_over(alloc, accepted, inputs, orams)
 }
 
-// The object's oblivious banks at the start of a run, where it has so many banks.
+// The object's oblivious banks at the start of a run, if it has this many banks.
 fn orams_at_start<B: Seeded + Drop>(
     alloc: Global,
     accepted: &Accepted,

@@ -60,7 +60,7 @@ pub fn value<'a>(matches: &ArgMatches<'a>, name: &str) -> Option<&'a str>
     matches.get_str(name)
 }
 
-/// The values that were found for words that stand under one name.
+/// The values that were found for adjacent words under one name.
 pub fn values<'m, 'a>(matches: &'m ArgMatches<'a>, name: &str) -> Option<&'m [&'a str]>
     ensures { option_map (λ list. texts list.now) result ≡ all_of name.now (rows_of (found_of matches.now)) }
 {
@@ -91,8 +91,8 @@ pub fn two_names<'a>(read: Option<&'a str>, written: Option<&'a str>) -> Option<
     })
 }
 
-/// The number of cycles, or of turns, that the option gives: 1,000,000,000 where it isn't there, and none where its
-/// text is no number from 1 to 4,294,967,295.
+/// The number of cycles, or of iterations, that the option gives: 1,000,000,000 without the option, and `None` if its
+/// text isn't a number from 1 to 4,294,967,295.
 pub fn number_given(option: Option<&str>) -> Option<u32>
     ensures value { result ≡ number_given (option_map (λ text. text.now) option.entry) }
     ensures least { IfSome result (λ n. 1 ≤ n) }
@@ -106,7 +106,7 @@ pub fn number_given(option: Option<&str>) -> Option<u32>
     }
 }
 
-/// The logarithm of a block's words that the option gives: 9 where it isn't there, and none where its text is no number
+/// The logarithm of a block's words that the option gives: 9 without the option, and `None` if its text isn't a number
 /// from 3 to 9.
 pub fn block_log_given(option: Option<&str>) -> Option<u8>
     ensures value { result ≡ block_log_given (option_map (λ text. text.now) option.entry) }
@@ -121,7 +121,7 @@ pub fn block_log_given(option: Option<&str>) -> Option<u8>
     }
 }
 
-/// The seed of random words that the option gives: 0 where it isn't there, and none where its text is no number below
+/// The seed of random words that the option gives: 0 without the option, and `None` if its text isn't a number below
 /// 2^64.
 pub fn seed_given(option: Option<&str>) -> Option<u64>
     ensures { result ≡ seed_given (option_map (λ text. text.now) option.entry) }
@@ -132,7 +132,7 @@ pub fn seed_given(option: Option<&str>) -> Option<u64>
     }
 }
 
-/// The number of items that a word gives, and none where it is no number from 1 to 65,536.
+/// The number of items that a word gives, and `None` if it isn't a number from 1 to 65,536.
 pub fn items_given(text: &str) -> Option<u32>
     ensures value { result ≡ items_given text.now }
     ensures within { IfSome result (λ n. Within 1 65536 n) }

@@ -24,10 +24,10 @@ use gr_word::Inputs;
 use lt_checker::Accepted;
 use std::alloc::Global;
 
-/// The accepted object that these bytes spell: `check` over bytes. The bytes are at most 33,554,432.
+/// The accepted object that these bytes encode: `check` over bytes. The bytes are at most 33,554,432.
 ///
-/// `Err` if they spell no object, if the check refuses it, or if memory runs out: the reply says which, as the program
-/// would print it.
+/// `Err` if they don't encode an object, if the check rejects it, or if memory runs out: the reply says which, as the
+/// program would print it.
 pub fn checked_bytes<'a>(alloc: Global, bytes: &[u8]) -> Result<Accepted, Reply<'a>>
     requires { length bytes.now ≤ object_limit }
     ensures spelled { IfOk result (λ o. SpellsObject bytes.now o) }
@@ -38,11 +38,11 @@ pub fn checked_bytes<'a>(alloc: Global, bytes: &[u8]) -> Result<Accepted, Reply<
     checked(alloc, object)
 }
 
-/// The bytes of the object file of the program that this text spells, for this target: `compile` over
-/// bytes. With `procs` the text may have procedures. It has at most 1,048,576 bytes.
+/// The bytes of the object file of this text's program, for this target: `compile` over bytes. With `procs` the text
+/// may have procedures. It has at most 1,048,576 bytes.
 ///
-/// `Err` if the text spells no program, if the program has no room on the machine, or if memory runs out: the reply
-/// says which, as the program would print it.
+/// `Err` if the text isn't a program, if the program has no room on the machine, or if memory runs out: the reply says
+/// which, as the program would print it.
 pub fn compiled_bytes<'a>(
     alloc: Global,
     text: &[u8],
@@ -58,11 +58,11 @@ pub fn compiled_bytes<'a>(
     object_bytes(alloc, &program, target)
 }
 
-/// Runs the accepted object that the first bytes spell on the inputs that the second give as JSON, for at most that
+/// Runs the accepted object that the first bytes encode on the inputs that the second give as JSON, for at most that
 /// many cycles: `run` over bytes. The object has at most 33,554,432 bytes, the input 67,108,864.
 ///
-/// `Err` if there is no accepted object, if the input gives it no inputs, or if memory runs out: the reply says which,
-/// as the program would print it. A run whose cycles are spent is `Ok`.
+/// `Err` if there isn't an accepted object, if the input gives it no inputs, or if memory runs out: the reply says
+/// which, as the program would print it. A run that uses up its cycles is `Ok`.
 pub fn run_bytes<'a>(
     alloc: Global,
     object: &[u8],

@@ -7,13 +7,13 @@ use gr_base::Memory;
 use gr_outside::Sink;
 use std::alloc::Global;
 
-/// The status of a call whose text couldn't be put.
+/// The status of a call whose text couldn't be printed.
 pub const NOT_PUT: u8 = 4;
 
 /// The status of a call that wants memory.
 const WANTS_MEMORY: u8 = 5;
 
-/// Puts a text, and answers the status that goes with it, or 4 where the sink failed.
+/// Writes a text to the sink, and returns its status, or 4 if the sink failed.
 pub fn put_text<O: Sink>(out: &mut O, status: u8, text: &[u8]) -> u8
     ensures { PutsSaid (O.seen out.old) (O.seen out.new) (record { status = status; text = text.now }) result }
 {

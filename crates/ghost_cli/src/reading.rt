@@ -33,8 +33,8 @@ const INPUT_BYTES: u32 = 67_108_864;
 /// The most bytes that an assembly text may have.
 const TEXT_BYTES: u32 = 67_108_864;
 
-/// The contents of the file of this name, or what is said where it isn't there, couldn't be read, has more bytes than
-/// the limit, or memory ran out.
+/// The contents of the file of this name, or the reply if it doesn't exist, can't be read, has more bytes than the
+/// limit, or memory ran out.
 pub(crate) fn read_whole<'a, F: Shelf>(
     name: &'a str,
     limit: u32,
@@ -60,7 +60,7 @@ pub(crate) fn read_whole<'a, F: Shelf>(
     }
 }
 
-/// The object that the file of this name spells, accepted or not, or what is said where it spells none.
+/// The object that the file of this name encodes, accepted or not, or the reply if it encodes none.
 pub fn find_object<'a, F: Shelf>(
     alloc: Global,
     name: &'a str,
@@ -76,7 +76,7 @@ pub fn find_object<'a, F: Shelf>(
     object_in(alloc, &bytes)
 }
 
-/// The accepted object that the file of this name spells, or what is said where it spells none.
+/// The accepted object that the file of this name encodes, or the reply if it encodes none.
 pub fn find_accepted<'a, F: Shelf>(
     alloc: Global,
     name: &'a str,
@@ -93,7 +93,7 @@ pub fn find_accepted<'a, F: Shelf>(
     checked(alloc, object)
 }
 
-/// The object that the file of this name spells in assembly, or what is said where it spells none.
+/// The object that the file of this name writes in assembly, or the reply if it isn't one.
 pub fn find_assembly<'a, F: Shelf>(
     alloc: Global,
     name: &'a str,
@@ -109,7 +109,7 @@ pub fn find_assembly<'a, F: Shelf>(
     assembly_in(alloc, &bytes)
 }
 
-/// The inputs of an object that the file of this name gives, or what is said where it gives none.
+/// The inputs of an object that the file of this name gives, or the reply if it gives none.
 pub fn find_inputs<'a, F: Shelf>(
     alloc: Global,
     accepted: &Accepted,
@@ -127,7 +127,7 @@ pub fn find_inputs<'a, F: Shelf>(
     find_variables(alloc, &wants, name, shelf)
 }
 
-/// The inputs that the file of this name gives for variables, or what is said where it gives none.
+/// The inputs that the file of this name gives for variables, or the reply if it gives none.
 pub fn find_variables<'a, F: Shelf>(
     alloc: Global,
     wants: &[Want],
@@ -146,7 +146,7 @@ pub fn find_variables<'a, F: Shelf>(
     inputs_in(alloc, wants, &bytes)
 }
 
-/// The object that the bytes spell, accepted or not.
+/// The object that the bytes encode, accepted or not.
 pub(crate) fn object_in<'a>(alloc: Global, bytes: &[u8]) -> Result<Object, Reply<'a>>
     requires { length bytes.now ≤ object_limit }
     ensures found { IfOk result (λ o. SpellsObject bytes.now o) }
@@ -159,7 +159,7 @@ pub(crate) fn object_in<'a>(alloc: Global, bytes: &[u8]) -> Result<Object, Reply
     }
 }
 
-/// What is said of bytes that spell no object.
+/// The reply for bytes that don't encode an object.
 fn undecoded<'a>(fault: DecodeError) -> Reply<'a>
     ensures { SaysObject fault (said result) }
 {
@@ -193,7 +193,7 @@ pub(crate) fn checked<'a>(alloc: Global, object: Object) -> Result<Accepted, Rep
     }
 }
 
-/// The object that the bytes spell in assembly.
+/// The object that the bytes write in assembly.
 fn assembly_in<'a>(alloc: Global, bytes: &[u8]) -> Result<Object, Reply<'a>>
     requires { length bytes.now ≤ text_limit }
     ensures found { IfOk result (λ o. SpellsInText bytes.now o) }
@@ -206,7 +206,7 @@ fn assembly_in<'a>(alloc: Global, bytes: &[u8]) -> Result<Object, Reply<'a>>
     }
 }
 
-/// What is said of a text that spells no object.
+/// The reply for a text that isn't an object in assembly.
 fn not_assembled<'a>(fault: AsmError) -> Reply<'a>
     ensures { SaysText fault (said result) }
 {
@@ -239,7 +239,7 @@ pub(crate) fn inputs_in<'a>(
     }
 }
 
-/// What is said of bytes that give no inputs.
+/// The reply for bytes that give no inputs.
 fn not_given<'a>(alloc: Global, fault: InputError) -> Reply<'a>
     ensures { SaysInputs fault (said result) }
 {

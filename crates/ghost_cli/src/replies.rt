@@ -48,12 +48,12 @@ impl JsonText {
     }
 }
 
-/// Why a file gives no inputs: its first fault. A name stands as JSON text.
+/// Why a file gives no inputs: its first fault. A name is given as JSON text.
 #[derive(Drop)]
 pub enum InputFault {
     /// The bytes aren't the text of one JSON value.
     Json,
-    /// The value is no object.
+    /// The value isn't a JSON object.
     Object,
     /// No variable has this name.
     Unknown(JsonText),
@@ -61,18 +61,18 @@ pub enum InputFault {
     Shape(JsonText),
     /// The list of this name has the wrong length.
     Length(JsonText),
-    /// The value of this name, or an element of its list, is no word.
+    /// The value of this name, or an element of its list, isn't a word.
     Word(JsonText),
 }
 
-/// What a verb's own work comes to, where it writes no file.
+/// The outcome of a verb's own work, if it writes no file.
 #[derive(Drop)]
 pub enum Verdict {
     /// The object was accepted.
     Accepted,
-    /// The trace was put; whether the run halted.
+    /// The trace was printed; whether the run halted.
     Traced(bool),
-    /// The file spells no object.
+    /// The file doesn't encode an object.
     Malformed(DecodeError),
     /// The object is refused at a place of its code.
     Refused(u32, Reason),
@@ -80,13 +80,13 @@ pub enum Verdict {
     BadSource(SourceFault),
     /// The file gives no inputs.
     BadInput(InputFault),
-    /// The run didn't halt within so many cycles, or the loops took more than so many turns.
+    /// The run didn't halt within this many cycles, or the loops took more than this many iterations.
     Spent(u32),
-    /// The text spells no object.
+    /// The text isn't an object in assembly.
     BadAssembly(AsmError),
     /// The plan of a bus refuses the object as this core.
     OffBus(u8, BusError),
-    /// The lines of a bus were put; whether all its cores halted.
+    /// The lines of a bus were printed; whether all its cores halted.
     Shared(bool),
     /// The object gets no notes, and why.
     NoNotes(InferError),
@@ -107,7 +107,7 @@ pub enum Done {
     Compiled,
     /// The sample's object file was written. Its run had these figures.
     Sampled(Figures),
-    /// The object file was written, with so many notes.
+    /// The object file was written, with this many notes.
     Inferred(u32),
 }
 
@@ -123,7 +123,7 @@ pub struct Figures {
     pub sum: i128,
 }
 
-/// What a call of the program comes to. Its status and its last line stand here, and nothing else spells a line.
+/// The outcome of a call of the program. Its status and its last line are defined here, and no line is made elsewhere.
 #[derive(Drop)]
 pub enum Reply<'a> {
     /// The words ask for no work.
@@ -136,7 +136,7 @@ pub enum Reply<'a> {
     NoMemory,
     /// The file of this name has more bytes than this limit.
     TooLong(&'a str, u32),
-    /// The work of the verb came to this.
+    /// The outcome of the verb's work.
     Comes(Verdict),
     /// The verb wrote its file.
     Wrote(Done),
@@ -197,7 +197,7 @@ impl Verdict {
     }
 }
 
-/// The line for want of memory, which is put where there is none for any other.
+/// The line for want of memory, which is printed if there isn't memory for any other.
 pub const NO_MEMORY: &str = "fault 5 memory\n";
 
 /// The bytes of the line.
@@ -315,7 +315,7 @@ impl fmt::Display for InputFault {
     }
 }
 
-/// What is wrong with a file that spells no object, and where.
+/// Why a file doesn't encode an object, and where.
 #[derive(Clone, Copy)]
 struct ObjectDetail<'a>(&'a DecodeError);
 
@@ -334,7 +334,7 @@ impl fmt::Display for ObjectDetail<'_> {
     }
 }
 
-/// What is wrong with a text that spells no object, and in which line.
+/// Why a text isn't an object in assembly, and in which line.
 #[derive(Clone, Copy)]
 struct TextDetail<'a>(&'a AsmError);
 

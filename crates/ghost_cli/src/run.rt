@@ -48,7 +48,7 @@ pub struct RunWords<'a> {
 }
 
 /// The verb `run OBJ INPUT OUT [--cycles n] [--seed s] [--recursive]`: runs an object on inputs, and writes its
-/// outputs. `Err` where nothing was put yet: the reply is to be said.
+/// outputs. `Err` if nothing was printed yet: the reply to print.
 pub fn run<'a, F: Shelf, O: Sink>(
     alloc: Global,
     matches: &ArgMatches<'a>,
@@ -153,7 +153,7 @@ fn run_asked(
     run_to_end::<SeededOram>(alloc, accepted, inputs, asked.cycles, asked.seed)
 }
 
-/// Runs an accepted object on inputs that fit it. Whatever the seed and the banks are, it comes to the same.
+/// Runs an accepted object on inputs that fit it. The result is the same for any seed and banks.
 pub(crate) fn run_to_end<B: Seeded + Drop>(
     alloc: Global,
     accepted: &Accepted,

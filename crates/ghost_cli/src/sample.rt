@@ -55,9 +55,9 @@ pub struct SampleWords<'a> {
     fast: bool,
 }
 
-/// The verb `sample N OUT [--fast] [--seed s]`: compiles, checks and runs a program that counts remainders among N numbers,
-/// writes its object file, and puts how many accesses the run made. `Err` where nothing was put yet: the reply is to be
-/// said.
+/// The verb `sample N OUT [--fast] [--seed s]`: compiles, checks and runs a program that counts remainders among N
+/// numbers, writes its object file, and prints the number of accesses of the run. `Err` if nothing was printed yet: the
+/// reply to print.
 pub fn sample<'a, F: Shelf, O: Sink>(
     alloc: Global,
     matches: &ArgMatches<'a>,
@@ -148,7 +148,7 @@ pub struct CountedRun {
     counts: CountWatch,
 }
 
-/// Makes a sample of so many items, or none where its run is spent. Whatever the seed is, it comes to the same.
+/// Makes a sample of this many items, or `None` if its run exceeds the cycles. The result is the same for any seed.
 fn made<'a>(
     alloc: Global,
     items: u32,
@@ -166,7 +166,7 @@ fn made<'a>(
     Ok(Some(sample_of_run(alloc, &ready, items, fast, run)?))
 }
 
-/// Compiles the sample's program of so many items, and checks its object.
+/// Compiles the sample's program for this many items, and checks its object.
 fn ready<'a>(alloc: Global, items: u32, fast: bool) -> Result<ReadySample, Reply<'a>>
     requires { Within 1 65536 items }
     ensures ready { IfOk result (λ ready. SampleIsReady fast items (source_of ready.program) ready.accepted) }
@@ -182,7 +182,7 @@ fn ready<'a>(alloc: Global, items: u32, fast: bool) -> Result<ReadySample, Reply
     Ok(ReadySample { program, accepted })
 }
 
-/// Runs an object on the sample's input, or answers none where its cycles are spent.
+/// Runs an object on the sample's input, or returns `None` if it exceeds the cycles.
 fn counted_run(alloc: Global, accepted: &Accepted, seed: u64) -> Result<Option<CountedRun>, Memory>
     requires { IsInRange accepted.now }
     ensures { IfOk result (λ run. RanCounted accepted.now run) }

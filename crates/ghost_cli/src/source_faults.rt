@@ -12,12 +12,12 @@ use src_parser::ParseError;
 use src_procs::InlineError;
 use std::fmt;
 
-/// Why a source text gives no program: its first fault. The number of `Byte` is that of the byte that begins no token,
-/// or of a letter that stands directly behind a number; of the other faults of pieces and tokens that of the byte at
-/// which the piece or token starts. The number of `Twice` is that of a declaration, and of the faults of typing from
-/// `Undeclared` on that of a statement, all counted from 0. A limit has the number that `flow_types` tells of it; the
-/// lack of room names a label or a bank. The last six are faults of a file that is read with procedures; their numbers
-/// are those that `src_procs` tells, of a procedure or of a call.
+/// Why a source text isn't a program: its first fault. The number of `Byte` is that of the byte that begins no token,
+/// or of a letter directly after a number; the other faults of tokens have the number of the byte at which the token
+/// starts. The number of `Twice` is that of a declaration, and the faults of typing from `Undeclared` on have that of a
+/// statement, all counted from 0. A limit has the number that `flow_types` gives it; the lack of room names a label or
+/// a bank. The last six are faults of a file that is read with procedures; their numbers are those that `src_procs`
+/// gives, of a procedure or of a call.
 #[derive(Clone, Copy)]
 pub enum SourceFault {
     /// The byte begins no token.
@@ -26,7 +26,7 @@ pub enum SourceFault {
     Number(u32),
     /// The name has more than 32 bytes.
     Name(u32),
-    /// No program goes on with the token.
+    /// No program can continue with the token.
     Unexpected(u32),
     /// More is nested at the token than is allowed.
     Deep(u32),
@@ -44,7 +44,7 @@ pub enum SourceFault {
     Index(u32),
     /// The loop has a secret guard.
     Guard(u32),
-    /// The loop stands in secret code.
+    /// The loop is in secret code.
     Loop(u32),
     /// A limit is passed.
     Limit(Which, u64),
@@ -56,11 +56,11 @@ pub enum SourceFault {
     ProcedureTwice(u32),
     /// The procedure names a variable that is none of its parameters and locals.
     ProcedureUndeclared(u32),
-    /// No procedure of that name stands before the call.
+    /// No procedure of that name is declared before the call.
     CallUnknown(u32),
     /// The call has another number of arguments than the procedure has parameters.
     CallCount(u32),
-    /// An array's argument is no bare name.
+    /// An array's argument isn't a bare name.
     CallArray(u32),
     /// The program without calls has too many statements.
     CallsLarge,

@@ -27,8 +27,7 @@ use std::alloc::Global;
 /// The most bytes that a source text may have.
 const SOURCE_BYTES: u32 = 1_048_576;
 
-/// The well-typed program that the file of this name spells, read with procedures or without, or what is said where it
-/// spells none.
+/// The well-typed program of the file of this name, read with procedures or without, or the reply if it has none.
 pub fn find_source<'a, F: Shelf>(
     alloc: Global,
     name: &'a str,
@@ -46,7 +45,7 @@ pub fn find_source<'a, F: Shelf>(
     source_in(alloc, &bytes, procs)
 }
 
-/// The well-typed program that the text spells, read with procedures or without.
+/// The well-typed program of the text, read with procedures or without.
 pub(crate) fn source_in<'a>(alloc: Global, text: &[u8], procs: bool) -> Result<Typed, Reply<'a>>
     requires { length text.now ≤ source_limit }
     ensures found { IfOk result (λ p. SpellsTyped procs text.now (source_of p)) }
@@ -103,7 +102,7 @@ fn inlined(alloc: Global, tokens: &[Token]) -> Result<Program, Option<SourceFaul
     }
 }
 
-/// What is said of a text that gives no program, by its fault, or where memory ran out.
+/// The reply for a text that isn't a program: its fault, or that memory ran out.
 fn not_a_program<'a>(shown: Option<SourceFault>) -> Reply<'a>
     ensures { SaysSource shown (said result) }
 {

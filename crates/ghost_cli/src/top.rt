@@ -26,19 +26,19 @@ use clap::ArgMatches;
 use gr_outside::{Shelf, Sink};
 use std::alloc::Global;
 
-/// All that the program does: reads the words behind the program's name, does the work of the verb that they name with
-/// the files of the shelf, puts its text on the sink, flushes the sink, and answers the exit status.
+/// All that the program does: reads the words after the program's name, does the work of the verb that they name with
+/// the files of the shelf, writes its text to the sink, flushes the sink, and returns the exit status.
 ///
-/// The verbs are `check OBJ`, `trace OBJ INPUT [--cycles n] [--seed s] [--paths] [--recursive]`,
-/// `run OBJ INPUT OUT [--cycles n] [--seed s] [--recursive]`, `asm TEXT OUT`, `dis OBJ OUT`,
-/// `eval SRC INPUT OUT [--turns n] [--procs]`, `compile SRC OUT [--fast] [--block-log w] [--window P:O:C] [--procs]`,
-/// `sample N OUT [--seed s]`, `bus OBJ INPUT [OBJ INPUT ..] [--cycles n] [--seed s]` and `infer OBJ OUT`.
+/// The verbs are `check OBJ`, `trace OBJ INPUT [--cycles n] [--seed s] [--paths] [--recursive]`, `run OBJ INPUT OUT
+/// [--cycles n] [--seed s] [--recursive]`, `asm TEXT OUT`, `dis OBJ OUT`, `eval SRC INPUT OUT [--turns n] [--procs]`,
+/// `compile SRC OUT [--fast] [--block-log w] [--window P:O:C] [--procs]`, `sample N OUT [--fast] [--seed s]`, `bus OBJ
+/// INPUT [OBJ INPUT ..] [--cycles n] [--seed s]` and `infer OBJ OUT`.
 ///
-/// Statuses: 0 the work was done; 2 the words ask for no work; 3 a file couldn't be read; 4 the text or the output
-/// couldn't be written; 5 memory ran out; 6 the file spells no object; 7 the object is refused, or gets no notes; 8 the
-/// source is refused; 9 the input file gives no inputs that fit; 10 the run didn't halt within its cycles, or the loops
-/// took more than their turns; 11 a file is too long; 12 the text spells no object; 13 the bus takes no object as a
-/// core. No file is written but OUT, and that only once its contents are whole.
+/// Statuses: 0 success; 2 the words request no work; 3 a file couldn't be read; 4 the text or the output couldn't be
+/// written; 5 memory ran out; 6 the file isn't an object; 7 the object is rejected, or gets no notes; 8 the source is
+/// rejected; 9 the input file gives no inputs that fit; 10 the run didn't halt within its cycles, or the loops took too
+/// many iterations; 11 a file is too long; 12 the text isn't an object in assembly; 13 the bus takes no object as a
+/// core. No file is written except OUT, and OUT only once its contents are complete.
 pub fn ghostrider<F: Shelf, O: Sink>(
     alloc: Global,
     words: &[&str],
@@ -67,7 +67,7 @@ fn look_at(words: &[&str])
     }
 }
 
-/// The call, with the reason for what it answers.
+/// The call, with the cause of its status.
 fn explained<F: Shelf, O: Sink>(alloc: Global, words: &[&str], shelf: &mut F, out: &mut O) -> u8
     ensures { Explains (outside (F.seen shelf.old) (O.seen out.old))
         (outside (F.seen shelf.new) (O.seen out.new)) result (work_of (texts words.now)) }
@@ -78,7 +78,7 @@ fn explained<F: Shelf, O: Sink>(alloc: Global, words: &[&str], shelf: &mut F, ou
     }
 }
 
-/// Does what the words ask for, and answers the status. `Err` where nothing was put yet: the reply is to be said.
+/// Does the work that the words request, and returns the status. `Err` if nothing was printed yet: the reply to print.
 fn answered<'a, F: Shelf, O: Sink>(
     alloc: Global,
     words: &'a [&'a str],

@@ -43,8 +43,8 @@ pub const WORDS: VerbWords<'static> = VerbWords {
     flags: &["paths", "recursive"],
 };
 
-/// The names of the files of a trace, its number of cycles, the seed of its random words, whether paths are put, and
-/// whether its banks are recursive.
+/// The names of the files of a trace, its number of cycles, the seed of its random words, whether paths are printed,
+/// and whether its banks are recursive.
 #[derive(Clone, Copy)]
 pub struct TraceWords<'a> {
     object: &'a str,
@@ -55,8 +55,8 @@ pub struct TraceWords<'a> {
     recursive: bool,
 }
 
-/// The verb `trace OBJ INPUT [--cycles n] [--seed s] [--paths] [--recursive]`: runs an object on inputs, and puts the
-/// lines of its trace. `Err` where nothing was put yet: the reply is to be said.
+/// The verb `trace OBJ INPUT [--cycles n] [--seed s] [--paths] [--recursive]`: runs an object on inputs, and prints the
+/// lines of its trace. `Err` if nothing was printed yet: the reply to print.
 pub fn trace<'a, F: Shelf, O: Sink>(
     alloc: Global,
     matches: &ArgMatches<'a>,
@@ -150,7 +150,7 @@ fn trace_files<'a, F: Shelf, O: Sink>(
     ))
 }
 
-/// Puts the lines of a run, and the last line with what stands behind it, which were made before: nothing here wants
+/// Prints the lines of a run, then the last line and the lines after it, which were made before: it allocates no
 /// memory.
 fn put_trace<O: Sink>(
     machine: &mut Machine<'_, SeededOram>,
@@ -180,8 +180,8 @@ fn put_trace<O: Sink>(
     }
 }
 
-/// Runs an object over recursive banks, and puts the lines of the run with a last line that was made before. `Err`
-/// where nothing was put.
+/// Runs an object over recursive banks, and prints the lines of the run with a last line that was made before. `Err` if
+/// nothing was printed.
 fn trace_in_trees<O: Sink>(
     alloc: Global,
     accepted: &Accepted,
@@ -229,7 +229,7 @@ fn put_lines<B: Bank + Drop, O: Sink>(
     }
 }
 
-/// Puts a last line and, where paths are put, the levels of the blocks of so many banks behind it.
+/// Prints a last line and, with paths, the levels of the blocks of this many banks after it.
 fn put_last<O: Sink>(
     machine: &Machine<'_, SeededOram>,
     banks: u8,
@@ -257,7 +257,7 @@ fn put_last<O: Sink>(
     }
 }
 
-/// Puts the lines of what a machine shows, and answers how the run ended, or none where the sink failed.
+/// Prints the lines of a machine's trace, and returns how the run ended, or `None` if the sink failed.
 fn put_shown<B: Bank + Drop, O: Sink>(
     machine: &mut Machine<'_, B>,
     cycles: u32,
@@ -277,7 +277,7 @@ fn put_shown<B: Bank + Drop, O: Sink>(
     run_watched(machine, cycles, &mut watch)
 }
 
-/// Runs a machine before a watcher that has put nothing yet.
+/// Runs a machine with a watcher that has written nothing yet.
 fn run_watched<B: Bank + Drop, O: Sink>(
     machine: &mut Machine<'_, B>,
     cycles: u32,

@@ -11,9 +11,10 @@ use lt_isa::Event;
 use processor::{Leaves, Watch, WatchFailed};
 use run_data::{put_event, put_path};
 
-/// A watcher that puts the line of each event on a sink, and where it is to the line of each path.
+/// A watcher that writes the line of each event to a sink, and with paths the line of each path.
 ///
-/// It keeps the sink's mark from when it was made, its mark before the last line, and whether no put has failed.
+/// It keeps the sink's mark from when it was made, its mark before the last line, and whether every write has
+/// succeeded.
 #[derive(Drop)]
 pub struct TraceWatch<'a, O: Sink> {
     out: &'a mut O,
@@ -24,7 +25,7 @@ pub struct TraceWatch<'a, O: Sink> {
 }
 
 impl<'a, O: Sink> TraceWatch<'a, O> {
-    /// A watcher that puts its lines behind what the sink holds, with those of paths or without.
+    /// A watcher that appends its lines to the sink's bytes, with those of paths or without.
     pub fn new(out: &'a mut O, paths: bool) -> TraceWatch<'a, O>
         ensures same_sink { result.out.ghost_name ≡ out.entry.ghost_name }
         ensures same_bytes { (O.seen result.out.now).held ≡ (O.seen out.old).held }

@@ -39,12 +39,12 @@ const VERBS: [Verb; 10] = [
     Verb::Infer,
 ];
 
-/// How an argument stands among the words.
+/// The kind of an argument.
 #[derive(Clone, Copy)]
 pub enum Argument {
-    /// A word that must stand in its place.
+    /// A word that is required at its position.
     Word,
-    /// 2 to 16 words that must stand in their places under one name.
+    /// 2 to 16 adjacent words under one name.
     Words,
     /// An option with a value.
     Valued,
@@ -52,8 +52,8 @@ pub enum Argument {
     Flag,
 }
 
-/// The words that a verb takes: its name, how words stand in their places and under which names, its options with a
-/// value, and those without one.
+/// The words that a verb takes: its name, its positional words and their names, its options with a value, and those
+/// without one.
 #[derive(Clone, Copy)]
 pub struct VerbWords<'a> {
     pub name: &'a str,

@@ -23,8 +23,8 @@ pub(crate) const ALWAYS_OPEN: Window = Window {
     closes: 1,
 };
 
-/// The window that the option gives by three numbers with colons between them: memory is always open where it isn't
-/// there, and there is none where its text is no window with a period from 2 on.
+/// The window that the option gives by three numbers with colons between them: memory is always open without the
+/// option, and `None` if its text isn't a window with a period of at least 2.
 pub fn window_given(option: Option<&str>) -> Option<Window>
     ensures value { result ≡ window_given (option_map (λ text. text.now) option.entry) }
     ensures fits { IfSome result WindowFits }
@@ -49,7 +49,7 @@ fn window_in(text: &str) -> Option<Window>
     )
 }
 
-// What stands before the first colon of a text, and behind it.
+// The parts of a text before and after its first colon.
 fn at_colon(text: &str) -> Option<(&str, &str)>
     ensures { option_map (λ parts. (parts.0.now, parts.1.now)) result ≡ at_colon text.now }
 {

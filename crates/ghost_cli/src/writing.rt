@@ -8,8 +8,8 @@ use crate::replies::{Done, Reply};
 use gr_outside::{Shelf, ShelfError, Sink};
 use std::alloc::Global;
 
-/// Writes a file, and then puts the line that says so; answers the status. Both lines that may follow are made first:
-/// `Err` says that memory ran out before the write was called, and nothing was put.
+/// Writes a file, then prints the line that reports it; returns the status. Both lines that may follow are made first:
+/// `Err` means that memory ran out before the write was called, and that nothing was printed.
 pub fn write_and_say<'a, F: Shelf, O: Sink>(
     alloc: Global,
     name: &str,
