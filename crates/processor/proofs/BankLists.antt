@@ -1,4 +1,4 @@
--- The banks of a machine as a list: two of one kind, and behind them the rest.
+-- The banks of a machine as a list: two of one kind, then the rest.
 use Rattle.std.proofs.Common.{◌≡◌, ℕ, suc, ◌-◌, ◌<◌, ◌≤◌, ℤ, List, [], ◌∷◌, length, map, get_or, set, sym, ap, ◌∙◌, subst, arith}
 use Rattle.std.proofs.lemmas.List.{get_or-map, length-map, map-set}
 use Rattle.std.proofs.Math.Seq.{map-set_same}
@@ -25,7 +25,7 @@ bank_behind f {p = p} {q = q} xs b {x = x} is two within read =
     ∙ get_or-map f xs (b - 2) x [] inside
     ∙ ap f (sym read)
 
--- another bank in its place
+-- a list with one bank replaced
 pub bank_put : {X : Type 0} (f : X → List (List ℤ)) (p q : List (List ℤ)) (xs : List X) (banks : List (List (List ℤ)))
     (b : ℕ) (y : X) (blocks : List (List ℤ))
     → p ∷ q ∷ map f xs ≡ banks → 2 ≤ b → f y ≡ blocks → p ∷ q ∷ map f (set xs (b - 2) y) ≡ set banks b blocks
@@ -35,7 +35,7 @@ bank_put f p q xs banks b y blocks is two same =
     ∙ ap (λ n. set (p ∷ q ∷ map f xs) n blocks) place
     ∙ ap (λ l. set l b blocks) is
 
--- a bank with the same blocks in its place
+-- a list with one bank replaced by one with the same blocks
 pub bank_kept : {X : Type 0} (f : X → List (List ℤ)) (p q : List (List ℤ)) (xs : List X) (banks : List (List (List ℤ)))
     (i : ℕ) (x y : X) → p ∷ q ∷ map f xs ≡ banks → x ≡ get_or xs i x → f y ≡ f x → p ∷ q ∷ map f (set xs i y) ≡ banks
 bank_kept f p q xs banks i x y is read same =
@@ -117,7 +117,7 @@ oram-at orams b bank two within read =
     let is : b ≡ suc (suc (b - 2)) = omega arith in
     ap (λ n. oram_of orams n) is ∙ slice_get-get_or orams (b - 2) bank within ∙ ap Some (sym read)
 
--- as many oblivious banks as there are behind the first two
+-- the number of oblivious banks is that of the banks after the first two
 pub oram_exists : {X : Type 0} (f : X → List (List ℤ)) (p q : List (List ℤ)) (orams : List X)
     (banks : List (List (List ℤ))) (b : ℕ)
     → p ∷ q ∷ map f orams ≡ banks → 2 ≤ b → b < length banks → b - 2 < length orams

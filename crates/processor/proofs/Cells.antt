@@ -7,7 +7,7 @@ use Rattle.processor.specs.declared.scratchpad.Cell.{Cell}
 use Rattle.processor.specs.Scratchpads.{cell_slot, slot_with_word}
 use Rattle.processor.specs.Stores.{Pad}
 
--- a cell with another word stands for the slot with that word
+-- a cell with another word represents the slot with that word
 pub with_word-cell : (bound : Bool) (bank block : ℕ) (words : List ℤ) (i : ℕ) (word : ℤ)
     → cond bound (Bound bank block (set words i word)) Unbound
     ≡ slot_with_word i word (cond bound (Bound bank block words) Unbound)
@@ -28,7 +28,7 @@ pad_of-set words cells pad k cell found are is =
     ∙ ap (put (cell_slot cell)) are
     ∙ ap (λ slot. put slot pad) is
 
--- the slot that a cell stands for
+-- the slot that a cell represents
 pub slots-at : (cells : List Cell) (slots : List Slot) (k : ℕ) (cell : Cell)
     → map cell_slot cells ≡ slots → k < length cells → cell ≡ get_or cells k cell → cell_slot cell
     ≡ get_or slots k Unbound

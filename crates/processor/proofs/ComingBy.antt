@@ -7,7 +7,7 @@ use Rattle.banks.specs.Accesses.{Access, in_bank, at_most_one}
 use Rattle.banks.proofs.InBank.{in_bank-append}
 use Rattle.processor.specs.ObliviousBanks.{ComeBy, MayAccess, OfBoth, ShowsOn, oram_of}
 
--- what each bank shows goes on by each access
+-- each access continues what its bank shows
 module _ {B : Type 0} (shows : B → List ℕ → List Leaves) (shows_each : (bank : B) (blocks : List ℕ)
     → length (shows bank blocks) ≡ length blocks) where
   shows-none : (bank : B) → shows bank [] ≡ []

@@ -1,4 +1,4 @@
--- As many paths are told as accesses are made to oblivious banks.
+-- The number of reported paths is that of accesses to oblivious banks.
 use Rattle.std.proofs.Common.{◌≡◌, ℕ, zero, suc, ◌+◌, ◌≤◌, Bool, true, false, List, [], ◌∷◌, ◌++◌, length, Option, Some, None, refl, sym, ap, ◌∙◌, arith}
 use Rattle.std.proofs.lemmas.Bool.{false≢true}
 use Rattle.std.proofs.lemmas.List.{length-append}
@@ -59,7 +59,7 @@ most_one made = let is = made_count made in omega (arith, is, low (made_bank mad
     low None = omega arith
     low (Some bank) = omega arith
 
--- a step tells as many paths as it makes accesses to oblivious banks
+-- a step reports as many paths as it makes accesses to oblivious banks
 pub step_counted : (start : ℕ) (outcome : StepResult) (leaves : Leaves) (made : Option Access)
     → told_bank (event_of_outcome outcome) ≡ made_bank made
     → oblivious_count (at_most_one made) ≡ path_count (told_of_step start outcome leaves)
@@ -79,7 +79,7 @@ pub counts_on : (made more : List Access) (shown further : List WatcherTold) →
 counts_on made more shown further one two =
     omega (arith, one, two, oblivious_count-append made more, path_count-append shown further)
 
--- of one step no path is told before something else of it
+-- a step reports no path before something else of it
 starts_with_path : List WatcherTold → Bool
 starts_with_path [] = false
 starts_with_path (AnEvent event ∷ told) = false
@@ -111,7 +111,7 @@ first start (Goes event t) leaves = first_shown start event leaves
 first start (Stops t) leaves = first_shown start (Some Halted) leaves
 first start Faults leaves = refl
 
--- no path is told before the event of its step
+-- no path is reported before the event of its step
 pub none_before : (start : ℕ) (outcome : StepResult) (leaves : Leaves) (told : List WatcherTold) (next : WatcherTold)
     (rest : List WatcherTold) → told_of_step start outcome leaves ≡ told ++ next ∷ rest → path_count told ≡ 0
 unfolding starts_with_path

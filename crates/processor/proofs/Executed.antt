@@ -13,7 +13,7 @@ use Rattle.processor.specs.Machines.{Running}
 use Rattle.processor.specs.ObliviousBanks.{Accessed, MayAccess}
 use Rattle.processor.specs.Stepping.{IsReady, Executes, on_slot, outcome_of}
 
--- the machine behind an access of so many cycles, and the machine with other banks
+-- the machine after an access of this many cycles, and the machine with other banks
 abbrev pub behind_access : {B : Type 0} → Running B → ℕ → Running B
 behind_access m cost = record m {
   state = record (m.state) {

@@ -1,4 +1,4 @@
--- What a flat form is made of is in its ranges, and does what the code does; and how some code comes to be flat.
+-- The fields of a flat form are in their ranges, and it does what the code does; and how code is made flat.
 use Rattle.std.proofs.Common.{◌≡◌, ℕ, ◌-◌, ◌<◌, ℤ, List, [], ◌∷◌, ◌++◌, length, get_or, None, Some, refl, sym, ap, ◌∙◌, subst, ⊎_elim, arith}
 use Rattle.std.proofs.lemmas.List.{get_or_append_left, get_or-append_right, length-append}
 use Rattle.std.proofs.lemmas.Bool.{cases_lt}
@@ -41,7 +41,7 @@ flat-passes o f i registers pad at next after left stands passes =
     (λ is. subst (λ j. PassesQuickly o j registers pad at (Some next) after left) is passes)
     stands
 
--- what a halt, a load or a store stands for is left for a step
+-- the instruction of a halt, a load or a store is left for a step
 is_left : (o : Parts) (s : State) (i : Instr) → IsForStep i → IsLeft o s i
 is_left o s Halt kind = tt
 is_left o s (Ldb k b r) kind = tt

@@ -1,4 +1,4 @@
--- Two runs one after the other show what one shows, end as it ends, and leave the state that it leaves.
+-- Two consecutive runs show what one run shows, end as it ends, and leave the state that it leaves.
 use Rattle.std.proofs.Common.{◌≡◌, ℕ, ◌≤◌, List, ◌++◌, sym, subst, ⊎_elim}
 use Rattle.std.proofs.lemmas.List.Elements.{Contains-append_cases, Contains-append_right}
 use Rattle.lt_isa.specs.Object.{Parts}
@@ -23,7 +23,7 @@ ends_behind es fs (end.Halted at) quiet ends = (
 ends_behind es fs end.Spent quiet ends = λ at halts.
     ⊎_elim (quiet at) (ends at) (Contains-append_cases es fs (seen_at at Halted) halts)
 
--- two runs one after the other tell what one tells
+-- two consecutive runs report what one run reports
 pub runs_join : (o : Parts) → IsInRange o → (s : State) → IsShaped o s → (n m : ℕ) → n ≤ m
     → EndsAs (trace_from o s n) end.Spent → RunsJoin o s n m
 runs_join o range s shaped n m le spent =

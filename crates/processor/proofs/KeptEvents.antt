@@ -21,7 +21,7 @@ pub event-at : (words : List ℤ) (entries : List EventEntry) (i : ℕ) (d : Eve
 unfolding events_of
 event-at words entries i d e within = get_or-map (told_by words) entries i d e within
 
--- no entries are no events
+-- no entries mean no events
 pub events_of-none : (words : List ℤ) → events_of words [] ≡ []
 unfolding events_of
 events_of-none words = refl
@@ -181,7 +181,7 @@ module _ (words more all : List ℤ) (entries list : List EventEntry) (stamp sta
       ∙ (events_of-more words more entries (entry_of stamp kind start len) within starts counts
       ∙ ap (λ seen. events_of words entries ++ seen_at stamp seen ∷ []) (ap (event_of kind) shown ∙ kinds)))
 
-  -- an entry more lies within the words
+  -- one more entry is within the words
   pub pushed_within : AreWithin all list
   pushed_within =
       rw (gained, longer) (AreWithin-push words more entries (entry_of stamp kind start len) within starts counts)

@@ -1,4 +1,4 @@
--- What a watcher that keeps what it is told keeps of one call.
+-- What a recording watcher keeps of one call.
 use Rattle.std.proofs.Common.{◌≡◌, ℕ, [], ◌∷◌, ◌++◌, length, sym, ◌∙◌}
 use Rattle.std.proofs.lemmas.List.{append-nil}
 use Rattle.lt_isa.specs.Trace.{Stamped}

@@ -1,4 +1,4 @@
--- The paths that are told for a bank are what it shows; and what two runs one after the other tell, paths too.
+-- The paths that are reported for a bank are those that it shows; and what two consecutive runs report, paths included.
 use Rattle.std.proofs.Common.{◌≡◌, ℕ, zero, suc, ◌+◌, ◌≤◌, ◌⊎◌, inl, inr, Bool, true, false, cond, List, [], ◌∷◌, ◌++◌, length, length-drop, map, drop, get_or, Option, Some, None, refl, sym, ap, ◌∙◌, subst, ⊎_elim, arith, append_assoc}
 use Rattle.std.specs.Prelude.{◌==◌}
 use Rattle.std.proofs.lemmas.Bool.{eq-eqb, eqb-true}
@@ -114,7 +114,7 @@ told_first b place event events paths (Some bank) is counted rest later =
     told_one b place event events paths bank is counted (get_or (paths bank) 0 no_leaves) refl
     (paths_of b (paths_in (place + 1) rest)) later (b == bank) refl
 
--- where a bank has as many paths as it is accessed, they are told
+-- if a bank has a path for each of its accesses, the paths are reported
 told_each : (b place : ℕ) (events : List Stamped) (paths : ℕ → List Leaves)
     → length (paths b) ≡ accesses_shown b events
     → AreTold b place events (paths b) (paths_of b (paths_in place (with_paths events paths)))
@@ -160,7 +160,7 @@ next_same (Some bank) events first second both splits =
     ap (λ l. get_or l 0 no_leaves) (s.0 ∙ ap (λ l. l ++ second bank) none.0 ∙ none.1 ∙ sym none.0))
     s.1
 
--- what is left behind the next path
+-- the paths that are left after the next one
 left_splits : (found : Option ℕ) (events : List Stamped) (first second both : ℕ → List Leaves) (b : ℕ)
     → SplitsAt found events first second both b
     → Splits events (left_paths found first) second (left_paths found both) b
@@ -227,7 +227,7 @@ module _ {B : Type 0} (shows : B → List ℕ → List Leaves) (each : (bank : B
   shown-counted b two o s n bank =
       each bank (in_bank b (accesses_from o s n)) ∙ sym (accesses-counted b two o s n)
 
-  -- the paths that a run tells for a bank are what the bank shows
+  -- the paths that a run reports for a bank are those that the bank shows
   pub told_paths : (b : ℕ) → 2 ≤ b → (o : Parts) (s : State) (orams : List B) (n : ℕ) (bank : B)
       → oram_of orams b ≡ Some bank
       → ArePathsOf b (trace_from o s n) (shows bank (in_bank b (accesses_from o s n)))
@@ -245,7 +245,7 @@ module _ {B : Type 0} (shows : B → List ℕ → List Leaves) (each : (bank : B
   from_two orams (suc zero) bank is = absurd (let f : ◌≡◌ {A = Option B} None (Some bank) = is in cc)
   from_two orams (suc (suc i)) bank is = omega arith
 
-  -- two runs one after the other tell what one tells, where the banks show on
+  -- two consecutive runs report what one run reports, if the banks continue to show their paths
   module _ (o : Parts) (range : IsInRange o) (s : State) (shaped : IsShaped o s) (n m : ℕ) (le : n ≤ m)
       (spent : EndsAs (trace_from o s n) end.Spent) (before now : List B)
       (on : ComeBy (ShowsOn shows) before (accesses_from o s n) now) where

@@ -1,4 +1,4 @@
--- How far a run has come: what was told so far, and the trace of what is left.
+-- How far a run has come: what was reported so far, and the trace of the rest.
 use Rattle.std.proofs.Common.{◌≡◌, ℕ, ◌+◌, ◌-◌, ◌<◌, ◌≤◌, List, [], ◌∷◌, ◌++◌, length, Option, Some, None, refl, sym, ap, ◌∙◌, subst, ⊎_elim, arith, append_assoc}
 use Rattle.std.proofs.lemmas.List.{append-nil}
 use Rattle.std.proofs.lemmas.List.Elements.{Contains-append_cases, Contains-append_right}
@@ -36,8 +36,8 @@ pub record GoneTo {B : Type 0} (shows : B → List ℕ → List Leaves) (o : Par
   pub accesses : accesses_from o first m ≡ made ++ accesses_from o now m
   pub final : final_from o first m ≡ final_from o now m
 
--- A run up to cycle n has come from one state to another, and its oblivious banks with it: the watcher was told a front
--- of what the run shows, without a halt, and what is left is what the run from there on shows.
+-- A run up to cycle n has led from one state to another, and its oblivious banks with it: the watcher received a prefix
+-- of what the run shows, without a halt, and the rest is what the run shows from there on.
 pub record Progress {B W : Type 0} (shows : B → List ℕ → List Leaves) (comes : B → List ℕ → B → Type 0)
     (hears : W → List WatcherTold → W → Type 0) (o : Parts) (first : State) (banks : List B) (now : State)
     (orams : List B) (n : ℕ) (before after : W) : Type 0 where
@@ -123,7 +123,7 @@ broke_first hears before now torn next rest nothing at = record {
   at = at;
 }
 
--- the second of two things that are told may break off
+-- the second of two reports may break off
 pub broke_second : {W : Type 0} (hears : W → List WatcherTold → W → Type 0) (before now : W)
     (torn : WatcherTold → Type 0) (first next : WatcherTold)
     → hears before (first ∷ []) now → torn next → Broke hears before now torn (first ∷ next ∷ [])
@@ -324,7 +324,7 @@ module _ {B W : Type 0} {shows : B → List ℕ → List Leaves} {comes : B → 
             (show_on left told.leaves told.orams);
       }
 
-  -- behind the next step nothing more is shown or accessed up to the cycle after its start
+  -- after the next step nothing more is shown or accessed up to the cycle after its start
   abbrev cut : ℕ
   cut = step_start o now + 1
 

@@ -101,7 +101,7 @@ came-on o range n first slots from registers pad at d after left next came there
       },
     )
 
--- A run has come as far in the state that a machine came to without an access.
+-- A run has come equally far in the state that a machine reached without an access.
 pub progress_on : {B W : Type 0} {shows : B → List ℕ → List Leaves} {comes : B → List ℕ → B → Type 0}
     {hears : W → List WatcherTold → W → Type 0} {o p q : Parts} {first : State} {banks : List B} {now next : State}
     {orams left : List B} {n : ℕ} {before after : W}

@@ -1,4 +1,4 @@
--- How a machine starts, and where an object's symbols lie.
+-- How a machine starts, and where an object's symbols are stored.
 use Rattle.std.proofs.Common.{◌≡◌, ℕ, suc, ◌<◌, true, ℤ, pos, List, [], ◌∷◌, length, map, replicate, get_or, All, Some, refl, sym, ap, ◌∙◌, subst, ⊎_elim, arith}
 use Rattle.std.specs.Prelude.{IfSome, IsSomeAnd, slice_get}
 use Rattle.std.proofs.lemmas.Bool.{cases_lt}
@@ -37,7 +37,7 @@ IsShaped-fresh o banks widths fits = record {
   blocks = fits.blocks;
 }
 
--- each symbol of an object lies within a bank
+-- each symbol of an object is within a bank
 pub LiesIn-at : (o : Parts)
     → IsInRange o → (k : ℕ) (d : Symbol) → k < length o.symbols → LiesIn o (get_or o.symbols k d)
 LiesIn-at o range k d within =

@@ -1,4 +1,4 @@
--- How the words of a bank at the start come about: variables are put at their places, the last one first.
+-- How the words of a bank at the start are made: variables are written to their places, the last one first.
 use Rattle.std.proofs.Common.{◌≡◌, ℕ, suc, ◌+◌, ◌-◌, ◌*◌, ◌/◌, ◌<◌, ◌≤◌, cond, ℤ, pos, List, [], ◌∷◌, length, get_or, drop, refl, sym, ap, ◌∙◌, subst, arith, drop-cons}
 use Rattle.std.proofs.lemmas.List.{drop_all, get_or-take, get_or-drop}
 use Rattle.std.proofs.lemmas.List.FromFn.{fill_by_all}
@@ -15,12 +15,12 @@ use Rattle.banks.specs.Blocks.{Blocks, block_of_words, cut, filled_up, in_blocks
 use Rattle.banks.proofs.Blocks.{length-cut, block-cut, length-block_of_words, words_of_cut, length-filled_up, get_or-filled_up}
 use Rattle.processor.specs.Starting.{starting_bank}
 
--- what stands in some words, and behind them zeros, once the variables from number k on were put there
+-- some words, followed by zeros, once the variables from number k on were written there
 abbrev pub IsFilled : ℕ → List Symbol → List (List ℤ) → ℕ → ℕ → List ℤ → Type 0
 IsFilled w symbols inputs b k words =
     (i : ℕ) → get_or words i (pos 0) ≡ start_word w (drop k symbols) (drop k inputs) b i
 
--- that, in a vector with room for so many words, of which no more are taken
+-- those words, in a vector with room for this many words, of which no more are used
 pub record IsFilling (w : ℕ) (symbols : List Symbol) (inputs : List (List ℤ)) (b k n : ℕ) (words : List ℤ)
     (room : ℕ) : Type 0 where
   pub filled : IsFilled w symbols inputs b k words
@@ -113,7 +113,7 @@ module _ (o : Parts) (inputs : List (List ℤ)) (symbols : List Symbol) (same : 
       (get_or (words_at inputs (left - 1)) (i - first_word (block_words o) symbol) (pos 0)) (get_or before i (pos 0)))
       is_symbol)))
 
--- The words that stand at their places are those of the bank at the start, block by block and together.
+-- The words at their places are those of the bank at the start, block by block and together.
 block-filled : (o : Parts) (inputs : List (List ℤ)) (b : ℕ) (words : List ℤ)
     → length words ≡ blocks_of o b * block_words o → IsFilled (block_words o) o.symbols inputs b 0 words → (a : ℕ)
     → a < blocks_of o b → block_of_words (block_words o) words a ≡ start_block o inputs b a
@@ -155,7 +155,7 @@ words-filled o inputs b words size filled =
     sym (words_of_cut (block_words o) (blocks_of o b) words size)
     ∙ ap words_of_blocks (cut-filled o inputs b words size filled)
 
--- The first words of a bank at the start: with zeros behind them they are the bank.
+-- The first words of a bank at the start: followed by zeros they are the bank.
 module _ (o p : Parts) (same : p ≡ o) (inputs : List (List ℤ)) (b : ℕ) (front : List ℤ)
     (within : length front ≤ blocks_of p b * block_words p)
     (filled : (i : ℕ) → get_or front i (pos 0) ≡ start_word (block_words p) p.symbols inputs b i) where
@@ -169,7 +169,7 @@ module _ (o p : Parts) (same : p ≡ o) (inputs : List (List ℤ)) (b : ℕ) (fr
   is_filled i =
       get_or-filled_up (all_of p) front i ∙ (filled i ∙ ap (λ q. start_word (block_words q) q.symbols inputs b i) same)
 
-  -- in a bank of so many blocks of such a width
+  -- in a bank of this many blocks of this width
   pub front-bank : (w n : ℕ)
       → w ≡ block_words p → n ≡ blocks_of p b → cut w n (filled_up (n * w) front) ≡ start_bank o inputs b
   front-bank w n width count =

@@ -1,4 +1,4 @@
--- What is told of a step, and what is left to be told behind it.
+-- What is reported of a step, and what is left to report after it.
 use Rattle.std.proofs.Common.{◌≡◌, ◌≢◌, ℕ, zero, suc, ◌≤◌, ◌<◌, cond, List, [], ◌∷◌, ◌++◌, drop, length, get_or, Option, Some, None, refl, sym, ap, ◌∙◌, ⊎_elim, arith}
 use Rattle.std.proofs.lemmas.Bool.{cases_eq, eq-eqb, ne_eqb, false≢true}
 use Rattle.std.specs.Prelude.{◌==◌, IsSome}
@@ -21,7 +21,7 @@ use Rattle.processor.specs.Stepping.{may_show, told_of_step}
 use Rattle.processor.specs.Watching.{WatcherTold, AnEvent, APath, events_in, left_paths, next_of, path_behind, run_shown, with_path, with_paths}
 use Rattle.processor.specs.Keeping.{events_in-append}
 
--- the same paths are told where each bank shows the same
+-- if each bank shows the same paths, the same paths are reported
 pub with_paths-same : (events : List Stamped) (p q : ℕ → List Leaves)
     → ((b : ℕ) → p b ≡ q b) → with_paths events p ≡ with_paths events q
 with_paths-same [] p q same = refl
@@ -58,7 +58,7 @@ events_in-with_paths (event ∷ events) paths =
     (path_behind-no_event event.stamp bank (next_of bank paths))
     ∙ events_in-with_paths events (left_paths bank paths))
 
--- what is told of a step behind what is told first is no event
+-- after the first report of a step, none is an event
 behind_first : List WatcherTold → List WatcherTold
 behind_first [] = []
 behind_first (first ∷ told) = told
@@ -76,7 +76,7 @@ no_event-behind [] rest none = none
 no_event-behind (AnEvent event ∷ told) rest none = absurd (omega (arith, ap length none))
 no_event-behind (APath stamp bank leaves ∷ told) rest none = no_event-behind told rest none
 
--- no event of a step is told behind another thing of it
+-- no event of a step is reported after something else of it
 pub step-last_event : (start : ℕ) (outcome : StepResult) (leaves : Leaves) (told : List WatcherTold)
     (next : WatcherTold) (rest : List WatcherTold) → told_of_step start outcome leaves ≡ told ++ next ∷ rest
     → events_in rest ≡ []
@@ -115,7 +115,7 @@ module _ {B : Type 0} (shows : B → List ℕ → List Leaves) (comes : B → Li
       (oram_of now access.bank) (made.exists two) made.shown
       ∙ ap (λ n. leaves ∷ paths_shown shows now rest n) (sym is)
 
-  -- an event that is no access to an oblivious bank
+  -- an event that isn't an access to an oblivious bank
   none_told : (start : ℕ) (event : Option Observed) (events : List Stamped) (leaves : Leaves) (p q : ℕ → List Leaves)
       → told_bank event ≡ None → ((b : ℕ) → p b ≡ q b)
       → with_paths (stamped start event ++ events) p ≡ may_show start event leaves ++ with_paths events q
@@ -153,7 +153,7 @@ module _ {B : Type 0} (shows : B → List ℕ → List Leaves) (comes : B → Li
           (λ other. ap (λ same. cond same (drop 1 (p b)) (p b)) (ne_eqb b bank other) ∙ others b other)
           (cases_eq b bank)
 
-  -- what is told of a step that may access a bank, and what is left
+  -- what is reported of a step that may access a bank, and what is left
   told_behind : (before now : List B) (made : Option Access) (leaves : Leaves)
       → MayAccess shows comes before now made leaves → (start : ℕ) (event : Option Observed)
       → told_bank event ≡ made_bank made → (events : List Stamped) (rest : List Access)
@@ -185,7 +185,7 @@ module _ {B : Type 0} (shows : B → List ℕ → List Leaves) (comes : B → Li
           (paths-this before now access leaves rest made (omega arith) (suc (suc i)) is)
           (λ b other. paths-other before now access leaves rest made b (λ b_is. other (b_is ∙ sym is)))
 
-  -- what is left to be told behind a step
+  -- what is left to report after a step
   abbrev pub left_behind : Parts → StepResult → List B → ℕ → List WatcherTold
   left_behind o (Goes event t) orams n = run_shown shows o t orams n
   left_behind o (Stops t) orams n = []

@@ -1,4 +1,4 @@
--- What is told of a step, by what its instruction left to be told.
+-- What is reported of a step, by what its instruction left to report.
 use Rattle.std.proofs.Common.{◌≡◌, ℕ, List, [], ◌∷◌, ◌++◌, length, Option, None, refl, sym, ap, subst, arith, length-append}
 use Rattle.lt_isa.specs.Object.{Parts}
 use Rattle.lt_isa.specs.Machine.{State}
@@ -25,7 +25,7 @@ module _ {B W : Type 0} (shows : B → List ℕ → List Leaves) (comes : B → 
         nothing;
   }
 
-  -- what was to be told of a step was no fault's
+  -- what was to be reported of a step wasn't a fault
   left_by : (left : Untold) (t : State) (stamp : ℕ) (told : List WatcherTold) (next : WatcherTold)
       (rest : List WatcherTold) → told_of_step stamp (outcome_of left t) (leaves_of left) ≡ told ++ next ∷ rest
       → LeavesState (outcome_of left t) t
@@ -37,7 +37,7 @@ module _ {B W : Type 0} (shows : B → List ℕ → List Leaves) (comes : B → 
 
   -- an instruction
   module _ (now : List B) (was is : W) where
-    -- a step that went on was told
+    -- a step after which the run continues was reported
     pub told_step : (left : Untold) (t : State) (stamp : ℕ) → step o s ≡ outcome_of left t
         → accessed o s ≡ accessed_of left t → MayAccess shows comes before now (accessed_of left t) (leaves_of left)
         → stamp ≡ step_start o s → hears was (told_of_step stamp (outcome_of left t) (leaves_of left)) is
@@ -50,7 +50,7 @@ module _ {B W : Type 0} (shows : B → List ℕ → List Leaves) (comes : B → 
           (subst (λ at. hears was (told_of_step at (outcome_of left t) (leaves_of left)) is) start told);
     }
 
-    -- a step that was told in part
+    -- a step that was reported in part
     pub broke_step : (torn : WatcherTold → Type 0) (left : Untold) (t : State) (stamp : ℕ) → step o s
         ≡ outcome_of left t
         → accessed o s ≡ accessed_of left t → MayAccess shows comes before now (accessed_of left t) (leaves_of left)

@@ -27,7 +27,7 @@ is_spent (Ok (Halted at)) = false
 is_spent (Ok Spent) = true
 is_spent (Err e) = false
 
--- A watcher failed while it was told this: it heard a front of it and no more, and is torn at what comes next.
+-- A watcher failed while it received these reports: it received a proper prefix of them, and failed at the next one.
 pub record Broke {W : Type 0} (hears : W → List WatcherTold → W → Type 0) (before now : W)
     (torn : WatcherTold → Type 0) (shown : List WatcherTold) : Type 0 where
   pub told : List WatcherTold
@@ -37,7 +37,7 @@ pub record Broke {W : Type 0} (hears : W → List WatcherTold → W → Type 0) 
   pub heard : hears before told now
   pub at : torn next
 
--- how many paths are told, and how many accesses are made to oblivious banks
+-- how many paths are reported, and how many accesses are made to oblivious banks
 abbrev pub path_count : List WatcherTold → ℕ
 path_count [] = 0
 path_count (AnEvent event ∷ told) = path_count told
@@ -52,9 +52,9 @@ abbrev pub oblivious_count : List Access → ℕ
 oblivious_count [] = 0
 oblivious_count (access ∷ accesses) = one_if_oblivious access.bank + oblivious_count accesses
 
--- A run up to cycle n was broken off by its watcher: of its accesses a prefix was made, and each oblivious bank comes
+-- A run up to cycle n was broken off by its watcher: it made a prefix of its accesses, and each oblivious bank results
 -- from the one before by these; and the paths of all of them were reported, or of all but the last. The machine is in
--- the state that a run up to an earlier cycle leaves. That run makes these accesses. It shows what the watcher was told
+-- the state that a run up to an earlier cycle leaves. That run makes these accesses. It shows what the watcher received
 -- and what it failed at, and no event after that.
 pub record BrokeOff {B W : Type 0} (shows : B → List ℕ → List Leaves) (comes : B → List ℕ → B → Type 0)
     (hears : W → List WatcherTold → W → Type 0) (o : Parts) (s : State) (n : ℕ) (before now : List B) (last : State)

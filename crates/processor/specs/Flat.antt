@@ -1,5 +1,5 @@
--- Instructions in their flat form, and the code that they stand for. For proofs and for the contracts of private
--- functions alone.
+-- Instructions in their flat form, and the code that they represent. Only for proofs and for the contracts of private
+-- functions.
 use Rattle.std.specs.Prelude.{◌≡◌, ℕ, ◌<◌, ◌⊎◌, List, length, slice_index_or}
 use Rattle.gr_word.specs.declared.operations.Op.TheVariants as op
 use Rattle.gr_word.specs.declared.operations.Cmp.TheVariants as cmp
@@ -58,7 +58,7 @@ abbrev pub AreFlatForms : List Flat → List Instr → Type 0
 AreFlatForms flats code =
     (p : ℕ) → p < length flats → IsFlatForm (slice_index_or flats p flat.Access) (slice_index_or code p Nop)
 
--- some flat forms stand for some code
+-- some flat forms represent some code
 pub record IsFlatOf (flats : List Flat) (code : List Instr) : Type 0 where
   pub count : length flats ≡ length code
   pub each : AreFlatForms flats code

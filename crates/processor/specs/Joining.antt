@@ -1,4 +1,4 @@
--- Two runs one after the other. (This project's profile.)
+-- Two consecutive runs. (This project's profile.)
 use Rattle.std.specs.Prelude.{◌≡◌, ℕ, ◌++◌}
 use Rattle.lt_isa.specs.Object.{Parts}
 use Rattle.lt_isa.specs.Machine.{State}
@@ -7,9 +7,9 @@ use Rattle.banks.specs.Accesses.{accesses_from}
 use Rattle.processor.specs.declared.ends.End.{End}
 use Rattle.processor.specs.Ends.{EndsAs}
 
--- A run up to cycle n, and then one up to cycle m from the state that it left: what they show, one behind the other, is
--- what one run up to cycle m shows, and so are the accesses that they make; the second ends as that one ends; and it
--- leaves the same state.
+-- A run up to cycle n, and then one up to cycle m from the state that it left: what they show, concatenated, is what
+-- one run up to cycle m shows, and so are the accesses that they make; the second ends as that one ends; and it leaves
+-- the same state.
 pub record RunsJoin (o : Parts) (s : State) (n m : ℕ) : Type 0 where
   pub events : trace_from o s m ≡ trace_from o s n ++ trace_from o (final_from o s n) m
   pub accesses : accesses_from o s m ≡ accesses_from o s n ++ accesses_from o (final_from o s n) m

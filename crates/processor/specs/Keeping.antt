@@ -1,5 +1,5 @@
--- What a watcher that keeps what it is told has heard in no call and in many, and that its events are one list. For the
--- laws of such a watcher, and for proofs.
+-- What a recording watcher has heard in no call and in many, and that its events are one list. For the laws of such a
+-- watcher, and for proofs.
 use Rattle.std.specs.Prelude.{◌≡◌, ℕ, ◌+◌, List, [], ◌∷◌, ◌++◌, length}
 use Rattle.std.proofs.Common.{refl, sym, ap, subst, ◌∙◌, add-zero, add_assoc, append_assoc, length-append}
 use Rattle.std.proofs.Math.Numerals.{one-add}
@@ -7,7 +7,7 @@ use Rattle.std.proofs.lemmas.List.{append-nil, append_cancel_left}
 use Rattle.processor.specs.ListWatching.{Heard, KeepsMore, path_at, paths_in}
 use Rattle.processor.specs.Watching.{WatcherTold, AnEvent, APath, TellsMore, events_in}
 
--- the events of what is told are the events
+-- the events among the reports are the events
 pub events_in-append : (xs ys : List WatcherTold) → events_in (xs ++ ys) ≡ events_in xs ++ events_in ys
 events_in-append [] ys = refl
 events_in-append (AnEvent event ∷ xs) ys = ap (λ l. event ∷ l) (events_in-append xs ys)
@@ -23,7 +23,7 @@ paths_in-append place (AnEvent event ∷ xs) ys =
 paths_in-append place (APath stamp bank leaves ∷ xs) ys =
     ap (λ l. path_at place stamp bank leaves ∷ l) (paths_in-append place xs ys)
 
--- what is told goes on by nothing, and in two stretches
+-- reports that continue by nothing, and in two stretches
 pub tells-none : {X : Type 0} (tells : List X → Type 0) → TellsMore tells tells []
 tells-none tells = λ told holds. subst tells (sym (append-nil told)) holds
 

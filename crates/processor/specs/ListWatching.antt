@@ -1,4 +1,4 @@
--- What is seen of a watcher that keeps what it is told, within rooms made before, and some of whose calls fail.
+-- What is seen of a watcher that records its reports, within rooms made before, and some of whose calls fail.
 use Rattle.std.specs.Prelude.{◌≡◌, ℕ, ◌+◌, Bool, ◌||◌, nat_lt, if◌then◌else◌, ℤ, List, [], ◌∷◌, ◌++◌, length, sum_by}
 use Rattle.gr_base.specs.Calls.{Calls, next_fails, after_call, one_more}
 use Rattle.lt_isa.specs.Machine.{Observed, RamRead, RamWrite, EncRead, EncWrite, Oram, Halted}
@@ -36,8 +36,8 @@ passes_room event told =
 abbrev pub told_more : ℕ → Observed → Told → Told
 told_more stamp event told = record told { events = told.events ++ seen_at stamp event ∷ [] }
 
--- What the watcher was told, its calls, and how many of them failed. There is room for paths of as many accesses as for
--- events.
+-- What the watcher received, its calls, and how many of them failed. It has room for the paths of as many accesses as
+-- for events.
 pub record Heard : Type 0 where
   pub told : Told
   pub paths : List ShownPaths
@@ -48,7 +48,7 @@ pub record Heard : Type 0 where
 abbrev pub after_failing : Heard → Heard
 after_failing watcher = record watcher { calls = after_call watcher.calls; faults = one_more watcher.faults }
 
--- an event is told: the call fails where its number is among those or the event would pass a room
+-- an event is reported: the call fails if its number is among those, or if the event would exceed a room
 abbrev pub seen_fails : Observed → Heard → Bool
 seen_fails event watcher = next_fails watcher.calls || passes_room event watcher.told
 
@@ -58,11 +58,11 @@ after_seen stamp event watcher =
     then after_failing watcher
     else record watcher { calls = after_call watcher.calls; told = told_more stamp event watcher.told }
 
--- paths are told
+-- paths are reported
 abbrev pub path_fails : Heard → Bool
 path_fails watcher = next_fails watcher.calls || nat_lt watcher.told.event_room (length watcher.paths + 1)
 
--- the paths of an access that was told as the last of so many events
+-- the paths of an access that was reported as the last of this many events
 abbrev pub path_at : ℕ → ℕ → ℕ → Leaves → ShownPaths
 path_at place stamp bank leaves = record { place = place; stamp = stamp; bank = bank; leaves = leaves }
 
@@ -75,13 +75,13 @@ after_path stamp bank leaves watcher =
       paths = watcher.paths ++ path_at (length watcher.told.events) stamp bank leaves ∷ [];
     }
 
--- the paths among what is told, each with the number of events before it; so many events came before all of it
+-- the paths among the reports, each with the number of events before it; this many events came before all of them
 abbrev pub paths_in : ℕ → List WatcherTold → List ShownPaths
 paths_in place [] = []
 paths_in place (AnEvent event ∷ told) = paths_in (place + 1) told
 paths_in place (APath stamp bank leaves ∷ told) = path_at place stamp bank leaves ∷ paths_in place told
 
--- behind what it kept before, the watcher keeps the events and the paths of what it heard
+-- after what it kept before, the watcher keeps the events and the paths of what it heard
 pub record KeepsMore (before : Heard) (told : List WatcherTold) (now : Heard) : Type 0 where
   pub events : now.told.events ≡ before.told.events ++ events_in told
   pub paths : now.paths ≡ before.paths ++ paths_in (length before.told.events) told

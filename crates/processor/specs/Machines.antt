@@ -37,7 +37,7 @@ pub record AreBanksOf (o : Parts) (banks : List (List (List ℤ))) (widths : Lis
   pub blocks : (b a : ℕ) → b < length o.banks → a < blocks_of o b → IsBlock o (block_numbered (bank_numbered banks b) a)
   pub block_sizes : All (λ w. w ≡ block_words o) widths
 
--- a symbol lies within a bank of an object
+-- a symbol is within a bank of an object
 pub record LiesIn (o : Parts) (s : Symbol) : Type 0 where
   pub bank_exists : s.bank < length o.banks
   pub inside : end_word (block_words o) s ≤ blocks_of o s.bank * block_words o

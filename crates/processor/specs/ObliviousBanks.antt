@@ -40,8 +40,8 @@ abbrev pub ComeBy : {B : Type 0} → (B → List ℕ → B → Type 0) → List 
 ComeBy comes before accesses now =
     (b : ℕ) → OfBoth (oram_of before b) (oram_of now b) (λ old new. comes old (in_bank b accesses) new)
 
--- What a first bank shows for these accesses and any later ones is what it shows for these alone, followed by what a
--- second shows for the later ones.
+-- What a first bank shows for these accesses and any later ones is what it shows for these, followed by what a second
+-- shows for the later ones.
 abbrev pub ShowsOn : {B : Type 0} → (B → List ℕ → List Leaves) → B → List ℕ → B → Type 0
 ShowsOn shows first blocks second =
     (later : List ℕ) → shows first (blocks ++ later) ≡ shows first blocks ++ shows second later

@@ -1,4 +1,4 @@
--- The paths that a run tells for one oblivious bank. (Path ORAM, CCS 2013: an access shows a path.)
+-- The paths that a run reports for one oblivious bank. (Path ORAM, CCS 2013: an access shows a path.)
 use Rattle.std.specs.Prelude.{◌≡◌, ℕ, ◌+◌, ◌==◌, if◌then◌else◌, Bool, false, List, [], ◌∷◌, map, Option, Some, None}
 use Rattle.lt_isa.specs.Trace.{Stamped}
 use Rattle.banks.specs.declared.bank.Leaves.{Leaves}
@@ -21,7 +21,7 @@ stamps_of b [] = []
 stamps_of b (event ∷ events) =
     if is_bank b (oblivious event.event) then event.stamp ∷ stamps_of b events else stamps_of b events
 
--- how many events stand up to each of these accesses, its own among them, where so many stand before all of them
+-- the number of events up to and including each of these accesses, if this many come before all of them
 abbrev pub places_of : ℕ → ℕ → List Stamped → List ℕ
 places_of b before [] = []
 places_of b before (event ∷ events) =

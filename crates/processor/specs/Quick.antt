@@ -1,5 +1,5 @@
--- How a machine goes on between its accesses, over its registers and slots alone. For proofs and for the contracts of
--- private functions alone.
+-- How a machine continues between its accesses, over its registers and slots only. Only for proofs and for the
+-- contracts of private functions.
 use Rattle.std.specs.Prelude.{◌≡◌, ℕ, ◌<◌, ◌≤◌, ◌^◌, ◌⊎◌, ℤ, List, Option, Some, None, IfSome, slice_get}
 use Rattle.lt_isa.specs.declared.instructions.Instr.{Instr}
 use Rattle.lt_isa.specs.declared.instructions.Instr.TheVariants.{Nop, Halt, Li, Alu, Ldb, Stb, Idb, Ldw, Stw, Jmp, Br}
@@ -35,7 +35,7 @@ IsLeft o s (Br cmp ra rb offset) = executed o s (Br cmp ra rb offset) ≡ Faults
 abbrev pub StandsForStep : Parts → State → Type 0
 StandsForStep o s = IfSome (slice_get o.code s.place) (IsLeft o s)
 
--- an instruction went on to another point without an access, over whatever banks; or it is left, and nothing changed
+-- an instruction continued to another point without an access, over any banks; or it is left, and nothing changed
 abbrev pub PassesQuickly : Parts → Instr → List ℤ → Pad → Point → Option Point → List ℤ → Pad → Type 0
 PassesQuickly o i registers pad at None registers' pad' =
     (registers' ≡ registers) × (pad' ≡ pad)
@@ -55,7 +55,7 @@ pub record RunsAlike (o : Parts) (s t : State) (n : ℕ) : Type 0 where
 abbrev pub RunsAlikeOn : Parts → State → State → ℕ → Type 0
 RunsAlikeOn o s t n = (m : ℕ) → (m ≡ n) ⊎ (t.cycle ≤ m) → RunsAlike o s t m
 
--- so does a machine that came from one point to another, over whatever banks of its object
+-- so does a machine that moved from one point to another, over any banks of its object
 abbrev pub CameAlike : Parts → ℕ → List ℤ → List Slot → Point → List ℤ → List Slot → Point → Type 0
 CameAlike o n registers slots at registers' slots' next =
     (banks : List (List (List ℤ))) → IsShaped o (state_at registers slots banks at)

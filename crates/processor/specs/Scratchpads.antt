@@ -6,11 +6,11 @@ use Rattle.lt_isa.specs.Machine.{Slot, Unbound, Bound}
 use Rattle.processor.specs.declared.scratchpad.Cell.{Cell}
 use Rattle.processor.specs.declared.scratchpad.Held.{Held}
 
--- what a cell of the scratchpad stands for
+-- what a cell of the scratchpad represents
 abbrev pub cell_slot : Cell → Slot
 cell_slot c = if c.bound then Bound c.bank c.block c.words.items else Unbound
 
--- each cell has room for so many words
+-- each cell has room for this many words
 abbrev pub HaveRoom : ℕ → List Cell → Type 0
 HaveRoom words cells = All (λ c. length c.words.items ≡ words) cells
 

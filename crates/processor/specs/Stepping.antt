@@ -40,7 +40,7 @@ abbrev pub on_slot : Slot → (ℕ → ℕ → List ℤ → Observed) → Option
 on_slot Unbound event = None
 on_slot (Bound b a words) event = Some (event b a words)
 
--- what an instruction came to that left this to be told and led to this state
+-- the outcome of an instruction that left this to report and led to this state
 abbrev pub outcome_of : Untold → State → StepResult
 outcome_of (done.Read k leaves) t = Goes (on_slot (slot t k) read_event) t
 outcome_of (done.Wrote k leaves) t = Goes (on_slot (slot t k) write_event) t
@@ -54,7 +54,7 @@ went_of (done.Wrote k leaves) = went.On
 went_of done.Stopped = went.Halted
 went_of done.Fault = went.Faulted
 
--- how a step went that came to this and led to this state
+-- the outcome of a step whose instruction had this outcome and led to this state
 abbrev pub CameTo : Went → StepResult → State → Type 0
 CameTo went.On outcome t = (event : Option Observed) × (outcome ≡ Goes event t)
 CameTo went.Halted outcome t = outcome ≡ Stops t
@@ -113,7 +113,7 @@ told_of_step start (Goes event t) leaves = may_show start event leaves
 told_of_step start (Stops t) leaves = may_show start (Some Halted) leaves
 told_of_step start Faults leaves = []
 
--- the next step was told, with the paths that its access showed
+-- the next step was reported, with the paths that its access showed
 pub record StepTold {B W : Type 0} (shows : B → List ℕ → List Leaves) (comes : B → List ℕ → B → Type 0)
     (hears : W → List WatcherTold → W → Type 0) (o : Parts) (s : State) (before now : List B) (was is : W)
     : Type 0 where
@@ -121,7 +121,7 @@ pub record StepTold {B W : Type 0} (shows : B → List ℕ → List Leaves) (com
   pub orams : MayAccess shows comes before now (accessed o s) leaves
   pub heard : hears was (told_of_step (step_start o s) (step o s) leaves) is
 
--- the state that a step leaves which is no fault
+-- the state after a step that isn't a fault
 abbrev pub LeavesState : StepResult → State → Type 0
 LeavesState (Goes event next) t = t ≡ next
 LeavesState (Stops last) t = t ≡ last

@@ -1,5 +1,5 @@
--- What a watcher of the memory bus is told: events, and behind each access to an oblivious bank its paths.
--- (GhostRider, ASPLOS 2015: the events of an execution. Path ORAM, CCS 2013: the paths that its accesses show.)
+-- What a watcher of the memory bus receives: events, and after each access to an oblivious bank its paths. (GhostRider,
+-- ASPLOS 2015: the events of an execution. Path ORAM, CCS 2013: the paths that its accesses show.)
 use Rattle.std.specs.Prelude.{ℕ, ◌==◌, if◌then◌else◌, List, [], ◌∷◌, ◌++◌, Option, Some, None, drop, slice_index_or}
 use Rattle.lt_isa.specs.Object.{Parts}
 use Rattle.lt_isa.specs.Machine.{State}
@@ -10,25 +10,25 @@ use Rattle.banks.specs.Accesses.{accesses_from}
 use Rattle.banks.specs.ObliviousEvents.{oblivious}
 use Rattle.processor.specs.ObliviousBanks.{paths_shown}
 
--- what a watcher is told: an event, or the paths that an access to an oblivious bank showed
+-- a watcher's report: an event, or the paths that an access to an oblivious bank showed
 pub data WatcherTold : Type 0 where
   AnEvent : (event : Stamped) → WatcherTold
   APath : (stamp bank : ℕ) (leaves : Leaves) → WatcherTold
 
--- Whatever was told before is told now, followed by this. A watcher that tells lists hears so.
+-- What was heard before is heard now, followed by this. A recording watcher hears so.
 abbrev pub TellsMore : {X : Type 0} → (List X → Type 0) → (List X → Type 0) → List X → Type 0
 TellsMore before now more = (told : List _) → before told → now (told ++ more)
 
--- the paths behind an access to an oblivious bank
+-- the paths after an access to an oblivious bank
 abbrev pub path_behind : ℕ → Option ℕ → Leaves → List WatcherTold
 path_behind stamp None leaves = []
 path_behind stamp (Some bank) leaves = APath stamp bank leaves ∷ []
 
--- an event and, where it is an access to an oblivious bank, its paths behind it, with the same stamp
+-- an event and, if it is an access to an oblivious bank, its paths after it, with the same stamp
 abbrev pub with_path : Stamped → Leaves → List WatcherTold
 with_path event leaves = AnEvent event ∷ path_behind event.stamp (oblivious event.event) leaves
 
--- the first of the paths that are left for a bank, and what is left for each bank behind it
+-- the first of the paths that are left for a bank, and what is left for each bank after it
 abbrev pub next_of : Option ℕ → (ℕ → List Leaves) → Leaves
 next_of None paths = no_leaves
 next_of (Some bank) paths = slice_index_or (paths bank) 0 no_leaves
@@ -48,7 +48,7 @@ with_paths (event ∷ events) paths =
 abbrev pub run_shown : {B : Type 0} → (B → List ℕ → List Leaves) → Parts → State → List B → ℕ → List WatcherTold
 run_shown shows o s orams n = with_paths (trace_from o s n) (paths_shown shows orams (accesses_from o s n))
 
--- the events among what is told
+-- the events among the reports
 abbrev pub events_in : List WatcherTold → List Stamped
 events_in [] = []
 events_in (AnEvent event ∷ told) = event ∷ events_in told

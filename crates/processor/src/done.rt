@@ -19,7 +19,7 @@ pub(crate) enum Untold {
 /// How a step went.
 #[derive(Clone, Copy)]
 pub(crate) enum Went {
-    /// The run goes on.
+    /// The run continues.
     On,
     /// The machine stopped.
     Halted,

@@ -117,7 +117,7 @@ impl Model for EventList {
 }
 
 impl EventList {
-    /// No event yet. The rooms for so many events and words are reserved here.
+    /// No event yet. The rooms for this many events and words are reserved here.
     pub fn new(alloc: Global, event_room: usize, word_room: usize) -> Result<EventList, Memory>
         ensures { IfOk result (λ list. list ≡ record { events = []; event_room = event_room; word_room = word_room }) }
     {

@@ -23,8 +23,8 @@ use lt_checker::Accepted;
 use lt_isa::{Object, Symbol};
 use std::alloc::Global;
 
-/// The words of a bank at the start of a run on some inputs, its blocks one behind the other: the inputs' words at
-/// their variables' places, and 0 elsewhere.
+/// The words of a bank at the start of a run on some inputs, block after block: the inputs' words at their variables'
+/// places, and 0 elsewhere.
 pub fn start_image(
     alloc: Global,
     a: &Accepted,
@@ -44,7 +44,7 @@ pub fn start_image(
     Ok(image)
 }
 
-/// The first words of a bank at the start of a run, in a vector with room for all of them. Those behind them are 0.
+/// The first words of a bank at the start of a run, in a vector with room for all of them. The others are 0.
 pub(crate) fn start_front(
     alloc: Global,
     object: &Object,
@@ -74,8 +74,8 @@ fn bank_words(object: &Object, bank: u8) -> usize
     blocks as usize * width as usize
 }
 
-// Puts the words of the bank's variables at their places. The first variable that takes a place decides what is there,
-// so the last one is put first.
+// Writes the words of the bank's variables to their places. The first variable that takes a place decides what is
+// there, so the last one is written first.
 fn fill(words: &mut Vec<i64>, object: &Object, inputs: &Inputs, bank: u8)
     requires fits { FitsObject object.now inputs.now }
     requires exists { bank < length object.now.banks }
@@ -94,7 +94,7 @@ fn fill(words: &mut Vec<i64>, object: &Object, inputs: &Inputs, bank: u8)
     }
 }
 
-// Puts the words of a variable at their places, if it lies in the bank.
+// Writes the words of a variable to their places, if it is stored in the bank.
 fn place(words: &mut Vec<i64>, width: u32, bank: u8, symbol: &Symbol, from: &[i64])
     requires small { width ≤ 512 }
     requires size { length from.now ≡ symbol.now.length }

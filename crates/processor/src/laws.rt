@@ -17,9 +17,9 @@ ghost use Rattle.processor.specs.Watching.{events_in, run_shown, with_paths};
 use crate::ends::End;
 use banks::{Bank, Leaves};
 
-/// Does nothing; its clause is a law of runs: where a run up to a cycle was spent, it and a run on from there show
-/// together what one run shows, make its accesses, end as it ends, and leave the state that it leaves. So two calls of
-/// [`run`](crate::Machine::run) one after the other tell a watcher what one call tells.
+/// Does nothing; its clause is a law of runs: if a run up to a cycle was spent, it and a run from there on together
+/// show what one run shows, make its accesses, end as it ends, and leave the state that it leaves. So two consecutive
+/// calls of [`run`](crate::Machine::run) report to a watcher what one call reports.
 pub fn runs_join()
     ensures { (o : Parts)
         → IsInRange o
@@ -67,16 +67,16 @@ pub fn shaped_laws()
         → IsShaped o (final o inputs n) }
 {}
 
-/// Does nothing; its clause is a law of what [`run`](crate::Machine::run) tells: whatever paths the oblivious banks
-/// show, the events among what is told are those of the trace.
+/// Does nothing; its clause is a law of what [`run`](crate::Machine::run) reports: for any paths of the oblivious
+/// banks, the events among the reports are those of the trace.
 pub fn events_told()
     ensures { (events : List Stamped) → (paths : ℕ → List Leaves) → events_in (with_paths events paths) ≡ events }
 {}
 
-/// Does nothing; its clauses are laws of what [`run`](crate::Machine::run) tells of the paths of oblivious banks. The
-/// paths that are told for a bank are what it shows for the accesses that are made to it, each behind its access and
-/// with its stamp. And where a run up to a cycle was spent, it and a run on from there, over banks that show on, tell
-/// together what one run tells, paths too.
+/// Does nothing; its clauses are laws of the paths of oblivious banks that [`run`](crate::Machine::run) reports. The
+/// paths that are reported for a bank are those that it shows for the accesses made to it, each after its access and
+/// with its stamp. And if a run up to a cycle was spent, it and a run from there on, over banks that continue to show
+/// their paths, together report what one run reports, paths included.
 pub fn paths_told<B: Bank>()
     ensures paths { (b : ℕ)
         → 2 ≤ b

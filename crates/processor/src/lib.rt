@@ -1,9 +1,9 @@
 //! The processor: the machine that runs an accepted object over banks of memory, and watchers of the memory bus.
 //!
-//! [`Machine::run`] tells a [`Watch`] exactly the events of the object's trace, in order, over any [`Bank`]s, and
-//! leaves exactly the state that the trace's steps lead to. Behind each access to an oblivious bank it tells the paths
-//! that the bank said that it will show, and afterwards each bank comes from the one before by the accesses that were
-//! made to it. It takes no memory.
+//! [`Machine::run`] reports to a [`Watch`] exactly the events of the object's trace, in order, over any [`Bank`]s, and
+//! leaves exactly the state that the trace's steps lead to. After each access to an oblivious bank it reports the paths
+//! that the bank said it would show, and afterwards each bank results from the one before by the accesses that were
+//! made to it. It allocates no memory.
 #![tactic(auto)]
 
 mod done;

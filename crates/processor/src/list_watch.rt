@@ -29,9 +29,9 @@ pub struct ShownPaths {
     pub leaves: Leaves,
 }
 
-/// A watcher that keeps what it is told, in rooms that are made before, and always tells it. Its calls are numbered
-/// from 0; those whose numbers were chosen fail, and so does a call that would pass a room. The number stays at 2^64 -
-/// 1, which is the number of no call that is to fail. No call takes memory.
+/// A watcher that records its reports, in rooms that are made before, and always reveals them. Its calls are numbered
+/// from 0; those whose numbers were chosen fail, and so does a call that would exceed a room. The number stops at 2^64
+/// - 1, which is never the number of a call that is to fail. No call allocates memory.
 #[derive(Debug, Drop)]
 pub struct ListWatch {
     told: EventList,
@@ -57,8 +57,8 @@ impl Model for ListWatch {
 }
 
 impl ListWatch {
-    /// A watcher with room for so many events, for paths of as many accesses, and for so many words of events. They are
-    /// reserved here. The calls with these numbers fail.
+    /// A watcher with room for this many events, for the paths of as many accesses, and for this many words of events.
+    /// They are reserved here. The calls with these numbers fail.
     pub fn new(
         alloc: Global,
         failing: Vec<u32>,
@@ -82,14 +82,14 @@ impl ListWatch {
         })
     }
 
-    /// How many events were told.
+    /// The number of recorded events.
     pub fn len(&self) -> usize
         ensures { result ≡ length self.now.told.events }
     {
         self.told.len()
     }
 
-    /// Whether no event was told.
+    /// Whether no event is recorded.
     pub fn is_empty(&self) -> bool
         ensures { result ≡ (length self.now.told.events == 0) }
     {
@@ -112,7 +112,7 @@ impl ListWatch {
         self.told.event(i)
     }
 
-    /// The paths that were told, in order.
+    /// The recorded paths, in order.
     pub fn paths(&self) -> &[ShownPaths]
         ensures { result.now ≡ self.now.paths }
     {

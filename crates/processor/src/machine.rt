@@ -21,8 +21,8 @@ use std::marker::Model;
 /// whether it is live.
 #[derive(Drop)]
 pub struct Machine<'a, B: Bank + Drop> {
-    // The place stands apart from the cycle: side by side the two are added as one vector, which a jump then reads back
-    // in halves.
+    // The place is stored apart from the cycle: side by side the two are added as one vector, which a jump then reads
+    // back in halves.
     pub(crate) place: usize,
     pub(crate) object: &'a Object,
     pub(crate) flats: Vec<Flat>,

@@ -79,7 +79,7 @@ impl<P: Bank + Drop, B: Bank + Drop> Banks<P, B> {
         }
     }
 
-    /// A word of a block of a bank. This is no access.
+    /// A word of a block of a bank. Reading it isn't an access.
     pub(crate) fn word(&self, bank: u8, at: u32, index: u32) -> i64
         requires bank_exists { bank < length self.now.banks }
         requires block_exists { at < length (bank_numbered self.now.banks bank) }

@@ -4,7 +4,7 @@ use crate::watching::{Watch, WatchFailed};
 use banks::Leaves;
 use lt_isa::Event;
 
-/// A watcher that keeps nothing of what it is told, and never fails. It tells no events.
+/// A watcher that records nothing and never fails. It reveals no events.
 #[derive(Clone, Copy, Debug)]
 pub struct NoWatch;
 

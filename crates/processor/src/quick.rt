@@ -21,8 +21,8 @@ pub(crate) struct Point {
     pub(crate) cycle: u64,
 }
 
-/// Goes on from a point as long as the next instruction starts below this cycle and makes no access. Answers the point
-/// that it came to. The point stands apart from the machine, so that it stays in the processor's own registers.
+/// Continues from a point as long as the next instruction starts below this cycle and makes no access. Returns the
+/// point that it reached. The point is kept apart from the machine, so that it stays in the processor's own registers.
 pub(crate) fn run_quickly(
     object: &Object,
     flats: &[Flat],
@@ -101,7 +101,7 @@ fn pass_quickly(
     }
 }
 
-// The point behind an instruction of such a cost that goes on to the next place.
+// The point after an instruction of this cost that continues at the next place.
 #[inline(always)]
 fn behind(at: Point, cost: u32) -> Point
     requires place { at.place < 2 ^ 32 }
@@ -293,7 +293,7 @@ fn word_at(object: &Object, word: i64) -> usize
     (word.cast_unsigned() % u64::from(words)) as usize
 }
 
-/// The place that an offset leads to, the one behind the code where it leads before it.
+/// The place that an offset leads to, or the one past the code if it leads before it.
 #[inline(always)]
 pub(crate) fn target(object: &Object, place: usize, offset: i32) -> usize
     requires { place < 2 ^ 32 }

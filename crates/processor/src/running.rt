@@ -33,8 +33,8 @@ use banks::{Bank, Leaves};
 use lt_isa::{BankKind, Event, bank_kind};
 
 impl<'a, B: Bank + Drop> Machine<'a, B> {
-    /// Runs the machine as long as the next instruction starts below this cycle. The watcher is told each event in
-    /// order and, behind each access to an oblivious bank, the paths that it showed.
+    /// Runs the machine as long as the next instruction starts below this cycle. The watcher receives each event in
+    /// order and, after each access to an oblivious bank, the paths that it showed.
     ///
     /// Returns Halted with the cycle at which a halt started, and Spent if none did: then the machine can be run on
     /// with more cycles. If the watcher fails, the machine is dead, in the state after the access that the watcher
@@ -148,7 +148,7 @@ impl<'a, B: Bank + Drop> Machine<'a, B> {
         self.cycle = to.cycle;
     }
 
-    // One step that the loop between accesses leaves. The watcher is told of it, with its start for a stamp.
+    // One step that the loop between accesses leaves. The watcher receives it, with its start for a stamp.
     #[inline(always)]
     fn step<W: Watch>(&mut self, stamp: u32, watch: &mut W) -> Result<Went, WatchFailed>
         requires start { stamp ≡ step_start self.old.object self.old.state }

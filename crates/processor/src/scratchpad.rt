@@ -53,7 +53,7 @@ impl Model for Scratchpad {
 impl Scratchpad {
     ghost use Rattle.processor.specs.Scratchpads.{HaveRoom, held_slot, cell_slot, slot_with_word};
 
-    /// A scratchpad of unbound slots with room for so many words each.
+    /// A scratchpad of unbound slots with room for this many words each.
     pub(crate) fn new(alloc: Global, words: u32) -> Result<Scratchpad, Memory>
         ensures { IfOk result (λ p. p ≡ record { words = words; slots = replicate 8 Unbound }) }
     {
@@ -122,7 +122,7 @@ impl Scratchpad {
         banks.read(bank, block, cell.words.as_mut_slice())
     }
 
-    // So many unbound cells with room for so many words each.
+    // This many unbound cells with room for this many words each.
     fn unbound_cells(alloc: Global, count: usize, words: u32) -> Result<Vec<Cell>, Memory>
         ensures slots { IfOk result (λ cells. map cell_slot cells.items ≡ replicate count Unbound) }
         ensures count { IfOk result (λ cells. length cells.items ≡ count) }

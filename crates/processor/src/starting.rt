@@ -60,7 +60,7 @@ pub fn load_start<'a>(
     load_over(alloc, accepted, inputs, orams)
 }
 
-// The object's oblivious banks at the start of a run, where it has so many banks.
+// The object's oblivious banks at the start of a run, if it has this many banks.
 fn orams_at_start(
     alloc: Global,
     accepted: &Accepted,

@@ -38,7 +38,7 @@ impl<'a, B: Bank + Drop> Machine<'a, B> {
         }
     }
 
-    /// Makes the access of an instruction, or stops, all but telling of it. Inlined, so that what is left to be told
+    /// Makes the access of an instruction, or stops, but doesn't report it. Inlined, so that what is left to report
     /// stays in registers.
     #[inline(always)]
     pub(crate) fn execute(&mut self, instruction: Instr) -> Untold
@@ -64,7 +64,7 @@ impl<'a, B: Bank + Drop> Machine<'a, B> {
         Untold::Stopped
     }
 
-    // Inlined, as is the store, so that paths that no one is told of are never put together.
+    // Inlined, as is the store, so that paths that no one receives are never assembled.
     #[inline(always)]
     fn load_block(&mut self, slot: u8, bank: u8, reg: u8) -> Untold
         requires { IsReady self.old (Instr.Ldb slot bank reg) }
@@ -118,7 +118,7 @@ impl<'a, B: Bank + Drop> Machine<'a, B> {
         latency(self.object, &instruction, taken, bank)
     }
 
-    // Passes to the next place, behind an access that waited for the window and took so many cycles.
+    // Continues at the next place, after an access that waited for the window and took this many cycles.
     fn end_access(&mut self, cost: u32)
         requires place { self.old.state.place < 2 ^ 32 }
         requires early { self.old.state.cycle < 2 ^ 32 }

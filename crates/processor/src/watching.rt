@@ -8,23 +8,23 @@ use banks::Leaves;
 use lt_isa::Event;
 use thiserror::Error;
 
-/// A watcher failed to take what it was told, and counted it.
+/// A watcher failed to take a report, and counted the failure.
 #[derive(Clone, Copy, Debug, PartialEq, Eq, Error)]
 #[error("the watcher failed")]
 pub struct WatchFailed;
 
-/// What watches the memory bus. It is told each event with its stamp, the cycle at which the event's instruction
+/// A watcher of the memory bus. It receives each event with its stamp, the cycle at which the event's instruction
 /// starts, and after each access to an oblivious bank the paths that the access showed.
 ///
-/// What it heard is a relation of the watcher before some calls and the watcher behind them, as that of a bank before
-/// and behind some accesses is. Once a call failed, the watcher takes no more, and what it was given last wasn't heard.
-/// Its count of faults never falls and stands still at 2^64 - 1.
+/// What it heard is a relation between the watcher before some calls and the watcher after them, as for a bank before
+/// and after some accesses. Once a call failed, the watcher takes no more, and what it was given last wasn't heard. Its
+/// count of faults never falls and stops at 2^64 - 1.
 pub trait Watch {
-    /// Whether the second watcher is the first one behind calls in which it heard these things, and no others, in this
+    /// Whether the second watcher is the first one after calls in which it heard these things, and no others, in this
     /// order.
     ghost hears: { Self → List WatcherTold → Self → Type 0 };
 
-    /// Whether the watcher tells the events that it hears: then those that it heard since another are one list. One
+    /// Whether the watcher reveals the events that it hears: then those that it heard since another are one list. One
     /// that doesn't may hear any.
     ghost tells: { Self → Type 0 };
 
@@ -37,10 +37,10 @@ pub trait Watch {
     /// Whether the watcher may have failed at this.
     ghost torn: { Self → WatcherTold → Type 0 };
 
-    /// What stays the same of a watcher through all its calls, as the sink that it puts lines on.
+    /// What stays the same of a watcher through all its calls, such as the sink that it writes lines to.
     ghost same: { Self → Self → Type 0 };
 
-    /// An event is seen. A watcher that tells its events after the call told them before.
+    /// An event is seen. A watcher that reveals its events after the call revealed them before.
     fn seen(&mut self, stamp: u32, event: &Event) -> Result<(), WatchFailed>
         requires { IsTrue (whole self.old) }
         ensures heard { OnOk result (hears self.old (AnEvent (seen_at stamp (observed_of event.now)) ∷ []) self.new) }
@@ -53,8 +53,8 @@ pub trait Watch {
         ensures count_stays { faults self.old ≡ 2 ^ 64 - 1 → faults self.new ≡ 2 ^ 64 - 1 }
         ensures same { same self.old self.new };
 
-    /// An access to an oblivious bank, whose event was seen with this stamp, showed these paths. A watcher that tells
-    /// its events after the call told them before.
+    /// An access to an oblivious bank, whose event was seen with this stamp, showed these paths. A watcher that reveals
+    /// its events after the call revealed them before.
     fn path(&mut self, stamp: u32, bank: u8, leaves: &Leaves) -> Result<(), WatchFailed>
         requires { IsTrue (whole self.old) }
         ensures heard { OnOk result (hears self.old (APath stamp bank leaves.now ∷ []) self.new) }
@@ -70,12 +70,12 @@ pub trait Watch {
     /// Where no call has failed, a watcher has heard nothing since itself.
     ghost hears_none: { (watcher : Self) → IsTrue (whole watcher) → hears watcher [] watcher };
 
-    /// What was heard from a first watcher to a second, and from there to a third, was heard one behind the other from
-    /// the first to the third.
+    /// What was heard from a first watcher to a second, and from there to a third, was heard in sequence from the first
+    /// to the third.
     ghost hears_then: { (first second third : Self) (told more : List WatcherTold)
         → hears first told second → hears second more third → hears first (told ++ more) third };
 
-    /// Where a watcher tells its events, those that it heard since another are one list at most.
+    /// If a watcher reveals its events, those that it heard since another are at most one list.
     ghost events_once: { (before now : Self) (told other : List WatcherTold)
         → tells now → hears before told now → hears before other now → events_in told ≡ events_in other };
 

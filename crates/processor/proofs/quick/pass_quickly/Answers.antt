@@ -1,4 +1,4 @@
--- Each arm does what the instruction of its flat form does, over whatever scratchpad.
+-- Each arm does what the instruction of its flat form does, over any scratchpad.
 use Rattle.std.proofs.Common.{rules, ◌≡◌, ℤ, w32, w64, to_z, of_z}
 use Rattle.std.proofs.lemmas.Int.{wraps}
 use Rattle.gr_word.specs.Words.{IsWord}
