@@ -1,5 +1,5 @@
--- The code of a branch on a secret, and of all that stands in secret code, run: it makes of a store what the statement
--- makes of it, or leaves it in a mirrored arm.
+-- Runs of the code of a branch on a secret, and of all secret code: a run turns a store into the one that the statement
+-- leaves, or leaves it as it was in a mirrored arm.
 use Rattle.std.proofs.Common.{◌≡◌, ℕ, zero, suc, ◌+◌, ◌-◌, Bool, true, false, pos, List, [], ◌∷◌, ◌++◌, length, take, drop, refl, sym, ap, ◌∙◌, subst, arith}
 use Rattle.std.specs.Prelude.{if◌then◌else◌}
 use Rattle.std.proofs.lemmas.List.{length-append}
@@ -167,7 +167,7 @@ module _ (o : Parts) (f : Setting) (taken : ℕ) (cmp : Cmp) (untaken code : Lis
   region-makes false is = region-passed is
 
 module _ (f : Setting) where
-  -- a guard and the region behind it
+  -- a guard and the region after it
   pub guarded-makes : (mode : Mode) (t : Test) (untaken code : List Instr) (g h : Store → Store)
       → TypedTest (context_of f.decls) t
       → LowStatement (Choice t Nothing Nothing) → Makes f untaken g → Makes f code h
@@ -201,7 +201,7 @@ module _ (f : Setting) where
         );
   }
 
-  -- three rows one behind another
+  -- three rows in sequence
   rows-make : (xs ys zs : List (List Instr)) (g h k : List (Store → Store)) (after : Store → Store) → EachMakes f xs g
       → EachMakes f ys h → EachMakes f zs k
       → ((store : Store) → one_by_one k (one_by_one h (one_by_one g store)) ≡ after store)
@@ -307,7 +307,7 @@ module _ (f : Setting) where
         (effects_of f.decls mode rest) (statement-makes s mode code typed.0 low.0)
         (each-makes rest mode code typed.1 low.1)
 
-  -- a choice by a secret in public code, at the place where its code stands
+  -- a choice by a secret in public code, at the place of its code
   pub choice-changes : (o : Parts) → IsInRange o → HasHomes o f → (t : Test) (a b : Block) (place : ℕ)
       → TypedStatement (context_of f.decls) label.Public (Choice t a b) → LowStatement (Choice t a b)
       → StandsAt o place (padded_code f Public (Choice t a b)) → (s : State) (store : Store) → IsShaped o s

@@ -328,7 +328,7 @@ module _ (f : Setting) (few : f.profile.taken ≤ 32) (mode : Mode) where
         front-room part i d within,
       )
 
-  -- behind some of a part's statements
+  -- after some of a part's statements
   pub row-behind : (part : List Stmt) (from to : ℕ) (a b : CodeBuf)
       → Appended a b (row_between from to (padded_codes f mode (block_of_all part))) no_notes
       → length b.code.items ≤ length a.code.items + 120 * block_weight (context_of f.decls) label.Secret
@@ -349,7 +349,7 @@ row-start from codes a =
     appended_as a a [] (row_between from from codes) no_notes no_notes (sym (row-none from codes)) (λ place. refl)
     (appended-none a)
 
--- the taken arm, whose first part is put at once
+-- the taken arm, whose first part is written at once
 pub taken-appended_whole : (f : Setting) (mode : Mode) (first second : List Stmt) (k taken one two : ℕ)
     (a b c d : CodeBuf)
     → one ≡ length first → two ≡ length second
@@ -375,7 +375,7 @@ taken-appended_whole f mode first second k taken one two a b c d is_one is_two x
     (rest-appended f modes.Mirrored second b c k two is_two z)))
     w
 
--- how far the code reaches behind each part of a branch
+-- how far the code reaches after each part of a branch
 pub guard-behind : (f : Setting) (mode : Mode) (t : Test) (a b : CodeBuf) → EmitsGuard f mode 0 t a b
     → length b.code.items ≤ length a.code.items + 10 * test_weight t
 guard-behind f mode t a b x =
@@ -390,7 +390,7 @@ pub one-behind : (a b : CodeBuf) (i : Instr) → Appended a b (i ∷ []) no_note
     → length b.code.items ≡ length a.code.items + 1
 one-behind a b i x = appended_length a b (i ∷ []) no_notes x
 
--- so many instructions more
+-- this many more instructions
 pub idle-behind : (a b : CodeBuf) (n : ℕ) → Appended a b (idle n) no_notes
     → length b.code.items ≡ length a.code.items + n
 idle-behind a b n x = omega (arith, appended_length a b (idle n) no_notes x, length-replicate n Nop)
@@ -400,7 +400,7 @@ pub set-behind : (xs ys : List Instr) (k : ℕ) (i : Instr) → ys ≡ set xs k 
 set-behind xs ys k i is = ap length is ∙ length-set xs k i
 
 module _ (f : Setting) (few : f.profile.taken ≤ 32) (mode : Mode) (first second : Block) (k : ℕ) (a b : CodeBuf) where
-  -- how long the code is behind an arm of both parts
+  -- how long the code is after an arm of both parts
   arm-behind : (code : List Instr) (one two : Mode)
       → length code
       ≤ f.profile.taken + (length (in_a_row (padded_codes f one first)) + length (in_a_row (padded_codes f two second)))

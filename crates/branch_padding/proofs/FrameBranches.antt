@@ -111,7 +111,7 @@ secret-typed known code t a b secret typed = (
   ),
 )
 
--- What is said of the code and the notes that a call made of a branch, with `place` instructions before them.
+-- The clauses for the code and the notes that a call made of a branch, with `place` instructions before them.
 pub record BranchPromises (f : Setting) (mode : Mode) (s : Statement) (place : ℕ) (code : List Instr)
     (notes : List Note) : Type 0 where
   pub runs : Makes f code (λ store. by_mode mode (effect_of f.decls s store) store)
@@ -180,7 +180,7 @@ frame-branch_means f is mode (Choice t a b) branch = λ store turns.
     effect-means f.program.now.decls.items (Choice t a b) (typed_secret f is mode t a b branch) store turns
 frame-branch_means f is mode (Loop t a) branch = absurd branch.secret
 
--- the arm that is taken, as it stands in a branch
+-- the arm that is taken, as it is in a branch
 abbrev second_arm : Setting → Mode → Block → Block → List Instr
 second_arm f mode a b =
     second_padded f.profile.taken

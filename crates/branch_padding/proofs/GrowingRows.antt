@@ -17,7 +17,7 @@ pub appended-grows : (a b : CodeBuf) (more : List Instr) (noted : ℕ → List N
     → CodeGrows a b
 appended-grows a b more noted x = record { code = (more, x.code); notes = (noted (length a.code.items), x.notes) }
 
--- an instruction behind what was there is set
+-- an instruction after what was there is set
 pub set-grows : (a b c : CodeBuf) (at : ℕ) (i : Instr) → CodeGrows a b → length a.code.items ≤ at
     → c.code.items ≡ set b.code.items at i → c.notes.items ≡ b.notes.items → CodeGrows a c
 set-grows a b c at i grows behind is same =
@@ -36,11 +36,11 @@ pub grows-longer : (a b : CodeBuf) → CodeGrows a b → length a.code.items ≤
 grows-longer a b grows =
     omega (arith, ap length grows.code.1, length-append a.code.items grows.code.0)
 
--- three pieces one behind another
+-- three pieces in sequence
 pub grows_thrice : (a b c d : CodeBuf) → CodeGrows a b → CodeGrows b c → CodeGrows c d → CodeGrows a d
 grows_thrice a b c d one two three = grows_then a c d (grows_then a b c one two) three
 
--- an instruction behind a front is set when more stands behind it
+-- an instruction after a prefix is set when more follows it
 pub branch-grows : (out before behind more marked : CodeBuf) (at : ℕ) (i : Instr) → CodeGrows out before
     → CodeGrows out behind
     → CodeGrows behind more → at ≡ length before.code.items → marked.code.items ≡ set more.code.items at i
@@ -49,7 +49,7 @@ branch-grows out before behind more marked at i first so_far last is code notes 
     set-grows out more marked at i (grows_then out behind more so_far last)
     (omega (arith, is, grows-longer out before first)) code notes
 
--- no statement, one more, and those behind
+-- no statement, one more, and those after it
 pub words-none : (from : ℕ) (part : List Stmt) → HaveWords from from part
 words-none from part i d le lt = absurd (omega arith)
 
@@ -64,7 +64,7 @@ words-more from to part e within before at i d le lt =
     (subst (λ (s : Stmt). StatementHasWords (statement_of s)) (get_or_default part to e d within) at))
     (cases_lt i to)
 
--- the numbers of two rows, one behind the other, are words
+-- the numbers of two rows, concatenated, are words
 pub words-both : (k to : ℕ) (part : List Stmt) → HaveWords 0 k part → HaveWords k to part → HaveWords 0 to part
 words-both k to part front back i d le lt =
     ⊎_elim (λ (low : i < k). front i d le low) (λ (ge : k ≤ i). back i d ge lt) (cases_lt i k)

@@ -1,4 +1,4 @@
--- Pieces of code that each make one store of another, one behind another.
+-- Pieces of code in sequence that each turn one store into another.
 use Rattle.std.proofs.Common.{◌≡◌, ℕ, zero, suc, ◌+◌, List, [], ◌∷◌, ◌++◌, length, None, take, drop, refl, sym, subst, arith}
 use Rattle.std.proofs.lemmas.List.{length-append}
 use Rattle.lt_isa.specs.declared.instructions.Instr.{Instr}
@@ -33,7 +33,7 @@ begins-at after t more b shaped made at = record {
   code_stands = at;
 }
 
--- where a piece begins the machine stands for the store
+-- at the start of a piece the machine represents the store
 pub begun : {o : Parts} {f : Setting} {store : Store} {s : State} {code : List Instr} → BeginsCode o f store s code
     → Assigns f store s
 begun b = record { stands = b.stands; fits = b.fits }

@@ -1,4 +1,4 @@
--- The code of a branch in an arm is one region: behind its guard it is crossed to the place behind all of the code.
+-- The code of a branch in an arm is one region: after its guard it is crossed to the end of all of the code.
 use Rattle.std.proofs.Common.{◌≡◌, ℕ, ◌+◌, ◌≤◌, false, ◌++◌, length, subst, arith, length-append}
 use Rattle.gr_word.specs.declared.variables.Label.TheVariants.{Secret}
 use Rattle.lt_isa.specs.Object.{Parts}

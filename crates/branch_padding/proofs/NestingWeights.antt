@@ -1,4 +1,4 @@
--- A branch on a secret weighs twice what its parts weigh, so that only few stand inside one another.
+-- A branch on a secret weighs twice what its parts weigh, so that only few are nested.
 use Rattle.std.proofs.Common.{◌≡◌, ℕ, suc, ◌+◌, ◌*◌, ◌^◌, ◌<◌, ◌≤◌, max, ap, ◌∙◌, subst, ⊎_elim, arith, pow_mono}
 use Rattle.std.proofs.Math.Nat.{pow-suc}
 use Rattle.std.proofs.lemmas.Bool.{cases_lt}

@@ -107,7 +107,7 @@ unfolding ruling_of
 opens-region o p k cmp ra rb offset held =
     ap (λ (b : Bool). if b then Opens offset else jumped o (target_of o p offset) k (Falls k)) held
 
--- how far the branch behind the guard leads on
+-- how far the branch after the guard jumps
 abbrev pub branch_offset : Setting → Mode → Block → Block → ℤ
 branch_offset f mode a b =
     pos
@@ -115,7 +115,7 @@ branch_offset f mode a b =
     (padded_codes f modes.Mirrored a)))
     + 2)
 
--- Behind the guard, where no note stands, the region is opened, and the setting is carried at its join.
+-- After the guard, if no note is there, the region is opened, and the setting is carried at its join.
 pub record PassedRegion (o : Parts) (f : Setting) (a b : Block) (p : ℕ) (guard code : List Instr) (offset : ℤ)
     (comes : Known) : Type 0 where
   pub region : OpensRegion o f a b p guard code offset comes
@@ -171,7 +171,7 @@ module _ (o : Parts) (f : Setting) (homes : HasHomes o f) (some : 1 ≤ f.profil
   abbrev guard : List Instr
   guard = guard_code f modes.Public 0 t
 
-  -- behind the guard the region is opened and crossed
+  -- after the guard the region is opened and crossed
   region-crosses : (p : ℕ) (comes holds : Known) → Passes o p comes (p + length guard) holds → Carries f holds
       → StandsInArm o (p + length guard) region → claimed_at o (p + length guard) ≡ None
       → (is_secret holds 0 || is_secret holds 1) ≡ true

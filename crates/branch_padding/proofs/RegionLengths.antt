@@ -1,4 +1,4 @@
--- How long the code is behind each part of a branch on a secret: what the branch may take is enough for the rest. Its
+-- How long the code is after each part of a branch on a secret: what the branch may take is enough for the rest. Its
 -- parts fit their arms.
 use Rattle.std.proofs.Common.{◌≡◌, ℕ, ◌+◌, ◌*◌, ◌≤◌, List, [], ◌∷◌, length, sym, subst, arith}
 use Rattle.gr_word.specs.declared.variables.Label.TheVariants as label
@@ -22,7 +22,7 @@ module _ (f : Setting) (few : f.profile.taken ≤ 32) (mode : Mode) (t : Test) (
   abbrev room : ℕ
   room = 120 * both_weights f first second
 
-  -- so much may still follow what there is now, where the branch began behind some code
+  -- this many may still follow what there is now, if the branch began after some code
   abbrev LeavesRoom : CodeBuf → CodeBuf → ℕ → Type 0
   LeavesRoom out now rest =
       length now.code.items + rest
@@ -41,7 +41,7 @@ module _ (f : Setting) (few : f.profile.taken ≤ 32) (mode : Mode) (t : Test) (
   behind-branch {out = out} {guarded = guarded} {branched = branched} emitted branch =
       omega (arith, guard-behind f mode t out guarded emitted, one-behind guarded branched Nop branch)
 
-  -- the arm that isn't taken, and the jump behind it
+  -- the arm that isn't taken, and the jump after it
   pub behind-untaken : {out guarded branched : CodeBuf} (arm : Mode) (untaken : CodeBuf)
       → EmitsGuard f mode 0 t out guarded → Appended guarded branched (Nop ∷ []) no_notes
       → PutsUntaken arm branched untaken → LeavesRoom out untaken (68 + room)

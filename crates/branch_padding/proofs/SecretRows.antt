@@ -1,4 +1,4 @@
--- Pieces of secret code one behind another, each with what it shows and what its loads leave.
+-- Pieces of secret code in sequence, each with what it shows and what its loads leave.
 use Rattle.std.proofs.Common.{◌≡◌, ℕ, zero, suc, List, [], ◌∷◌, ◌++◌, take, drop, refl, sym, ap, ◌∙◌, append_assoc}
 use Rattle.std.proofs.lemmas.List.{take-append-drop}
 use Rattle.lt_isa.specs.declared.instructions.Instr.{Instr}
@@ -60,7 +60,7 @@ loaded-rests k first second =
 abbrev pub GoesAnywhere : Parts → Setting → ℕ → List Instr → List Show → Loads → Type 0
 GoesAnywhere o f depth code shows loads = (s : SymState) → CarriesInArm f s → Goes o f depth s code shows loads
 
--- each part of a row goes on, wherever it stands
+-- each part of a row continues, at any place
 pub data EachGoes (o : Parts) (f : Setting) (depth : ℕ)
     : List (List Instr) → List (List Show) → List Loads → Type 0 where
   NoneGoes : EachGoes o f depth [] [] []

@@ -1,4 +1,4 @@
--- The code of statements in secret code, wherever it stands in an arm.
+-- The code of statements in secret code, at any place in an arm.
 use Rattle.std.proofs.Common.{◌≡◌, ◌≤◌, false}
 use Rattle.gr_word.specs.declared.variables.Label.TheVariants.{Secret}
 use Rattle.src_tree.specs.Contexts.{context_of}

@@ -1,5 +1,5 @@
--- The code of statements in secret code: walked in an arm it shows what the statement alone tells, whether it has its
--- effect or only looks as if it had.
+-- The code of statements in secret code: walked in an arm it shows what depends only on the statement, whether it has
+-- its effect or only looks as if it had.
 use Rattle.std.proofs.Common.{◌≡◌, ℕ, suc, ◌+◌, ◌<◌, ◌≤◌, false, List, ◌∷◌, ◌++◌, take, drop, refl, sym, ap, ◌∙◌, subst, arith}
 use Rattle.gr_word.specs.declared.variables.Label.TheVariants.{Secret}
 use Rattle.lt_isa.specs.declared.instructions.Instr.{Instr}

@@ -20,8 +20,8 @@ abbrev pub both_weights : Setting → Block → Block → ℕ
 both_weights f first second =
     block_weight (context_of f.decls) label.Secret first + block_weight (context_of f.decls) label.Secret second
 
--- The parts of a branch of which the first statements pair, so many of each, in code of an arm: both are secret code of
--- a program.
+-- The parts of a branch whose first statements pair, this many of each, in code of an arm: both are secret code of a
+-- program.
 pub record PartsFit (f : Setting) (mode : Mode) (pairs : ℕ) (first second : List Stmt) : Type 0 where
   pub first_within : pairs ≤ length first
   pub second_within : pairs ≤ length second

@@ -1,8 +1,8 @@
--- How many branches stand inside one another. (This project's profile: the check allows 64 regions around a place.)
+-- How deeply branches are nested. (This project's profile: the check allows 64 regions around a place.)
 use Rattle.std.specs.Prelude.{ℕ, ◌+◌, max}
 use Rattle.src_tree.specs.Trees.{Statement, SetVariable, SetElement, Choice, Loop, Block, Nothing, Then}
 
--- the most branches of a statement and of a block that stand inside one another, the statement itself among them
+-- the greatest depth of nested branches in a statement and in a block, the statement itself included
 abbrev mutual
   pub nesting_of : Statement → ℕ
   nesting_of (SetVariable x e) = 0

@@ -1,7 +1,7 @@
 -- For proofs, and for a function that code_gen builds on: the instructions that are made of a branch on a secret, and
--- of all that stands in secret code. One region has two arms that show the same: the first statements that pair stand
--- side by side; of the rest each arm has both parts, its own with its effect and the other mirrored. Instructions that
--- do nothing make up for the cycles of the branch and of the jump. (This project's own padding.)
+-- of all secret code. One region has two arms that show the same: the first statements that pair are side by side; of
+-- the rest each arm has both parts, its own with its effect and the other mirrored. Idle instructions make up for the
+-- cycles of the branch and of the jump. (This project's own padding.)
 use Rattle.std.specs.Prelude.{ℕ, ◌+◌, ◌-◌, pos, List, [], ◌∷◌, ◌++◌, length, replicate, take, drop}
 use Rattle.gr_word.specs.declared.operations.Cmp.{Cmp}
 use Rattle.lt_isa.specs.declared.instructions.Instr.{Instr}
@@ -13,17 +13,17 @@ use Rattle.block_cache_gen.specs.Homes.{Setting}
 use Rattle.block_cache_gen.specs.Codes.{guard_code, set_code}
 use Rattle.block_cache_gen.specs.Alike.{pair_count}
 
--- so many instructions that do nothing
+-- this many idle instructions
 abbrev pub idle : ℕ → List Instr
 idle cycles = replicate cycles Nop
 
--- what stands in an arm has its effect, but in mirrored code
+-- the code of an arm has its effect, except in mirrored code
 abbrev pub arm_mode : Mode → Mode
 arm_mode Public = Real
 arm_mode Real = Real
 arm_mode Mirrored = Mirrored
 
--- pieces of code one behind another
+-- pieces of code in sequence
 abbrev pub in_a_row : List (List Instr) → List Instr
 in_a_row [] = []
 in_a_row (code ∷ codes) = code ++ in_a_row codes
@@ -37,22 +37,22 @@ abbrev pub taken_arm : ℕ → (first second_mirrored : List (List Instr)) → L
 taken_arm k first second_mirrored =
     in_a_row (take k first) ++ (in_a_row (drop k first) ++ in_a_row (drop k second_mirrored))
 
--- the arms as they stand, padded, where a taken branch takes so many cycles
+-- the arms, padded, if a taken branch takes this many cycles
 abbrev pub first_padded : ℕ → List Instr → List Instr
 first_padded taken untaken = idle (taken - 1) ++ untaken
 
 abbrev pub second_padded : ℕ → List Instr → List Instr
 second_padded taken code = code ++ idle taken
 
--- the region of a branch over the first arm; the jump behind it leads over the second
+-- the region of a branch past the first arm; the jump after it jumps past the second
 abbrev pub region_code : ℕ → Cmp → (untaken taken_code : List Instr) → List Instr
 region_code taken cmp untaken code =
     Br cmp 0 1 (pos (length (first_padded taken untaken) + 2))
     ∷ (first_padded taken untaken
     ++ (Jmp (pos (length (second_padded taken code) + 1)) ∷ second_padded taken code))
 
--- the code of a statement, and of each statement of a block; the guard of a branch on a secret that stands in public
--- code is public code
+-- the code of a statement, and of each statement of a block; the guard of a branch on a secret in public code is public
+-- code
 abbrev mutual
   pub padded_code : Setting → Mode → Statement → List Instr
   padded_code f mode (SetVariable x e) = set_code f mode (SetVariable x e)

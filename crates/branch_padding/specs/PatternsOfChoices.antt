@@ -1,6 +1,6 @@
--- What the check sees of a statement of secret code, whichever way its branches go: what is shown, and what the loads
--- leave in the slots. All of it is told by the setting and the statement alone. (GhostRider, ASPLOS 2015: the trace
--- patterns of the type system of L_T; the padding is this project's own.)
+-- What the check sees of a statement of secret code, regardless of the ways that its branches take: what is shown, and
+-- what the loads leave in the slots. All of it depends only on the setting and the statement. (GhostRider, ASPLOS 2015:
+-- the trace patterns of the type system of L_T; the padding is this project's own.)
 use Rattle.std.specs.Prelude.{ℕ, List, [], ◌∷◌, ◌++◌, drop}
 use Rattle.src_tree.specs.Trees.{Statement, SetVariable, SetElement, Choice, Loop, Block, Nothing, Then}
 use Rattle.trace_patterns.specs.Patterns.{Shown}
@@ -10,7 +10,7 @@ use Rattle.block_cache_gen.specs.Homes.{Setting}
 use Rattle.block_cache_gen.specs.Alike.{pair_count}
 use Rattle.block_cache_gen.specs.PatternsOf.{Loads, no_loads, then_loads, shows_of_test, slots_of_test, shows_of_set, slots_of_set}
 
--- one behind another
+-- in sequence
 abbrev pub shown_in_a_row : List (List Show) → List Show
 shown_in_a_row [] = []
 shown_in_a_row (shows ∷ rest) = shows ++ shown_in_a_row rest
@@ -23,7 +23,7 @@ loaded_in_a_row (loads ∷ rest) = then_loads loads (loaded_in_a_row rest)
 abbrev pub both_rests : {X : Type 0} → ℕ → (first second : List X) → List X
 both_rests k first second = first ++ drop k second
 
--- So each arm of a branch shows, of two parts of which so many first statements pair; and so its loads are left.
+-- What each arm of a branch shows, if this many first statements of its two parts pair; and what its loads leave.
 abbrev pub arm_shows : ℕ → (first second : List (List Show)) → List Show
 arm_shows k first second = shown_in_a_row (both_rests k first second)
 

@@ -1,6 +1,6 @@
--- The code of a branch on a secret is one region: behind the code of its guard a branch opens it, both its ways show
--- and load what the setting and the two parts alone tell, and they join just behind the whole code.
--- (GhostRider, ASPLOS 2015: the rule for secret conditionals of L_T.)
+-- The code of a branch on a secret is one region: after the code of its guard a branch opens it, what both its ways
+-- show and load depends only on the setting and the two parts, and they join just after the whole code. (GhostRider,
+-- ASPLOS 2015: the rule for secret conditionals of L_T.)
 use Rattle.std.specs.Prelude.{◌≡◌, ℕ, ◌+◌, ◌≤◌, ℤ, List, ◌∷◌, ◌++◌, length}
 use Rattle.std.specs.Option.{unwrap_or}
 use Rattle.lt_isa.specs.declared.instructions.Instr.{Instr}
@@ -30,8 +30,8 @@ use Rattle.branch_padding.specs.PatternsOfChoices.{slots_of_arms, pattern_of_reg
 abbrev pub HoldsLoaded : Loads → (before after : SymState) → Type 0
 HoldsLoaded loads before after = (slot : ℕ) → slot_held after slot ≡ unwrap_or (loads slot) (slot_held before slot)
 
--- In public code at p, the guard is passed from what comes there; the branch behind it leads on by an offset and opens
--- a region, which is crossed to the place behind all of the code. What is shown and loaded is that of two parts.
+-- In public code at p, the guard is passed from the state on entry; the branch after it jumps forward by an offset and
+-- opens a region, which is crossed to the end of all of the code. What is shown and loaded is that of two parts.
 pub record OpensRegion (o : Parts) (f : Setting) (a b : Block) (p : ℕ) (guard code : List Instr) (offset : ℤ)
     (comes : Known) : Type 0 where
   pub known : Known
@@ -41,8 +41,8 @@ pub record OpensRegion (o : Parts) (f : Setting) (a b : Block) (p : ℕ) (guard 
   pub crosses : CrossesFrom o (p + length guard) offset known (pattern_of_region f a b) (p + length code) state
   pub slots : HoldsLoaded (slots_of_arms f a b) (at_entry known) state
 
--- In an arm at p, the guard is walked from a state; the region of the branch behind it is crossed to the place behind
--- all of the code. What is shown and loaded is that of the guard and of two parts.
+-- In an arm at p, the guard is walked from a state; the region of the branch after it is crossed to the end of all of
+-- the code. What is shown and loaded is that of the guard and of two parts.
 pub record NestsRegion (o : Parts) (f : Setting) (t : Test) (a b : Block) (depth p : ℕ) (from : SymState)
     (guard code : List Instr) (offset : ℤ) : Type 0 where
   pub there : SymState

@@ -1,6 +1,6 @@
 -- How the check walks the code of statements in secret code, in every object that has the homes of its setting and has
 -- that code in an arm, and how it passes a branch on a secret in public code, of which the form for each place is for
--- proofs. (GhostRider, ASPLOS 2015: the type system of L_T; 64 regions may stand inside one another.)
+-- proofs. (GhostRider, ASPLOS 2015: the type system of L_T; at most 64 regions may be nested.)
 use Rattle.std.specs.Prelude.{ℕ, ◌+◌, ◌≤◌, List, length}
 use Rattle.lt_isa.specs.declared.symbols.Note.{Note}
 use Rattle.lt_isa.specs.declared.instructions.Instr.{Instr}
@@ -18,7 +18,7 @@ use Rattle.block_cache_gen.specs.SecretCode.{ArmWalk}
 use Rattle.branch_padding.specs.Nesting.{nesting_of}
 use Rattle.branch_padding.specs.PatternsOfChoices.{slots_of, pattern_of_statement}
 
--- in an arm, wherever it stands and whatever is known before it
+-- in an arm, at any place and for any state before it
 abbrev pub IsWalkedAsStatement : Setting → Statement → List Instr → Type 0
 IsWalkedAsStatement f s code =
     (o : Parts) (depth p : ℕ) (state : SymState)
@@ -31,7 +31,7 @@ pub record PassedCode (o : Parts) (f : Setting) (p : ℕ) (code : List Instr) (c
   pub passes : Passes o p comes (p + length code) last
   pub carries : Carries f last
 
--- for proofs: so it is wherever it stands with its notes
+-- for proofs: so it is at any place with its notes
 abbrev pub IsPassedAnywhere : Parts → Setting → List Instr → (ℕ → List Note) → Type 0
 IsPassedAnywhere o f code notes =
     (p : ℕ) (comes holds : Known)

@@ -62,10 +62,10 @@ fn put_branch<'a>(
 }
 
 /// Makes the code of a branch of a program whose arms are secret code, and appends it and the notes of its guard: in
-/// public code one by a secret guard, in secret code each. It is one region of two arms, and both show and load what the
-/// frame and the statement alone tell (`region`). In public code, and with its effect in secret code, it leaves the
-/// store of the statement; without effect it leaves the store as it was. After want of memory what was there before is
-/// still at the front. The clause `words` serves the proofs of callers.
+/// public code a branch by a secret guard, in secret code any branch. It is one region of two arms, and what both show
+/// and load depends only on the frame and the statement (`region`). In public code, and with its effect in secret code,
+/// it leaves the store of the statement; without effect it leaves the store as it was. After want of memory what was
+/// there before is still a prefix. The clause `words` serves the proofs of callers.
 pub fn emit_secret_if<'a>(
     alloc: Global,
     f: &Frame<'a>,

@@ -32,7 +32,7 @@ struct Parts<'a> {
     mode: Mode,
 }
 
-// How code is made in the arm of a branch that stands in code of a mode.
+// The mode of the code in the arms of a branch in code of a mode.
 fn arm_mode(mode: Mode) -> Mode
     ensures { result ≡ arm_mode mode }
 {
@@ -121,7 +121,7 @@ fn put_row<'a>(
     Ok(())
 }
 
-// Appends the arm behind the branch, which runs where it isn't taken. Before it stand as many idle cycles as a taken
+// Appends the arm after the branch, which runs if the branch isn't taken. Before it are as many idle cycles as a taken
 // branch costs more than an untaken one.
 #[cycle(padding)]
 fn put_untaken<'a>(emitter: &Emitter<'a>, out: &mut CodeBuf, p: &Parts<'a>) -> Result<(), Memory>
@@ -141,8 +141,8 @@ fn put_untaken<'a>(emitter: &Emitter<'a>, out: &mut CodeBuf, p: &Parts<'a>) -> R
     put_row(emitter, out, second, p.pairs, second.len(), p.mode)
 }
 
-// Appends the arm that the branch leads to where it is taken. Behind it stand as many idle cycles as the other arm's
-// jump costs.
+// Appends the arm that the branch jumps to if it is taken. After it are as many idle cycles as the other arm's jump
+// costs.
 #[cycle(padding)]
 fn put_taken<'a>(emitter: &Emitter<'a>, out: &mut CodeBuf, p: &Parts<'a>) -> Result<(), Memory>
     requires parts { PartsFit emitter.now p.now.mode p.now.pairs p.now.first.now p.now.second.now }
@@ -160,8 +160,8 @@ fn put_taken<'a>(emitter: &Emitter<'a>, out: &mut CodeBuf, p: &Parts<'a>) -> Res
     put_idle(out, emitter.taken())
 }
 
-/// Appends the code of a branch whose arms show the same, in code of any mode. The guard of one that stands in public
-/// code is public code. The only error is want of memory.
+/// Appends the code of a branch whose arms show the same, in code of any mode. In public code its guard is public code.
+/// The only error is want of memory.
 #[cycle(padding)]
 pub(crate) fn put_choice<'a>(
     emitter: &Emitter<'a>,
@@ -202,8 +202,8 @@ pub(crate) fn put_choice<'a>(
 }
 
 /// Appends the code of a branch on a secret in public code: its guard, and one region of two arms that show the same.
-/// It serves `code_gen`: its clause names the code, and what that does is said by
-/// [`emit_secret_if`](crate::emit_secret_if).
+/// It serves `code_gen`: its clause names the code, and [`emit_secret_if`](crate::emit_secret_if) states what that code
+/// does.
 pub fn put_secret_if<'a>(
     emitter: &Emitter<'a>,
     out: &mut CodeBuf,

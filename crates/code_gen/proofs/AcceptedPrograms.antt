@@ -31,7 +31,7 @@ use Rattle.code_gen.proofs.PassedParts.{held-open}
 use Rattle.code_gen.proofs.PassedStatements.{BeginsGuarded, PassesPadded}
 use Rattle.code_gen.proofs.PassedPrograms.{program-accepts}
 
--- no secret variable lies in plain memory
+-- no secret variable is stored in plain memory
 plain_symbol : (label : Label) (bank : ℕ) → IsBankOf label bank → (is_ram bank && is_secret_label label) ≡ false
 plain_symbol Public bank is = and_false (is_ram bank)
   where

@@ -1,4 +1,4 @@
--- What stands of the object that a program is compiled to.
+-- Properties of the object that a program is compiled to.
 use Rattle.std.proofs.Common.{◌≡◌, ℕ, suc, zero, ◌+◌, ◌*◌, ◌^◌, ◌<◌, ◌≤◌, Bool, true, false, List, [], ◌∷◌, length, map, get_or, Option, refl, sym, ap, ◌∙◌, subst, arith}
 use Rattle.std.specs.Prelude.{All, if◌then◌else◌}
 use Rattle.std.proofs.Math.Nat.{zero-add}
@@ -109,7 +109,7 @@ plan-standard p w places slots are is pins =
     ∙ ap (λ bs. plan (places_of p w) (slots_of (places_of p w)) bs slots.pins) are.blocks
     ∙ ap (plan (places_of p w) (slots_of (places_of p w)) (blocks_of_banks p w)) pins
 
--- What is said of the object that a program is compiled to.
+-- The contract's clauses for the object that a program is compiled to.
 pub record CompilePromises (p : Source) (plan : Plan) (given : Profile) (l : Latencies) (o : Parts) : Type 0 where
   pub accepted : Accepts o
   pub implements : Implements p o

@@ -1,4 +1,4 @@
--- The code of a program's body, where it stands in the program's code, follows the body.
+-- The code of a program's body, at its place in the program's code, follows the body.
 use Rattle.std.proofs.Common.{◌≡◌, ◌+◌, ◌++◌, length, sym, subst, arith}
 use Rattle.gr_word.specs.declared.variables.Label.TheVariants.{Public}
 use Rattle.lt_isa.specs.Object.{Parts}

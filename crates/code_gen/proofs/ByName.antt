@@ -138,7 +138,7 @@ module _ (p : Source) (w : ℕ) (plan : Plan) (once : DeclaredOnce p.decls) (lim
         refl,
       )
 
-  -- a variable's name stands for it
+  -- a variable's name refers to it
   name-number : (k : ℕ) → k < length p.decls → variable_number p.decls (decl k).name ≡ k
   name-number k below = number-of_declared p.decls once k no_decl below
 
@@ -186,7 +186,7 @@ module _ (p : Source) (w : ℕ) (plan : Plan) (once : DeclaredOnce p.decls) (lim
   wide : block_words o ≡ words_a_block f
   wide = ap (λ profile. 2 ^ profile.block_log) setting.profile
 
-  -- a variable lies within its bank
+  -- a variable is within its bank
   exists : (k : ℕ) → k < length p.decls → (place k).bank < length o.banks
   exists k below =
       omega (

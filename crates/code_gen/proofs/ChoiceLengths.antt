@@ -1,4 +1,4 @@
--- How long the code is behind each part of a choice by a public guard: what the choice may take is enough for the rest.
+-- How long the code is after each part of a choice by a public guard: what the choice may take is enough for the rest.
 use Rattle.std.proofs.Common.{◌≡◌, ℕ, ◌+◌, ◌*◌, ◌≤◌, List, [], ◌∷◌, length, set, arith}
 use Rattle.gr_word.specs.declared.variables.Label.TheVariants as label
 use Rattle.lt_isa.specs.declared.instructions.Instr.{Instr}
@@ -19,7 +19,7 @@ module _ (f : Setting) (t : Test) (a b : Block) (public : label_of_test (context
   abbrev pub room : Block → ℕ
   room block = 120 * block_weight (context_of f.decls) label.Public block
 
-  -- so much may still follow what there is now, where the choice began behind some code
+  -- this many may still follow what there is now, if the choice began after some code
   abbrev pub Leaves : CodeBuf → CodeBuf → ℕ → Type 0
   Leaves out now rest =
       length now.code.items + rest

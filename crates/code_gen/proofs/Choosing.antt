@@ -1,5 +1,5 @@
--- What the code of a choice with a public guard does beside the choice: the branch leads over the first block where the
--- guard fails, and a jump behind the first block leads over the second.
+-- What the code of a choice with a public guard does beside the choice: if the guard fails, the branch jumps past the
+-- first block, and a jump after the first block jumps past the second.
 use Rattle.std.proofs.Common.{◌≡◌, ℕ, ◌+◌, ◌≤◌, Bool, true, false, if◌then◌else◌, not, pos, List, [], ◌∷◌, ◌++◌, length, Option, Some, None, refl, sym, ap, ◌∙◌, subst, ⊎_elim, arith}
 use Rattle.std.specs.Prelude.{slice_get}
 use Rattle.std.proofs.lemmas.Bool.{cases_Bool}
@@ -26,7 +26,7 @@ use Rattle.code_gen.specs.Statements.{opposite, second_code, places_over, choice
 use Rattle.code_gen.proofs.Opposites.{compared-opposite}
 use Rattle.code_gen.proofs.Following.{Tested, Tests, stands-moved, finishes-weaker, finishes-behind, finishes-then, lasts-behind}
 
--- no code stands anywhere
+-- empty code is at every place
 pub standing-none : {o : Parts} {p : ℕ} → StandsAt o p []
 standing-none = record { each = λ k i is. absurd (none-some i is) }
 
@@ -47,7 +47,7 @@ standing-second {o = o} p first (i ∷ code) at =
     let place : p + 1 + length first + 1 ≡ p + (length first + 2) = omega arith in
     subst (λ q. StandsAt o q (i ∷ code)) place (standing-tail (Jmp (pos (length (i ∷ code) + 1))) (i ∷ code) at)
 
--- the parts of a choice stand in it
+-- the parts of a choice are in its code
 pub standing-choice_guard : {o : Parts} {p : ℕ} (guard : List Instr) (cmp : Cmp) (first second : List Instr)
     → StandsAt o p (choice_code guard cmp first second) → StandsAt o p guard
 standing-choice_guard guard cmp first second at =
@@ -60,13 +60,13 @@ blocks_at guard cmp first second at =
     let over = Br (opposite cmp) 0 1 (pos (places_over first second)) in
     standing-tail over (first ++ second_code second) (standing-rest guard (over ∷ (first ++ second_code second)) at)
 
--- the first block of a choice stands behind its guard and branch
+-- the first block of a choice follows its guard and branch
 pub standing-choice_first : {o : Parts} {p : ℕ} (guard : List Instr) (cmp : Cmp) (first second : List Instr)
     → StandsAt o p (choice_code guard cmp first second) → StandsAt o (p + length guard + 1) first
 standing-choice_first guard cmp first second at =
     standing-first first (second_code second) (blocks_at guard cmp first second at)
 
--- and the second behind the jump
+-- and the second follows the jump
 pub standing-choice_second : {o : Parts} {p : ℕ} (guard : List Instr) (cmp : Cmp) (first second : List Instr)
     → StandsAt o p (choice_code guard cmp first second)
     → StandsAt o (p + length guard + places_over first second) second
@@ -127,7 +127,7 @@ module _ (o : Parts) (fits : IsInRange o) (f : Setting) (p : ℕ) (guard first s
         greatest_costs-append o first (second_code second),
       )
 
-  -- at the branch behind the guard
+  -- at the branch after the guard
   branch_on : (t : State) (store : Store)
       → IsShaped o t → t.place ≡ branch → Tested f cmp holds store t → holds store ≡ true
       → Comes o t [] (branch + 1) (greatest_cost o over) (λ u. StandsFor f u store)

@@ -27,7 +27,7 @@ use Rattle.code_gen.specs.Statements.{opposite, second_code, places_over, choice
 use Rattle.code_gen.specs.Emitted.{padding_of, EmitsStatement, EmitsBlock, ClosesChoice, before_second, second_notes}
 use Rattle.code_gen.proofs.EmittedParts.{guard-length}
 
--- some code with more behind it
+-- some code followed by more
 pub longer : (xs ys : List Instr) → 1 ≤ length xs → 1 ≤ length (xs ++ ys)
 longer xs ys some = omega (arith, length-append xs ys)
 
@@ -148,7 +148,7 @@ closes-bare f cmp branch noted d e g code notes more =
           ∙ ap (λ n. d.notes.items ++ head_unless noted f n) long;
     }
 
--- the second block behind its jump
+-- the second block after its jump
 pub closes-second : (f : Setting) (cmp : Cmp) (branch jump : ℕ) (noted : Bool) (b : Block) (old : Instr)
     (d e g h i k l : CodeBuf) → branch < length d.code.items → jump ≡ length d.code.items → noted ≡ block_ends_noted f b
     → 1 ≤ length (block_code f (padding_of f) b) → Appended d e (old ∷ []) no_notes

@@ -95,7 +95,7 @@ element-short f x i e a b made =
       appended_length a b (set_code f Public (SetElement x i e)) (λ place. set_notes f place (SetElement x i e)) made,
     )
 
--- behind a jump that was set, a note that may stand there, and a guard
+-- after a jump that was set, a note that may be there, and a guard
 pub closing-length : (f : Setting) (t : Test) (a b c d : CodeBuf) (start : ℕ) (jump : Instr) (noted : Bool)
     → b.code.items ≡ set a.code.items start jump → Appended b c [] (λ place. head_unless noted f place)
     → EmitsGuard f Public 0 t c d → length d.code.items ≡ length a.code.items + length (guard_code f Public 0 t)
@@ -108,7 +108,7 @@ closing-length f t a b c d start jump noted is x y =
       guard-length f t c d y,
     )
 
--- the branch behind it
+-- the branch after it
 pub closing-short : (f : Setting) (t : Test) (n : ℕ) (d e : CodeBuf) (back : Instr)
     → length d.code.items ≡ n + length (guard_code f Public 0 t)
     → Appended d e (back ∷ []) no_notes → length e.code.items ≤ n + 120 * test_weight t
@@ -144,7 +144,7 @@ block-then f s rest a b c x y =
     appended_then a b c (statement_code f (padding_of f) s) (block_code f (padding_of f) rest)
     (λ place. statement_notes f (padding_of f) place s) (λ place. block_notes f (padding_of f) place rest) x y
 
--- a jump whose target comes to be known
+-- a jump whose target becomes known
 set_jump-is : (before more : List Instr) (old new : Instr) (code : List Instr) → code ≡ before ++ old ∷ more
     → set code (length before) new ≡ before ++ new ∷ more
 set_jump-is before more old new code is =

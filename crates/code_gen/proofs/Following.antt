@@ -55,13 +55,13 @@ pub record Tests (o : Parts) (f : Setting) (place : ℕ) (code : List Instr) (cm
       → (shown : List Observed)
       × Comes o s shown (place + length code) (greatest_costs o code) (Tested f cmp holds store)
 
--- code at a place makes one store of another, whatever turns there are
+-- code at a place turns one store into another, for any number of iterations left
 pub record Changes (o : Parts) (f : Setting) (place : ℕ) (code : List Instr) (after : Store → Store) : Type 0 where
   pub changed : (s : State) (store : Store) → IsShaped o s → s.place ≡ place → StandsFor f s store → FitsHomes f store
       → (shown : List Observed)
       × Comes o s shown (place + length code) (greatest_costs o code) (Assigns f (after store))
 
--- a state stands for a store by its slots and banks alone
+-- whether a state stands for a store depends only on its slots and banks
 pub stands-moved : {f : Setting} {s : State} {store : Store} (place cycle : ℕ) → StandsFor f s store
     → StandsFor f (record s { place = place; cycle = cycle }) store
 stands-moved {f = f} {s = s} {store = store} place cycle stands =
@@ -146,7 +146,7 @@ module _ {o : Parts} {f : Setting} where
         fits = fits;
       }
 
-  -- and one behind statements, that leaves the store
+  -- and code after statements that leaves the store
   pub finishes-then : {s : State} {turns p c : ℕ} {es : List Observed} (l : Left) (q d : ℕ)
       (one : Finishes o f s turns l p c)
       → IsInRange o → Comes o one.end es q d (λ t. StandsFor f t l.store) → Finishes o f s turns l q (c + d)
@@ -209,7 +209,7 @@ module _ {o : Parts} {f : Setting} where
         absurd (none-some (left (after store) turns) (sym is ∙ leaves store turns));
   }
 
--- Statements and others behind them.
+-- Statements followed by others.
 module _ {o : Parts} {f : Setting} {p : ℕ} {xs ys : List Instr} {first second : Execution}
     (one : Follows o f p xs first)
     (two : Follows o f (p + length xs) ys second) where

@@ -130,7 +130,7 @@ module _ (p : Source) (o : Parts) (fits : IsInRange o) (f : Setting) (homes : Ha
     start-shaped : IsShaped o start
     start-shaped = IsShaped-start o inputs (names.inputs store given)
 
-    -- it comes to the body
+    -- it reaches the body
     pub comes-begun : Comes o start (loads_shown o start (first_blocks f)) (length (beginning f))
         (greatest_costs o (beginning f)) (λ t. StandsFor f t store)
     comes-begun =
@@ -143,7 +143,7 @@ module _ (p : Source) (o : Parts) (fits : IsInRange o) (f : Setting) (homes : Ha
         (λ t shape loaded. stands-started o f homes start t loaded store (names.hold store given)
         (slot-start o inputs 6))
 
-    -- where the body is done, it comes behind it and to the halt
+    -- if the body is done, it reaches the end of the body and the halt
     module _ (n : ℕ) (left : Left) (done : Finishes o f comes-begun.end n left (length (beginning f) + length body)
         (greatest_costs o body)) where
       ended : RunsThrough o done.end stores (pins_shown done.end 0 f.pins) (λ u. BanksHold f u left.store)

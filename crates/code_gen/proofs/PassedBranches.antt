@@ -1,4 +1,4 @@
--- The public code of a choice and of a loop, made of that of its parts: where its notes stand, and that it is passed.
+-- The public code of a choice and of a loop, made of that of its parts: where its notes are, and that it is passed.
 use Rattle.std.proofs.Common.{◌≡◌, ℕ, ◌+◌, ◌<◌, ◌≤◌, Bool, true, false, ℤ, pos, List, [], ◌∷◌, ◌++◌, length, length-append, inl, inr, Some, None, refl, sym, ap, ◌∙◌, subst, ⊎_elim, arith}
 use Rattle.std.specs.Prelude.{slice_get}
 use Rattle.std.specs.Option.{option_map}
@@ -81,7 +81,7 @@ guard-longer f t =
       expression-longer f t.left 0,
     )
 
--- how a branch falls through, and how a jump leaves, where a place that is open to all stands at its target
+-- how a branch falls through, and how a jump leaves, if its target is a place that is open to all
 module _ (o : Parts) (f : Setting) (homes : HasHomes o f) (once : DeclaredOnce f.decls) where
   -- a branch by a public guard is passed
   pub branch-on : (p q : ℕ) (k : Known) (cmp : Cmp) (offset : ℤ) → Carries f k → is_secret k 0 ≡ false
@@ -144,7 +144,7 @@ module _ (f : Setting) (t : Test) (xs : List Instr) (first : ℕ → List Note) 
         rise-lies f (p + (guard_size + 1)) (p + guard_size) (p + length single + 1) (body_notes p) (omega arith)
         (body_rises p)
 
-    -- the notes of a choice of one block lie in its code
+    -- the notes of a choice of one block are within its code
     pub single-noted : IsNoted f single (λ p. guard_notes f 0 p t ++ body_notes p) true
     single-noted = record {
       rises = λ p.

@@ -1,4 +1,4 @@
--- The public code of a choice with two blocks, made of that of its parts: where its notes stand, and that it is passed.
+-- The public code of a choice with two blocks, made of that of its parts: where its notes are, and that it is passed.
 use Rattle.std.proofs.Common.{◌≡◌, ℕ, ◌+◌, ◌<◌, ◌≤◌, Bool, true, pos, List, ◌∷◌, ◌++◌, length, length-append, inl, inr, Some, None, refl, sym, ap, ◌∙◌, subst, arith}
 use Rattle.std.specs.Prelude.{if◌then◌else◌}
 use Rattle.std.specs.Option.{option_map}
@@ -106,7 +106,7 @@ module _ (f : Setting) (t : Test) (xs : List Instr) (first : ℕ → List Note) 
   abbrev all_notes : ℕ → List Note
   all_notes p = guard_notes f 0 p t ++ body_notes p
 
-  -- which note stands at a place: in the guard, in the first block, at the second block, and behind
+  -- the note at each place: in the guard, in the first block, at the second block, and after it
   in_guard : (p r : ℕ) → r ≤ p + guard_size → note_of_place (all_notes p) r ≡ note_of_place (guard_notes f 0 p t) r
   in_guard p r le =
       note_at-first (guard_notes f 0 p t) (body_notes p) r
@@ -146,7 +146,7 @@ module _ (f : Setting) (t : Test) (xs : List Instr) (first : ℕ → List Note) 
   at_end p =
       in_second p (end_at p) (omega arith) ∙ closed_by f (second (second_at p)) two (end_at p) (second_end p)
 
-  -- the notes of a choice of two blocks lie in its code
+  -- the notes of a choice of two blocks are within its code
   pub double-noted : IsNoted f double all_notes true
   double-noted = record {
     rises = λ p.

@@ -1,4 +1,4 @@
--- The public code of a loop, made of that of its parts: where its notes stand, and that it is passed.
+-- The public code of a loop, made of that of its parts: where its notes are, and that it is passed.
 use Rattle.std.proofs.Common.{◌≡◌, ℕ, ◌+◌, ◌-◌, ◌<◌, ◌≤◌, Bool, false, pos, negsuc, List, [], ◌∷◌, ◌++◌, length, length-append, inr, Option, Some, None, refl, sym, ap, ◌∙◌, subst, ⊎_elim, arith, append_assoc}
 use Rattle.std.specs.Prelude.{if◌then◌else◌}
 use Rattle.std.specs.Option.{option_map}
@@ -24,7 +24,7 @@ use Rattle.code_gen.specs.Statements.{loop_code, guard_note, head_note}
 use Rattle.code_gen.proofs.PassedParts.{head_claim, IsOpenAt, IsPassed, IsNoted, rise-lies, closed_by, closed_other, closed_rises, head-carries, stands-as}
 use Rattle.code_gen.proofs.PassedBranches.{PassesGuards, guard-longer, branch-on, jump-away}
 
--- what a loop has at its guard, behind the notes of its body
+-- the notes at a loop's guard, after those of its body
 closing_rises : (f : Setting) (zs : List Instr) (notes : List Note) (one : Bool) (low q : ℕ) → low ≤ q + 1
     → (1 ≤ length zs → low ≤ q) → NotesRise f low (q + 1) notes
     → note_of_place notes q ≡ (if one then Some (head_note f q) else None)
@@ -102,7 +102,7 @@ module _ (f : Setting) (t : Test) (xs : List Instr) (first : ℕ → List Note) 
     guard_lies : (p : ℕ) → LieBetween (guard_at p) (branch_at p) (guard_notes f 0 (guard_at p) t)
     guard_lies p = guard-lie f 0 (guard_at p) t
 
-    -- which note stands at a place: at the body, in it, and in the guard
+    -- the note at each place: at the body, in it, and in the guard
     at_body : (p : ℕ) → note_of_place (all_notes p) (body_at p) ≡ Some (head_note f (body_at p))
     at_body p = note_at-head (head_note f (body_at p)) (behind_head p) (body_at p) refl
 
@@ -136,7 +136,7 @@ module _ (f : Setting) (t : Test) (xs : List Instr) (first : ℕ → List Note) 
         subst (λ (q : ℕ). note_of_place (all_notes p) q ≡ Some (head_note f q)) same (at_body p))
         (cases_lt 0 (length xs))
 
-    -- the notes of a loop lie in its code
+    -- the notes of a loop are within its code
     pub loop-noted : IsNoted f loop all_notes false
     loop-noted = record {
       rises = λ p.

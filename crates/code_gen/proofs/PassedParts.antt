@@ -1,4 +1,4 @@
--- Parts of public code, with their notes: where the notes stand, that each part is passed, and that its notes rise.
+-- Parts of public code, with their notes: where the notes are, that each part is passed, and that its notes rise.
 use Rattle.std.proofs.Common.{◌≡◌, ℕ, ◌+◌, ◌<◌, ◌≤◌, ◌==◌, Bool, true, false, List, [], ◌∷◌, ◌++◌, length, length-append, ◌⊎◌, inl, inr, Option, Some, None, refl, sym, ap, ◌∙◌, subst, arith}
 use Rattle.std.specs.Prelude.{if◌then◌else◌}
 use Rattle.std.specs.Option.{option_map}
@@ -25,36 +25,36 @@ use Rattle.code_gen.specs.Statements.{head_note, head_unless}
 abbrev pub head_claim : Setting → Known
 head_claim f = note_known (note_of f all_marked 0)
 
--- at a place no note stands, or one to which public code may jump
+-- at a place there is no note, or one to which public code may jump
 abbrev pub IsOpenAt : Parts → Setting → ℕ → Type 0
 IsOpenAt o f p = (claimed_at o p ≡ None) ⊎ (claimed_at o p ≡ Some (head_claim f))
 
--- Behind a place and up to another, each of some notes stands, and before the other no note else.
+-- The notes after a place and up to another are these, and there is no other note before the second place.
 pub record NotesUpTo (o : Parts) (p q : ℕ) (notes : List Note) : Type 0 where
   pub inner : NotesBetween o p q notes
   pub outer : (n : Note) → note_of_place notes q ≡ Some n → claimed_at o q ≡ Some (note_known n)
 
--- from what comes to a place where a setting is carried, to what comes to another, where it is carried too
+-- from the state on entry to a place where a setting is carried, to that of another, where it is carried too
 pub record Carried (o : Parts) (f : Setting) (p : ℕ) (k : Known) (q : ℕ) : Type 0 where
   pub last : Known
   pub passes : Passes o p k q last
   pub carries : Carries f last
 
--- A part of public code is passed wherever it stands.
+-- A part of public code is passed at any place.
 abbrev pub IsPassed : Parts → Setting → List Instr → (ℕ → List Note) → Type 0
 IsPassed o f code notes =
     (p : ℕ) (k : Known) → StandsAt o p code → NotesUpTo o p (p + length code) (notes p)
     → p + length code < length o.code
     → IsOpenAt o f p → Carries f k → Carried o f p k (p + length code)
 
--- Its notes rise, from the place behind its first instruction to the place behind its last, at which one stands where
--- it ends noted.
+-- Its notes rise, from the place after its first instruction to the place after its last, which has a note if the part
+-- ends noted.
 pub record IsNoted (f : Setting) (code : List Instr) (notes : ℕ → List Note) (ends : Bool) : Type 0 where
   pub rises : (p : ℕ) → NotesRise f (p + 1) (p + length code + 1) (notes p)
   pub ended : (p : ℕ)
       → note_of_place (notes p) (p + length code) ≡ (if ends then Some (head_note f (p + length code)) else None)
 
--- notes that rise lie between
+-- notes that rise are between their bounds
 pub rise-lies : (f : Setting) (low p q : ℕ) (notes : List Note) → p < low → NotesRise f low q notes
     → LieBetween p q notes
 rise-lies f low p q [] lt rise = tt
@@ -62,7 +62,7 @@ rise-lies f low p q (n ∷ notes) lt rise =
     let at = rise.0 in
     ((omega (arith, at.0), at.1), rise-lies f (n.pc + 1) p q notes (omega (arith, at.0)) rise.2)
 
--- notes of which none stands at the last place end before it
+-- notes of which none is at the last place end before it
 pub rise-short : (f : Setting) (low high : ℕ) (notes : List Note) → NotesRise f low (high + 1) notes
     → note_of_place notes high ≡ None → NotesRise f low high notes
 rise-short f low high [] rise none = tt
@@ -84,7 +84,7 @@ rise-short f low high (n ∷ notes) rise none = by (n.pc == high) refl (rise-sho
 abbrev pub closed : Setting → List Note → Bool → ℕ → List Note
 closed f notes ends q = notes ++ head_unless ends f q
 
--- code stands at a place however that is said
+-- code is at a place, in each form of saying so
 pub stands-as : (o : Parts) (p q : ℕ) (code : List Instr) → p ≡ q → StandsAt o p code → StandsAt o q code
 stands-as o p q code same stands = subst (λ (x : ℕ). StandsAt o x code) same stands
 
@@ -103,7 +103,7 @@ closed_other f notes true q r apart = note_at-first notes [] r refl
 closed_other f notes false q r apart =
     note_at-first notes (head_note f q ∷ []) r (note_at-tail (head_note f q) [] r apart)
 
--- a note that stands stays
+-- an existing note stays
 pub closed_found : (f : Setting) (notes : List Note) (ends : Bool) (q r : ℕ) (n : Note) → note_of_place notes r ≡ Some n
     → note_of_place (closed f notes ends q) r ≡ Some n
 closed_found f notes ends q r n found = note_at-found notes (head_unless ends f q) r n found
@@ -118,7 +118,7 @@ closed_rises f notes false low q le rise ended =
     rise-then f low q (q + 1) notes (head_note f q ∷ []) le (omega arith) (rise-short f low q notes rise ended)
     ((omega arith, omega arith), (omega arith, refl), tt)
 
--- what a part's end has, where nothing else stands there
+-- the note at a part's end, if nothing else is there
 pub end-open : (o : Parts) (f : Setting) (ends : Bool) (q : ℕ)
     → claimed_at o q ≡ option_map note_known (if ends then Some (head_note f q) else None) → IsOpenAt o f q
 end-open o f true q is = inr is
@@ -160,7 +160,7 @@ none-passed o f p k stands notes inside open_here carries =
     let same : p ≡ p + 0 = omega arith in
     record { last = k; passes = passes-to o p k p (p + 0) k same (Done p k); carries = carries }
 
--- one part alone, and one part behind another
+-- a single part, and one part after another
 module _ (f : Setting) (xs ys : List Instr) (first second : ℕ → List Note) (one other : Bool)
     (left : IsNoted f xs first one) (right : IsNoted f ys second other) where
   size_of : length (xs ++ ys) ≡ length xs + length ys
@@ -177,7 +177,7 @@ module _ (f : Setting) (xs ys : List Instr) (first second : ℕ → List Note) (
       (rise-lies f (p + length xs + 1) (p + length xs) (p + length xs + length ys + 1) (second (p + length xs))
       (omega arith) (right.rises (p + length xs)))
 
-  -- the notes of two pieces lie in both
+  -- the notes of two parts are within both
   pub both-noted : 1 ≤ length ys → IsNoted f (xs ++ ys) (λ p. first p ++ second (p + length xs)) other
   both-noted some = record {
     rises = λ p.

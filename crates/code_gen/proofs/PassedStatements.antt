@@ -1,4 +1,4 @@
--- The public code of statements and of blocks is passed, wherever it stands, and its notes rise.
+-- The public code of statements and of blocks is passed at any place, and its notes rise.
 use Rattle.std.proofs.Common.{◌≡◌, ℕ, ◌+◌, ◌≤◌, Bool, false, pos, List, [], ◌∷◌, ◌++◌, length, length-append, Some, None, refl, sym, ap, ◌∙◌, subst, arith}
 use Rattle.std.specs.Prelude.{if◌then◌else◌}
 use Rattle.std.specs.Option.{option_map}
@@ -51,7 +51,7 @@ PassesPadded o f padded =
     → statement_weight (context_of f.decls) label.Public (Choice t a b) ≤ max_weight
     → label_of_test (context_of f.decls) t ≡ label.Secret → IsPassed o f (padded t a b) (λ p. guard_notes f 0 p t)
 
--- a part alone, and nothing behind it
+-- a single part, and nothing after it
 module _ (f : Setting) (xs : List Instr) (first : ℕ → List Note) (one : Bool) (left : IsNoted f xs first one) where
   alone_size : length (xs ++ []) ≡ length xs
   alone_size = length-append xs [] ∙ omega arith
@@ -159,7 +159,7 @@ module _ (f : Setting) (t : Test) (xs : List Instr) (first : ℕ → List Note) 
     choice-passed o homes once label.Secret ys second two right code public secret =
         padded-passed o f t code (secret refl)
 
--- where notes stand
+-- the places of notes
 module _ (f : Setting) (padded : Padding) (begins : BeginsGuarded f padded) where
   choice_longer : (t : Test) (a b : Block) (l : Label) (xs ys : List Instr)
       → 1 ≤ length (choice_by l (choice_code (guard_code f Public 0 t) t.cmp xs ys) (padded t a b))
@@ -199,7 +199,7 @@ module _ (f : Setting) (padded : Padding) (begins : BeginsGuarded f padded) wher
     statement-noted (Loop t a) =
         loop-noted f t (block_code f padded a) (λ p. block_notes f padded p a) (block_ends_noted f a) (block-noted a)
 
-    -- the notes of a block lie in its code
+    -- the notes of a block are within its code
     pub block-noted : (b : Block)
         → IsNoted f (block_code f padded b) (λ p. block_notes f padded p b) (block_ends_noted f b)
     block-noted Nothing = none-noted f

@@ -28,7 +28,7 @@ use Rattle.code_gen.specs.Statements.{Padding}
 use Rattle.code_gen.proofs.Following.{Tested, Tests, Changes}
 use Rattle.code_gen.proofs.Followed.{PartsFollow}
 
--- what is run from where code stands, seen from the code's place
+-- a run from the place of some code, seen from the code's place
 through-at : {o : Parts} {s : State} {shown : List Observed} {P : State → Type 0} (code : List Instr) (place : ℕ)
     (Q : State → Type 0) → s.place ≡ place → RunsThrough o s code shown P → ((t : State) → IsShaped o t → P t → Q t)
     → Comes o s shown (place + length code) (greatest_costs o code) Q

@@ -95,7 +95,7 @@ ending_fits banks f few =
     code-both banks (each_slot pin_store 0 f.pins) (Halt ∷ []) (stores_fit banks 0 f.pins (all_in_eight f few))
     (Before Halt [] tt NoCode)
 
--- the last of notes that rise stands before their end
+-- the last of notes that rise is before their end
 rise_ends : (f : Setting) (low high : ℕ) (notes : List Note) → NotesRise f low high notes → next_place notes ≤ high
 rise_ends f low high [] rise = omega arith
 rise_ends f low high (n ∷ []) rise = let at = rise.0 in omega (arith, at.1)
@@ -162,7 +162,7 @@ module _ (f : Setting) (body : Block) (few : f.profile.taken ≤ 32) (pins : Pin
   pub notes-few : length notes ≤ most_notes
   notes-few = omega (arith, row-count f few body (length (beginning f)))
 
-  -- no note stands behind the code
+  -- there is no note past the end of the code
   pub notes-inside : next_place notes ≤ length whole
   notes-inside =
       omega (

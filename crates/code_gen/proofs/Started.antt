@@ -1,4 +1,4 @@
--- After the beginning of its code a program's run stands for the store that the banks hold at the start.
+-- After the first instructions of its code, the run of a program represents the store that the banks hold at the start.
 use Rattle.std.proofs.Common.{◌≡◌, ◌≢◌, ℕ, ◌+◌, ◌*◌, ◌%◌, ◌<◌, true, false, pos, ℤ, List, Some, None, refl, sym, ap, ◌∙◌, ⊎_elim, arith}
 use Rattle.std.specs.Prelude.{slice_index_or}
 use Rattle.std.proofs.lemmas.Bool.{cases_eq}
@@ -88,7 +88,7 @@ module _ (o : Parts) (f : Setting) (homes : HasHomes o f) where
     low bank k (EncryptedSlot k' within) other = (omega (arith, within), omega (arith, within))
     low bank k (ObliviousSlot b least) other = absurd (other refl)
 
-    -- after the loads the machine stands for the store that the banks hold
+    -- after the loads the machine represents the store that the banks hold
     pub stands-started : (store : Store) → BanksHold f s store → slot s 6 ≡ Unbound → StandsFor f t store
     stands-started store hold free = record {
       pinned = λ k p is. record { words = block_at s p.bank p.block; holds = pinned-held k p is };

@@ -28,7 +28,7 @@ use Rattle.code_gen.specs.Follows.{Finishes, Lasts, Follows}
 use Rattle.code_gen.specs.Statements.{loop_code}
 use Rattle.code_gen.proofs.Following.{Tested, Tests, stands-moved, costs-turn, finishes-weaker, finishes-stretch, finishes-behind, lasts-append, lasts-behind}
 
--- a cycle at least was taken to a state that stands for a store
+-- at least one cycle was taken to a state that represents a store
 pub record TakesTurn (f : Setting) (store : Store) (s t : State) : Type 0 where
   pub later : s.cycle + 1 ≤ t.cycle
   pub stands : StandsFor f t store
@@ -38,7 +38,7 @@ pub target-back : (o : Parts) (place n to : ℕ) → to + (n + 1) ≡ place → 
 target-back o place n to same =
     ap (λ b. cond b (place - (n + 1)) (length o.code)) (lt-ltb n place (omega arith)) ∙ omega arith
 
--- the parts of a loop stand in it
+-- the parts of a loop are in its code
 pub standing-loop_body : {o : Parts} {p : ℕ} (guard : List Instr) (cmp : Cmp) (body : List Instr)
     → StandsAt o p (loop_code guard cmp body) → StandsAt o (p + 1) body
 standing-loop_body guard cmp body at =
@@ -46,7 +46,7 @@ standing-loop_body guard cmp body at =
     standing-first body (guard ++ back ∷ [])
     (standing-tail (Jmp (pos (length body + 1))) (body ++ (guard ++ back ∷ [])) at)
 
--- the guard of a loop stands behind its body
+-- the guard of a loop follows its body
 pub standing-loop_guard : {o : Parts} {p : ℕ} (guard : List Instr) (cmp : Cmp) (body : List Instr)
     → StandsAt o p (loop_code guard cmp body) → StandsAt o (p + 1 + length body) guard
 standing-loop_guard guard cmp body at =
@@ -96,7 +96,7 @@ module _ (o : Parts) (fits : IsInRange o) (f : Setting) (p : ℕ) (guard body : 
   abbrev back : Instr
   back = Br cmp 0 1 (negsuc ((length body + length guard) - 1))
 
-  -- where the guard stands, and the branch behind it, and the end
+  -- the places of the guard, the branch after it, and the end
   abbrev head : ℕ
   head = p + 1 + length body
 
@@ -124,7 +124,7 @@ module _ (o : Parts) (fits : IsInRange o) (f : Setting) (p : ℕ) (guard body : 
   cost_is =
       omega (arith, greatest_costs-append o body (guard ++ back ∷ []), greatest_costs-append o guard (back ∷ []))
 
-  -- at the branch behind the guard
+  -- at the branch after the guard
   branch_back : (t : State) (store : Store)
       → IsShaped o t → t.place ≡ turn → Tested f cmp holds store t → holds store ≡ true
       → Comes o t [] (p + 1) (greatest_cost o back) (TakesTurn f store t)

@@ -1,4 +1,4 @@
--- Inputs that are made of each want alone are the same for a program and, by name, for its object.
+-- Inputs that are made of each want by itself are the same for a program and, by name, for its object.
 use Rattle.std.proofs.Common.{◌≡◌, ℕ, suc, ◌<◌, ℤ, List, [], ◌∷◌, length, map, get_or, refl, sym, ap, ap₂, ◌∙◌, arith}
 use Rattle.std.proofs.lemmas.List.{get_or-map, length-map}
 use Rattle.gr_word.specs.declared.variables.Want.{Want}

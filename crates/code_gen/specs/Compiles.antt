@@ -1,4 +1,4 @@
--- What stands of a compiled program's object besides its acceptance, its meaning and its layout: its cycles, how long
+-- Properties of a compiled program's object besides its acceptance, its meaning and its layout: its cycles, how long
 -- its code is, and how many stores of a word it has; and why a program isn't compiled. (This project's profile.)
 use Rattle.std.specs.Prelude.{◌≡◌, ℕ, ◌<◌, if◌then◌else◌, length}
 use Rattle.gr_base.specs.Lists.{Within}

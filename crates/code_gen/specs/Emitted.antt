@@ -26,8 +26,7 @@ abbrev pub EmitsBlock : Setting → Block → CodeBuf → CodeBuf → Type 0
 EmitsBlock f b before after =
     Appended before after (block_code f (padding_of f) b) (λ place. block_notes f (padding_of f) place b)
 
--- Behind the body of a loop whose jump stands at a place: the jump leads here, and the guard follows with its branch
--- back.
+-- After the body of a loop whose jump is at a place: the jump leads here, and the guard follows with its branch back.
 pub record ClosesLoop (f : Setting) (t : Test) (start : ℕ) (noted : Bool) (before after : CodeBuf) : Type 0 where
   pub code : after.code.items
       ≡ slice_set before.code.items start (Jmp (pos (length before.code.items - start)))
@@ -49,8 +48,7 @@ second_notes f place [] others ends = head_unless ends.0 f place
 second_notes f place (i ∷ code) others ends =
     head_note f (place + 1) ∷ (others ++ head_unless ends.1 f (place + (1 + length (i ∷ code))))
 
--- Behind the first block of a choice whose branch stands at a place: the branch leads to the second block, which
--- follows.
+-- After the first block of a choice whose branch is at a place: the branch leads to the second block, which follows.
 pub record ClosesChoice (f : Setting) (cmp : Cmp) (branch : ℕ) (noted : Bool) (b : Block)
     (before after : CodeBuf) : Type 0 where
   pub code : after.code.items
@@ -62,7 +60,7 @@ pub record ClosesChoice (f : Setting) (cmp : Cmp) (branch : ℕ) (noted : Bool) 
       ++ second_notes f (length before.code.items) (block_code f (padding_of f) b)
       (block_notes f (padding_of f) (length before.code.items + 1) b) (noted, block_ends_noted f b)
 
--- whether a note stands just behind a block, where one stands just before it or not
+-- whether there is a note just after a block, given whether there is one just before it
 abbrev pub noted_behind : Setting → Bool → Block → Bool
 noted_behind f noted Nothing = noted
 noted_behind f noted (Then s rest) = noted_behind f (ends_noted f s) rest

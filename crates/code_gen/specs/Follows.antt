@@ -1,5 +1,5 @@
--- For the proofs and for private clauses only: what a run does where the code of statements stands, beside what the
--- statements mean.
+-- Only for the proofs and for private clauses: what a run of the code of statements does, beside what the statements
+-- mean.
 use Rattle.std.specs.Prelude.{◌≡◌, ℕ, ◌+◌, ◌*◌, ◌≤◌, List, length, Some, None}
 use Rattle.lt_isa.specs.declared.instructions.Instr.{Instr}
 use Rattle.lt_isa.specs.Object.{Parts}
@@ -11,8 +11,9 @@ use Rattle.src_tree.specs.Meaning.{Store, Left, Execution}
 use Rattle.block_cache_gen.specs.Homes.{Setting}
 use Rattle.block_cache_gen.specs.StandsFor.{FitsHomes, StandsFor}
 
--- Statements that had so many turns are done: the run comes to a place, in a state that stands for the store that they
--- leave. It took a cycle at least for each turn that they used, and at most `cost` for each of them and once more.
+-- Statements that had this many iterations are done: the run reaches a place, in a state that represents the store that
+-- they leave. It took at least one cycle for each iteration that they used, and at most `cost` for each of them and
+-- once more.
 pub record Finishes (o : Parts) (f : Setting) (s : State) (turns : ℕ) (left : Left) (place cost : ℕ) : Type 0 where
   pub end : State
   pub events : List Stamped
@@ -26,15 +27,15 @@ pub record Finishes (o : Parts) (f : Setting) (s : State) (turns : ℕ) (left : 
   pub stands : StandsFor f end left.store
   pub fits : FitsHomes f left.store
 
--- a run that is still going so many cycles later
+-- a run that hasn't ended this many cycles later
 pub record Lasts (o : Parts) (s : State) (cycles : ℕ) : Type 0 where
   pub end : State
   pub events : List Stamped
   pub reaches : Reaches o s events end
   pub late : s.cycle + cycles ≤ end.cycle
 
--- Code at a place follows statements: from a state there that stands for a store, the run comes behind the code where
--- the statements are done, and lasts as many cycles as they had turns where they are spent.
+-- Code at a place follows statements: from a state there that represents a store, the run reaches the end of the code
+-- if the statements are done, and lasts at least as many cycles as they had iterations if they are spent.
 pub record Follows (o : Parts) (f : Setting) (place : ℕ) (code : List Instr) (run : Execution) : Type 0 where
   pub done : (s : State) (store : Store) (turns : ℕ) (left : Left) → IsShaped o s → s.place ≡ place
       → StandsFor f s store → FitsHomes f store → run (record { store = store; turns = turns }) ≡ Some left

@@ -29,8 +29,8 @@ opposite Le = Gt
 opposite Gt = Le
 opposite Ge = Lt
 
--- A choice: where the guard fails, the branch leads over the first block; where there is a second, a jump stands behind
--- the first and leads over it.
+-- A choice: if the guard fails, the branch jumps past the first block; if there is a second, a jump after the first
+-- jumps past it.
 abbrev pub second_code : List Instr → List Instr
 second_code [] = []
 second_code (i ∷ code) = Jmp (pos (length (i ∷ code) + 1)) ∷ i ∷ code
@@ -44,7 +44,7 @@ abbrev pub choice_code : List Instr → Cmp → List Instr → List Instr → Li
 choice_code guard cmp first second =
     guard ++ (Br (opposite cmp) 0 1 (pos (places_over first second)) ∷ (first ++ second_code second))
 
--- A loop: a jump leads to the guard, which stands behind the body; where it holds, the branch leads back to the body.
+-- A loop: a jump leads to the guard, which follows the body; if the guard holds, the branch leads back to the body.
 abbrev pub loop_code : List Instr → Cmp → List Instr → List Instr
 loop_code guard cmp body =
     Jmp (pos (length body + 1))
@@ -72,7 +72,7 @@ abbrev mutual
 abbrev pub head_note : Setting → ℕ → Note
 head_note f place = note_of f all_marked place
 
--- a note stands just behind a statement, or a block, since public code jumps there
+-- there is a note just after a statement, or a block, since public code jumps there
 abbrev pub is_public : Label → Bool
 is_public label.Public = true
 is_public label.Secret = false
@@ -88,7 +88,7 @@ block_ends_noted f Nothing = false
 block_ends_noted f (Then s Nothing) = ends_noted f s
 block_ends_noted f (Then s (Then t rest)) = block_ends_noted f (Then t rest)
 
--- a head note at a place where none stands yet
+-- a head note at a place that has none yet
 abbrev pub head_unless : Bool → Setting → ℕ → List Note
 head_unless true f place = []
 head_unless false f place = head_note f place ∷ []
@@ -112,7 +112,7 @@ abbrev pub notes_by : Label → List Note → List Note
 notes_by label.Public notes = notes
 notes_by label.Secret notes = []
 
--- the notes of a statement whose code stands from a place on
+-- the notes of a statement whose code begins at a place
 abbrev mutual
   pub statement_notes : Setting → Padding → ℕ → Statement → List Note
   statement_notes f padded place (SetVariable x e) = set_notes f place (SetVariable x e)

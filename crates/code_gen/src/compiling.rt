@@ -122,11 +122,11 @@ fn compiled(
     planned(alloc, program, places, &slots, p, l)
 }
 
-/// Compiles a program for a machine: the object is accepted, does what the program means, has its layout, and has these
-/// cycles and latencies. It has at most 120 instructions for each unit of the program's weight and 64 more, as many
-/// stores of a word as the program and the profile tell (`stores`), and is in its ranges. It refuses a program exactly
-/// where its variables lack room, with the first that does: the public scalars, the secret ones, or a bank. The only
-/// other error is want of memory.
+/// Compiles a program for a machine: the object is accepted, computes what the program means, has its layout, and has
+/// these cycles and latencies. It has at most 120 instructions for each unit of the program's weight and 64 more, the
+/// number of stores of a word that follows from the program and the profile (`stores`), and is in its ranges. It fails
+/// exactly if the program's variables lack room, with the first cause: the public scalars, the secret ones, or a bank.
+/// The only other error is want of memory.
 pub fn compile(alloc: Global, t: &Typed, p: &Profile, l: &Latencies) -> Result<Object, CompileError>
     requires profile { ProfileFits p.now }
     requires latencies { LatenciesFit l.now }

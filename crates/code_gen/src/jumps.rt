@@ -23,7 +23,7 @@ fn opposite(cmp: Cmp) -> Cmp
     }
 }
 
-/// The offset that leads so many places back.
+/// The offset of a jump this many places back.
 pub(crate) fn backward(places: u32) -> i32
     requires some { 1 ≤ places }
     requires few { places ≤ most_instructions }
@@ -32,7 +32,7 @@ pub(crate) fn backward(places: u32) -> i32
     -(places as i32)
 }
 
-/// The branch at a place leads behind the code so far where a comparison of registers 0 and 1 fails.
+/// Sets the branch at a place to jump to the end of the code so far if a comparison of registers 0 and 1 fails.
 pub(crate) fn set_branch_unless(out: &mut CodeBuf, at: u32, cmp: Cmp)
     requires before { at < length out.old.code.items }
     requires room { length out.old.code.items ≤ most_instructions }
@@ -43,7 +43,7 @@ pub(crate) fn set_branch_unless(out: &mut CodeBuf, at: u32, cmp: Cmp)
     out.set_branch(at, opposite(cmp));
 }
 
-/// Appends a note behind the code so far, to which public code may jump: every register may hold a secret. The only
+/// Appends a note after the code so far, to which public code may jump: every register may hold a secret. The only
 /// error is want of memory.
 pub(crate) fn put_head_note(emitter: &Emitter<'_>, out: &mut CodeBuf) -> Result<(), Memory>
     requires room { length out.old.code.items < 2 ^ 32 }
@@ -56,7 +56,7 @@ pub(crate) fn put_head_note(emitter: &Emitter<'_>, out: &mut CodeBuf) -> Result<
     })
 }
 
-/// The same where no note stands there yet, which `noted` says.
+/// The same if there is no note yet, which `noted` says.
 pub(crate) fn put_head_note_unless(
     emitter: &Emitter<'_>,
     out: &mut CodeBuf,

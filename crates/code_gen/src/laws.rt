@@ -6,10 +6,10 @@ ghost use Rattle.trace_patterns.specs.Rules.{Leaves, ruling_at};
 ghost use Rattle.stretches.specs.Checked.{CheckedUpTo};
 ghost use Rattle.stretches.specs.Passing.{HoldsAt, Passes};
 
-/// Does nothing; its clauses say what it means that a stretch of public code is passed, as the calls that make code say
-/// of theirs. What the check has come to at its first place is carried to the place behind it, and no place between is
-/// refused. The check begins at the first place of the code; an object whose code is passed so up to its last place,
-/// which is left, is accepted where no secret variable lies in plain memory.
+/// Does nothing; its clauses state what it means that a stretch of public code is passed, as the clauses of the calls
+/// that make code do. The check's state on entry to its first place is carried to the place after it, and no place
+/// between is refused. The check begins at the first place of the code; an object whose code is passed so up to its
+/// last place is accepted if no secret variable is stored in plain memory.
 pub fn passing_laws()
     ensures starts { (o : Parts) → CheckedUpTo o 0 start_known }
     ensures carried { (o : Parts) (p q : ℕ) (comes last : Known)

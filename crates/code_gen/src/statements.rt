@@ -75,8 +75,8 @@ fn put_element<'a>(
     put_set_element(emitter, out, name, index, value, Mode::Public)
 }
 
-// Ends a loop behind its body: sets the target of the jump to the guard, and appends the guard with a branch back to
-// the body.
+// Ends a loop after its body: sets the target of the jump to the guard, and appends the guard with a branch back to the
+// body.
 fn close_loop<'a>(
     emitter: &Emitter<'a>,
     out: &mut CodeBuf,
@@ -107,7 +107,7 @@ fn close_loop<'a>(
     }])
 }
 
-// A statement of public code. Answers whether a note stands just behind it.
+// A statement of public code. Returns whether there is a note just after it.
 #[cycle(statements)]
 fn put_statement<'a>(emitter: &Emitter<'a>, out: &mut CodeBuf, s: &'a Stmt) -> Result<bool, Memory>
     requires typed { TypedStatement (context_of emitter.now.decls) Public (statement_of s.now) }
@@ -139,7 +139,7 @@ fn put_statement<'a>(emitter: &Emitter<'a>, out: &mut CodeBuf, s: &'a Stmt) -> R
     }
 }
 
-// A choice, by the label of its guard. Answers whether a note stands just behind it.
+// A choice, by the label of its guard. Returns whether there is a note just after it.
 #[cycle(statements)]
 fn put_if<'a>(
     emitter: &Emitter<'a>,
@@ -208,7 +208,7 @@ fn put_choice<'a>(
     put_head_note_unless(emitter, out, noted_at_end)
 }
 
-// A loop: a jump leads to the guard, which stands behind the body.
+// A loop: a jump leads to the guard, which follows the body.
 #[cycle(statements)]
 fn put_loop<'a>(
     emitter: &Emitter<'a>,
@@ -235,8 +235,8 @@ fn put_loop<'a>(
     close_loop(emitter, out, guard, start, noted)
 }
 
-/// Appends the code and the notes of statements in their order, and answers whether a note stands just behind them. The
-/// only error is want of memory.
+/// Appends the code and the notes of statements in their order, and returns whether there is a note just after them.
+/// The only error is want of memory.
 #[cycle(statements)]
 pub(crate) fn put_block<'a>(
     emitter: &Emitter<'a>,

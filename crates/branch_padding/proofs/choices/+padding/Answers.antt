@@ -45,7 +45,7 @@ put_choice-put_untaken-requires t c =
       ),
     )
 
--- so much may still follow the arm that isn't taken
+-- this many may still follow the arm that isn't taken
 left : (t : ℕ) (c : put_choice-In_ok-put_untaken t)
     → length c.put_untaken.new.out.code.items + 68
     + 120 * both_weights c.args.emitter.now (block_of_all c.args.first.now) (block_of_all c.args.second.now)
@@ -69,7 +69,7 @@ put_choice-set_branch-requires-clause-room t c =
       one-behind c.put_untaken.new.out c.put-2.new.self Nop c.in_ok-put-2.ensures.appended,
     )
 
--- the jump behind it, and the branch set
+-- the jump after it, and the branch set
 one_more : (t : ℕ) (c : put_choice-After-set_branch t)
     → length c.set_branch.new.self.code.items ≡ length c.put_untaken.new.out.code.items + 1
 one_more t c =
@@ -284,7 +284,7 @@ put_taken-returns t c = record {
       c.put_idle.ensures.grows;
 }
 
--- so much may still follow the instructions that do nothing
+-- this many may still follow the idle instructions
 left_idle : (t : ℕ) (c : put_untaken-In_ok-put_idle t)
     → length c.put_idle.new.out.code.items
     + 240 * both_weights c.args.emitter.now (block_of_all c.args.p.now.first.now) (block_of_all c.args.p.now.second.now)

@@ -8,7 +8,7 @@ use Rattle.code_gen.proofs.Assembled.{frame-made}
 use Rattle.code_gen.proofs.compiling.assembled.Goals as goal
 use Rattle.code_gen.proofs.compiling.assembled.Goals.{In_ok-banks}
 
--- the object that is put together of what was made
+-- the object that is assembled from its parts
 abbrev object_of : In_ok-banks → Parts
 object_of c = record {
   profile = c.args.f.now.profile.now;

@@ -111,7 +111,7 @@ put_choice-put_block-requires t c =
       ),
     )
 
--- so much may still follow the first block
+-- this many may still follow the first block
 left : (t : ℕ) (c : put_choice-In_ok-noted t)
     → Leaves c.args.emitter.now (test_of c.args.guard.now) (block_of_all c.args.first.now)
     (block_of_all c.args.second.now) c.requires.public c.args.out.now c.put_block.new.out
@@ -190,7 +190,7 @@ put_choice-put_head_note-requires t c =
     c.set_branch_unless-2.ensures.code in
     record { room = omega (arith, h, jump, set, c.requires.room) }
 
--- and so much the note of the second
+-- and this many the note of the second
 left_second : (t : ℕ) (c : put_choice-In_ok-put_head_note t)
     → Leaves c.args.emitter.now (test_of c.args.guard.now) (block_of_all c.args.first.now)
     (block_of_all c.args.second.now) c.requires.public c.args.out.now c.put_head_note.new.out

@@ -8,7 +8,7 @@ use Rattle.code_gen.proofs.EmittedParts.{closing-length, closing-short, guard_co
 use Rattle.code_gen.proofs.statements.close_loop.Goals as goal
 use Rattle.code_gen.proofs.statements.close_loop.Goals.{In_ok-put_guard}
 
--- how long the code is behind the guard
+-- how long the code is after the guard
 long : (c : In_ok-put_guard) → length c.put_guard.new.out.code.items ≡ length c.args.out.now.code.items
     + length (guard_code c.args.emitter.now mode.Public 0 (test_of c.args.guard.now))
 long c =
