@@ -1,4 +1,4 @@
--- Each variable lies within its bank, and two variables of one bank lie apart.
+-- Each variable is within its bank, and two variables of one bank are apart.
 use Rattle.std.proofs.Common.{◌≡◌, ℕ, zero, suc, ◌+◌, ◌*◌, ◌^◌, ◌<◌, ◌≤◌, Bool, false, cond, List, [], ◌∷◌, length, take, get_or, Option, Some, None, ◌⊎◌, inl, inr, ⊎_elim, refl, sym, ap, ◌∙◌, subst, arith}
 use Rattle.std.specs.Prelude.{◌&&◌, not, min}
 use Rattle.std.specs.List.{AllByRecursion}
@@ -27,7 +27,7 @@ scalars_block : (label : Label) (size : ℕ) (places : List Place) → 1 ≤ fir
 scalars_block Public size places = omega arith
 scalars_block Secret size places = omega arith
 
--- scalars lie in plain or encrypted memory
+-- scalars are stored in plain or encrypted memory
 pub scalar_bank-lt : (label : Label) → scalar_bank label < 2
 scalar_bank-lt Public = omega arith
 scalar_bank-lt Secret = omega arith
@@ -143,7 +143,7 @@ array_lies p w k n d q limits within some =
       inside = omega (arith, is.word, holds, most);
     }
 
--- variable number k lies within its bank
+-- variable number k is within its bank
 pub lies_within : (p : Source) (w k : ℕ) (d : Decl) (q : Place) → IsWithinLimits p → Fits p w → k < length p.decls
     → LiesWithin p w (get_or p.decls k d) (get_or (places_of p w) k q)
 lies_within p w k d q limits fit within = by (get_or p.decls k d).length refl where
@@ -152,7 +152,7 @@ lies_within p w k d q limits fit within = by (get_or p.decls k d).length refl wh
   by None none = scalar_lies p w k d q fit within none
   by (Some n) some = array_lies p w k n d q limits within some
 
--- of two arrays of one bank the blocks of the earlier stand before the later
+-- of two arrays of one bank the blocks of the earlier come before the later
 pub arrays_apart : (p : Source) (w i j n m : ℕ) (d : Decl) (q : Place) → i < j → j < length p.decls
     → (get_or p.decls i d).length ≡ Some n → (get_or p.decls j d).length ≡ Some m
     → (get_or (places_of p w) i q).bank ≡ (get_or (places_of p w) j q).bank
@@ -171,7 +171,7 @@ arrays_apart p w i j n m d q less within first second same =
       ap (λ k. first_free_block (2 ^ w) k (take j (places_of p w))) same,
     )
 
--- arrays of plain and encrypted memory stand behind the block of the scalars
+-- arrays of plain and encrypted memory follow the block of the scalars
 pub array_behind_scalars : (p : Source) (w k n : ℕ) (d : Decl) (q : Place)
     → k < length p.decls → (get_or p.decls k d).length ≡ Some n
     → (label : Label) → (get_or (places_of p w) k q).bank ≡ scalar_bank label → 1 ≤ (get_or (places_of p w) k q).block
@@ -184,7 +184,7 @@ array_behind_scalars p w k n d q within some label same =
       scalars_block label (2 ^ w) (take k (places_of p w)),
     )
 
--- of two scalars of one bank the earlier stands at an earlier word
+-- of two scalars of one bank the earlier is at an earlier word
 pub scalars_apart : (p : Source) (w i j : ℕ) (d : Decl) (q : Place) → i < j → j < length p.decls
     → (get_or p.decls i d).length ≡ None → (get_or p.decls j d).length ≡ None
     → (get_or (places_of p w) i q).bank ≡ (get_or (places_of p w) j q).bank
@@ -198,7 +198,7 @@ scalars_apart p w i j d q less within first second same =
     scalar_before_later bank (places_of p w) i j q less (omega (arith, within, length-places p w)) here a.scalar in
     omega (arith, later, a.word, b.word, ap (λ k. scalars_in k (take i (places_of p w))) (sym a.bank ∙ here))
 
--- a scalar's word stands before all arrays of its bank
+-- a scalar's word is before all arrays of its bank
 scalar_before_array : (p : Source) (w i j n : ℕ) (d : Decl) (q : Place)
     → Fits p w → i < length p.decls → j < length p.decls
     → (get_or p.decls i d).length ≡ None → (get_or p.decls j d).length ≡ Some n
@@ -214,7 +214,7 @@ scalar_before_array p w i j n d q fit scalar array none some same =
     let second : 2 ^ w * 1 ≤ 2 ^ w * t.block = mul-le-mul_left (2 ^ w) behind in
     omega (arith, first, second, lies.word, a.one_word)
 
--- two variables of one bank lie apart
+-- two variables of one bank are apart
 pub variables_apart : (p : Source) (w i j : ℕ) (d : Decl) (q : Place) → Fits p w → i < j → j < length p.decls
     → AreApart (2 ^ w) (get_or (places_of p w) i q) (get_or (places_of p w) j q)
 variables_apart p w i j d q fit less within same =

@@ -20,7 +20,7 @@ use Rattle.bank_alloc.specs.Places.{blocks_for, is_oblivious, first_free_block, 
 use Rattle.bank_alloc.proofs.EachPlace.{any_decl, any_place, length-places, scalar_place_at, array_place_at, blocks_for-some, array_before_free}
 use Rattle.bank_alloc.proofs.Apart.{length_at, scalar_bank-lt}
 
--- a list comes to each count below the last at an item that counts
+-- a list reaches each count below the last at an item that counts
 pub record ReachesAt {X : Type 0} (p : X → Bool) (xs : List X) (n : ℕ) : Type 0 where
   pub at : ℕ
   pub within : at < length xs

@@ -1,4 +1,4 @@
--- Where each variable of a program lies, by its number: a scalar, an array, and its bank.
+-- The place of each variable of a program, by its number: a scalar, an array, and its bank.
 use Rattle.std.proofs.Common.{◌≡◌, ℕ, zero, suc, ◌+◌, ◌-◌, ◌*◌, ◌%◌, ◌^◌, ◌<◌, ◌≤◌, Bool, true, false, cond, List, [], ◌∷◌, ◌++◌, length, take, get_or, Option, Some, None, refl, sym, ap, ◌∙◌, subst, arith, append_assoc}
 use Rattle.std.specs.Prelude.{nat_le, ◌&&◌, ◌||◌, min, sum_by}
 use Rattle.std.proofs.Math.Nat.{mod-le, lt-div-mul-add}
@@ -22,7 +22,7 @@ use Rattle.bank_alloc.specs.Places.{blocks_for, is_array, scalars_in, oblivious_
 abbrev pub any_decl : Decl
 any_decl = record { name = []; label = Public; length = None }
 
--- stands where a look-up has nothing
+-- the default of a look-up that finds nothing
 abbrev pub any_place : Place
 any_place = record { bank = 0; block = 0; word = 0; length = 0 }
 
@@ -53,13 +53,13 @@ get_or-places_behind class size before (x ∷ ds) (suc k) d q within =
     ∙ ap (λ (b : List Place). place_behind size b (class (get_or ds k d)) (words_of (get_or ds k d)))
     (append_assoc before (first ∷ []) (take k (places_behind class size (before ++ first ∷ []) ds)))
 
--- the place of variable number k: behind those before it
+-- the place of variable number k: after those before it
 pub get_or-places : (p : Source) (w k : ℕ) (d : Decl) (q : Place) → k < length p.decls
     → get_or (places_of p w) k q
     ≡ place_behind (2 ^ w) (take k (places_of p w)) (class_of p (get_or p.decls k d)) (words_of (get_or p.decls k d))
 get_or-places p w k d q within = get_or-places_behind (class_of p) (2 ^ w) [] p.decls k d q within
 
--- the place of a scalar behind others
+-- the place of a scalar after others
 pub record IsScalarPlace (label : Label) (before : List Place) (q : Place) : Type 0 where
   pub bank : q.bank ≡ scalar_bank label
   pub block : q.block ≡ 0
@@ -67,7 +67,7 @@ pub record IsScalarPlace (label : Label) (before : List Place) (q : Place) : Typ
   pub one_word : q.length ≡ 1
   pub scalar : is_array q ≡ false
 
--- the place of an array of so many words behind others
+-- the place of an array of this many words after others
 pub record IsArrayPlace (label : Label) (size words : ℕ) (before : List Place) (q : Place) : Type 0 where
   pub bank : IsBankOf label q.bank
   pub known : q.bank < 2 + min 8 (oblivious_arrays before + 1)
@@ -77,7 +77,7 @@ pub record IsArrayPlace (label : Label) (size words : ℕ) (before : List Place)
   pub all_words : q.length ≡ words
   pub array : is_array q ≡ true
 
--- an array of a bank with scalars lies behind their block
+-- an array of a bank with scalars is stored after their block
 pub array_block : (block : ℕ) → nat_le 1 (1 + block) ≡ true
 array_block block = le-leb 1 (1 + block) (omega arith)
 
@@ -154,7 +154,7 @@ blocks_taken-array size q array =
     ap (λ b. cond (b && is_array q) (blocks_for size q.length) 0) (eq-eqb q.bank q.bank refl)
     ∙ ap (λ b. cond b (blocks_for size q.length) 0) array
 
--- an array's blocks stand before those that are free behind it
+-- an array's blocks come before the next free ones
 pub array_before_free : (size : ℕ) (places : List Place) (k : ℕ) (q : Place)
     → k < length places → is_array (get_or places k q) ≡ true
     → first_free_block size (get_or places k q).bank (take k places) + blocks_for size (get_or places k q).length
@@ -163,7 +163,7 @@ array_before_free size places k q within array =
     let v = get_or places k q in
     omega (arith, sum_by_more_le (blocks_taken size v.bank) places k q within, blocks_taken-array size v array)
 
--- the same behind some of the others
+-- the same after some of the others
 pub array_before_later : (size : ℕ) (places : List Place) (i j : ℕ) (q : Place) → i < j → j ≤ length places
     → is_array (get_or places i q) ≡ true
     → first_free_block size (get_or places i q).bank (take i places) + blocks_for size (get_or places i q).length
@@ -180,7 +180,7 @@ array_before_later size places i j q less within array =
     (array_before_free size (take j places) i q (omega (arith, length-take-le j places within, less))
     (ap is_array here ∙ array)))
 
--- a variable lies in a bank of its label
+-- a variable is stored in a bank of its label
 pub bank_of_label : (p : Source) (w k : ℕ) (d : Decl) (q : Place) → k < length p.decls
     → IsBankOf (get_or p.decls k d).label (get_or (places_of p w) k q).bank
 bank_of_label p w k d q within = by (get_or p.decls k d).length refl where

@@ -76,7 +76,7 @@ by_test true false = refl
 by_test false true = refl
 by_test false false = refl
 
--- a name that was put in is gained, where the index is secret
+-- a name that was added is gained, if the index is secret
 pub gains_secret : (m n : BTreeSet (Bor (List ℕ))) (k : Bor (List ℕ)) (array : List ℕ) (index : Label)
     → index ≡ Secret → k.now ≡ array
     → ((q : Bor (List ℕ)) → contains key_cmp n q ≡ cond (is_at (key_cmp k) q) true (contains key_cmp m q))

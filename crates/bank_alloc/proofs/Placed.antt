@@ -1,4 +1,4 @@
--- The places that are worked out one behind the other are those by the variables that are declared before.
+-- The places that are computed in sequence are those by the variables that are declared before.
 use Rattle.std.proofs.Common.{◌≡◌, ℕ, zero, suc, ◌+◌, ◌%◌, ◌^◌, ◌<◌, ◌≤◌, Bool, true, false, cond, eqb, List, [], ◌∷◌, ◌++◌, length, take, get_or, refl, sym, ap, subst, ◌∙◌, arith}
 use Rattle.std.specs.Prelude.{nat_le, ◌&&◌, min, sum_by, count_by}
 use Rattle.std.proofs.lemmas.Bool.{le-leb}
@@ -86,7 +86,7 @@ module _ (size : ℕ) (before : List Place) (words : ℕ) where
   words_kept EncryptedArray = refl
   words_kept ObliviousArray = refl
 
--- counts of places, and of the variables that lie there
+-- counts of places, and of the variables that are stored there
 record Mirrors (class : Decl → Class) (size : ℕ) (ds : List Decl) (places : List Place) : Type 0 where
   public : scalars_in 0 places ≡ class_count class PublicScalar ds
   secret : scalars_in 1 places ≡ class_count class SecretScalar ds
@@ -95,7 +95,7 @@ record Mirrors (class : Decl → Class) (size : ℕ) (ds : List Decl) (places : 
   oblivious : oblivious_arrays places ≡ class_count class ObliviousArray ds
   turns : (t : ℕ) → first_free_block size (2 + t) places ≡ blocks_in_turn class size t 0 ds
 
--- the place behind others is that by the variables before it
+-- the place after others is that by the variables before it
 mirrored : (class : Decl → Class) (size : ℕ) (ds : List Decl) (places : List Place) → Mirrors class size ds places
     → (c : Class) (words : ℕ) → place_behind size places c words ≡ place_by class size ds c words
 mirrored class size ds places h PublicScalar words = rw h.public refl

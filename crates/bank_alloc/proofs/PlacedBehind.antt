@@ -27,7 +27,7 @@ use Rattle.bank_alloc.specs.Known.{is_member, class_in}
 use Rattle.bank_alloc.specs.Lacks.{AreFew}
 use Rattle.bank_alloc.specs.Places.{place_behind, places_behind, first_free_block, bank_count, blocks_of_banks, IsPlacesOf}
 
--- one more declaration, whose place was put behind the others
+-- one more declaration, whose place was appended to the others
 pub places_more : (class : Decl → Class) (size : ℕ) (ds : List Decl) (i : ℕ) (d : Decl) (places more : List Place)
     (q : Place)
     → i < length ds → d ≡ get_or ds i d → q ≡ place_behind size places (class d) (words_of d) → more ≡ places ++ q ∷ []
@@ -41,7 +41,7 @@ places_more class size ds i d places more q within read placed pushed so_far =
     (sym (drop_more ds i d within ∙ ap (λ x. x ∷ drop (i + 1) ds) (sym read)))
     ∙ so_far
 
--- behind the last declaration the places so far are all
+-- after the last declaration the places so far are all
 pub places_all : (class : Decl → Class) (size : ℕ) (ds : List Decl) (i : ℕ) (places : List Place) → length ds ≤ i
     → places ++ places_behind class size places (drop i ds) ≡ places_behind class size [] ds
     → places ≡ places_behind class size [] ds

@@ -45,7 +45,7 @@ scalar_by Secret Public (Some n) indexed = refl
 scalar_by Secret Secret (Some n) true = refl
 scalar_by Secret Secret (Some n) false = refl
 
--- an array's place is no scalar's
+-- an array's place isn't a scalar's
 array_no_scalar : (b c : Bool) (block : ℕ) → (b && not (c || nat_le 1 (1 + block))) ≡ false
 array_no_scalar b c block =
     subst (λ d. (b && not (c || d)) ≡ false) (sym (le-leb 1 (1 + block) (omega arith))) (by b c)
@@ -103,7 +103,7 @@ pub record IsFull (bank : ℕ) (blocks : List ℕ) (e : PlaceError) : Type 0 whe
 pub some_is : (e f : PlaceError) → ◌≡◌ {A = Option PlaceError} (Some e) (Some f) → e ≡ f
 some_is e f same = cc
 
--- one bank and those behind it
+-- one bank and those after it
 earlier : (bank b : ℕ) (rest : List ℕ) (k : ℕ)
     → b ≤ most_blocks bank → ((j : ℕ) → j < k → get_or rest j 0 ≤ most_blocks (bank + 1 + j))
     → (j : ℕ) → j < suc k → get_or (b ∷ rest) j 0 ≤ most_blocks (bank + j)

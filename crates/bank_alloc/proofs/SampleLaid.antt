@@ -1,4 +1,4 @@
--- The sample is well typed, within the limits, fits, and lies where it says.
+-- The sample is well typed, within the limits, fits, and has the places that it states.
 use Rattle.std.proofs.Common.{◌≡◌, ℕ, zero, suc, ◌<◌, ◌≤◌, refl, arith}
 use Rattle.src_tree.specs.Limits.{IsWithinLimits}
 use Rattle.src_tree.specs.Typing.{IsTyped}
@@ -29,7 +29,7 @@ sample_within = record {
   weight = omega arith;
 }
 
--- the sample's variables lie as its list of places says
+-- the sample's variables have the places of its list
 pub sample_placed : places_of sample 3 ≡ sample_places
 unfolding places_behind
 sample_placed = refl

@@ -58,12 +58,12 @@ record SymbolLies (blocks : List ℕ) (w : ℕ) (s : Symbol) : Type 0 where
   pub size : Within 1 (most_words s.shape) s.length
   pub inside : end_word (2 ^ w) s ≤ get_or blocks s.bank 0 * 2 ^ w
 
--- two symbols have other names, and lie apart
+-- two symbols have different names, and are apart
 record AreTwo (size : ℕ) (s t : Symbol) : Type 0 where
   pub names : s.name ≢ t.name
   pub apart : s.bank ≡ t.bank → (end_word size s ≤ first_word size t) ⊎ (end_word size t ≤ first_word size s)
 
--- what is known of some symbols, in whatever order they are
+-- what is known of some symbols, in any order
 record AreKnown (blocks : List ℕ) (w : ℕ) (symbols : List Symbol) : Type 0 where
   pub lie : All (SymbolLies blocks w) symbols
   pub two : EachTwo (AreTwo (2 ^ w)) symbols
@@ -169,7 +169,7 @@ permuted_known blocks w xs ys permuted known = record {
   names = All-permutation (λ s. IsTrue (is_name s.name)) xs ys permuted known.names;
 }
 
--- of two symbols of one bank that lie apart, the one with the lower key ends before the other
+-- of two symbols of one bank that are apart, the one with the lower key ends before the other
 ends_before : (blocks : List ℕ) (w : ℕ) (s t : Symbol) → SymbolLies blocks w s → SymbolLies blocks w t → AreTwo (2 ^ w) s t
     → 2 ^ w ≤ 512 → s.bank ≡ t.bank → symbol_key s ≤ symbol_key t → end_word (2 ^ w) s ≤ first_word (2 ^ w) t
 ends_before blocks w s t s_lies t_lies two range same less =
@@ -196,7 +196,7 @@ AreFewBlocks blocks = (b : ℕ) → b < length blocks → get_or blocks b 0 ≤ 
 small_block : (blocks : List ℕ) (w : ℕ) (s : Symbol) → AreFewBlocks blocks → SymbolLies blocks w s → s.block < 65536
 small_block blocks w s few lies = omega (arith, lies.block, few s.bank lies.bank, most_blocks-le s.bank)
 
--- the one with the lower key stands before the other
+-- the one with the lower key is before the other
 stands_before : (blocks : List ℕ) (w : ℕ) (s t : Symbol)
     → AreFewBlocks blocks → SymbolLies blocks w s → SymbolLies blocks w t → AreTwo (2 ^ w) s t
     → 2 ^ w ≤ 512 → symbol_key s ≤ symbol_key t → StandsBefore (2 ^ w) s t
@@ -216,7 +216,7 @@ sorted_order blocks w symbols few range known sorted i j d less within =
     stands_before blocks w (get_or symbols i d) (get_or symbols j d) few (known.lie i d here) (known.lie j d within)
     (known.two.at i j d here within (omega (arith, less))) range (sorted i j d (omega (arith, less)) within)
 
--- what standing before another says
+-- what it means to be before another
 earlier_bank : (size : ℕ) (s t : Symbol) → StandsBefore size s t → s.bank ≤ t.bank
 earlier_bank size s t (InEarlierBank bank) = omega (arith, bank)
 earlier_bank size s t (AtEarlierWord bank word) = omega (arith, bank)

@@ -19,7 +19,7 @@ first_full bank [] = None
 first_full bank (blocks ∷ rest) =
     if nat_lt (most_blocks bank) blocks then Some (BankFull bank) else first_full (bank + 1) rest
 
--- the first lack of room for variables at some places, in banks that need so many blocks
+-- the first lack of room for variables at some places, in banks that need this many blocks
 abbrev pub first_lack : ℕ → List Place → List ℕ → Option PlaceError
 first_lack size places blocks =
     if nat_lt size (scalars_in 0 places) then Some (TooManyScalars Public)

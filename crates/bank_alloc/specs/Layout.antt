@@ -33,7 +33,7 @@ placed_symbols [] places = []
 placed_symbols (d ∷ ds) [] = []
 placed_symbols (d ∷ ds) (q ∷ places) = placed_symbol d q ∷ placed_symbols ds places
 
--- a symbol stands before another: in an earlier bank, or at an earlier word of the same
+-- a symbol is before another: in an earlier bank, or at an earlier word of the same
 pub data StandsBefore (size : ℕ) (s t : Symbol) : Type 0 where
   InEarlierBank : (bank : s.bank < t.bank) → StandsBefore size s t
   AtEarlierWord : (bank : s.bank ≡ t.bank) (word : first_word size s < first_word size t) → StandsBefore size s t
@@ -55,7 +55,7 @@ AreSymbolsOf p w symbols = AreSymbolsAt p w (places_of p w) symbols
 abbrev pub HasLayout : Source → ℕ → Parts → Type 0
 HasLayout p w o = IsLaidOut p w (places_of p w) (blocks_of_banks p w) o
 
--- what stands for a declaration and for a place past the last
+-- the defaults for a declaration and for a place past the last
 abbrev pub no_decl : Decl
 no_decl = record { name = []; label = Public; length = None }
 

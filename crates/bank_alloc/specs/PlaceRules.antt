@@ -1,4 +1,4 @@
--- Where each variable of a program lies, by the variables that are declared before it. (This project's profile.)
+-- The place of each variable of a program, by the variables that are declared before it. (This project's profile.)
 use Rattle.std.specs.Prelude.{◌≡◌, ℕ, ◌+◌, ◌%◌, ◌^◌, ◌<◌, Bool, true, false, ◌==◌, if◌then◌else◌, List, [], ◌∷◌, length, take, min, sum_by, count_by, slice_index_or}
 use Rattle.src_tree.specs.declared.trees.Decl.{Decl}
 use Rattle.src_tree.specs.Trees.{Source}
@@ -35,9 +35,9 @@ blocks_in_turn class size turn j (d ∷ ds) =
 abbrev pub word_of_block : ℕ → ℕ → ℕ → ℕ → Place
 word_of_block bank block word words = record { bank = bank; block = block; word = word; length = words }
 
--- Where a variable lies, by its class, its words and the variables before it. Scalars lie in the first block, each at
--- the next word. Public arrays follow in bank 0, and encrypted ones in bank 1, on whole blocks. The j-th oblivious array,
--- from 0, lies in bank 2 + j mod 8, behind those that are there.
+-- The place of a variable, by its class, its words and the variables before it. Scalars are stored in the first block,
+-- each at the next word. Public arrays follow in bank 0, and encrypted ones in bank 1, on whole blocks. The j-th
+-- oblivious array, from 0, is stored in bank 2 + j mod 8, after those that are there.
 abbrev pub place_by : (Decl → Class) → ℕ → List Decl → Class → ℕ → Place
 place_by class size before PublicScalar words = word_of_block 0 0 (class_count class PublicScalar before) words
 place_by class size before SecretScalar words = word_of_block 1 0 (class_count class SecretScalar before) words

@@ -1,6 +1,6 @@
--- Where the variables of a program lie (this project's profile). Scalars share the first block of plain memory, bank 0,
+-- The places of a program's variables (this project's profile). Scalars share the first block of plain memory, bank 0,
 -- or of encrypted memory, bank 1; arrays have whole blocks, in order of declaration; the oblivious ones go to banks 2
--- to 9 in turn. Here they are worked out one behind the other; `PlaceRules` says the same of each by itself.
+-- to 9 in turn. Here they are computed in sequence; `PlaceRules` states the same of each by itself.
 use Rattle.std.specs.Prelude.{◌≡◌, ℕ, ◌+◌, ◌-◌, ◌/◌, ◌%◌, ◌^◌, min, nat_le, Bool, ◌==◌, ◌&&◌, ◌||◌, not, if◌then◌else◌, List, [], ◌∷◌, ◌++◌, map, sum_by, count_by}
 use Rattle.std.specs.List.{range_with_len}
 use Rattle.src_tree.specs.declared.trees.Decl.{Decl}
@@ -16,7 +16,7 @@ use Rattle.bank_alloc.specs.Classes.{class_of}
 abbrev pub blocks_for : ℕ → ℕ → ℕ
 blocks_for size words = (words + (size - 1)) / size
 
--- A place is an oblivious bank's, or an array's: an array lies in an oblivious bank or behind the first block.
+-- A place is an oblivious bank's, or an array's: an array is stored in an oblivious bank or after the first block.
 abbrev pub is_oblivious : Place → Bool
 is_oblivious q = nat_le 2 q.bank
 
@@ -40,7 +40,7 @@ arrays_in bank places = count_by (is_array_in bank) places
 abbrev pub oblivious_arrays : List Place → ℕ
 oblivious_arrays places = count_by is_oblivious places
 
--- arrays begin behind the block of the scalars, and in an oblivious bank at the first block
+-- arrays begin after the block of the scalars, and in an oblivious bank at the first block
 abbrev pub first_block : ℕ → ℕ
 first_block bank = if nat_le 2 bank then 0 else 1
 
@@ -48,11 +48,11 @@ first_block bank = if nat_le 2 bank then 0 else 1
 abbrev pub blocks_taken : ℕ → ℕ → Place → ℕ
 blocks_taken size bank q = if is_array_in bank q then blocks_for size q.length else 0
 
--- the first block of a bank that is free behind some places
+-- the first block of a bank that is free after some places
 abbrev pub first_free_block : ℕ → ℕ → List Place → ℕ
 first_free_block size bank places = first_block bank + sum_by (blocks_taken size bank) places
 
--- a scalar behind others, and an array: at the next word, and at the next free block
+-- a scalar after others, and an array: at the next word, and at the next free block
 abbrev pub scalar_place : List Place → ℕ → ℕ → Place
 scalar_place before bank words = record { bank = bank; block = 0; word = scalars_in bank before; length = words }
 
@@ -60,7 +60,7 @@ abbrev pub array_place : ℕ → List Place → ℕ → ℕ → Place
 array_place size before bank words =
     record { bank = bank; block = first_free_block size bank before; word = 0; length = words }
 
--- where a variable of a class and so many words lies behind others
+-- the place of a variable of a class and this many words, after others
 abbrev pub place_behind : ℕ → List Place → Class → ℕ → Place
 place_behind size before PublicScalar words = scalar_place before 0 words
 place_behind size before SecretScalar words = scalar_place before 1 words
@@ -68,7 +68,7 @@ place_behind size before PublicArray words = array_place size before 0 words
 place_behind size before EncryptedArray words = array_place size before 1 words
 place_behind size before ObliviousArray words = array_place size before (2 + oblivious_arrays before % 8) words
 
--- the places of some declarations behind others, one after another, where each has a class
+-- the places of some declarations after others, in sequence, if each has a class
 unfoldable pub places_behind : (Decl → Class) → ℕ → List Place → List Decl → List Place
 places_behind class size before [] = []
 places_behind class size before (d ∷ ds) =

@@ -10,8 +10,9 @@ ghost use Rattle.bank_alloc.specs.PlaceRules.{ArePlaced, BanksNeed};
 ghost use Rattle.bank_alloc.specs.Places.{bank_count, blocks_needed, blocks_of_banks, places_of};
 ghost use Rattle.bank_alloc.specs.Samples.{sample, sample_blocks, sample_places};
 
-/// Does nothing; its clauses are the laws of places. Each variable lies in a bank of its label and within it, no two
-/// share a word, and every bank has a block. The places are exactly those by the variables that are declared before.
+/// Does nothing; its clauses are the laws of places. Each variable is stored in a bank of its label and within it, no
+/// two share a word, and every bank has a block. The places are exactly those by the variables that are declared
+/// before.
 #[tactic(auto, using(crate::proofs::EachPlace::bank_of_label, crate::proofs::BankSizes::bank_some))]
 pub fn place_laws()
     ensures labels { (p : Source) (w k : ℕ) (d : Decl) (q : Place)
@@ -35,8 +36,8 @@ pub fn place_laws()
     ensures needed { (p : Source) (w : ℕ) → BanksNeed p w }
 {}
 
-/// Does nothing; its clauses say that a program with a variable of each class meets what is asked of programs, and
-/// where its variables lie.
+/// Does nothing; its clauses state that a program with a variable of each class meets the conditions for programs, and
+/// the places of its variables.
 #[tactic(auto, using(crate::proofs::SampleLaid::sample_typed, crate::proofs::SampleLaid::sample_within, crate::proofs::SampleLaid::sample_fits, crate::proofs::SampleLaid::sample_placed, crate::proofs::SampleLaid::sample_banks))]
 pub fn sample_laws()
     ensures typed { IsTyped sample }

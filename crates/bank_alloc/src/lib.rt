@@ -1,6 +1,6 @@
-//! Where the variables of a program lie in the banks of an object.
+//! The places of a program's variables in the banks of an object.
 //!
-//! [`banks`] gives each variable of a well-typed program its place, exactly by `specs/Places`, or answers what lacks
+//! [`banks`] gives each variable of a well-typed program its place, exactly by `specs/Places`, or returns what lacks
 //! room first, by `specs/Fits`. Scalars share the first block of plain or encrypted memory, arrays have whole blocks,
 //! and the secret arrays with a secret index (`specs/Indexes`) go to oblivious banks in turn. [`symbols`] gives the
 //! symbols of an object with these places, in order (`specs/Layout`), and they are in range. [`place_laws`]: the places

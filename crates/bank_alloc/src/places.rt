@@ -1,7 +1,7 @@
 use gr_word::Label;
 use std::alloc::{AllocError, AllocFailed};
 
-/// Where a variable lies: from word `word` of block `block` of bank `bank` on, `length` words.
+/// The place of a variable: `length` words, from word `word` of block `block` of bank `bank` on.
 #[derive(Clone, Copy, Debug, PartialEq, Eq)]
 pub struct Place {
     /// Plain memory is bank 0, encrypted memory bank 1, and from 2 on the banks are oblivious.
@@ -19,7 +19,7 @@ pub struct Places {
     pub blocks: Vec<u32>,
 }
 
-/// Why there is no room for a program's variables.
+/// Why a program's variables have no room.
 #[derive(Clone, Copy, Debug, PartialEq, Eq)]
 pub enum PlaceError {
     /// More scalars of the label than a block has words.

@@ -37,7 +37,7 @@ pub fn is_oblivious(place: Place) -> bool
     bank_kind(place.bank) == BankKind::Oblivious
 }
 
-/// Whether a place is an array's: in an oblivious bank, or behind the first block.
+/// Whether a place is an array's: in an oblivious bank, or after the first block.
 pub fn is_array(place: Place) -> bool
     ensures { result ≡ is_array place }
 {
@@ -57,7 +57,7 @@ pub fn is_array_in(bank: u8, place: Place) -> bool
     place.bank == bank && is_array(place)
 }
 
-/// The blocks that so many words take, where a block has `size` words.
+/// The number of blocks for this many words, if a block has `size` words.
 pub fn blocks_for(size: u32, words: u32) -> u32
     requires size { Within 8 512 size }
     requires words { words ≤ max_length }
@@ -108,7 +108,7 @@ fn blocks_taken(size: u32, bank: u8, place: Place) -> u32
     }
 }
 
-/// The first block of a bank that is free behind some places, where a block has `size` words.
+/// The first block of a bank that is free after some places, if a block has `size` words.
 pub(crate) fn first_free(size: u32, bank: u8, places: &[Place]) -> u32
     requires size { Within 8 512 size }
     requires few { AreFew places.now }
@@ -146,7 +146,7 @@ fn array_place(size: u32, before: &[Place], bank: u8, words: u32) -> Place
     }
 }
 
-// Where a variable of a class and so many words lies behind others.
+// The place of a variable of a class and this many words, after others.
 fn place_behind(size: u32, before: &[Place], class: Class, words: u32) -> Place
     requires size { Within 8 512 size }
     requires few { AreFew before.now }
@@ -204,15 +204,15 @@ pub(crate) fn places_in<'a>(
     Ok(places)
 }
 
-// How many banks there are, where variables lie at some places.
+// The number of banks, if variables are stored at some places.
 fn bank_count(places: &[Place]) -> u8
     ensures { result ≡ bank_count places.now }
 {
     2 + oblivious_arrays(places).min(8) as u8
 }
 
-/// The number of blocks of each bank, where variables lie at some places and a block has `size` words. The only error
-/// is want of memory.
+/// The number of blocks of each bank, if variables are stored at some places and a block has `size` words. The only
+/// error is want of memory.
 pub(crate) fn blocks_of_banks(
     alloc: Global,
     size: u32,

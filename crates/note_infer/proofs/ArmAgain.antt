@@ -1,5 +1,5 @@
 -- An arm that is walked is walked again from a lower state, under other notes that aren't within: it shows the same,
--- and less is unknown behind it. And it carries what the ways carry.
+-- and less is unknown after it. And it carries what the ways carry.
 use Rattle.std.proofs.Common.{◌≡◌, ℕ, ◌+◌, ◌-◌, ◌<◌, ◌≤◌, ◌==◌, Bool, true, false, ◌&&◌, ◌||◌, nat_lt, ℤ, pos, negsuc, List, [], ◌∷◌, length, slice_get, inl, inr, Option, Some, None, refl, sym, ap, ◌∙◌, subst, arith}
 use Rattle.std.specs.Prelude.{if◌then◌else◌}
 use Rattle.std.specs.List.{list_any}
@@ -106,7 +106,7 @@ shape-renoted o notes depth end p offset t join arms none =
 
 -- one instruction
 module _ (a : Parts) (others : List Note) (s low : SymState) (h : IsBelow low s) where
-  -- it goes on again
+  -- it continues again
   pub record GoesAgain (i : Instr) (pattern : Shown TreeEvent) (t : SymState) : Type 0 where
     pub goes : only_goes_on i ≡ true
     pub behind : t ≡ held_behind (without_notes a) s i

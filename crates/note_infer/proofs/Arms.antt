@@ -90,7 +90,7 @@ single_goes a s (Br cmp ra rb offset) pattern t e =
     absurd (let f : ◌≡◌ {A = Single} (Branches offset) (Goes pattern t) = e in cc)
 single_goes a s i pattern t e = refl
 
--- from the places of an arm steps lead on, and at most to its end; from those of a region to its join at most
+-- steps from the places of an arm lead forward, at most to its end; those from a region's places at most to its join
 mutual
   pub walk-stays : (a : Parts) (depth end p : ℕ) (s : SymState) (pattern : Shown TreeEvent) (t : SymState)
       → WalksTo a depth end p s pattern t → (x y : ℕ) → p ≤ x → x < end → LeadsTo a x y → (x < y) × (y ≤ end)

@@ -72,7 +72,7 @@ left_less (suc n) crossed place lt apart =
     omega (arith, one_less (place == n) (is_crossed crossed n), left_less n crossed place (omega arith) apart))
     (cases_eq place n)
 
--- a branch that may join isn't crossed, and stands in the code
+-- a branch that may join isn't crossed, and is in the code
 pub join_apart : (o : Parts) (crossed : List ℕ) (states : List (Option Known)) (place join : ℕ)
     → IsLowestToJoin o crossed states place join → is_crossed crossed place ≡ false
 join_apart o crossed states place join h = h.to.may.apart

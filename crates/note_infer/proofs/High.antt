@@ -130,7 +130,7 @@ module _ (a : Parts) (accepts : Accepts a) where
     high_is p m k inside at visited =
         only_if_from (states p) (visited_state a p) m k at (visits_state p k inside visited)
 
-    -- what comes to a place that is reached is at most what is known there
+    -- the state on entry to a reached place is at most what is known there
     comes_high : (q : ℕ) (m next : Known) → q < length a.code → states q ≡ Some m → ComesTo a q next
         → IsAtLeast high q next
     comes_high q m next inside at comes = by (claimed_at a q) refl
@@ -168,7 +168,7 @@ module _ (a : Parts) (accepts : Accepts a) where
           },
         )
 
-    -- a branch that isn't crossed and is visited is public, and goes on
+    -- a branch that isn't crossed and is visited is public, and continues
     pub record PublicBranch (p : ℕ) (k : Known) (cmp : Cmp) (ra rb : ℕ) (offset : ℤ) : Type 0 where
       pub public : (is_secret k ra || is_secret k rb) ≡ false
       pub falls : ruling_at a p k ≡ Falls k

@@ -61,7 +61,7 @@ pub all_reached : (o : Parts) (states : List (Option Known)) → HasLeast o [] s
     → ((q : ℕ) → q < length states → (k : Known) × (get_or states q None ≡ Some k)) → AllReachable o
 all_reached o states has known p lt = let k = known p (omega (arith, lt, has.size)) in (has.sound p k.0 k.1).reached
 
--- steps lead to the same places whatever notes stand
+-- steps lead to the same places for any notes
 dead_whole : (o : Parts) (p : ℕ) → IsDead (without_notes o) p → IsDead o p
 dead_whole o p h = record {
   inside = h.inside;
@@ -75,7 +75,7 @@ why_whole o (Refused pc reason) h = absurd h
 why_whole o (TooMany count) h = absurd h
 why_whole o Memory h = tt
 
--- the notes that are found stand at the targets
+-- the notes that are found are at the targets
 split_target : (o : Parts) (crossed : List ℕ) (states : States) (q : ℕ) → IsTarget o crossed states q
     → (p : ℕ) × (k : Known) × (states p ≡ Some k) × IsTargetOf o crossed p q × (p < length o.code) × (q < length o.code)
 split_target o crossed states q (OfJump p q' k offset is at to inside) =

@@ -46,7 +46,7 @@ taken_cases old new place q moved h =
 pub taken_shorter : (old new : List ℕ) (place : ℕ) → IsPermutation old (place ∷ new) → length new < length old
 taken_shorter old new place moved = omega (arith, length_permutation old (place ∷ new) moved)
 
--- what may join, by what is known at its place alone
+-- what may join, only by what is known at its place
 may_join_as : (o : Parts) (crossed : List ℕ) (before after : List (Option Known)) (q : ℕ)
     → at_places after q ≡ at_places before q → MayJoin o crossed (at_places after) q
     → MayJoin o crossed (at_places before) q

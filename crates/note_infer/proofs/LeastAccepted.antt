@@ -183,7 +183,7 @@ module _ (b : Parts) (notes : List Note) (accepts : Accepts (with_notes b notes)
           opens_well p k a.0 (opens_again p k a.0 a.4)
   instr_well p k i s at = falls_well p k (known_behind k i) (plain_ruled p k i s at refl)
 
-  -- a place of the code that is reachable is reached by the ways, or lies in a region of one that is
+  -- a place of the code that is reachable is reached by the ways, or is in a region of one that is
   record IsInside (p : ℕ) : Type 0 where
     branch : ℕ
     known : Known
@@ -334,7 +334,7 @@ module _ (b : Parts) (notes : List Note) (accepts : Accepts (with_notes b notes)
   jmp_way q x k next by at is (Crosses p' k' q' n' cmp ra rb offset code among joins) =
       absurd (let f = instr-once b q (Jmp by) (Br cmp ra rb offset) at code in cc)
 
-  -- no place without a note is reached behind one that leads only to targets
+  -- no place without a note is reached after one that leads only to targets
   dead_end : {A : Type 0} (q : ℕ) (j m : Known) → states q ≡ Some j → states (suc q) ≡ Some m
       → claimed_at b (suc q) ≡ None
       → ((k next : Known) → states q ≡ Some k → PublicWay (without_notes b) crossed q k (suc q) next
@@ -363,7 +363,7 @@ module _ (b : Parts) (notes : List Note) (accepts : Accepts (with_notes b notes)
   behind_one q k next visited falls = subst (IsVisited b) (add-one q) (visits (q + 1) next
       (FallsTo q k next visited falls))
 
-  -- a place that is reached, behind a place that is visited
+  -- a place that is reached, after a place that is visited
   behind_visited : (q : ℕ) (j m k : Known) (i : Instr) → states q ≡ Some j → states (suc q) ≡ Some m
       → claimed_at b (suc q) ≡ None → VisitedAt b q k → q < length b.code → slice_get b.code q ≡ Some i
       → IsVisited b (suc q)
@@ -524,7 +524,7 @@ module _ (b : Parts) (notes : List Note) (accepts : Accepts (with_notes b notes)
             let is = noted-states b notes accepts crossed states last same some stand p c e in
             subst (FitsClaim k) (known_once h.known c (sym h.at ∙ is)) (lower-fits k h.known h.lower)
 
--- steps lead to the same places whatever notes stand
+-- steps lead to the same places for any notes
 pub reachable_renoted : (o : Parts) (notes : List Note) (p : ℕ) → IsReachable o p → IsReachable (with_notes o notes) p
 reachable_renoted o notes p AtStart = AtStart
 reachable_renoted o notes p (Behind q p' before leads) =

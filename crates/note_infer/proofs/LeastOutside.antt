@@ -290,7 +290,7 @@ module _ (o : Parts) (crossed : List ℕ) (place join : ℕ) (cmp : Cmp) (ra rb 
             (at-least-then others q next c.brought c.higher
             (closed.ways x q m.two c.brought at.at (way_more o crossed place x m.two q c.brought ne c.way)))
 
-    -- where both are known, no more is secret behind one step than behind each
+    -- if both are known, no more is secret after one step than after each
     both_at : (q : ℕ) (k l high : Known) → ((c : Known) → IsFull c → FitsClaim k c → FitsClaim l c → FitsClaim high c)
         → IsAtLeast mixed q k → IsAtLeast mixed q l → ((c : Known) → mixed q ≡ Some c → IsFull c)
         → IsAtLeast mixed q high

@@ -26,7 +26,7 @@ use Rattle.trace_patterns.proofs.Carries.{instr-once, offset_once, over-once}
 use Rattle.note_infer.proofs.Following.{brings-there, brings-keeps, brings-size, Follows, Nowhere, Further, looked}
 use Rattle.note_infer.proofs.SameParts.{same_jump}
 
--- what stands at a place has its registers and slots, if anything does
+-- the state at a place has its registers and slots, if there is one
 pub full_at : (states : List (Option Known)) (place : ℕ) → AllFull states → IfSome (get_or states place None) IsFull
 full_at states place full = by (get_or states place None) (full place)
   where
@@ -80,7 +80,7 @@ module _ (o : Parts) (crossed : List ℕ) (place : ℕ) (k : Known) (before : Li
       brings-size mid between q next lt next_full after rest brings
   sized mid between q next after rest next_full (Outside le) = refl
 
-  -- an instruction that only goes on
+  -- an instruction that only continues at the next place
   pub looks_on : (i : Instr) (after : List (Option Known)) (rest : List ℕ) → slice_get o.code place ≡ Some i
       → only_goes_on i ≡ true → BringsInside before stack (place + 1) (known_behind k i) after rest
       → Looks o crossed place before stack after rest
@@ -188,7 +188,7 @@ module _ (o : Parts) (crossed : List ℕ) (place : ℕ) (k : Known) (before : Li
           absurd (let f = instr-once o place (Br cmp ra rb offset) (Jmp x) code c in cc)
       by same q next (Crosses p' k' q' n' d sa sb x c among joins) = absurd (false≢true (sym apart ∙ among))
 
-  -- a branch that is crossed leads to its join alone
+  -- a branch that is crossed leads only to its join
   pub looks_over : (cmp : Cmp) (ra rb : ℕ) (offset : ℤ) (join : ℕ) (next : Known) (after : List (Option Known))
       (rest : List ℕ) → slice_get o.code place ≡ Some (Br cmp ra rb offset) → is_crossed crossed place ≡ true
       → JoinsIn o place offset k join next → IsFull next → BringsInside before stack join next after rest
@@ -237,7 +237,7 @@ module _ (o : Parts) (crossed : List ℕ) (place : ℕ) (k : Known) (before : Li
           (instr-once o place (Br d sa sb x) (Br cmp ra rb offset) c code) in
           absurd (none q n (subst (λ (z : ℤ). JoinsIn o place z k q n) e j))
 
--- what is known behind an instruction has its registers and slots
+-- the state after an instruction has its registers and slots
 pub full_behind : (k : Known) (i : Instr) → IsFull k → IsFull (known_behind k i)
 full_behind k i full = (known-lower k k i (lower-own k full)).low_full
 
@@ -289,7 +289,7 @@ looks_none o crossed place before stack at = record {
     swap x (inl w) = inr w
     swap x (inr e) = inl e
 
--- a branch, whatever it compares
+-- a branch, for any comparison
 pub looks_branch_at : (o : Parts) (crossed : List ℕ) (place : ℕ) (k : Known) (before : List (Option Known))
     (stack : List ℕ)
     (at : at_places before place ≡ Some k) (full : IsFull k) (size : length before ≡ length o.code)

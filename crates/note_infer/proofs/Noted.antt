@@ -36,7 +36,7 @@ known_more states place below here q lt =
     (λ (ne : q ≡ place → ⊥). below q (omega (arith, lt, ne)))
     (cases_eq q place)
 
--- a note claims banks of the object alone
+-- a note claims only banks of the object
 claim_fits : (banks claim : ℕ) → ((b : ℕ) → claimed_bank claim ≡ Some b → b < banks)
     → IsTrue (is_slot_claim banks claim)
 claim_fits banks claim h =

@@ -29,7 +29,7 @@ use Rattle.note_infer.proofs.Tight.{fits-then, at-least-then}
 use Rattle.note_infer.proofs.UnderWay.{at-set, off-set}
 use Rattle.note_infer.proofs.SameParts.{known_once, none_not, same_jump}
 
--- one instruction: in an arm no more is known behind it than in public code
+-- one instruction: in an arm no more is known after it than in public code
 known_tree : (s : SymState) (r : ℕ) (v : Option Value)
     → known_after (hold_tree s r v) ≡ set_secret (known_after s) r (is_none v)
 known_tree s r v =
@@ -365,7 +365,7 @@ module _ (one two : States) (p : ℕ) (k : Known)
       by None is f = inr (sym (ap (λ (b : Option Known). or_else b (two x)) is) ∙ f)
       by (Some i) is f = inl (is ∙ sym (ap (λ (b : Option Known). or_else b (two x)) is) ∙ f)
 
--- one place, from which the ways lead through a first part of the code, and a second part behind it
+-- one place, from which the ways lead through a first part of the code, and a second part after it
 module _ (o : Parts) (crossed : List ℕ) (end p mid : ℕ) (k between out : Known) (one two : States)
     (front : Passes o crossed (p + 1) mid one between) (back : Passes o crossed mid end two out)
     (order : (p + 1 ≤ mid) × (mid ≤ end)) (full : IsFull k)
@@ -440,7 +440,7 @@ module _ (o : Parts) (crossed : List ℕ) (end p mid : ℕ) (k between out : Kno
   whole_start : Leads whole end out p k
   whole_start = inl (record { known = k; is = whole_here; above = lower-fits k k (lower-own k full) })
 
--- two arms: a first one that ends where a jump stands, and a second one behind that jump
+-- two arms: a first one that ends at a jump, and a second one after that jump
 module _ (o : Parts) (crossed : List ℕ) (p second join : ℕ) (s left right : SymState) (jump : ℤ)
     (one : PassesTo o crossed (second - 1) (p + 1) s left) (two : PassesTo o crossed join second s right)
     (at : slice_get o.code (second - 1) ≡ Some (Jmp jump)) (to : target_of o (second - 1) jump ≡ join)

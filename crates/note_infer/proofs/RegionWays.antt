@@ -50,7 +50,7 @@ pub region_at : (o : Parts) (p : ℕ) (offset : ℤ) (s : SymState) (join : ℕ)
     → (second : ℕ) × IsRegion (without_notes o) 0 (length o.code - 1) p offset second join
 region_at o p offset s join t over = region_over o 0 (length o.code - 1) p offset s join t over
 
--- the join of a branch that may join stands behind it, in the code
+-- the join of a branch that may join is after it, in the code
 pub joins_within : (o : Parts) (crossed : List ℕ) (states : List (Option Known)) (place join : ℕ)
     → MayJoinTo o crossed states place join → (place < join) × (join < length o.code)
 joins_within o crossed states place join h =

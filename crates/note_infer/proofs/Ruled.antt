@@ -1,4 +1,4 @@
--- Which instruction stands where a place falls through, and where a region opens; and what a jump is ruled.
+-- Which instruction is at a place that falls through, and where a region opens; and the rule for a jump.
 use Rattle.std.proofs.Common.{◌≡◌, ℕ, ◌-◌, ◌<◌, Bool, true, false, not, ◌||◌, nat_lt, ℤ, length, slice_get, ◌⊎◌, inl, inr, Option, Some, None, refl, sym, ap, ◌∙◌, subst}
 use Rattle.std.specs.Prelude.{if◌then◌else◌}
 use Rattle.std.specs.Option.{option_map}

@@ -42,7 +42,7 @@ pub ruling-some : (a : Parts) (p : ℕ) (k : Known) (i : Instr) → slice_get a.
 unfolding ruling_at
 ruling-some a p k i at = ap (ruling_if a p k) at
 
--- an instruction that only goes on is refused, or falls through with what is carried
+-- an instruction that only continues is refused, or falls through with what is carried
 abbrev pub IsPlainRuling : Known → Ruling → Type 0
 IsPlainRuling next r = ((reason : Reason) × (r ≡ Refused reason)) ⊎ (r ≡ Falls next)
 
@@ -113,7 +113,7 @@ bank_down : (x y : Option ℕ) (b : ℕ) → Keeps None x y → y ≡ Some b →
 bank_down x y b (inl e) is = absurd (let f : ◌≡◌ {A = Option ℕ} None (Some b) = sym e ∙ is in cc)
 bank_down x y b (inr e) is = e ∙ is
 
--- the ruling of an instruction that only goes on isn't a refusal where a higher one isn't
+-- the ruling of an instruction that only continues isn't a refusal if a higher one isn't
 NotRefused : Ruling → Type 0
 NotRefused r = (reason : Reason) → ¬ (r ≡ Refused reason)
 

@@ -24,7 +24,7 @@ use Rattle.note_infer.specs.Ways.{PublicWay, Next, Skips, Branches, Jumps, Cross
 use Rattle.note_infer.specs.UnderWay.{IsRaisedTo}
 use Rattle.note_infer.specs.Brings.{Brings, Enough, More, IsSoundAt, AllSound}
 
--- a slot that is bound to one of so many banks, if its bank is known
+-- a slot that is bound to one of this many banks, if its bank is known
 abbrev pub BoundSound : ℕ → SymSlot → Type 0
 BoundSound n bound = (bank : ℕ) → slot_bank bound ≡ Some bank → bank < n
 
@@ -134,7 +134,7 @@ module _ (o : Parts) (range : IsInRange o) where
       (λ x y i q at g. held-sound y i (instruction-fits o range q i at) g)
       (λ x x' y y' g f. both-sound x' y' g) depth end p offset s join t s over h).related
 
-  -- the banks that are known behind an instruction
+  -- the banks that are known after an instruction
   behind-sound : (k : Known) (i : Instr) → InstrFits (length o.banks) i
       → ((slot bank : ℕ) → bank_known k slot ≡ Some bank → bank < length o.banks) → (slot bank : ℕ)
       → bank_known (known_behind k i) slot ≡ Some bank → bank < length o.banks

@@ -16,7 +16,7 @@ use Rattle.note_infer.specs.Ways.{PublicWay, Next, Skips, Branches, Jumps, Cross
 use Rattle.note_infer.specs.LeastNotes.{with_notes}
 use Rattle.trace_patterns.proofs.Carries.{instr-once, offset_once, arms-once, over-once}
 
--- the join of a region is one, whatever is held
+-- the join of a region is unique, for any state
 pub over-join : (o : Parts) (depth end p : ℕ) (offset : ℤ) (s s' : SymState) (join join' : ℕ) (t t' : SymState)
     → CarriesOver o depth end p offset s join t → CarriesOver o depth end p offset s' join' t' → join ≡ join'
 over-join o depth end p offset s s' join join' t t'
@@ -109,7 +109,7 @@ way-once o crossed p k q one two first second =
         t.joins.over)).1
         ∙ sym t.joins.next_is
 
--- steps are the same whatever notes stand
+-- steps are the same for any notes
 pub leads-renoted : (o : Parts) (notes : List Note) (p q : ℕ) → LeadsTo o p q → LeadsTo (with_notes o notes) p q
 leads-renoted o notes p q (Onward p' q' i at goes to inside) = Onward p q i at goes to inside
 leads-renoted o notes p q (Past p' q' cmp ra rb offset at to inside) = Past p q cmp ra rb offset at to inside

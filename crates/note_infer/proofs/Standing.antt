@@ -33,7 +33,7 @@ use Rattle.note_infer.proofs.SameParts.{known_once, none_not}
 module _ (b : Parts) (notes : List Note) (accepts : Accepts (with_notes b notes)) (crossed : List ℕ) (states : States)
     (last : IsLast (without_notes b) crossed states) (same : OpensTheSame (with_notes b notes) crossed states)
     (some : 0 < length b.code) (stand : StandAtTargets (without_notes b) crossed states b.notes) where
-  -- a note stands where a jump leads, with what is known there
+  -- there is a note at the target of a jump, with what is known there
   pub record Told (q : ℕ) : Type 0 where
     pub known : Known
     pub at : states q ≡ Some known
@@ -80,7 +80,7 @@ module _ (b : Parts) (notes : List Note) (accepts : Accepts (with_notes b notes)
       r.region.join r.region.state r.region.crosses).1 in
       (omega (arith, g.first, g.second), g.in_code)
 
-  -- what lies inside isn't reached
+  -- the places inside aren't reached
   pub inner-unreached : (p : ℕ) (m : Known) (r : Outer p m) (q : ℕ) (k : Known) → p < q → q < r.region.join
       → states q ≡ Some k → ⊥
   inner-unreached p m r q k behind before at =
@@ -136,8 +136,8 @@ module _ (b : Parts) (notes : List Note) (accepts : Accepts (with_notes b notes)
         clear = λ y m lt gt there. inner-unreached q k r y m lt (omega (arith, e)) there;
       })
 
-  -- what is known at a visited place is the same as in the least states, and what comes to one is at most that; it is
-  -- just that where no note stands
+  -- what is known at a visited place is the same as in the least states, and the state on entry to it is at most that;
+  -- it is exactly that if there is no note
   pub record Standing (p : ℕ) (k : Known) : Type 0 where
     pub known : Known
     pub at : states p ≡ Some known

@@ -85,7 +85,7 @@ either_right one two q low f g a = by (one q) refl
           };
         }
 
--- behind one instruction
+-- after one instruction
 module _ (one two high : Known) (one_full : IsFull one) (two_full : IsFull two) (high_full : IsFull high) where
   upper_secret : (r : ℕ) → is_secret (upper one two) r ≡ true
       → (is_secret one r ≡ true) ⊎ (is_secret two r ≡ true)

@@ -10,7 +10,7 @@ abbrev pub IsBranchOf : Instr → Option Branch → Type 0
 IsBranchOf i None = (cmp : Cmp) (ra rb : ℕ) (offset : ℤ) → i ≡ Br cmp ra rb offset → ⊥
 IsBranchOf i (Some b) = (cmp : Cmp) × (i ≡ Br cmp b.ra b.rb b.offset)
 
--- it stands at a place
+-- it is at a place
 pub record BranchIsAt (o : Parts) (place : ℕ) (b : Branch) : Type 0 where
   pub cmp : Cmp
   pub at : slice_get o.code place ≡ Some (Br cmp b.ra b.rb b.offset)

@@ -7,6 +7,6 @@ pub record Crossings : Type 0 where
   pub size : ℕ
   pub list : List ℕ
 
--- a table tells of each place whether it is among those of a list
+-- a table says of each place whether it is among those of a list
 abbrev pub TellsCrossed : List ℕ → List Bool → Type 0
 TellsCrossed list among = (p : ℕ) → slice_index_or among p false ≡ is_crossed list p

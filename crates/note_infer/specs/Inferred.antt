@@ -17,7 +17,7 @@ use Rattle.trace_patterns.specs.Carries.{without_notes}
 use Rattle.note_infer.specs.Least.{States, IsLast}
 use Rattle.note_infer.specs.LeastNotes.{with_notes, AreLeastNotes, OpensTheSame}
 
--- the least notes, each behind those before it
+-- the least notes, each after those before it
 pub record ListLeastNotes (o : Parts) (notes : List Note) : Type 0 where
   pub are : AreLeastNotes o notes
   pub rise : EachAfter (λ before n. next_place before ≤ n.pc) [] notes

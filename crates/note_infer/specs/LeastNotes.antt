@@ -1,5 +1,5 @@
--- The least notes of an object, and when they are none that the check accepts.
--- (This project's profile; notes stand for the type annotations of L_T, GhostRider, ASPLOS 2015.)
+-- The least notes of an object, and when the check accepts none. (This project's profile; notes are the type
+-- annotations of L_T, GhostRider, ASPLOS 2015.)
 use Rattle.std.specs.Prelude.{◌≡◌, ℕ, ◌<◌, ◌||◌, ℤ, true, false, List, length, slice_get, Some}
 use Rattle.gr_word.specs.declared.operations.Cmp.{Cmp}
 use Rattle.lt_isa.specs.declared.symbols.Note.{Note}
@@ -28,7 +28,7 @@ pub data IsTarget (o : Parts) (crossed : List ℕ) (states : States) : ℕ → T
 abbrev pub with_notes : Parts → List Note → Parts
 with_notes o notes = record o { notes = notes }
 
--- notes stand at the targets, and nowhere else, with what is known there
+-- there are notes at the targets, and nowhere else, with what is known there
 pub record StandAtTargets (o : Parts) (crossed : List ℕ) (states : States) (notes : List Note) : Type 0 where
   pub has : (q : ℕ) (k : Known) → IsTarget o crossed states q → states q ≡ Some k
       → claimed_at (with_notes o notes) q ≡ Some k

@@ -1,5 +1,5 @@
--- The definitions, from what people read (Steps to LeastNotes, Inferred) to what the search alone cites (UnderWay,
--- Brings).
+-- The definitions, from those that people read (Steps to LeastNotes, Inferred) to those that only the search cites
+-- (UnderWay, Brings).
 pub mod Steps
 pub mod Ways
 pub mod Least

@@ -1,5 +1,4 @@
--- Which places steps lead to, whatever is known there.
--- (This project's profile.)
+-- The places that steps lead to, regardless of what is known there. (This project's profile.)
 use Rattle.std.specs.Prelude.{◌≡◌, ℕ, ◌+◌, ◌<◌, ℤ, true, length, slice_get, Some}
 use Rattle.gr_word.specs.declared.operations.Cmp.{Cmp}
 use Rattle.lt_isa.specs.declared.instructions.Instr.{Instr}

@@ -16,7 +16,7 @@ abbrev pub is_crossed : List ℕ → ℕ → Bool
 is_crossed crossed p = list_any (λ q. q == p) crossed
 
 -- A way leads from a place where k is known to another place of the code, and carries what is known there. It is a
--- step; but a branch that is crossed leads to its join alone.
+-- step; but a branch that is crossed leads only to its join.
 pub data PublicWay (o : Parts) (crossed : List ℕ) : (p : ℕ) → Known → (q : ℕ) → Known → Type 0 where
   Next : (p : ℕ) (k : Known) (q : ℕ) (next : Known) (i : Instr)
       → slice_get o.code p ≡ Some i → only_goes_on i ≡ true → q ≡ p + 1 → q < length o.code → next ≡ known_behind k i

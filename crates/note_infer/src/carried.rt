@@ -1,4 +1,4 @@
-// What is known in public code behind one instruction, whether or not the check refuses it.
+// What is known in public code after one instruction, whether or not the check refuses it.
 ghost use Rattle.std.specs.Prelude.{◌≡◌, ◌<◌};
 ghost use Rattle.lt_isa.specs.Ranges.{InstrFits};
 ghost use Rattle.trace_patterns.specs.Carried.{known_behind, slot_shows, slot_is_ram};
@@ -6,7 +6,7 @@ ghost use Rattle.trace_patterns.specs.Carried.{known_behind, slot_shows, slot_is
 use lt_isa::Instr;
 use trace_patterns::Known;
 
-/// What is known in public code behind an instruction, whether or not the check refuses it.
+/// What is known in public code after an instruction, whether or not the check refuses it.
 #[tactic(auto, unfolding(trace_patterns::specs::Carried::known_behind))]
 pub fn known_behind(known: &Known, instr: Instr, banks: usize) -> Known
     requires operands { InstrFits banks instr }

@@ -27,7 +27,7 @@ impl Model for Crossed {
 }
 
 impl Crossed {
-    /// None of so many places.
+    /// None of this many places.
     #[tactic(auto, using(crate::proofs::CrossedTables::tells_none))]
     pub fn new(alloc: Global, size: usize) -> Result<Crossed, Memory>
         ensures { IfOk result (λ crossed. crossed ≡ record { size = size; list = [] }) }

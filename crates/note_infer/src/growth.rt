@@ -73,7 +73,7 @@ pub fn grown(
     }
 }
 
-// The same, with lists that tell from where jumps and branches lead to each place.
+// The same, with lists of the places from which jumps and branches lead to each place.
 fn grown_by(
     alloc: Global,
     object: &Object,

@@ -24,10 +24,10 @@ use region_walk::RegionValues;
 use std::alloc::Global;
 use trace_patterns::Known;
 
-/// The object with its least notes in place of its own, which are not looked at; it is accepted. An error tells the
-/// lowest place that no steps lead to, else how many the least notes are, where there are too many for an object, else
-/// the first refusal of the object with them; or that memory ran out. Where the least notes are refused, so are all
-/// others that open the same regions.
+/// The object with its least notes instead of its own, which are not looked at; it is accepted. The error is the lowest
+/// place that no steps lead to, or the number of the least notes, if they are too many for an object, or the first
+/// refusal of the object with them; or that memory ran out. If the least notes are refused, so are all others that open
+/// the same regions.
 pub fn infer(alloc: Global, object: &Object) -> Result<Object, InferError>
     ensures found { IfOk result (λ found. IsInferred object.now found) }
     ensures why { IfErr result (λ e. IsWhyNot object.now e) }
@@ -118,7 +118,7 @@ fn notes_from(
     }
 }
 
-// The notes that stand at the targets under the last branches that are crossed.
+// The notes at the targets under the last branches that are crossed.
 fn last_notes(
     alloc: Global,
     bare: &Object,

@@ -14,7 +14,7 @@ use region_walk::{Carried, RegionValues, carry};
 use std::alloc::Global;
 use trace_patterns::Known;
 
-/// What a branch compares, and the offset by which it leads on.
+/// What a branch compares, and the offset of its jump.
 #[derive(Clone, Copy, Debug, PartialEq, Eq)]
 pub struct Branch {
     pub ra: u8,

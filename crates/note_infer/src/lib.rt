@@ -1,9 +1,9 @@
 //! The least notes of an object.
 //!
-//! [`infer`] finds them, whatever notes the object has, and says exactly where there are none: a place that no steps
-//! lead to, too many notes, or the first refusal of the object with them. [`least_note_laws`] has the theorem on them:
-//! where some notes make an object accepted and open the regions that are crossed at last, the least notes make it
-//! accepted.
+//! [`infer`] finds them, regardless of the notes that the object has, and says exactly why there are none: a place that
+//! no steps lead to, too many notes, or the first refusal of the object with them. [`least_note_laws`] has the theorem
+//! on them: if some notes make an object accepted and open the regions that are crossed at last, the least notes make
+//! it accepted.
 #![tactic(auto)]
 
 mod brings;

@@ -37,7 +37,7 @@ pub fn bring_inside(
     }
 }
 
-/// Looks at a place whose instruction only goes on: what is known behind it is brought to the next place.
+/// Looks at a place whose instruction only continues: what is known after it is brought to the next place.
 pub fn look_on(
     object: &Object,
     crossed: &Crossed,
@@ -142,7 +142,7 @@ pub fn look_over(
     }
 }
 
-/// Looks at a place where this instruction stands and this is known.
+/// Looks at a place that has this instruction and this state.
 #[tactic(auto, using(crate::proofs::Looking::looks_halt_at, crate::proofs::Looking::branches_at, crate::proofs::Looking::jumps_at))]
 pub fn look_by(
     alloc: Global,

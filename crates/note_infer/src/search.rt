@@ -58,7 +58,7 @@ pub fn least_states(
     }
 }
 
-// Nothing is known at so many places.
+// Nothing is known at this many places.
 fn nothing_known(alloc: Global, count: usize) -> Result<Vec<Option<Known>>, Memory>
     ensures size { IfOk result (λ states. length states.items ≡ count) }
     ensures nothing { IfOk result (λ states. (p : ℕ) → slice_index_or states.items p None ≡ None) }

@@ -1,4 +1,4 @@
--- How the trees above the first are made, one after the other.
+-- How the trees above the first are made, in sequence.
 use Rattle.std.proofs.Common.{◌≡◌, ℕ, suc, ◌+◌, ◌-◌, ◌*◌, ◌^◌, ◌<◌, ◌≤◌, List, [], ◌∷◌, ◌++◌, length, map, All, refl, sym, ap, ap₂, ◌∙◌, subst, ⊎_elim, arith, append_assoc, length-append}
 use Rattle.std.proofs.lemmas.Bool.{cases_lt}
 use Rattle.std.proofs.lemmas.List.{append-nil, length-map, map-append}
@@ -38,7 +38,7 @@ making-start words tree last left count is most first made drawn = record {
   drawn = let all : count ≡ length tree.contents + 0 = omega (arith, is) in drawn ∙ ap (λ n. words_left n words) all;
 }
 
--- a quarter of so many
+-- a quarter of this many
 quarter : (n k : ℕ) → 4 < n → n ≤ 4 ^ (6 - k) → k ≤ 5 → k < 5
 quarter n k more few most =
     ⊎_elim (λ less. less) (λ five.

@@ -9,7 +9,7 @@ use Rattle.recursive_oram.specs.Levels.{block_above, word_above}
 use Rattle.recursive_oram.specs.PositionMaps.{KeepsLeaves, count_above, kept_leaf}
 use Rattle.recursive_oram.proofs.Kept.{block_exists, word_exists}
 
--- so many leaves as words, in whole blocks
+-- this many leaves as words, in whole blocks
 abbrev pub as_kept : List ℕ → List ℤ
 as_kept leaves = filled_up (count_above (length leaves) * 4) (map pos leaves)
 
@@ -52,7 +52,7 @@ kept-made leaves tree words more is cut_is width =
 pub height-one : (n h k : ℕ) → IsHeightFor n h → IsHeightFor n k → h ≡ k
 height-one n h k one other = omega (arith, one.least k other.enough, other.least h one.enough)
 
--- all leaves are words now, and zeros were put behind them
+-- all leaves are words now, followed by zeros
 pub kept-words : (leaves : List ℕ) (words new : List ℤ) (len index : ℕ) → length leaves ≤ index
     → words ≡ map pos (take index leaves) → len ≡ length words
     → let n = count_above (length leaves) * 4 in new ≡ take n words ++ replicate (n - len) (pos 0)

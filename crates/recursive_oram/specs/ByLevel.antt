@@ -10,8 +10,8 @@ abbrev pub block_on : ℕ → ℕ → ℕ
 block_on zero block = block
 block_on (suc level) block = block_on level (block_above block)
 
--- Of the level with so many below it and so many above it an access shows, as entry number `length above`, the leaf of
--- the word that this level's own accesses read.
+-- For the level with this many below it and this many above it an access shows, as entry number `length above`, the
+-- leaf of the word that this level's own accesses read.
 abbrev pub ShowsByLevel : Type 0
 ShowsByLevel =
     (made levels : ℕ) (words : List ℕ) (below above : List Size) (size : Size) (earlier : List ℕ) (block : ℕ)

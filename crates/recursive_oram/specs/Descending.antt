@@ -9,7 +9,7 @@ use Rattle.recursive_oram.specs.Levels.{block_above, leaves_now}
 use Rattle.recursive_oram.specs.PositionMaps.{IsPositionMap}
 use Rattle.recursive_oram.specs.RecursiveOrams.{LeadsEach, levels_of}
 
--- A block of the tree below had one leaf and becomes another, by the word behind those that the trees above draw; these
+-- A block of the tree below had one leaf and gets another, by the word after those that the trees above draw; these
 -- keep it now, and what all have shown is listed.
 pub record IsDescent (below : BlockTree) (above others : List BlockTree) (plain : List ℕ) (words left : Stream)
     (block was becomes : ℕ) (shown : Leaves) : Type 0 where

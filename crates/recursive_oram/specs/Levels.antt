@@ -23,13 +23,13 @@ pub record Level : Type 0 where
 abbrev pub tree_level : BlockTree → Level
 tree_level tree = record { height = tree.places.height; leaves = tree.places.leaves }
 
--- Levels stand from the lowest on. What an access to a block of the lowest shows: the leaf of a block of each level,
--- that of the highest level first.
+-- Levels are listed from the lowest on. What an access to a block of the lowest shows: the leaf of a block of each
+-- level, that of the highest level first.
 abbrev pub leaves_now : List Level → ℕ → List ℕ
 leaves_now [] block = []
 leaves_now (level ∷ above) block = leaves_now above (block_above block) ++ slice_index level.leaves block ∷ []
 
--- The levels behind the access: these blocks have new leaves, the highest level's of the first word that is drawn.
+-- The levels after the access: these blocks have new leaves, the highest level's from the first word that is drawn.
 abbrev pub levels_after : List Level → ℕ → Stream → List Level
 levels_after [] block words = []
 levels_after (level ∷ above) block words =

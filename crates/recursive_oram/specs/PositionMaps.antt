@@ -7,7 +7,7 @@ use Rattle.banks.specs.Banks.{block_numbered}
 use Rattle.path_oram.specs.Trees.{BlockTree, IsTree}
 use Rattle.recursive_oram.specs.Levels.{block_above, word_above}
 
--- how many blocks keep the leaves of so many
+-- how many blocks keep the leaves of this many
 abbrev pub count_above : ℕ → ℕ
 count_above count = (count + 3) / 4
 

@@ -20,7 +20,7 @@ pub record Size : Type 0 where
 abbrev pub size_of : BlockTree → Size
 size_of tree = record { count = length tree.contents; height = tree.places.height }
 
--- The levels over so many blocks, from the lowest: each has a block for four of the level below, and the last has at
+-- The levels over this many blocks, from the lowest: each has a block for four of the level below, and the last has at
 -- most four.
 abbrev pub AreSizes : ℕ → List Size → Type 0
 AreSizes count [] = ⊥
@@ -34,13 +34,13 @@ words_made [] = 0
 words_made (size ∷ above) = size.count + words_made above
 
 -- The number, among all words, of word number n of a level of `count` blocks: the words that made its leaves begin with
--- number `start`; behind the `made` words that made leaves, each access draws one for each of `levels` levels, and for
--- this one behind those of the `above` levels above it.
+-- number `start`; after the `made` words that made leaves, each access draws one for each of `levels` levels, and for
+-- this one after those of the `above` levels above it.
 abbrev pub number_among_all : (made levels start count above n : ℕ) → ℕ
 number_among_all made levels start count above n =
     if nat_lt n count then start + n else made + (n - count) * levels + above
 
--- the leaves that an access to a block shows, the highest level's first, behind accesses to others, the last one first
+-- the leaves that an access to a block shows, the highest level's first, after accesses to others, the last one first
 abbrev pub leaves_read : (made levels start : ℕ) → List ℕ → List Size → List ℕ → ℕ → List ℕ
 leaves_read made levels start words [] earlier block = []
 leaves_read made levels start words (size ∷ above) earlier block =

@@ -1,4 +1,4 @@
--- Each access to a recursive bank shows its paths. A proof, for the law of the bank alone.
+-- Each access to a recursive bank shows its paths. A proof, only for the law of the bank.
 use Rattle.std.proofs.Common.{◌≡◌, ℕ, suc, List, [], ◌∷◌, length, refl, ap}
 use Rattle.rand_core.specs.Stream.{Stream}
 use Rattle.path_oram.specs.Words.{words_left}

@@ -17,7 +17,7 @@ pub(crate) struct Descent {
     pub(crate) shown: Leaves,
 }
 
-// The leaves with one more behind them.
+// The leaves followed by one more.
 fn with_leaf(shown: Leaves, leaf: u32) -> Leaves
     requires room { shown.len < 6 }
     ensures { (leaves : List ℕ) → shown ≡ listed_leaves leaves → result ≡ listed_leaves (leaves ++ leaf ∷ []) }
@@ -28,8 +28,8 @@ fn with_leaf(shown: Leaves, leaf: u32) -> Leaves
     shown
 }
 
-/// What an access to a block of a tree makes of the trees above it, which keep its leaves: there the block has the leaf
-/// that the next word makes, behind those that the trees above draw. The tree itself is still to be accessed.
+/// How an access to a block of a tree changes the trees above it, which keep its leaves: there the block gets the leaf
+/// that the next word makes, after those that the trees above draw. The tree itself is still to be accessed.
 pub(crate) fn lead<R: Rng + Drop>(
     below: &PathTree,
     above: &mut [PathTree],

@@ -1,9 +1,9 @@
 //! Recursive Path ORAM: the leaves of a tree's blocks are the words of a smaller tree, and so on, until so few are left
-//! that they are held plainly.
+//! that they are held in a plain list.
 //!
-//! [`RecursiveOram`] is a bank of memory over any source of random words. An access leads through each of its
-//! trees, from the smallest down to that of the blocks, and takes no memory. Which leaves it shows is a list that the
-//! words and the accessed blocks alone tell.
+//! [`RecursiveOram`] is a bank of memory over any source of random words. An access leads through each of its trees,
+//! from the smallest down to that of the blocks, and allocates no memory. The list of leaves that it shows depends only
+//! on the words and the accessed blocks.
 #![tactic(auto)]
 
 mod laws;

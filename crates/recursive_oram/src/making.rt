@@ -12,7 +12,7 @@ use path_oram::{PathTree, first_leaves, height_for};
 use rand_core::Rng;
 use std::alloc::Global;
 
-// Leaves as words, and zeros behind them up to a whole block of four.
+// Leaves as words, followed by zeros up to a whole block of four.
 fn as_words(alloc: Global, leaves: &[u32]) -> Result<Vec<i64>, Memory>
     requires { length leaves.now ≤ 4096 }
     ensures { IfOk result

@@ -12,7 +12,7 @@ use Rattle.resident_alloc.specs.Residents.{is_of, is_short, left_out, room_after
 use Rattle.resident_alloc.specs.ResidentPlan.{without_short}
 use Rattle.resident_alloc.proofs.Rooms.{none_without}
 
--- a room behind one variable more
+-- a room after one more variable
 pub room_more : (c : Class) (room left now : ℕ) (vs : List Want) (i : ℕ) (d : Want) → i < length vs
     → now ≡ room_behind c left (get_or vs i d) → room_after c left (drop i vs) ≡ room_after c room vs
     → room_after c now (drop (i + 1) vs) ≡ room_after c room vs
@@ -36,7 +36,7 @@ left_out_first c room v vs is = by (is_of c v) (nat_lt room v.words) refl is whe
   by true false long is = absurd cc
   by false b long is = absurd cc
 
--- behind any other variable the room may be smaller
+-- after any other variable the room may be smaller
 left_out_others : (c : Class) (room : ℕ) (v : Want) (vs : List Want) → is_left_out c room v ≡ false
     → left_out c room (v ∷ vs) ≡ left_out c (room_behind c room v) vs
 left_out_others c room v vs is = by (is_of c v) (nat_lt room v.words) refl is where

@@ -18,7 +18,7 @@ pub record AreShort (vs : List Want) : Type 0 where
   pub count : length vs ≤ max_variables
   pub lengths : All (λ v. v.words ≤ max_length) vs
 
--- whether an array of a class takes its words of a room, and what is left behind it
+-- whether an array of a class takes its words from a room, and what is left of it
 abbrev pub takes_room : Class → ℕ → Want → Bool
 takes_room c room v = is_of c v && nat_le v.words room
 
@@ -29,7 +29,7 @@ room_behind c room v = if takes_room c room v then room - v.words else room
 abbrev pub is_left_out : Class → ℕ → Want → Bool
 is_left_out c room v = is_of c v && nat_lt room v.words
 
--- whether an array is one of the first short ones, where so many of these are left
+-- whether an array is one of the first short ones, if this many of these are left
 abbrev pub is_skipped : ℕ → ℕ → Want → Bool
 is_skipped size left v = nat_lt 0 left && is_short size v
 

@@ -1,5 +1,5 @@
--- When there is room for the variables of a program that is compiled with `--fast`, and what lacks room first. An array
--- that can't be resident is no reason to refuse a program. (This project's profile.)
+-- When the variables of a program that is compiled with `--fast` have room, and what lacks room first. A program isn't
+-- rejected for an array that can't be resident. (This project's profile.)
 use Rattle.std.specs.Prelude.{ℕ, ◌^◌, ◌<◌, ◌≤◌}
 use Rattle.gr_word.specs.declared.variables.Label.TheVariants.{Public, Secret}
 use Rattle.lt_isa.specs.Limits.{most_blocks}

@@ -107,7 +107,7 @@ planned size all before v =
       slot = slot_by size all before v.class storage;
     }
 
--- the same for some variables behind others, in order of declaration
+-- the same for some variables after others, in order of declaration
 unfoldable pub planned_behind : ℕ → List Want → List Want → List Want → List Planned
 planned_behind size all before [] = []
 planned_behind size all before (v ∷ vs) =

@@ -1,11 +1,11 @@
--- Which variables `compile --fast` keeps in the scratchpad for the whole run: such a variable is resident, and an access
--- of it shows nothing on the bus. (This project's profile.)
+-- Which variables `compile --fast` keeps in the scratchpad for the whole run: such a variable is resident, and an
+-- access of it shows nothing on the bus. (This project's profile.)
 --
--- The scalars of a label share one block. What they leave of it is room for arrays of the label, in order of declaration,
--- those with a secret index before other secret ones. A short array that finds no room there may have a slot of its own.
--- Slots 2 and 3 serve the public arrays that are left, alternately, and 4 and 5 the secret ones without a secret index;
--- if there are no more than two of these, each has its slot alone. Secret arrays with a secret index may have slot 7, and
--- slots 5 and 4 if no other array is served by them.
+-- The scalars of a label share one block. What they leave of it is room for arrays of the label, in order of
+-- declaration, those with a secret index before other secret ones. A short array that finds no room there may have its
+-- own slot. Slots 2 and 3 serve the public arrays that are left, alternately, and 4 and 5 the secret ones without a
+-- secret index; if there are at most two of these, each has its own slot. Secret arrays with a secret index may have
+-- slot 7, and slots 5 and 4 if no other array is served by them.
 use Rattle.std.specs.Prelude.{ℕ, ◌+◌, ◌-◌, nat_le, nat_lt, min, Bool, ◌&&◌, if◌then◌else◌, List, [], ◌∷◌, length, map, count_by, sum_by}
 use Rattle.lt_isa.specs.Limits.{most_blocks}
 use Rattle.src_tree.specs.Limits.{words_of}
@@ -70,8 +70,8 @@ short_among size vs = count_by (is_short size) vs
 abbrev pub blocks_of_all : ℕ → List Want → ℕ
 blocks_of_all size vs = sum_by (λ v. blocks_for size v.words) vs
 
--- How many short arrays of a class may have a slot of their own. Those with a secret index take blocks of encrypted
--- memory, which may not come to more than it may have.
+-- How many short arrays of a class may have their own slot. Those with a secret index take blocks of encrypted memory,
+-- which must not exceed its limit.
 abbrev pub own_most : ℕ → List Want → Class → ℕ
 own_most size all PublicScalar = 0
 own_most size all SecretScalar = 0

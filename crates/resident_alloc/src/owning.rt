@@ -183,7 +183,7 @@ pub(crate) fn own_secret(alloc: Global, size: u32, all: &[Want]) -> Result<u32, 
     Ok(most.min(short_among(size, arrays.as_slice())) as u32)
 }
 
-// Whether an array is one of the first short ones, where so many of these are left.
+// Whether an array is one of the first short ones, if this many of these are left.
 fn is_skipped(size: u32, left: usize, v: Want) -> bool
     ensures { result ≡ is_skipped size left v }
 {

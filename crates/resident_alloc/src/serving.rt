@@ -30,7 +30,7 @@ fn spare_slot(number: usize) -> u8
     }
 }
 
-// Of two slots that serve arrays alternately, the one for an array behind others.
+// Of two slots that serve arrays alternately, the one for an array after others.
 fn in_turn(slot: u8, arrays: usize) -> u8
     requires { slot < 8 }
     ensures { result ≡ alternate_slot slot arrays }

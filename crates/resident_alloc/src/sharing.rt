@@ -14,7 +14,7 @@ fn takes_room(class: Class, room: u32, v: Want) -> bool
     is_of(class, v) && v.words <= room
 }
 
-// What is left of a room behind a variable.
+// What is left of a room after a variable.
 fn room_behind(class: Class, room: u32, v: Want) -> u32
     ensures left { result ≡ room_behind class room v }
     ensures less { result ≤ room }

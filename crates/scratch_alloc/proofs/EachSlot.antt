@@ -30,7 +30,7 @@ get_or-slots_behind before (r ∷ places) (suc k) d q within =
     get_or-slots_behind (before ++ r ∷ []) places k d q (omega arith)
     ∙ ap (λ b. slot_behind b (get_or places k q)) (append_assoc before (r ∷ []) (take k places))
 
--- the slot of variable number k: behind the places before it
+-- the slot of variable number k: after the places before it
 pub get_or-slots : (places : List Place) (k d : ℕ) (q : Place) → k < length places
     → get_or (slots_of places) k d ≡ slot_behind (take k places) (get_or places k q)
 get_or-slots places k d q within = get_or-slots_behind [] places k d q within

@@ -19,7 +19,7 @@ reached_by before q false false true o b p = PlainScalar (eqb-true q.bank 0 p) (
 reached_by before q false false false o b p =
     EncryptedScalar (omega (arith, leb-false 2 q.bank o, eqb-false q.bank 0 p)) (omega (arith, leb-false 1 q.block b))
 
--- the slot of a place behind others, by cases
+-- the slot of a place after others, by cases
 pub slot_reached : (before : List Place) (q : Place) → HasSlot before q (slot_behind before q)
 slot_reached before q = reached_by before q (nat_le 2 q.bank) (nat_le 1 q.block) (q.bank == 0) refl refl refl
 

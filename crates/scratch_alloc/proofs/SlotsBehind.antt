@@ -20,7 +20,7 @@ slots_more places i d slots more slot within is pushed so_far =
     ∙ ap (λ (left : List Place). slots ++ slots_behind (take i places) left) (sym (drop_more places i d within))
     ∙ so_far
 
--- behind the last place the slots so far are all
+-- after the last place the slots so far are all
 pub slots_all : (places : List Place) (i : ℕ) (slots : List ℕ) → length places ≤ i
     → slots ++ slots_behind (take i places) (drop i places) ≡ slots_of places → slots ≡ slots_of places
 unfolding slots_behind

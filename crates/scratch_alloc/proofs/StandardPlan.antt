@@ -1,5 +1,5 @@
--- The plan without --fast is sound: the scalars are resident in the first blocks of plain and encrypted memory, and each
--- array has whole blocks behind those.
+-- The plan without --fast is sound: the scalars are resident in the first blocks of plain and encrypted memory, and
+-- each array has whole blocks after those.
 use Rattle.std.proofs.Common.{◌≡◌, ℕ, zero, suc, ◌^◌, ◌<◌, ◌≤◌, true, List, length, take, get_or, Option, Some, None, inl, refl, sym, ap, ◌∙◌, subst, ⊎_elim, arith}
 use Rattle.std.proofs.lemmas.Bool.{cases_lt, cases_eq}
 use Rattle.gr_base.specs.Lists.{Within}
@@ -109,7 +109,7 @@ module _ (p : Source) (w : ℕ) (limits : IsWithinLimits p) (fit : Fits p w) whe
       subst (IsSoundByPin w (standard_plan p w) (decl k) (place k) (slot k))
       (sym (scalar_pin (slot k) (omega (arith, same, low)))) here
 
-  -- an array stands behind the scalars of its bank
+  -- an array follows the scalars of its bank
   array-served : (k n : ℕ) → k < length p.decls → (decl k).length ≡ Some n
       → IsSoundByPin w (standard_plan p w) (decl k) (place k) (slot k) (pin_of_slot (standard_plan p w) (slot k))
   array-served k n below some =

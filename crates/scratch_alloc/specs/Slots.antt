@@ -6,11 +6,11 @@ use Rattle.lt_isa.specs.Object.{is_ram}
 use Rattle.bank_alloc.specs.declared.places.Place.{Place}
 use Rattle.bank_alloc.specs.Places.{is_oblivious, is_array, arrays_in}
 
--- of two slots in turn, the one for an array that so many of its bank stand before
+-- of two slots in turn, the one for an array that this many of its bank come before
 abbrev pub alternate_slot : ℕ → ℕ → ℕ
 alternate_slot slot arrays = slot + arrays % 2
 
--- the slot of a variable whose place is behind those of others, in order of declaration
+-- the slot of a variable whose place is after those of others, in order of declaration
 abbrev pub scalar_slot : Place → ℕ
 scalar_slot q = if is_ram q.bank then 0 else 1
 
@@ -22,7 +22,7 @@ array_slot before q =
 abbrev pub slot_behind : List Place → Place → ℕ
 slot_behind before q = if is_array q then array_slot before q else scalar_slot q
 
--- the slots of variables behind others
+-- the slots of variables after others
 unfoldable pub slots_behind : List Place → List Place → List ℕ
 slots_behind before [] = []
 slots_behind before (q ∷ places) = slot_behind before q ∷ slots_behind (before ++ q ∷ []) places
@@ -31,7 +31,7 @@ slots_behind before (q ∷ places) = slot_behind before q ∷ slots_behind (befo
 abbrev pub slots_of : List Place → List ℕ
 slots_of places = slots_behind [] places
 
--- the same by cases: the slot of a variable behind others
+-- the same by cases: the slot of a variable after others
 pub data HasSlot (before : List Place) (q : Place) : ℕ → Type 0 where
   PlainScalar : (bank : q.bank ≡ 0) (block : q.block ≡ 0) → HasSlot before q 0
   EncryptedScalar : (bank : q.bank ≡ 1) (block : q.block ≡ 0) → HasSlot before q 1

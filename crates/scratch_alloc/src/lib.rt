@@ -1,7 +1,7 @@
 //! The slots of the scratchpad by which compiled code reaches the variables of a program.
 //!
-//! [`slots`] gives exactly the slots of `specs/Slots`, by the variables' places alone.
-//! [`slot_laws`]: a slot tells the bank of its variables.
+//! [`slots`] gives exactly the slots of `specs/Slots`, which depend only on the variables' places. [`slot_laws`]: a
+//! slot determines the bank of its variables.
 #![tactic(auto)]
 
 mod laws;

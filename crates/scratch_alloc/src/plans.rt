@@ -74,7 +74,7 @@ fn array_slot(before: &[Place], place: Place) -> u8
     }
 }
 
-// The slot of a variable whose place is behind those of others.
+// The slot of a variable whose place is after those of others.
 fn slot_behind(before: &[Place], place: Place) -> u8
     ensures { result ≡ slot_behind before.now place }
 {

@@ -1,4 +1,4 @@
--- The search goes on from what is kept.
+-- The search continues from the kept states.
 use Rattle.std.proofs.Common.{[], List, Option, sym, subst, arith}
 use Rattle.trace_patterns.specs.Known.{Known}
 use Rattle.note_infer.specs.Growth.{HasLeast}

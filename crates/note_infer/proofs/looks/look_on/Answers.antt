@@ -1,4 +1,4 @@
--- The next place is brought what is known behind the instruction.
+-- What is known after the instruction is brought to the next place.
 use Rattle.std.proofs.Common.{◌+◌, sym, subst}
 use Rattle.std.proofs.lemmas.Result.{on_ok_weaker}
 use Rattle.trace_patterns.specs.Known.{Known}

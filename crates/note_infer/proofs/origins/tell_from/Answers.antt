@@ -1,4 +1,4 @@
--- What one instruction tells.
+-- The places that one instruction lists.
 use Rattle.std.proofs.Common.{◌∙◌, ℕ, length, Some, ap, subst}
 use Rattle.lt_isa.proofs.Offsets.{handed_on}
 use Rattle.lt_isa.specs.Ranges.{InstrFits, IsOffset}
