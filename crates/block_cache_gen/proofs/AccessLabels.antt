@@ -15,7 +15,7 @@ use Rattle.block_cache_gen.specs.Homes.{Home}
 use Rattle.block_cache_gen.specs.Codes.{is_masked, reduced_code, offset_code, shift_code, fixed_code, load_code}
 use Rattle.block_cache_gen.proofs.KeptRegisters.{SameBelow, same-itself, same-set, same-then, or_false}
 
--- Behind straight code a register and the next have a label, and what stands below is as before.
+-- After straight code a register and the next have a label, and the registers below are as before.
 pub record Labelled (o : Parts) (p : ℕ) (code : List Instr) (to : ℕ) (before : Known) (word block : Bool) : Type 0 where
   pub after : Known
   pub goes : GoesOn o p code before after
@@ -192,7 +192,7 @@ module _ (o : Parts) (to : ℕ) (low : to + 2 < 32) where
       ap (λ (b : Bool). b || (bank == 1)) (ne_eqb bank 0 (λ e. absurd (omega arith)))
       ∙ ne_eqb bank 1 (λ e. absurd (omega arith))
 
-  -- A load that may be skipped, of a block that is public: what is known behind it fits a claim, before it too.
+  -- A load that may be skipped, of a block that is public: what is known after it fits a claim, before it too.
   module _ (h : Home) (k : Known) (sized : length k.secret ≡ 32) where
     -- what is known once the number of the slot's block was asked for
     pub asked_known : Known
@@ -208,7 +208,7 @@ module _ (o : Parts) (to : ℕ) (low : to + 2 < 32) where
     unfolding asked_known
     asked_block = secret-same k (to + 2) false (omega arith)
 
-    -- the load is passed, and what is known behind it names the slot's bank
+    -- the load is passed, and what is known after it names the slot's bank
     pub skipped_by : (p : ℕ) (claimed : Known) → h.bank < 2 → bank_known k h.slot ≡ Some h.bank
         → is_secret k (to + 1) ≡ false → p + 3 < length o.code → claimed_at o (p + 3) ≡ Some claimed
         → FitsClaim asked_known claimed

@@ -1,4 +1,4 @@
--- Runs of the code of an access: its block is in its slot behind it, and it is seen where it wasn't skipped.
+-- Runs of the code of an access: afterwards its block is in its slot, and the access is seen if it wasn't skipped.
 use Rattle.std.proofs.Common.{◌≡◌, ℕ, ◌+◌, ◌/◌, ◌%◌, ◌^◌, ◌<◌, ◌≤◌, Bool, true, false, cond, ◌&&◌, ◌==◌, eqb-true, eq-eqb, ltb-true, ℤ, pos, List, [], ◌∷◌, ◌++◌, length, get_or, set, append-nil, Option, Some, None, refl, sym, ap, ◌∙◌, subst, ⊎_elim, arith, mod-lt, mod-eq_of_lt}
 use Rattle.std.proofs.lemmas.Bool.{cases_Bool, and_from, and_right, false≢true}
 use Rattle.std.proofs.lemmas.List.{set-get_or, get_or-set_same}
@@ -50,7 +50,7 @@ loads-after a to s t u keeps loads = record {
       ∙ ap (λ l. slots_after s.banks l (a ∷ [])) keeps.slots;
 }
 
--- the number of a word and that of its block are found, behind some accesses
+-- the number of a word and that of its block are found, after some accesses
 pub record Finds (f : Setting) (store : Store) (before : List ArrayAccess) (to n b : ℕ) (s t : State) : Type 0 where
   pub word : register t to ≡ pos n
   pub block : register t (to + 1) ≡ pos b

@@ -45,7 +45,7 @@ alike-cost : (f : Setting) (op oq : Op) → is_product op ≡ is_product oq → 
 alike-cost f op oq same =
     ap Gap (cost-by_kind f.profile op ∙ ap (kind_cost f.profile) same ∙ sym (cost-by_kind f.profile oq))
 
--- an oblivious bank: nothing is cached, an index is always reduced by a remainder, and a load shows the bank alone
+-- an oblivious bank: nothing is cached, an index is always reduced by a remainder, and a load shows only the bank
 module _ (f : Setting) (h : Home) (oblivious : 2 ≤ h.bank) where
   not_cached : is_cached h ≡ false
   not_cached = le-ltb h.bank 2 oblivious

@@ -1,5 +1,5 @@
--- The code of assignments in secret code: walked in an arm, it shows what the assignment alone tells, whether it has
--- its effect or only looks as if it had.
+-- The code of assignments in secret code: walked in an arm, it shows what depends only on the assignment, whether it
+-- has its effect or only looks as if it had.
 use Rattle.std.proofs.Common.{◌≡◌, ℕ, pos, Bool, true, false, List, [], ◌∷◌, ◌++◌, get_or, Option, Some, None, refl, sym, ap, ◌∙◌, subst, arith, append-nil}
 use Rattle.std.specs.Option.{unwrap_or}
 use Rattle.gr_word.specs.declared.variables.Label.{Label}
@@ -72,7 +72,7 @@ flows-secret Public h = absurd h
 flows-secret Secret h = refl
 
 module _ (o : Parts) (f : Setting) (depth : ℕ) where
-  -- what leaves a value goes on
+  -- code that leaves a value continues
   abbrev pub goes-leaves : (s : SymState) (code : List Instr) (shows : List Show) (to : ℕ) (tree : Option Value)
       (loads : Loads) → LeavesTree o f depth s code shows to tree loads → Goes o f depth s code shows loads
   goes-leaves s code shows to tree loads leaves =

@@ -1,4 +1,4 @@
--- The code of expressions and guards in secret code: walked in an arm, it shows what the expression alone tells.
+-- The code of expressions and guards in secret code: walked in an arm, it shows what depends only on the expression.
 use Rattle.std.proofs.Common.{◌≡◌, ℕ, ◌+◌, ◌-◌, ◌<◌, ◌≤◌, ◌/◌, ℤ, pos, Bool, true, false, ◌&&◌, List, [], ◌∷◌, ◌++◌, length, get_or, Option, Some, None, refl, sym, ap, ◌∙◌, subst, arith, append_assoc}
 use Rattle.std.specs.Prelude.{if◌then◌else◌}
 use Rattle.std.specs.Option.{unwrap_or}
@@ -41,7 +41,7 @@ pub record LeavesTwo (o : Parts) (f : Setting) (depth : ℕ) (s : SymState) (cod
   pub next : tree_held leaves.state (to + 1) ≡ second
 
 module _ (o : Parts) (f : Setting) (homes : HasHomes o f) (depth : ℕ) where
-  -- code that sets a register, alone and behind other code
+  -- code that sets a register, by itself and after other code
   pub leaves-sets : (s : SymState) (code : List Instr) (shows : List Show) (to : ℕ) (tree : Option Value)
       → CarriesInArm f s → Sets o depth s code shows to tree → LeavesTree o f depth s code shows to tree no_loads
   leaves-sets s code shows to tree carries sets = record {
@@ -91,7 +91,7 @@ module _ (o : Parts) (f : Setting) (homes : HasHomes o f) (depth : ℕ) where
       subst (λ (v : Option Value). LeavesTree o f depth s (scalar_code h to) (Gap 1 ∷ word_gap f ∷ []) to v no_loads)
       (read.word place) whole
 
-  -- code behind other code, to a register that isn't above the first's
+  -- code after other code, to a register that isn't above the first's
   abbrev pub leaves-then : (s : SymState) (code : List Instr) (shows : List Show) (from : ℕ) (old : Option Value)
       (loads : Loads) (first : LeavesTree o f depth s code shows from old loads) (rest : List Instr) (more : List Show)
       (to : ℕ) (tree : Option Value) (later : Loads)
@@ -126,7 +126,7 @@ module _ (o : Parts) (f : Setting) (homes : HasHomes o f) (depth : ℕ) where
     next = second.held;
   }
 
-  -- where an element stands: by an index that is a number
+  -- the place of an element, by an index that is a number
   fixed-located : (s : SymState) (to : ℕ) (h : Home) (z : ℤ) → CarriesInArm f s → to + 2 < 32
       → LeavesTwo o f depth s (fixed_code f.profile.block_log h to z) (Gap 1 ∷ Gap 1 ∷ []) to
       (Some (Const (pos (fixed_word h z)))) (Some (Const (pos (h.block + fixed_word h z / words_a_block f)))) no_loads
@@ -167,7 +167,7 @@ module _ (o : Parts) (f : Setting) (homes : HasHomes o f) (depth : ℕ) where
       one (Li last (pos h.block) ∷ Alu Add next next last ∷ []) (Gap 1 ∷ operation_gap f Add ∷ []) next
       (shifted_tree f h number) no_loads (omega arith) two
 
-  -- where an element stands by the index in the register: one operation with a number, and then its block
+  -- the place of an element by the index in the register: one operation with a number, and then its block
   abbrev finding_shows : Op → List Show
   finding_shows op =
       Gap 1 ∷ operation_gap f op ∷ Gap 1 ∷ operation_gap f Shr ∷ Gap 1 ∷ operation_gap f Add ∷ []
@@ -185,7 +185,7 @@ module _ (o : Parts) (f : Setting) (homes : HasHomes o f) (depth : ℕ) where
       (Gap 1 ∷ operation_gap f Shr ∷ Gap 1 ∷ operation_gap f Add ∷ []) no_loads no_loads one
       (block-leaves one.state to h number one.carries inside one.held)
 
-  -- by a mask or a remainder, behind the code of the index
+  -- by a mask or a remainder, after the code of the index
   reduced-located : (s : SymState) (to : ℕ) (h : Home) (index : Option Value) → CarriesInArm f s → to + 2 < 32
       → tree_held s to ≡ index
       → LeavesTwo o f depth s (reduced_code h to ++ shift_code f.profile.block_log h to) (finding_shows (reducing h)) to

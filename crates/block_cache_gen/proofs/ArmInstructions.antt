@@ -79,14 +79,14 @@ module _ (o : Parts) (depth : ℕ) where
     registers = length-set s.registers r v ∙ sized;
   }
 
-  -- a number is put into a register
+  -- a number is written to a register
   pub sets-li : (s : SymState) (r : ℕ) (z : ℤ) → length s.registers ≡ 32 → r < 32
       → Sets o depth s (Li r z ∷ []) (Gap 1 ∷ []) r (Some (Const z))
   unfolding single
   sets-li s r z sized inside = sets-held s (Li r z) (Gap 1) r (Some (Const z)) sized inside refl
 
   module _ (f : Setting) (profile : o.profile ≡ f.profile) where
-    -- the result of a calculation is put into a register
+    -- the result of an operation is written to a register
     pub sets-alu : (s : SymState) (op : Op) (r ra rb : ℕ) (a b : Option Value) → length s.registers ≡ 32 → r < 32
         → tree_held s ra ≡ a → tree_held s rb ≡ b
         → Sets o depth s (Alu op r ra rb ∷ []) (operation_gap f op ∷ []) r (applied_trees op a b)
@@ -111,7 +111,7 @@ module _ (o : Parts) (depth : ℕ) where
     bound-goes (EramSlot block) go h = refl
     bound-goes (OramSlot bank) go h = refl
 
-    -- a word of a slot's block is put into a register
+    -- a word of a slot's block is written to a register
     pub sets-ldw : (s : SymState) (r slot ro : ℕ) (bound : SymSlot) (place : Option Value)
         → length s.registers ≡ 32 → r < 32 → slot_held s slot ≡ bound → IsKnown bound → tree_held s ro ≡ place
         → Sets o depth s (Ldw r slot ro ∷ []) (word_gap f ∷ []) r (word_read f bound place)

@@ -1,4 +1,4 @@
--- What is known of registers and slots in an arm, as secret code of a setting goes on.
+-- What is known of registers and slots in an arm, as secret code of a setting continues.
 use Rattle.std.proofs.Common.{◌≡◌, ℕ, ◌<◌, ◌≤◌, Bool, true, false, List, length, get_or, Option, Some, None, refl, sym, ap, ◌∙◌, subst, ⊎_elim, arith, length-set, get_or-set_same, get_or-set_other}
 use Rattle.std.specs.Prelude.{if◌then◌else◌}
 use Rattle.std.specs.Option.{option_or, unwrap_or}
@@ -41,7 +41,7 @@ bound-of_bank (RamSlot block origin) bank e = tt
 bound-of_bank (EramSlot block) bank e = tt
 bound-of_bank (OramSlot other) bank e = tt
 
--- loads one behind the other, and one load
+-- loads in sequence, and one load
 pub then_loads-held : (first rest : Loads) (k : ℕ) (bound : SymSlot)
     → unwrap_or (then_loads first rest k) bound ≡ unwrap_or (rest k) (unwrap_or (first k) bound)
 then_loads-held first rest k bound = by (rest k)
@@ -91,7 +91,7 @@ carries-slots f s t carries kept registers slots = record {
       ap slot_bank (kept (home_of f x).slot) ∙ carries.arrays x label declared turn served;
 }
 
--- what the setting relies on depends on the slots alone
+-- what the setting relies on depends only on the slots
 pub carries-same : (f : Setting) (s t : SymState) → CarriesInArm f s → t.slots ≡ s.slots → length t.registers ≡ 32
     → CarriesInArm f t
 carries-same f s t carries same sized =

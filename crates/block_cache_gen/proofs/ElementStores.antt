@@ -1,4 +1,4 @@
--- A state stands for a store in which an element is another, where its block is written in its slot and in its bank.
+-- A state represents a store in which one element is changed, if its block is written in its slot and in its bank.
 use Rattle.std.proofs.Common.{◌≡◌, ◌≢◌, ℕ, ◌+◌, ◌*◌, ◌/◌, ◌%◌, ◌<◌, ◌≤◌, false, ℤ, pos, List, [], length, get_or, set, Some, sym, ap, ◌∙◌, subst, ⊎_elim, arith, mul-le-mul_right, div-add-mod', mod-lt}
 use Rattle.std.proofs.lemmas.Bool.{cases_eq, true≢false}
 use Rattle.std.proofs.lemmas.List.{get_or-set_same, get_or-set_other}
@@ -55,7 +55,7 @@ module _ (o : Parts) (fits : IsInRange o) (f : Setting) (homes : HasHomes o f) (
       (shaped.blocks h.bank block_here home.bank (block-exists o fits f homes label h home n within)).size
       ∙ block_words-is homes
 
-  -- the blocks of the banks behind the write
+  -- the blocks of the banks after the write
   written-block : block_at written (home_of f x).bank block_here ≡ words_here
   written-block =
       let h = home_of f x in
@@ -76,7 +76,7 @@ module _ (o : Parts) (fits : IsInRange o) (f : Setting) (homes : HasHomes o f) (
       (λ other. ap (λ l. get_or l e []) (get_or-set_other s.banks h.bank c blocks [] other))
       (cases_eq c h.bank)
 
-  -- the words of the banks behind the write
+  -- the words of the banks after the write
   written-word : bank_word_numbered (words_a_block f) written (home_of f x).bank
       (start_of_home (words_a_block f) (home_of f x) + n) ≡ word
   written-word =
@@ -116,7 +116,7 @@ module _ (o : Parts) (fits : IsInRange o) (f : Setting) (homes : HasHomes o f) (
       (λ other. ap (λ l. word_in l (m % w)) (other-block c (m / w) (λ same_bank. absurd (other same_bank))))
       (cases_eq c h.bank)
 
-  -- another array of the bank lies before or behind
+  -- another array of the bank is before or after it
   arrays-apart : (y : List ℕ) (label' : Label) → context_of f.decls y ≡ Some (label', Array)
       → variable_number f.decls y ≢ variable_number f.decls x → HomesApart (words_a_block f) (home_of f y) (home_of f x)
   arrays-apart y label' known' other =
@@ -211,7 +211,7 @@ module _ (o : Parts) (fits : IsInRange o) (f : Setting) (homes : HasHomes o f) (
       (other-block (home_of f y).bank block
       (λ same_bank. unlike-block y label' known' turn' unlike block is_block same_bank)))
 
-  -- with an element set the machine stands for the store with it
+  -- with an element set the machine represents the store with it
   pub stands-element_set : (t : State) → t.slots ≡ written.slots → t.banks ≡ written.banks
       → StandsFor f t (with_word store (variable_number f.decls x) n word)
   stands-element_set t slots banks =

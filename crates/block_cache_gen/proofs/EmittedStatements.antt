@@ -57,7 +57,7 @@ element_set f mode x y i e h label other a b c d last same home is_label is_othe
     (λ place. notes_in mode (access_notes f h other 1 i place)) access
     (silent_behind c d last (store_code mode h.slot) (stored_code h.resident h.slot) no_notes store block))))
 
--- behind the value there is room for the access
+-- after the value there is room for the access
 pub room_for_access : (f : Setting) (mode : Mode) (i e : Tree) (a b : CodeBuf)
     → length a.code.items + 120 * (1 + (tree_weight i + tree_weight e)) ≤ most_instructions
     → EmitsExpr f mode all_marked 0 e a b → length b.code.items + 120 * (1 + tree_weight i) ≤ most_instructions

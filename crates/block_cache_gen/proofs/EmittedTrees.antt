@@ -93,7 +93,7 @@ access_fixed f mode h mask to i z a c is x =
     by true y = y
     by false y = y
 
--- an expression, and what stands behind it
+-- an expression, and what follows it
 pub expr_then : (f : Setting) (mode : Mode) (mask to : ℕ) (l : Tree) (code : List Instr) (second : ℕ → List Note)
     (a b c : CodeBuf) → EmitsExpr f mode mask to l a b → Appended b c code (λ place. notes_in mode (second place))
     → Appended a c (expr_code f mode to l ++ code)
@@ -176,7 +176,7 @@ operation_emitted f mode mask to op l r other a b c d is x y z =
     (silent_behind b c d (expr_code f mode (to + 1) r) (Alu op to to (to + 1) ∷ [])
     (λ place. notes_in mode (expr_notes f other (to + 1) place r)) y z))
 
--- behind the left side there is room for the right one
+-- after the left side there is room for the right one
 pub room_for_right : (f : Setting) (mode : Mode) (mask to : ℕ) (l : Tree) (right : ℕ) (a b : CodeBuf)
     → length a.code.items + 120 * (tree_weight l + right) ≤ most_instructions → EmitsExpr f mode mask to l a b
     → length b.code.items + 120 * right ≤ most_instructions
@@ -185,7 +185,7 @@ room_for_right f mode mask to l right a b room x =
     let short = expr_code_short f mode to l in
     omega arith
 
--- and behind an index for the rest of its access
+-- and after an index for the rest of its access
 pub room_for_found : (f : Setting) (mode : Mode) (mask to : ℕ) (i : Tree) (a b : CodeBuf)
     → length a.code.items + 120 * (1 + tree_weight i) ≤ most_instructions → EmitsExpr f mode mask to i a b
     → length b.code.items + 12 < 2 ^ 32
@@ -218,7 +218,7 @@ operation_appended f mode mask to e op l r left again right label other a b c d 
     (is_other ∙ ap (λ k. marked_by k mask to) (is_label ∙ ap (label_of (context_of f.decls)) is_again))
     (subst Q is_left x) (subst R is_right y) z)
 
--- behind the left side of an operation there is room for the right one
+-- after the left side of an operation there is room for the right one
 pub room_behind_left : (f : Setting) (mode : Mode) (mask to : ℕ) (e : Tree) (op : Op) (l r left right : Tree)
     (a b : CodeBuf) → length a.code.items + 120 * tree_weight e ≤ most_instructions
     → e ≡ Operation op l r → left ≡ l → right ≡ r → EmitsExpr f mode mask to left a b

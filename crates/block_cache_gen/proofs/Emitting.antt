@@ -23,7 +23,7 @@ grows_then a b c one two = record {
   notes = longer a.notes.items b.notes.items c.notes.items one.notes two.notes;
 }
 
--- one piece behind another
+-- one piece of code after another
 pub appended_then : (a b c : CodeBuf) (one two : List Instr) (first second : ℕ → List Note)
     → Appended a b one first → Appended b c two second
     → Appended a c (one ++ two) (λ place. first place ++ second (place + length one))
@@ -45,7 +45,7 @@ appended_as a b one two first second codes notes x = record {
   notes = x.notes ∙ ap (λ xs. a.notes.items ++ xs) (notes (length a.code.items));
 }
 
--- one piece behind another, where the second has no notes, and where the first has none
+-- one piece of code after another, if the second has no notes, and if the first has none
 pub silent_behind : (a b c : CodeBuf) (one two : List Instr) (first : ℕ → List Note) → Appended a b one first
     → Appended b c two no_notes → Appended a c (one ++ two) first
 silent_behind a b c one two first x y =

@@ -26,7 +26,7 @@ use Rattle.block_cache_gen.proofs.RangesOfCode.{CodeFits, HomesFit, code-all, ex
 use Rattle.block_cache_gen.proofs.RangesOfNotes.{PinsLow, NotesRise, rise-fits, expression-rises, guard-rises, set-rises, expression-count, guard-count, set_variable-count, set_element-count}
 use Rattle.block_cache_gen.proofs.Sizes.{expr_code_short, guard_code_short, set_code_short}
 
--- notes that rise stand between their bounds
+-- notes that rise are between their bounds
 rise_within : (f : Setting) (least low high : ℕ) (notes : List Note) → least < low → NotesRise f low high notes
     → All (λ n. (least < n.pc) × (n.pc < high)) notes
 rise_within f least low high [] below rise = All-nil (λ n. (least < n.pc) × (n.pc < high))
@@ -53,7 +53,7 @@ silent_in Public notes secret = absurd (secret refl)
 silent_in Real notes secret = refl
 silent_in Mirrored notes secret = refl
 
--- whatever was appended within its weight, in its ranges and with rising notes extends the code
+-- anything appended within its weight, in its ranges and with rising notes extends the code
 pub extends : (f : Setting) (banks : ℕ) (mode : Mode) (weight : ℕ) (code : Mode → List Instr) (noted : ℕ → List Note)
     (a b : CodeBuf)
     → 2 ≤ banks → PinsLow f → Appended a b (code mode) (λ place. notes_in mode (noted place))

@@ -38,7 +38,7 @@ use Rattle.block_cache_gen.proofs.RunsOf.{expression-evaluates, guard-evaluates,
 use Rattle.block_cache_gen.proofs.SecretCodes.{expr-stores, guard-stores, variable-stores, element-stores, set_code-aside}
 use Rattle.block_cache_gen.proofs.SecretWalks.{expr-walked, guard-walked, set-walked}
 
--- what stands behind is what was appended
+-- the rest is what was appended
 pub behind-holds : (a b : CodeBuf) (more : List Instr) (noted : ℕ → List Note) → Appended a b more noted
     → (P : List Instr → List Note → Type 0) → P more (noted (length a.code.items))
     → P (code_behind a b) (notes_behind a b)
@@ -70,7 +70,7 @@ module _ (f : Setting) (once : DeclaredOnce f.decls) (to : ℕ) (e : Tree) (type
       (leaves-none to holds) in
       record { last = v.last; passes = v.passes; carries = v.kept.carries; value = v.labelled }
 
--- What is said of the code and the notes that a call made of an expression, with `place` instructions before them.
+-- The clauses for the code and the notes that a call made of an expression, with `place` instructions before them.
 pub record ExprPromises (f : Setting) (mode : Mode) (to : ℕ) (e : Tree) (place : ℕ) (code : List Instr)
     (notes : List Note) : Type 0 where
   pub runs : Evaluates f mode to e code
@@ -100,7 +100,7 @@ frame-expr_promises f s mode to e a b is same typed public low x =
       stores = expr-stores g mode to e;
     })
 
--- What is said of those of a guard.
+-- The clauses for those of a guard.
 pub record TestPromises (f : Setting) (mode : Mode) (to : ℕ) (t : Test) (place : ℕ) (code : List Instr)
     (notes : List Note) : Type 0 where
   pub runs : EvaluatesTest f mode to t code
@@ -132,7 +132,7 @@ frame-test_promises f s mode to t a b is same typed public low lower x =
       stores = guard-stores g mode to t;
     })
 
--- What is said of those of an assignment.
+-- The clauses for those of an assignment.
 pub record SetPromises (f : Setting) (mode : Mode) (t : Statement) (place : ℕ) (code : List Instr)
     (notes : List Note) : Type 0 where
   pub runs : Performs f mode t code
@@ -172,7 +172,7 @@ other-aside f Public t secret = absurd (secret refl)
 other-aside f Real t secret = sym (set_code-aside f t)
 other-aside f Mirrored t secret = set_code-aside f t
 
--- an assignment of which secret code is made stands in secret code
+-- an assignment for which secret code is made is in secret code
 secret_code : (p : Source) (mode : Mode) (t : Statement) (stands : IsStatementFor p mode t) → ¬ (mode ≡ Public)
     → stands.code ≡ label.Secret
 secret_code p Public t stands secret = absurd (secret refl)

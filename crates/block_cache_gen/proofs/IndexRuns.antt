@@ -24,7 +24,7 @@ pub record Locates (to n a : ℕ) (s t : State) : Type 0 where
   pub block : register t (to + 1) ≡ pos a
   pub keeps : Keeps to s t
 
--- the word alone
+-- only the word
 pub record Reduces (to n : ℕ) (s t : State) : Type 0 where
   pub word : register t to ≡ pos n
   pub keeps : Keeps to s t

@@ -1,5 +1,5 @@
--- In the code of a program each index of an array of plain or encrypted memory is public: a secret array that a secret
--- indexes lies in an oblivious bank.
+-- In the code of a program each index of an array of plain or encrypted memory is public: a secret array with a secret
+-- index is stored in an oblivious bank.
 use Rattle.std.proofs.Common.{◌≡◌, ℕ, suc, ◌+◌, ◌<◌, ◌≤◌, Bool, true, false, ◌&&◌, List, [], ◌∷◌, length, get_or, Option, Some, None, refl, sym, ap, ◌∙◌, subst, arith}
 use Rattle.std.specs.Prelude.{if◌then◌else◌, bytes_eq, is_some, nat_lt}
 use Rattle.std.proofs.lemmas.Bool.{or_parts, false≢true, le-ltb}
@@ -111,7 +111,7 @@ oblivious_class Secret (Some n) false secret array e = absurd (false≢true e)
 oblivious_class Secret None indexed secret array e = absurd (let g : ◌≡◌ {A = Shape} Scalar Array = array in cc)
 oblivious_class Public size_of indexed secret array e = absurd (let g : ◌≡◌ {A = Label} Public Secret = secret in cc)
 
--- what stands at a name's number has that name
+-- the declaration at a name's number has that name
 name_if : (d : Decl) (ds : List Decl) (x : List ℕ) (kind : Label × Shape) (default : Decl) (same : Bool)
     → bytes_eq x d.name ≡ same → (if same then Some (label_and_shape d) else context_of ds x) ≡ Some kind
     → (context_of ds x ≡ Some kind → (get_or ds (variable_number ds x) default).name ≡ x)

@@ -1,4 +1,4 @@
--- What is known behind public code of an expression that writes no register below one.
+-- What is known after public code of an expression that writes no register below one.
 use Rattle.std.proofs.Common.{◌≡◌, ℕ, ◌+◌, ◌<◌, true, false, length}
 use Rattle.lt_isa.specs.Object.{Parts}
 use Rattle.src_tree.specs.Contexts.{context_of}
@@ -16,15 +16,15 @@ use Rattle.block_cache_gen.specs.PublicCode.{HasLabel}
 abbrev pub LeavesPublic : ℕ → ℕ → Known → Type 0
 LeavesPublic mask to k = (r : ℕ) → r < 32 → is_marked mask r ≡ false → (r < to) × (is_secret k r ≡ false)
 
--- What is known behind code that writes no register below `to`: the setting is carried; a register below is public
--- where a mask doesn't mark it, and one that may hold a secret still may.
+-- What is known after code that writes no register below `to`: the setting is carried; a register below is public if a
+-- mask doesn't mark it, and one that may hold a secret still may.
 pub record KeptBelow (f : Setting) (mask to : ℕ) (before after : Known) : Type 0 where
   pub carries : Carries f after
   pub publics : (r : ℕ) → r < to → is_marked mask r ≡ false → is_secret after r ≡ false
   pub secrets : (r : ℕ) → r < to → is_secret before r ≡ true → is_secret after r ≡ true
 
--- An expression's code at a place is passed, from what comes to it, where this holds at its first place: registers
--- below `to` are kept, and register `to` has the expression's label.
+-- An expression's code at a place is passed, from the state on entry, if this holds at its first place: registers below
+-- `to` are kept, and register `to` has the expression's label.
 pub record PassedBelow (o : Parts) (f : Setting) (mask to place : ℕ) (e : Tree) (comes holds : Known) : Type 0 where
   pub last : Known
   pub passes : Passes o place comes (place + length (expr_code f Public to e)) last

@@ -48,7 +48,7 @@ pub leaves-higher : (mask to more : ℕ) (k : Known) → to ≤ more → LeavesP
 leaves-higher mask to more k le leaves r inside unmarks =
     let h = leaves r inside unmarks in let low = h.0 in (omega arith, h.1)
 
--- what a note claims of a register and of a slot
+-- what a note claims about a register and about a slot
 pub claimed-register : (f : Setting) (mask place r : ℕ) → r < 32
     → is_secret (note_known (note_of f mask place)) r ≡ is_marked mask r
 claimed-register f mask place r inside = get_or-marks 32 mask r true inside

@@ -1,4 +1,4 @@
--- Where the notes of public code stand: behind its first instruction, each at one of its instructions.
+-- The places of the notes of public code: after its first instruction, each at one of its instructions.
 use Rattle.std.proofs.Common.{◌≡◌, ℕ, ◌+◌, ◌<◌, ◌≤◌, Bool, true, false, ℤ, List, [], ◌∷◌, ◌++◌, length, length-append, Option, Some, None, ap, ◌∙◌, arith}
 use Rattle.std.specs.Prelude.{if◌then◌else◌}
 use Rattle.lt_isa.specs.declared.symbols.Note.{Note}
@@ -18,7 +18,7 @@ abbrev pub index_length : Option ℤ → List Instr → ℕ
 index_length (Some z) index = 0
 index_length None index = length index
 
--- two instructions stand behind the index at least
+-- at least two instructions follow the index
 pub located-longer : (block_log : ℕ) (h : Home) (to : ℕ) (fixed : Option ℤ) (index : List Instr)
     → index_length fixed index + 2 ≤ length (located_code block_log h to fixed index)
 located-longer block_log h to (Some z) index = omega arith

@@ -34,7 +34,7 @@ use Rattle.block_cache_gen.proofs.KeptRegisters.{SameBelow, same-itself, same-se
 use Rattle.block_cache_gen.proofs.AccessLabels.{numbered, placed-numbered, fixed-numbered, asked_known, asked_same, asked_block, skipped_by, loaded-by}
 use Rattle.block_cache_gen.proofs.HomeFacts.{serves-oblivious, serves-cached, shows-cached, shown-low}
 
--- what passing the code of an expression says, wherever it stands
+-- what passing the code of an expression means, at any place
 abbrev pub ExprPasses : Parts → Setting → Tree → Type 0
 ExprPasses o f e =
     (mask to p : ℕ) (k holds : Known) → to + height_of e ≤ 26
@@ -135,7 +135,7 @@ module _ (o : Parts) (f : Setting) (homes : HasHomes o f) (once : DeclaredOnce f
           block = λ cached. l.block_is ∙ first.labelled ∙ ap secret_label (public cached);
         }
 
-    -- the load: a note stands behind one that may be skipped
+    -- the load: one that may be skipped is followed by a note
     module _ (x : List ℕ) (l : Label) (declared : context_of f.decls x ≡ Some (l, Array))
         (turn : (home_of f x).resident ≡ false) (q r : ℕ) (found : Known)
         (kept : KeptBelow f mask to holds found) (word : (home_of f x).bank < 2 → is_secret found to ≡ false)

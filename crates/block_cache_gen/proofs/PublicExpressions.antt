@@ -1,4 +1,4 @@
--- The public code of an expression is passed, wherever it stands.
+-- The public code of an expression is passed, at any place.
 use Rattle.std.proofs.Common.{◌≡◌, ℕ, ◌+◌, ◌<◌, Bool, true, false, not, ◌||◌, ℤ, pos, List, [], ◌∷◌, ◌++◌, length, length-append, Option, Some, None, refl, sym, ap, ◌∙◌, arith}
 use Rattle.std.specs.Option.{option_map}
 use Rattle.std.proofs.lemmas.Bool.{eq-eqb, ne_eqb}
@@ -69,14 +69,14 @@ higher_label : (a b : Label) → (secret_label a || secret_label b) ≡ secret_l
 higher_label label.Public b = refl
 higher_label label.Secret b = refl
 
--- the mask behind an expression
+-- the mask after an expression
 marks_before : (l : Label) (mask to r : ℕ) → to < 32 → r < to → is_marked mask r ≡ false
     → is_marked (marked_by l mask to) r ≡ false
 marks_before label.Public mask to r low lt unmarks =
     unmarked-other mask to r low (omega arith) (λ e. absurd (omega arith)) ∙ unmarks
 marks_before label.Secret mask to r low lt unmarks = unmarks
 
--- behind a value the mask of its label says which registers are public
+-- after a value the mask of its label says which registers are public
 pub leaves-labelled : (l : Label) (mask to : ℕ) (k : Known) → to < 32 → LeavesPublic mask to k → HasLabel k to l
     → LeavesPublic (marked_by l mask to) (to + 1) k
 leaves-labelled label.Public mask to k low leaves labelled =
@@ -89,7 +89,7 @@ pub label-kept : (f : Setting) (l : Label) (mask to more : ℕ) (k m : Known) �
 label-kept f label.Public mask to more k m low lt labelled kept = kept.publics to lt (unmarked-same mask to low)
 label-kept f label.Secret mask to more k m low lt labelled kept = kept.secrets to lt labelled
 
--- what is kept by one stretch and then by another that stands higher
+-- what is kept by one stretch and then by another with higher registers
 pub kept-then : (f : Setting) (l : Label) (mask to : ℕ) (k m n : Known) → to < 32 → KeptBelow f mask to k m
     → KeptBelow f (marked_by l mask to) (to + 1) m n → KeptBelow f mask to k n
 kept-then f l mask to k m n low first second = record {

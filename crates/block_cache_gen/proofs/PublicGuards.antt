@@ -1,4 +1,4 @@
--- The public code of a guard is passed, wherever it stands.
+-- The public code of a guard is passed, at any place.
 use Rattle.std.proofs.Common.{◌≡◌, ℕ, ◌+◌, ◌<◌, ◌≤◌, true, ◌++◌, length, length-append, sym, ◌∙◌, subst, arith, w32}
 use Rattle.std.specs.Int.{bit_at, bit_not}
 use Rattle.std.proofs.lemmas.Bool.{true≢false, eq-eqb}

@@ -26,7 +26,7 @@ use Rattle.block_cache_gen.specs.Homes.{Pin, pin_at, Home, Setting, home_of}
 use Rattle.block_cache_gen.specs.TreeWords.{HasWords}
 use Rattle.block_cache_gen.specs.Codes.{is_masked, fixed_index, fixed_word, reduced_code, shift_code, fixed_code, located_code, load_code, skips, access_by, placed_code, offset_code, stored_code, access_code, expr_code, guard_code, store_code, set_code}
 
--- a home in its ranges, where there are so many banks
+-- a home in its ranges, if there are this many banks
 pub record HomeFits (banks : ℕ) (h : Home) : Type 0 where
   pub bank : h.bank < banks
   pub block : h.block ≤ 65536

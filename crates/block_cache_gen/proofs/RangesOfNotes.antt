@@ -236,7 +236,7 @@ claims-fit f banks some pins =
     pin_claim C None other turn is = turn
     pin_claim C (Some p) other turn is = is p refl
 
--- notes that rise are in their ranges behind others that end before them
+-- notes that rise are in their ranges after others that end before them
 pub rise-fits : (f : Setting) (banks : ℕ) → 2 ≤ banks → PinsLow f → (low high : ℕ) (before notes : List Note)
     → next_place before ≤ low → high ≤ 2 ^ 32 → NotesRise f low high notes → EachAfter (NoteFits banks) before notes
 rise-fits f banks some pins low high before [] le ge rise = tt

@@ -89,7 +89,7 @@ module _ (o : Parts) (fits : IsInRange o) (f : Setting) (homes : HasHomes o f) (
       runs-one s (Ldw to h.slot to) [] (Sets s to value) at
       (sets-ldw o fits s shaped to h.slot to h.bank h.block held.words value small held.holds reads)
 
-  -- the place of the word is found, behind the code of the index
+  -- the place of the word is found, after the code of the index
   pub runs-placed : (mode : Mode) (to : ℕ) (i : Tree) (s : State) → IsShaped o s → StandsFor f s store → to + 2 < 32
       → (StandsAt o s.place (expr_code f mode to i)
       → RunsThrough o s (expr_code f mode to i) (seen_of_all mode s.banks s.slots (accesses f store i))

@@ -1,4 +1,4 @@
--- A state stands for a store in which a word of a resident variable is another, where that word in its slot is.
+-- A state represents a store in which one word of a resident variable is changed, if that word is changed in its slot.
 use Rattle.std.proofs.Common.{◌≡◌, ◌≢◌, ℕ, ◌+◌, ◌*◌, ◌<◌, true, ℤ, pos, List, length, get_or, set, Option, Some, sym, ap, ◌∙◌, subst, ⊎_elim, arith}
 use Rattle.std.proofs.lemmas.Bool.{cases_eq, true≢false}
 use Rattle.std.proofs.lemmas.List.{get_or-set_same, get_or-set_other}
@@ -46,7 +46,7 @@ module _ (o : Parts) (f : Setting) (homes : HasHomes o f) (s : State) (slot_coun
       (homes.apart (variable_number f.decls y) (variable_number f.decls x) (omega (arith, homes.count))
       (omega (arith, homes.count)) other (ap (λ (p : Pin). p.bank) same))
 
-  -- with the word set the machine stands for the store with it
+  -- with the word set the machine represents the store with it
   pub stands-resident_set : StandsFor f
       (set_slot s (home_of f x).slot
       (Bound (home_of f x).bank (home_of f x).block (set words ((home_of f x).word + n) word)))

@@ -1,4 +1,4 @@
--- The code that is made of expressions, guards and assignments does what they mean, wherever it stands.
+-- The code that is made of expressions, guards and assignments does what they mean, at any place.
 use Rattle.std.proofs.Common.{ℕ, ◌+◌, ◌≤◌, arith}
 use Rattle.gr_word.specs.declared.variables.Label.{Label}
 use Rattle.src_tree.specs.Contexts.{context_of}

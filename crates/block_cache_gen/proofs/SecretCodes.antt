@@ -14,7 +14,7 @@ use Rattle.block_cache_gen.specs.Homes.{Home, Setting, home_of}
 use Rattle.block_cache_gen.specs.Codes.{may_skip_loads, is_cached, is_masked, fixed_index, reduced_code, shift_code, located_code, offset_code, placed_code, stored_code, access_by, load_code, skips, access_code, expr_code, guard_code, store_code, set_code}
 use Rattle.block_cache_gen.specs.StoredWords.{is_stw, stored_words, register_aside, registers_aside}
 
--- an expression's code tells public code from secret code alone
+-- an expression's code depends on the mode only in being public or secret
 access_code-mode : (f : Setting) (m n : Mode) (h : Home) (to : ℕ) (fixed : Option ℤ) (one other : List Instr)
     → may_skip_loads m ≡ may_skip_loads n → one ≡ other
     → access_code f.profile.block_log m h to fixed one ≡ access_code f.profile.block_log n h to fixed other
@@ -76,7 +76,7 @@ set_code-aside f (SetElement x i e) =
 set_code-aside f (Choice t a b) = refl
 set_code-aside f (Loop t a) = refl
 
--- stores of code behind other code
+-- stores of code after other code
 pub stored-append : (xs ys : List Instr) → stored_words (xs ++ ys) ≡ stored_words xs + stored_words ys
 stored-append xs ys = sum_by-append (λ i. cond (is_stw i) 1 0) xs ys
 

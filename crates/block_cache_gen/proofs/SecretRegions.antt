@@ -39,7 +39,7 @@ module _ (o : Parts) (f : Setting) (profile : o.profile ≡ f.profile) (depth : 
   some_taken : 1 ≤ o.profile.taken
   some_taken = subst (λ (taken : ℕ). 1 ≤ taken) (sym same_taken) some
 
-  -- what the loads of both arms left stands in the slots there
+  -- what the loads of both arms left is in the slots there
   pub joined-slots : (k : ℕ) → slot_held (common one.state other.state) k ≡ unwrap_or (loads k) (slot_held s k)
   joined-slots k =
       common-held one.state other.state k (unwrap_or (loads k) (slot_held s k)) (one.slots k) (other.slots k)
@@ -66,7 +66,7 @@ module _ (o : Parts) (f : Setting) (profile : o.profile ≡ f.profile) (depth : 
       carries-slots f one.state (common one.state other.state) one.carries (λ k. joined-slots k ∙ sym (one.slots k))
       sized.registers sized.slots
 
-  -- so it goes on there
+  -- so it continues there
   pub goes-region : Goes o f depth s (region_code f.profile.taken cmp ra rb first second)
       (region_shows f.profile.taken shows) loads
   goes-region = record {

@@ -1,4 +1,4 @@
--- The code of expressions, guards and assignments in secret code, wherever it stands in an arm.
+-- The code of expressions, guards and assignments in secret code, at any place in an arm.
 use Rattle.std.proofs.Common.{◌≡◌, ℕ, ◌+◌, ◌≤◌, false, List}
 use Rattle.gr_word.specs.declared.variables.Label.TheVariants.{Secret}
 use Rattle.lt_isa.specs.declared.instructions.Instr.{Instr}
@@ -21,7 +21,7 @@ use Rattle.block_cache_gen.proofs.PublicTrees.{public-tree}
 use Rattle.block_cache_gen.proofs.ArmExpressions.{expr-leaves, guard-leaves}
 use Rattle.block_cache_gen.proofs.ArmAssignments.{Goes, goes-leaves, set-goes}
 
--- a stretch of code that goes where it stands
+-- a stretch of code that falls through at its place
 abbrev pub walk-goes : (o : Parts) (f : Setting) (depth p : ℕ) (s : SymState) (code : List Instr) (shows : List Show)
     (loads : Loads) → StandsInArm o p code → Goes o f depth s code shows loads
     → ArmWalk o f depth p s code (pattern_of shows) loads

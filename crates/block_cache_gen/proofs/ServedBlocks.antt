@@ -18,7 +18,7 @@ end_of_search slots slot = position_or_len (λ s. s == slot) slots
 abbrev found : List Home → ℕ → Option ℕ
 found homes slot = option_map (λ h. h.block) (find (λ h. h.slot == slot) homes)
 
--- what is found stands where the search ended, and that is one of the slots
+-- what is found is where the search ended, and that is one of the slots
 found-at : (slots : List ℕ) (slot n : ℕ) → position (λ s. s == slot) slots ≡ Some n
     → (end_of_search slots slot ≡ n) × (n < length slots)
 found-at slots slot n is = by (nat_lt (end_of_search slots slot) (length slots)) refl is
@@ -31,7 +31,7 @@ found-at slots slot n is = by (nat_lt (end_of_search slots slot) (length slots))
         (same, omega (arith, same, ltb-true (end_of_search slots slot) (length slots) within))
     by false within e = absurd (let f : ◌≡◌ {A = Option ℕ} None (Some n) = e in cc)
 
--- where nothing is found the search ended behind the last
+-- if nothing is found the search ended after the last
 lost-past : (slots : List ℕ) (slot : ℕ) → position (λ s. s == slot) slots ≡ None
     → length slots ≤ end_of_search slots slot
 lost-past slots slot is = by (nat_lt (end_of_search slots slot) (length slots)) refl is

@@ -122,7 +122,7 @@ module _ (p : Source) (w : ℕ) (plan : Plan) (limits : IsWithinLimits p) (sound
       → variable_number f.decls x < length p.decls
   named-below x kind known = omega (arith, number-below f.decls x kind known, ap length setting.decls)
 
-  -- a name stands for the variable of its number
+  -- a name refers to the variable of its number
   pub named-kind : (x : List ℕ) (kind : Label × Shape) → context_of f.decls x ≡ Some kind
       → label_and_shape (get_or p.decls (variable_number f.decls x) no_decl) ≡ kind
   named-kind x kind known =

@@ -37,7 +37,7 @@ located_short block_log h to None index =
 reduced_two : (h : Home) (to : ℕ) → length (reduced_code h to) ≡ 2
 reduced_two h to = two_of (is_masked h) _ _ _ _
 
--- an access takes nine instructions behind the index at most
+-- an access takes at most nine instructions after the index
 pub access_short : (block_log : ℕ) (mode : Mode) (h : Home) (to : ℕ) (fixed : Option ℤ) (index : List Instr)
     → length (access_code block_log mode h to fixed index) ≤ length index + 9
 access_short block_log mode h to fixed index = by h.resident

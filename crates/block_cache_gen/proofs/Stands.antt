@@ -1,4 +1,5 @@
--- A state stands for a store by its slots and banks alone, and still does where a block of an array is loaded.
+-- Whether a state represents a store depends only on its slots and banks, and it still does if a block of an array is
+-- loaded.
 use Rattle.std.proofs.Common.{◌≡◌, ◌≢◌, ℕ, ◌+◌, ◌<◌, true, false, ℤ, pos, List, length, get_or, Some, refl, sym, ap, ◌∙◌, subst, ⊎_elim, arith}
 use Rattle.std.proofs.lemmas.Bool.{cases_eq}
 use Rattle.std.proofs.lemmas.List.{get_or-set_same, get_or-set_other}
@@ -44,8 +45,8 @@ bound-block b b' a a' words words' e = cc
 pub bound-words : (b b' a a' : ℕ) (words words' : List ℤ) → Bound b a words ≡ Bound b' a' words' → words ≡ words'
 bound-words b b' a a' words words' e = cc
 
--- Where the slot of an array is bound to a block of its bank, as the bank has it, and no other slot has changed, the
--- machine stands for a store that has the same scalars and that the banks have the elements of.
+-- If the slot of an array is bound to a block of its bank, as the bank has it, and no other slot has changed, the
+-- machine represents a store that has the same scalars and whose elements are in the banks.
 module _ (o : Parts) (f : Setting) (homes : HasHomes o f) (s : State) (store : Store) (stands : StandsFor f s store)
     (t : State) (x : List ℕ) (label : Label) (known : context_of f.decls x ≡ Some (label, Array))
     (in_turn : (home_of f x).resident ≡ false) (a : ℕ) (words : List ℤ)
@@ -112,7 +113,7 @@ module _ (o : Parts) (f : Setting) (homes : HasHomes o f) (s : State) (store : S
             (cases_eq g.slot h.slot);
       }
 
--- with a block loaded into an array's slot the machine stands for the same store
+-- with a block loaded into an array's slot the machine represents the same store
 pub stands-loaded : (o : Parts) (f : Setting) → HasHomes o f → (s : State) → length s.slots ≡ 8 → (store : Store)
     → StandsFor f s store → (x : List ℕ) (label : Label) → context_of f.decls x ≡ Some (label, Array)
     → (home_of f x).resident ≡ false → (a : ℕ)

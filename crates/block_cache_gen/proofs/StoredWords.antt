@@ -69,7 +69,7 @@ none-same (i ∷ xs) (j ∷ ys) none same = by (is_stw i) refl (none-same xs ys)
         let tail = more (omega (arith, stored-append (i ∷ []) xs, plain-counts i is, none)) rest in
         λ k. head k ∷ tail k
 
--- a code with one store, and another, differ in its register alone
+-- two codes with different stores differ only in the register of the store
 one-differs : (xs ys : List Instr) → stored_words xs ≡ 1 → registers_aside xs ≡ registers_aside ys
     → DifferInLastStored xs ys
 one-differs [] ys one same = absurd (omega (arith, one))

@@ -17,7 +17,7 @@ pub words-other : (store : Store) (k n j : ℕ) (word : ℤ)
     → j ≢ k → words_of_number (with_word store k n word) j ≡ words_of_number store j
 words-other store k n j word other = get_or-set_other store k j (set (words_of_number store k) n word) [] other
 
--- the words of the variable that a word was put into
+-- the words of the variable to which a word was written
 pub words-same : (store : Store) (k n : ℕ) (word : ℤ) → k < length store
     → words_of_number (with_word store k n word) k ≡ set (words_of_number store k) n word
 words-same store k n word within = get_or-set_same store k (set (words_of_number store k) n word) [] within
@@ -41,7 +41,7 @@ words-each P store k n j word changed was =
     (λ other. subst P (sym (words-other store k n j word other)) was)
     (cases_eq j k)
 
--- a store with one more word put into it fits the homes
+-- a store with one word written fits the homes
 pub fits-with_word : (f : Setting) (store : Store) (k n : ℕ) (word : ℤ) → IsWord word → FitsHomes f store
     → FitsHomes f (with_word store k n word)
 fits-with_word f store k n word is fits = record {

@@ -1,6 +1,5 @@
 -- What the code of an assignment does: the store that it leaves, and what is seen of it; and which store a statement
--- leaves whatever turns are left.
--- (This project's layout of compiled code.)
+-- leaves for any number of iterations left. (This project's layout of compiled code.)
 use Rattle.std.specs.Prelude.{◌≡◌, ℕ, ◌%◌, Bool, true, false, ℤ, List, [], ◌∷◌, ◌++◌, slice_set, Some}
 use Rattle.lt_isa.specs.Machine.{Slot, Observed, State, word_in, write_event}
 use Rattle.src_tree.specs.declared.trees.Decl.{Decl}
@@ -27,7 +26,7 @@ assigned decls (SetElement x i e) store =
 assigned decls (Choice t a b) store = store
 assigned decls (Loop t a) store = store
 
--- whatever turns are left, a statement leaves what this makes of the store, and as many turns
+-- for any number of iterations left, a statement leaves this store, and the same number
 abbrev pub IsEffect : List Decl → Statement → (Store → Store) → Type 0
 IsEffect decls s after =
     (store : Store) (turns : ℕ)
@@ -73,7 +72,7 @@ abbrev pub seen_of_set : Setting → Mode → Banks → List Slot → Store → 
 seen_of_set f mode banks slots store s =
     seen_of_all mode banks slots (set_accesses f store s) ++ seen_of_write f mode banks store s
 
--- the state stands for a store that has as many words as its homes
+-- the state represents a store that has as many words as its homes
 pub record Assigns (f : Setting) (store : Store) (t : State) : Type 0 where
   pub stands : StandsFor f t store
   pub fits : FitsHomes f store

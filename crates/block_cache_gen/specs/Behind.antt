@@ -1,5 +1,4 @@
--- What a call appended: what was there before is still at the front, and this stands behind it.
--- (This project's profile.)
+-- What a call appended: what was there before is still a prefix, and this follows it. (This project's profile.)
 use Rattle.std.specs.Prelude.{◌≡◌, List, ◌++◌, length, drop}
 use Rattle.lt_isa.specs.declared.instructions.Instr.{Instr}
 use Rattle.lt_isa.specs.declared.symbols.Note.{Note}

@@ -1,5 +1,5 @@
--- What the check knows where code of a setting stands: the banks of the slots that the code relies on.
--- (GhostRider, ASPLOS 2015: the security types of L_T; this project's layout of compiled code.)
+-- What the check knows at code of a setting: the banks of the slots that the code relies on. (GhostRider, ASPLOS 2015:
+-- the security types of L_T; this project's layout of compiled code.)
 use Rattle.std.specs.Prelude.{◌≡◌, ◌≢◌, ◌<◌, ℕ, false, List, length, Some}
 use Rattle.gr_base.specs.Lists.{Within}
 use Rattle.gr_word.specs.declared.variables.Label.{Label}

@@ -1,5 +1,5 @@
--- What the calls that make code ask of a statement: it stands in the program, in code for which it is made.
--- (This project's profile.)
+-- The conditions of the calls that make code of a statement: it is in the program, in code for which it is made. (This
+-- project's profile.)
 use Rattle.std.specs.Prelude.{◌≡◌}
 use Rattle.gr_word.specs.declared.variables.Label.{Label}
 use Rattle.gr_word.specs.declared.variables.Label.TheVariants as label
@@ -8,7 +8,7 @@ use Rattle.src_tree.specs.Trees.{Statement, Source}
 use Rattle.block_cache_gen.specs.declared.frames.Mode.{Mode}
 use Rattle.block_cache_gen.specs.declared.frames.Mode.TheVariants.{Public, Real, Mirrored}
 
--- code of a secret choice is made for statements of secret code alone
+-- code of a secret choice is made only for statements of secret code
 abbrev pub IsForCode : Mode → Label → Type 0
 IsForCode Public code = Unit {0}
 IsForCode Real code = code ≡ label.Secret

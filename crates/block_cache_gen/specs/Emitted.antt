@@ -26,7 +26,7 @@ notes_in Public notes = notes
 notes_in Real notes = []
 notes_in Mirrored notes = []
 
--- the notes of an access whose code stands from a place on
+-- the notes of an access whose code begins at a place
 abbrev pub access_notes : Setting → Home → (mask to : ℕ) → Tree → ℕ → List Note
 access_notes f h mask to i place =
     index_notes (fixed_index h i) (expr_notes f mask to place i)

@@ -8,9 +8,9 @@ use Rattle.block_cache_gen.specs.declared.frames.CodeBuf.{CodeBuf}
 use Rattle.block_cache_gen.specs.declared.frames.Mode.{Mode}
 use Rattle.block_cache_gen.specs.declared.frames.Mode.TheVariants.{Public}
 
--- Behind what was there stand more instructions and notes: at most 120 and 16 of them for each unit of a weight, all in
--- their ranges where there are so many banks. The notes rise, also behind those that end before this code; each stands
--- at one of these instructions other than the first; and in secret code there are none.
+-- What was there is followed by more instructions and notes: at most 120 and 16 of them for each unit of a weight, all
+-- in their ranges if there are this many banks. The notes rise, also after those that end before this code; each is at
+-- one of these instructions other than the first; and in secret code there are none.
 pub record Extends (banks : ℕ) (mode : Mode) (weight : ℕ) (before after : CodeBuf) : Type 0 where
   pub more : List Instr
   pub noted : List Note

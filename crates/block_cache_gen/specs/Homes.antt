@@ -35,11 +35,11 @@ pub record Setting : Type 0 where
   pub pins : List (Option Pin)
   pub profile : Profile
 
--- what stands for the home of a name that isn't declared
+-- the default home, of a name that isn't declared
 abbrev pub no_home : Home
 no_home = record { bank = 0; block = 0; word = 0; length = 0; slot = 0; resident = false }
 
--- the home of the variable that a name stands for
+-- the home of the variable that a name refers to
 abbrev pub home_of : Setting → List ℕ → Home
 home_of f x = slice_index_or f.homes (variable_number f.decls x) no_home
 
@@ -94,7 +94,7 @@ pub record IsArrayHome (o : Parts) (f : Setting) (label : Label) (h : Home) : Ty
   pub length : Within 1 max_length h.length
   pub inside : h.block * block_words o + h.length ≤ blocks_of o h.bank * block_words o
 
--- the first word of a home in its bank, where a block has w words, and the one behind its last
+-- the first word of a home in its bank, if a block has w words, and the word after its last
 abbrev pub start_of_home : ℕ → Home → ℕ
 start_of_home w h = h.block * w + h.word
 

@@ -1,6 +1,6 @@
--- Which instructions the code of an assignment in secret code has, the register that it stores left out. They are told
--- by the setting and the assignment alone, so the code with the effect and the code without have the same.
--- (GhostRider, ASPLOS 2015: the arms of a branch on a secret are padded so that they look alike.)
+-- Which instructions the code of an assignment in secret code has, except for the register that it stores. They depend
+-- only on the setting and the assignment, so the code with the effect and the code without have the same. (GhostRider,
+-- ASPLOS 2015: the arms of a branch on a secret are padded so that they look alike.)
 use Rattle.std.specs.Prelude.{List}
 use Rattle.lt_isa.specs.declared.instructions.Instr.{Instr}
 use Rattle.src_tree.specs.Trees.{Statement}

@@ -1,5 +1,4 @@
--- What the code of an expression leaves behind it.
--- (This project's layout of compiled code.)
+-- The state after the code of an expression. (This project's layout of compiled code.)
 use Rattle.std.specs.Prelude.{◌≡◌, ℕ, ◌+◌, ◌<◌, ℤ, List}
 use Rattle.lt_isa.specs.Machine.{State, register}
 use Rattle.src_tree.specs.Meaning.{Store}
@@ -8,7 +7,7 @@ use Rattle.block_cache_gen.specs.StandsFor.{StandsFor}
 use Rattle.block_cache_gen.specs.Accesses.{ArrayAccess, slots_after}
 
 -- From state s to t: a word is in register `to`, the registers below it and the banks are as before, the accesses have
--- left their blocks in the slots, and the state still stands for the store.
+-- left their blocks in the slots, and the state still represents the store.
 pub record LeavesWord (f : Setting) (store : Store) (accesses : List ArrayAccess) (to : ℕ) (word : ℤ)
     (s t : State) : Type 0 where
   pub value : register t to ≡ word

@@ -1,5 +1,5 @@
--- For proofs, and for the clauses `words` of calls, which serve the proofs of callers: the numbers that stand in
--- statements and in blocks are words.
+-- For proofs, and for the clauses `words` of calls, which serve the proofs of callers: the numbers in statements and in
+-- blocks are words.
 use Rattle.src_tree.specs.Trees.{Statement, SetVariable, SetElement, Choice, Loop, Block, Nothing, Then}
 use Rattle.block_cache_gen.specs.TreeWords.{HasWords, TestHasWords}
 

@@ -1,5 +1,5 @@
--- How the check passes the public code of expressions, guards and assignments, and what it knows behind it.
--- (GhostRider, ASPLOS 2015: the security types of L_T; that notes claim what is known is this project's profile.)
+-- How the check passes the public code of expressions, guards and assignments, and what it knows after it. (GhostRider,
+-- ASPLOS 2015: the security types of L_T; that notes claim what is known is this project's profile.)
 use Rattle.std.specs.Prelude.{◌≡◌, ℕ, ◌+◌, ◌<◌, List, length}
 use Rattle.gr_word.specs.declared.variables.Label.{Label}
 use Rattle.lt_isa.specs.declared.symbols.Note.{Note}
@@ -15,8 +15,8 @@ use Rattle.stretches.specs.Passing.{HoldsAt, NotesBetween, Passes}
 use Rattle.block_cache_gen.specs.Homes.{Setting, HasHomes}
 use Rattle.block_cache_gen.specs.Carries.{Carries}
 
--- Code stands at a place of an object, with these notes and no other behind its first instruction, and an instruction
--- behind it.
+-- Code is at a place of an object, with exactly these notes after its first instruction, and with an instruction after
+-- it.
 pub record StandsNoted (o : Parts) (place : ℕ) (code : List Instr) (notes : List Note) : Type 0 where
   pub code_stands : StandsAt o place code
   pub noted : NotesBetween o place (place + length code) notes
@@ -26,7 +26,7 @@ pub record StandsNoted (o : Parts) (place : ℕ) (code : List Instr) (notes : Li
 abbrev pub HasLabel : Known → ℕ → Label → Type 0
 HasLabel k r l = is_secret k r ≡ label.secret_label l
 
--- An expression's code at a place is passed from what comes there: the setting is carried behind it, and register `to`
+-- An expression's code at a place is passed from the state on entry: the setting is carried after it, and register `to`
 -- has the expression's label.
 pub record PassedExpr (o : Parts) (f : Setting) (to place : ℕ) (code : List Instr) (e : Tree)
     (comes : Known) : Type 0 where
@@ -44,14 +44,14 @@ pub record PassedTest (o : Parts) (f : Setting) (to place : ℕ) (code : List In
   pub left : HasLabel last to (label_of (context_of f.decls) t.left)
   pub right : HasLabel last (to + 1) (label_of (context_of f.decls) t.right)
 
--- An assignment's code is passed, and the setting is carried behind it.
+-- An assignment's code is passed, and the setting is carried after it.
 pub record PassedSet (o : Parts) (f : Setting) (place : ℕ) (code : List Instr) (comes : Known) : Type 0 where
   pub last : Known
   pub passes : Passes o place comes (place + length code) last
   pub carries : Carries f last
 
--- at a place of each object that has the homes of a setting, and has there this code with these notes; whatever comes
--- there, and whatever a note at that place itself says of it
+-- at a place of each object that has the homes of a setting, and has there this code with these notes; for any state on
+-- entry and any note at that place itself
 abbrev pub AtItsPlace : Setting → ℕ → List Instr → List Note → (Parts → Known → Type 0) → Type 0
 AtItsPlace f place code notes Passed =
     (o : Parts) (comes holds : Known)

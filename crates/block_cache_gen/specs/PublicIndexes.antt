@@ -1,6 +1,6 @@
--- Which expressions and guards code is made of: each array that a secret indexes lies in an oblivious bank. The same of
--- assignments, statements and blocks is for proofs.
--- (GhostRider, ASPLOS 2015: the type system of L_T refuses a secret address of plain or encrypted memory.)
+-- Expressions and guards for which code is made: each array with a secret index is stored in an oblivious bank. The
+-- same of assignments, statements and blocks is for proofs. (GhostRider, ASPLOS 2015: the type system of L_T refuses a
+-- secret address of plain or encrypted memory.)
 use Rattle.std.specs.Prelude.{◌≡◌, ℕ, Bool, true, nat_lt, if◌then◌else◌, List}
 use Rattle.gr_word.specs.declared.variables.Label.TheVariants.{Public}
 use Rattle.src_tree.specs.Contexts.{context_of}

@@ -18,7 +18,7 @@ use Rattle.block_cache_gen.specs.Accesses.{accesses, test_accesses, seen_of_all}
 use Rattle.block_cache_gen.specs.LeavesWord.{LeavesWord, LeavesBoth}
 use Rattle.block_cache_gen.specs.Assignments.{Assigns, assigned, by_mode, seen_of_set}
 
--- a state at the first instruction of code, of an object that has the homes, stands for a store
+-- a state at the first instruction of code, of an object that has the homes, represents a store
 pub record BeginsCode (o : Parts) (f : Setting) (store : Store) (s : State) (code : List Instr) : Type 0 where
   pub in_range : IsInRange o
   pub homes : HasHomes o f
@@ -27,13 +27,13 @@ pub record BeginsCode (o : Parts) (f : Setting) (store : Store) (s : State) (cod
   pub stands : StandsFor f s store
   pub code_stands : StandsAt o s.place code
 
--- the code of an expression: its value comes to be in register `to`
+-- the code of an expression: its value is in register `to` afterwards
 pub record Evaluates (f : Setting) (mode : Mode) (to : ℕ) (e : Tree) (code : List Instr) : Type 0 where
   pub runs : (o : Parts) (store : Store) (s : State) → BeginsCode o f store s code
       → RunsThrough o s code (seen_of_all mode s.banks s.slots (accesses f store e))
       (LeavesWord f store (accesses f store e) to (evaluated f.decls store e) s)
 
--- the code of a guard: its sides come to be in register `to` and the next one
+-- the code of a guard: its sides are in register `to` and the next one afterwards
 pub record EvaluatesTest (f : Setting) (mode : Mode) (to : ℕ) (t : Test) (code : List Instr) : Type 0 where
   pub runs : (o : Parts) (store : Store) (s : State) → BeginsCode o f store s code
       → RunsThrough o s code (seen_of_all mode s.banks s.slots (test_accesses f store t)) (LeavesBoth f store

@@ -1,6 +1,6 @@
 -- How the check walks code that is made for an arm of a branch on a secret, in every object that has the homes of its
 -- setting and has that code in an arm: nothing is refused, what the setting relies on is kept, and what is shown and
--- left is told by the part alone. (GhostRider, ASPLOS 2015: the type system of L_T.)
+-- left depends only on the part. (GhostRider, ASPLOS 2015: the type system of L_T.)
 use Rattle.std.specs.Prelude.{◌≡◌, ℕ, ◌+◌, ◌<◌, List, length, Some}
 use Rattle.std.specs.Option.{unwrap_or}
 use Rattle.gr_word.specs.declared.variables.Label.TheVariants.{Public}
@@ -19,8 +19,8 @@ use Rattle.block_cache_gen.specs.Homes.{Setting, HasHomes}
 use Rattle.block_cache_gen.specs.Carries.{CarriesInArm}
 use Rattle.block_cache_gen.specs.PatternsOf.{Loads, tree_of_expr, pattern_of_expr, slots_of_expr, pattern_of_test, slots_of_test, pattern_of_set, slots_of_set}
 
--- The code at p is walked from s to just behind it and shows a pattern; a slot then holds what was loaded last, and
--- what it held where nothing was.
+-- The code at p is walked from s to its end and shows a pattern; a slot then holds what was loaded last, or what it
+-- held if nothing was loaded.
 pub record ArmWalk (o : Parts) (f : Setting) (depth p : ℕ) (s : SymState) (code : List Instr)
     (pattern : Shown TreeEvent) (loads : Loads) : Type 0 where
   pub state : SymState
@@ -28,7 +28,7 @@ pub record ArmWalk (o : Parts) (f : Setting) (depth p : ℕ) (s : SymState) (cod
   pub carries : CarriesInArm f state
   pub slots : (slot : ℕ) → slot_held state slot ≡ unwrap_or (loads slot) (slot_held s slot)
 
--- wherever it stands, and whatever is known before it
+-- at any place, and for any state before it
 abbrev pub AtEachPlace : Setting → List Instr → (Parts → (depth p : ℕ) → SymState → Type 0) → Type 0
 AtEachPlace f code Walk =
     (o : Parts) (depth p : ℕ) (s : SymState)

@@ -1,5 +1,5 @@
--- When a state of the machine stands for a store of the source language.
--- (GhostRider, ASPLOS 2015: the scratchpad as a cache of blocks; this project's layout of compiled code.)
+-- When a state of the machine represents a store of the source language. (GhostRider, ASPLOS 2015: the scratchpad as a
+-- cache of blocks; this project's layout of compiled code.)
 use Rattle.std.specs.Prelude.{◌≡◌, ℕ, ◌+◌, ◌*◌, ◌<◌, ◌≤◌, true, false, ℤ, pos, List, length, slice_index_or, Some}
 use Rattle.gr_base.specs.Lists.{Within}
 use Rattle.gr_word.specs.Fitting.{AreWords}

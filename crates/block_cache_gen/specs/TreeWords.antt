@@ -1,5 +1,5 @@
--- The numbers that stand in an expression, a guard or an assignment are words, as those of every program are.
--- (This project's profile.)
+-- The numbers in an expression, a guard or an assignment are words, as those of every program are. (This project's
+-- profile.)
 use Rattle.gr_word.specs.Words.{IsWord}
 use Rattle.src_tree.specs.Trees.{Tree, Number, Variable, Element, Operation, Test, Statement, SetVariable, SetElement, Choice, Loop}
 

@@ -16,8 +16,8 @@ other_mode Public = Public
 other_mode Real = Mirrored
 other_mode Mirrored = Real
 
--- other code does in the other mode what an assignment does there, is walked alike, and differs in stored registers
--- alone
+-- other code does in the other mode what an assignment does there, is walked alike, and differs only in stored
+-- registers
 pub record HasTwin (f : Setting) (mode : Mode) (assignment : Statement) (code : List Instr) : Type 0 where
   pub twin : List Instr
   pub same : registers_aside twin ≡ registers_aside code

@@ -29,9 +29,9 @@ use gr_base::Memory;
 use src_tree::{Expr, Guard, Stmt};
 use std::alloc::Global;
 
-/// Makes the code of an expression of a program, and appends it and its notes. Run from its first instruction where the
-/// machine stands for a store, it ends just past its last, with the expression's value in register `to`. After want of
-/// memory what was there before is still at the front. The clause `words` serves the proofs of callers.
+/// Makes the code of an expression of a program, and appends it and its notes. Run from its first instruction in a
+/// state that represents a store, it ends just past its last, with the expression's value in register `to`. After want
+/// of memory what was there before is still a prefix. The clause `words` serves the proofs of callers.
 pub fn emit_expr<'a>(
     alloc: Global,
     f: &Frame<'a>,
@@ -96,8 +96,8 @@ pub fn emit_guard<'a>(
 
 /// Makes the code of an assignment of a program, and appends it and its notes. In public code, and with its effect in
 /// secret code, it leaves the store of the assignment; without effect in secret code it leaves the store as it was. The
-/// two codes of secret code differ in the register of the word that they store alone ([`twin_laws`](crate::twin_laws)).
-/// After want of memory what was there before is still at the front. The clause `words` serves the proofs of callers.
+/// two codes of secret code differ only in the register of the word that they store ([`twin_laws`](crate::twin_laws)).
+/// After want of memory what was there before is still a prefix. The clause `words` serves the proofs of callers.
 #[tactic(auto, using(crate::proofs::AssignmentsMean::assignment_means))]
 pub fn emit_set<'a>(
     alloc: Global,

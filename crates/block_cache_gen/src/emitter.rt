@@ -90,7 +90,7 @@ impl<'a> Emitter<'a> {
         })
     }
 
-    /// What a declared name stands for.
+    /// What a declared name refers to.
     pub(crate) fn variable(&self, name: &'a [u8]) -> Variable
         requires { is_some (context_of self.now.decls name.now) ≡ true }
         ensures home { home_in result ≡ home_of self.now name.now }
@@ -113,7 +113,7 @@ impl<'a> Emitter<'a> {
         }
     }
 
-    /// What each note claims of the slots. It serves `code_gen`, which makes notes of its own.
+    /// What each note claims about the slots. It serves `code_gen`, which makes notes of its own.
     pub fn claims(&self) -> [u8; 8]
         ensures { result ≡ slot_claims self.now }
     {
@@ -179,7 +179,7 @@ impl<'a> Emitter<'a> {
     }
 }
 
-/// The label of an expression: secret where a secret name stands in it, and else public. A name that isn't declared is
+/// The label of an expression: secret if it contains a secret name, otherwise public. A name that isn't declared is
 /// public.
 pub fn label_of<'a>(emitter: &Emitter<'a>, e: &'a Expr) -> Label
     ensures { result ≡ label_of (context_of emitter.now.decls) (expr_tree e.now) }

@@ -67,7 +67,7 @@ impl CodeBuf {
         }
     }
 
-    /// The place behind the code so far.
+    /// The place after the code so far.
     pub fn next_place(&self) -> u32
         requires { length self.now.code.items < 2 ^ 32 }
         ensures { result ≡ length self.now.code.items }
@@ -87,7 +87,7 @@ impl CodeBuf {
         }
     }
 
-    /// The jump at a place leads behind the code so far. It serves `branch_padding` and `code_gen`.
+    /// Sets the jump at a place to jump to the end of the code so far. It serves `branch_padding` and `code_gen`.
     pub fn set_jump(&mut self, at: u32)
         requires before { at < length self.old.code.items }
         requires room { length self.old.code.items ≤ most_instructions }
@@ -99,8 +99,8 @@ impl CodeBuf {
         self.code[at as usize] = Instr::Jmp { offset };
     }
 
-    /// The branch at a place leads behind the code so far where a comparison of registers 0 and 1 holds. It serves
-    /// `branch_padding` and `code_gen`.
+    /// Sets the branch at a place to jump to the end of the code so far if a comparison of registers 0 and 1 holds. It
+    /// serves `branch_padding` and `code_gen`.
     pub fn set_branch(&mut self, at: u32, cmp: Cmp)
         requires before { at < length self.old.code.items }
         requires room { length self.old.code.items ≤ most_instructions }

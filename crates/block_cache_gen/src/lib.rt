@@ -1,12 +1,12 @@
-//! The code of expressions, guards and assignments, and what a state of the machine stands for.
+//! The code of expressions, guards and assignments, and how a state of the machine represents a store.
 //!
-//! [`emit_expr`], [`emit_guard`] and [`emit_set`] append the code of one piece of a program to a [`CodeBuf`], for
-//! public code or for an arm of a branch on a secret ([`Mode`]). Run anywhere in an object that has the frame's layout
-//! ([`home_laws`]), the code leaves the value, the sides or the store that the piece means, within its greatest costs,
-//! and shows the accesses of `specs/Accesses` (`runs`). The check passes it in public code (`passes`) and walks it in
-//! an arm (`walked`), where it shows the same whatever the state is. It is short and in its ranges (`extends`). An
-//! [`Emitter`] is a [`Frame`] made ready for many such calls. [`pair_count`] is how many first statements of two parts
-//! show the same ([`pair_laws`]).
+//! [`emit_expr`], [`emit_guard`] and [`emit_set`] append the code of one expression, guard or assignment of a program
+//! to a [`CodeBuf`], for public code or for an arm of a branch on a secret ([`Mode`]). Run anywhere in an object that
+//! has the frame's layout ([`home_laws`]), the code leaves the value, the sides or the store that it means, within its
+//! greatest costs, and shows the accesses of `specs/Accesses` (`runs`). The check passes it in public code (`passes`)
+//! and walks it in an arm (`walked`), where it shows the same in every state. It is short and in its ranges
+//! (`extends`). An [`Emitter`] is a [`Frame`] made ready for many such calls. [`pair_count`] is the number of first
+//! statements of two parts that show the same ([`pair_laws`]).
 #![tactic(auto)]
 
 mod accesses;

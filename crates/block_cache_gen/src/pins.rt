@@ -68,7 +68,7 @@ fn claim_by(pin: Option<Pin>, other: u8) -> u8
     }
 }
 
-/// What each note claims of the slots, by the pins and by the slots of the variables.
+/// What each note claims about the slots, by the pins and by the slots of the variables.
 pub(crate) fn claims_in(pins: &[Option<Pin>], slots: &[u8]) -> [u8; 8]
     ensures { result ≡ claims_in pins.now slots.now }
 {

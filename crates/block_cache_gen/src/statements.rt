@@ -23,7 +23,7 @@ use lt_isa::Instr;
 use src_tree::{Expr, Guard, Stmt};
 
 /// Appends code that leaves the two sides of a guard in a register and the next. It serves `branch_padding` and
-/// `code_gen`: its clause names the code, and what that does is said by [`emit_guard`](crate::emit_guard).
+/// `code_gen`: its clause names the code, and [`emit_guard`](crate::emit_guard) states what that code does.
 pub fn put_guard<'a>(
     emitter: &Emitter<'a>,
     out: &mut CodeBuf,
@@ -45,7 +45,7 @@ pub fn put_guard<'a>(
 }
 
 // Appends the store of a word to a slot, at the place that register 1 has: the word in register 0, or in mirrored code
-// the word that stood there, so that nothing changes.
+// the word that was there, so that nothing changes.
 fn put_store(out: &mut CodeBuf, slot: u8, mode: Mode) -> Result<(), Memory>
     ensures appended { OnOk result (Appended out.old out.new (store_code mode slot) no_notes) }
     ensures grows { CodeGrows out.old out.new }
@@ -85,7 +85,7 @@ fn put_block_store(out: &mut CodeBuf, array: Variable) -> Result<(), Memory>
 }
 
 /// Appends the code of an assignment to a variable. It serves `branch_padding` and `code_gen`: its clause names the
-/// code, and what that does is said by [`emit_set`](crate::emit_set).
+/// code, and [`emit_set`](crate::emit_set) states what that code does.
 pub fn put_set_variable<'a>(
     emitter: &Emitter<'a>,
     out: &mut CodeBuf,
@@ -112,7 +112,7 @@ pub fn put_set_variable<'a>(
 }
 
 /// Appends the code of an assignment to an element. The block is stored at once. It serves `branch_padding` and
-/// `code_gen`: its clause names the code, and what that does is said by [`emit_set`](crate::emit_set).
+/// `code_gen`: its clause names the code, and [`emit_set`](crate::emit_set) states what that code does.
 pub fn put_set_element<'a>(
     emitter: &Emitter<'a>,
     out: &mut CodeBuf,

@@ -11,8 +11,8 @@ use src_tree::Decl;
 use std::alloc::Global;
 use std::collections::BTreeMap;
 
-/// What a name of a program stands for: a label, where the variable is stored, the slot that serves it, and whether that
-/// slot holds one block for the whole run.
+/// What a name of a program refers to: a label, the place where the variable is stored, the slot that serves it, and
+/// whether that slot holds one block for the whole run.
 #[derive(Clone, Copy, Debug, PartialEq, Eq)]
 pub(crate) struct Variable {
     pub label: Label,
@@ -24,14 +24,14 @@ pub(crate) struct Variable {
 /// The variable of each name that is declared.
 pub(crate) type Variables<'a> = BTreeMap<&'a [u8], Variable>;
 
-/// What a name stands for; none for one that isn't declared.
+/// What a name refers to; `None` for one that isn't declared.
 pub(crate) fn variable_at<'a>(variables: &Variables<'a>, name: &'a [u8]) -> Option<Variable>
     ensures { result ≡ found_under variables.now name.now }
 {
     variables.get(&name).copied()
 }
 
-// Adds a name, in the place of what it stood for.
+// Adds a name, in place of what it referred to.
 fn add_variable<'a>(
     variables: &mut Variables<'a>,
     name: &'a [u8],
