@@ -1,8 +1,8 @@
 //! The check of object files as one C function, for loaders: a static library.
 //!
-//! [`gr_check`] takes the bytes of an object file. Whatever bytes it accepts spell an object that the check accepts,
-//! and so one that shows what is public alone. `specs/Answers.antt` says what each answer tells of the bytes;
-//! `include/ghostrider.h` is the function for C.
+//! [`gr_check`] takes the bytes of an object file. If it accepts them, they encode an object that the check accepts,
+//! and so one that reveals only public data. `specs/Answers.antt` states what each result means; `include/ghostrider.h`
+//! is the function for C.
 #![tactic(auto)]
 
 ghost use Rattle.std.specs.Prelude.{◌≡◌, ◌≢◌, ◌⊎◌, ◌↔◌, ◌<◌, length};
@@ -21,7 +21,7 @@ const ACCEPTED: u32 = 0;
 /// Memory ran out.
 const NO_MEMORY: u32 = 5;
 
-/// The bytes spell no object.
+/// The bytes don't encode an object.
 const NO_OBJECT: u32 = 6;
 
 /// The object is refused.
@@ -30,16 +30,16 @@ const REFUSED: u32 = 7;
 /// There are more bytes than an object file may have.
 const TOO_LONG: u32 = 11;
 
-/// Checks the bytes of an object file. The answer is one of the exit statuses of the program's `check`:
+/// Checks the bytes of an object file. The result is one of the exit statuses of the program's `check`:
 ///
-/// - 0: they spell an object that is accepted.
-/// - 5: memory ran out, which says nothing of the bytes.
-/// - 6: they spell no object.
-/// - 7: they spell an object that is refused; `place` and `reason` then have the first refusal, a place in the code and
-///   a reason from 1 to 13. They are written at this answer alone.
+/// - 0: they encode an object that is accepted.
+/// - 5: memory ran out, which says nothing about the bytes.
+/// - 6: they don't encode an object.
+/// - 7: they encode an object that is refused; `place` and `reason` then have the first refusal, a place in the code
+///   and a reason from 1 to 13. They are written only with this result.
 /// - 11: there are more than 33,554,432 bytes.
 ///
-/// The bytes of an object that the check accepts are answered by 0, 5 or 11, never by 6 or 7. (This project's profile.)
+/// For the bytes of an object that the check accepts, the result is 0, 5 or 11, never 6 or 7. (This project's profile.)
 #[unsafe(no_mangle)]
 pub extern "C" fn gr_check(alloc: Global, bytes: &[u8], place: &mut u32, reason: &mut u32) -> u32
     ensures answers { IsAnswer result }

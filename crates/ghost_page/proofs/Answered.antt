@@ -1,4 +1,4 @@
--- An answer of the program over the shelf and the sink that were made is one over what was handed in.
+-- An outcome of the program over the shelf and the sink made here is one over the page's files.
 use Rattle.std.proofs.Common.{◌≡◌, ℕ, List, [], Some, sym, subst}
 use Rattle.gr_outside.specs.Sink.{SinkSeen}
 use Rattle.gr_outside.specs.MemShelf.{Shelved}
@@ -8,7 +8,7 @@ use Rattle.ghost_cli.specs.Promises.{Promises}
 use Rattle.ghost_cli.specs.Verbs.{work_of}
 use Rattle.ghost_page.specs.Page.{IsAnswered, IsFile, IsText, page_outside, page_shelf, shelf_seen, sink_seen, words_in}
 
--- what is seen of a sink with these bytes and so many faults
+-- what is seen of a sink with these bytes and this many faults
 abbrev pub seen : List ℕ → ℕ → SinkSeen
 seen bytes faults = record { held = Some bytes; faults = faults }
 

@@ -1,4 +1,4 @@
--- What a call of the program from a page comes to. (This project's profile.)
+-- The outcome of a call of the program from a page. (This project's profile.)
 use Rattle.std.specs.Prelude.{◌≡◌, ◌⊎◌, ℕ, All, ◌≤◌, ◌==◌, List, [], ◌∷◌, codes, take, length, Some, MatchOption}
 use Rattle.std.specs.List.{slice_split}
 use Rattle.std.specs.FinMap.{from_entries, get}
@@ -43,11 +43,11 @@ page_outside program input = outside
     (record { files = Some (page_files program input); read_faults = 0; write_faults = 0; starved = 0 })
     (record { held = Some []; faults = 0 })
 
--- the bytes stand at the front of the room, if they fit there
+-- the bytes are at the beginning of the room, if they fit
 abbrev pub StandsIn : List ℕ → List ℕ → Type 0
 StandsIn bytes room = length bytes ≤ length room → take (length bytes) room ≡ bytes
 
--- the text that a call left: so many bytes, which stand at the front of their room
+-- the text that a call left: this many bytes, at the beginning of their room
 abbrev pub IsText : Held → List ℕ → ℕ → Type 0
 IsText sink text size = (size ≡ length sink.bytes) × StandsIn sink.bytes text
 
@@ -57,7 +57,7 @@ IsFile shelf output written size = MatchOption (get shelf.files (codes "output")
     (λ bytes. (written ≡ 1) × (size ≡ length bytes) × StandsIn bytes output)
 
 -- The status is an answer of the program to these words over these files, as the program promises it. The text is what
--- it put, and the file `output` is what it left.
+-- the program printed, and the file `output` is what it left.
 pub record IsAnswered (lines program input text output : List ℕ) (status written text_size output_size : ℕ)
     : Type 0 where
   pub shelf : Shelved
@@ -81,6 +81,6 @@ IsAnsweredOrStarved lines program input text output status written text_size out
     IsAnswered lines program input text output status written text_size output_size
     ⊎ (status ≡ 5) × IsNothing written text_size output_size
 
--- The words for people: so many printable characters and line feeds, which stand at the front of their room.
+-- The explanation: this many printable characters and line feeds, at the beginning of their room.
 abbrev pub IsPlainText : List ℕ → ℕ → Type 0
 IsPlainText text size = (said : List ℕ) × All IsPlain said × (size ≡ length said) × StandsIn said text

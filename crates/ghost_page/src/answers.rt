@@ -1,7 +1,7 @@
 ghost use Rattle.std.specs.Prelude.{◌≡◌};
 ghost use Rattle.ghost_page.specs.Page.{StandsIn};
 
-/// What a call came to.
+/// The outcome of a call.
 #[repr(C)]
 #[derive(Drop)]
 pub struct Answer {
@@ -16,7 +16,7 @@ pub struct Answer {
 }
 
 impl Answer {
-    /// The answer of a call that came to no text and no file.
+    /// The outcome of a call without a text and a file.
     pub(crate) fn without_text(status: u32) -> Answer
         ensures status { result.status ≡ status }
         ensures no_file { result.written ≡ 0 }
@@ -32,7 +32,7 @@ impl Answer {
     }
 }
 
-/// Writes the bytes at the front of the room, where they fit; else the room stays as it was.
+/// Writes the bytes to the beginning of the room, if they fit; otherwise the room stays as it was.
 pub(crate) fn put(bytes: &[u8], room: &mut [u8])
     ensures { StandsIn bytes.now room.new }
 {

@@ -10,15 +10,15 @@ use explain_words::{Call, File};
 use gr_base::Memory;
 use std::alloc::Global;
 
-/// The status where what can be said was said.
+/// The status if the explanation, possibly empty, was written.
 const DONE: u32 = 0;
 
-/// Says what the fault of a call means. The lines are its exit status, the line of its verb in the table of verbs, and
-/// the words of the call, over two files that are called `program` and `input`. The words for people are written at the
-/// front of `text`, nothing where nothing can be said.
+/// Explains the fault of a call. The lines are its exit status, the line of its verb in the table of verbs, and the
+/// words of the call, over two files that are called `program` and `input`. The explanation is written to the beginning
+/// of `text`; it is empty if there is nothing to explain.
 ///
-/// The status is 0, 2 where the lines are no UTF-8, and 5 where memory runs out. Where the words are longer than their
-/// room, `answer.text` says so, and nothing of them stands there. (This project's profile.)
+/// The status is 0, 2 if the lines aren't UTF-8, and 5 if memory runs out. If the explanation is longer than its room,
+/// `answer.text` has its length, and nothing is written. (This project's profile.)
 #[unsafe(no_mangle)]
 pub extern "C" fn ghost_explain(
     alloc: Global,
@@ -43,7 +43,7 @@ pub extern "C" fn ghost_explain(
     }
 }
 
-/// The answer with these words for people, which are written where they fit.
+/// The outcome with this explanation, which is written if it fits.
 fn answer_with(words: &[u8], text: &mut [u8]) -> Answer
     requires { All IsPlain words.now }
     ensures plain { IsPlainText text.new result.text }

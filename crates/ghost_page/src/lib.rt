@@ -1,8 +1,8 @@
 //! The program as one C function, for a page in a browser: a static library.
 //!
-//! [`ghost_call`] calls the program over files that lie in memory. Its status, its text and the file that it leaves are
-//! those that `ghost_cli` promises of a call over these files. `specs/Page.antt` says so. [`ghost_explain`] says what the
-//! fault of such a call means, in the words of `explain_words`.
+//! [`ghost_call`] calls the program over files in memory. Its status, its text and the file that it leaves are those
+//! that `ghost_cli` promises of a call over these files, as `specs/Page.antt` states. [`ghost_explain`] explains the
+//! fault of such a call, in the words of `explain_words`.
 #![tactic(auto)]
 
 mod answers;

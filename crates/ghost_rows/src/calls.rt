@@ -6,7 +6,7 @@ use ghost_cli::ghostrider;
 use gr_outside::{File, MemShelf, MemSink, Shelf, Sink, SureShelf, SureSink, names_are_distinct};
 use std::alloc::{AllocError, Global};
 
-/// What the next call of the program meets: the calls of the shelf and the puts that fail, or none ever.
+/// Which calls of the shelf and which prints fail during the next call of the program; none by default.
 #[derive(Drop)]
 pub(crate) struct Outside {
     pub calls: Vec<u32>,
@@ -24,8 +24,8 @@ impl Outside {
     }
 }
 
-/// What a call of the program came to: its status, what it put, and the files afterwards, also new ones that its words
-/// name.
+/// The outcome of a call of the program: its status, what it printed, and the files afterwards, also new ones that its
+/// words name.
 #[derive(Drop)]
 pub(crate) struct Done {
     pub status: u8,
@@ -101,7 +101,7 @@ fn call_mem(
     done_of(alloc, status, sink.held(), files)
 }
 
-// what a call came to, with this text
+// the outcome of a call, with this text
 fn done_of(alloc: Global, status: u8, text: &[u8], files: Store) -> Result<Done, Trouble> {
     Ok(Done {
         status,
@@ -116,7 +116,7 @@ fn shelf_of(alloc: Global, store: &Store, failing: &[u32]) -> Result<MemShelf, T
     Ok(MemShelf::new(alloc, files_of(alloc, store)?, calls))
 }
 
-// a sink of whose puts these fail
+// a sink that fails at these calls
 fn sink_of(alloc: Global, failing: &[u32]) -> Result<MemSink, Trouble> {
     match MemSink::new(alloc, Vec::from_slice(alloc, failing)?, 65_536) {
         Ok(sink) => Ok(sink),

@@ -63,7 +63,7 @@ pub(crate) fn followed(text: &str, bank: &str, shown: &str, bounds: &[usize]) ->
     count
 }
 
-// the levels of a bank that the last line of a text tells, if it tells some
+// the levels of a bank in the last line of a text, if it has some
 fn levels_of<'a>(text: &'a str, bank: &str) -> Option<&'a str> {
     text.lines()
         .last()?
@@ -72,7 +72,7 @@ fn levels_of<'a>(text: &'a str, bank: &str) -> Option<&'a str> {
         .strip_prefix(" ")
 }
 
-/// Whether the last line of a text tells so many levels of a bank, each at most `most`.
+/// Whether the last line of a text has this many levels of a bank, each at most `most`.
 pub(crate) fn are_levels(text: &str, bank: &str, count: usize, most: usize) -> bool {
     let Some(levels) = levels_of(text, bank) else {
         return false;
@@ -88,7 +88,7 @@ pub(crate) fn are_levels(text: &str, bank: &str, count: usize, most: usize) -> b
     levels.split(" ").count() == count
 }
 
-/// Whether bytes are a front of others, and not all of them.
+/// Whether bytes are a proper prefix of others.
 pub(crate) fn is_front(part: &[u8], whole: &[u8]) -> bool {
     part.len() < whole.len() && whole.starts_with(part)
 }

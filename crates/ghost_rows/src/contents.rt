@@ -55,7 +55,7 @@ impl Store {
         None
     }
 
-    /// Puts bytes under a name, in place of what stood there.
+    /// Stores bytes under a name, in place of what it had.
     pub(crate) fn put(&mut self, alloc: Global, name: &str, bytes: Vec<u8>) -> Result<(), Trouble> {
         self.remove(name);
         let name = String::from_str(alloc, name)?;
@@ -88,7 +88,7 @@ pub(crate) fn numbers_of(alloc: Global, tokens: &[Token]) -> Result<Vec<usize>, 
     Ok(numbers)
 }
 
-// the bounds of a part of a text of so many bytes, as `2..8`, `2..` or `..8`
+// the bounds of a part of a text of this many bytes, as `2..8`, `2..` or `..8`
 fn bounds_of(alloc: Global, bounds: &str, length: usize) -> Result<(usize, usize), Trouble> {
     let Some((from, to)) = bounds.split_once("..") else {
         return wrong(alloc, "bounds are written a..b");
@@ -160,12 +160,12 @@ fn append(alloc: Global, store: &Store, bytes: &mut Vec<u8>, piece: &Token) -> R
     }
 }
 
-// how often the next piece stands, where a word says so
+// how often the next piece is repeated, if a word says so
 fn times_of(piece: &Token) -> Option<usize> {
     piece.word().strip_suffix("*")?.parse::<usize>().ok()
 }
 
-/// The bytes of pieces, one behind the other.
+/// The bytes of pieces, concatenated.
 pub(crate) fn join(alloc: Global, store: &Store, pieces: &[Token]) -> Result<Vec<u8>, Trouble> {
     let mut bytes = Vec::new(alloc);
     let mut times = 1;

@@ -70,7 +70,7 @@ impl Frame {
         }
     }
 
-    /// All of a script with so many directives, played once.
+    /// All of a script with this many directives, played once.
     pub(crate) fn whole(alloc: Global, end: usize) -> Result<Frame, AllocError> {
         let mut rows = Vec::new(alloc);
         rows.push(Vec::new(alloc))?;
@@ -143,7 +143,7 @@ fn copied_names(alloc: Global, names: &[String]) -> Result<Vec<String>, AllocErr
     Ok(copies)
 }
 
-// the numbers that a row `a..b` stands for
+// the numbers of a row `a..b`
 fn range_of(row: &[Token]) -> Option<(usize, usize)> {
     match row {
         [Token::Word(word)] => {
@@ -169,7 +169,7 @@ pub(crate) fn filled_rows(
     Ok(filled)
 }
 
-// the rows of a directive; a row `a..b` stands for all numbers from a to b
+// the rows of a directive; a row `a..b` means all numbers from a to b
 fn rows_of(alloc: Global, directive: &Directive) -> Result<Vec<Vec<Token>>, Trouble> {
     let mut rows = Vec::new(alloc);
     for row in &directive.rows {
@@ -181,7 +181,7 @@ fn rows_of(alloc: Global, directive: &Directive) -> Result<Vec<Vec<Token>>, Trou
     Ok(rows)
 }
 
-// appends a row, or those that it stands for
+// appends a row, or those that it means
 fn add_row(alloc: Global, rows: &mut Vec<Vec<Token>>, row: &[Token]) -> Result<(), AllocError> {
     match range_of(row) {
         Some((from, to)) => {

@@ -40,8 +40,8 @@ fn in_words(trouble: Trouble) -> io::Result<Option<String>> {
     }
 }
 
-/// Puts a value where another stood. What stood there is dropped in this function alone: what dropping may meet is
-/// proved in line, at each place that is assigned to.
+/// Replaces a value. The old value is dropped only in this function: otherwise the proof of the drop is repeated at
+/// each assignment.
 fn put<T: Drop>(place: &mut T, value: T) {
     *place = value;
 }
@@ -104,7 +104,7 @@ impl Player {
         None
     }
 
-    // performs a directive, and tells of the case what doesn't hold
+    // performs a directive, and reports to the case what doesn't hold
     fn perform(
         &mut self,
         rt: &HostRuntime,
@@ -179,7 +179,7 @@ impl Player {
         }
     }
 
-    // goes on behind the `end` of a body
+    // continues after the `end` of a body
     fn pass_body(&mut self, end: usize) {
         if let Some(frame) = self.frames.last_mut() {
             frame.go_to(end.saturating_add(1));
@@ -254,7 +254,7 @@ impl Player {
         }
     }
 
-    // the bytes of the pieces behind a name
+    // the bytes of the pieces after a name
     fn pieces_in(&self, tokens: &[Token], from: usize) -> Result<Vec<u8>, Trouble> {
         join(self.alloc, &self.texts, tokens.get(from..).unwrap_or(&[]))
     }
@@ -330,7 +330,7 @@ impl Player {
         self.texts.put(self.alloc, name, bytes)
     }
 
-    // that a file has changed was told of
+    // marks a changed file as mentioned by the case
     fn tell(&mut self, file: &str) {
         self.changed.retain(|changed| changed.as_str() != file);
     }
@@ -341,7 +341,7 @@ impl Player {
         self.texts.put(self.alloc, name, rest.into_bytes())
     }
 
-    // each file that a call changed or made was told of by the case
+    // whether the case mentioned each file that a call changed or made
     fn nothing_changed(&mut self) -> Result<(), Trouble> {
         match self.changed.pop() {
             Some(name) => {
@@ -384,7 +384,7 @@ impl Player {
         Ok(())
     }
 
-    // holds what a call came to; the next one fails nowhere unless the case says so
+    // keeps the outcome of a call; the next call fails nowhere unless the case says so
     fn hold(&mut self, done: Done) {
         self.status = done.status;
         put(&mut self.text, done.text);

@@ -1,7 +1,7 @@
 use crate::tokens::{Token, Unread, tokens_of};
 use std::alloc::{AllocError, Global};
 
-/// A directive: its words and pieces, and the rows that stand below it.
+/// A directive: its words and pieces, and the rows below it.
 #[derive(Drop)]
 pub(crate) struct Directive {
     /// The number of its line, counted from 1.
@@ -19,7 +19,7 @@ impl Directive {
         }
     }
 
-    // the directive `unreadable`, which stands for a line that can't be read
+    // the directive `unreadable`, for a line that can't be read
     fn unread(alloc: Global, line: usize) -> Result<Directive, AllocError> {
         let mut tokens = Vec::new(alloc);
         tokens.push(Token::Word(String::from_str(alloc, "unreadable")?))?;
@@ -53,7 +53,7 @@ fn begin(
     Ok(())
 }
 
-// goes on with the last directive
+// continues the last directive
 fn follow(alloc: Global, directives: &mut Vec<Directive>, line: &str) -> Result<(), Unread> {
     match directives.last_mut() {
         Some(directive) => go_on(alloc, directive, line),
@@ -70,7 +70,7 @@ fn add(directive: &mut Directive, token: Token) -> Result<(), Unread> {
     Ok(())
 }
 
-// a line that goes on with a directive: a line of a text, a row, or more pieces
+// a line that continues a directive: a line of a text, a row, or more pieces
 fn go_on(alloc: Global, directive: &mut Directive, line: &str) -> Result<(), Unread> {
     if line == "|" {
         let text = line_text(alloc, "")?;
@@ -89,7 +89,7 @@ fn go_on(alloc: Global, directive: &mut Directive, line: &str) -> Result<(), Unr
     Ok(())
 }
 
-// a text with a line feed behind it
+// a text followed by a line feed
 fn line_text(alloc: Global, text: &str) -> Result<Token, AllocError> {
     let mut bytes = Vec::from_slice(alloc, text.as_bytes())?;
     bytes.push(b'\n')?;
@@ -110,7 +110,7 @@ impl Script {
     }
 }
 
-// reads a line, and tells whether that could be done
+// reads a line, and returns whether it could be read
 fn read_line(
     alloc: Global,
     directives: &mut Vec<Directive>,

@@ -76,7 +76,7 @@ pub(crate) fn digit(byte: u8) -> Option<u8> {
     }
 }
 
-// the byte that an escape stands for, and how many bytes it takes behind the backslash
+// the byte of an escape, and how many bytes it takes after the backslash
 fn escaped(rest: &[u8]) -> Option<(u8, usize)> {
     match rest.first() {
         Some(b'n') => Some((b'\n', 1)),
@@ -93,7 +93,7 @@ fn escaped(rest: &[u8]) -> Option<(u8, usize)> {
     }
 }
 
-// what stands up to the next backquote
+// the text up to the next backquote
 fn raw_text(alloc: Global, rest: &[u8]) -> Result<(Token, usize), Unread> {
     let Some(end) = rest.iter().position(|byte| *byte == b'`') else {
         return Err(Unread::Open);
@@ -107,7 +107,7 @@ fn raw_text(alloc: Global, rest: &[u8]) -> Result<(Token, usize), Unread> {
     ))
 }
 
-// what stands up to the next quotation mark that isn't escaped
+// the text up to the next quotation mark that isn't escaped
 fn quoted_text(alloc: Global, rest: &[u8]) -> Result<(Token, usize), Unread> {
     let mut text = Vec::new(alloc);
     let length = read_quoted(&mut text, rest)?;

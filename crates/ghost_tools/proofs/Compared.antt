@@ -32,7 +32,7 @@ only-halt at other event halts = here halts.0 halts.1 halts.2
     here zero within is = ap (λ (e : Stamped). e.event) is
     here (suc k) within is = absurd (omega arith)
 
--- an event that is no halt changes nothing
+-- an event that isn't a halt changes nothing
 quiet-next : (done : List Stamped) (before : End) (at : ℕ) (event : Observed) → (event ≡ Halted → ⊥) → Ends done before
     → Ends (done ++ seen_at at event ∷ []) before
 quiet-next done (end.Halted halt) at event quiet ends =
@@ -55,7 +55,7 @@ pub ends-next : (done : List Stamped) (before : End) (event : Recorded) → Ends
     → Ends (done ++ stamped_of event ∷ []) (end_after before event)
 ends-next done before event ends = ends-by done before event.stamp event.event ends
 
--- ---- the events behind those that are equal
+-- ---- the events after those that are equal
 
 behind-done : (done left : List Stamped) (event : Option Recorded) (after : List Stamped) → TakesNext left event after
     → slice_get (done ++ left) (length done) ≡ option_map stamped_of event

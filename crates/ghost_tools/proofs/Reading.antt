@@ -12,7 +12,7 @@ nothing-left : (waiting : List Recorded) (more : Bool) (later : List Stamped) �
 nothing-left waiting more later empty quiet =
     ap (λ l. map stamped_of l ++ cond more later []) empty ∙ ap (λ b. cond b later []) quiet
 
--- what is taken from the front of those that wait is the next event; where none waits and no more come, none is left
+-- the first of the waiting events is the next one; if none waits and no more follow, none is left
 pub takes-next : (before after : List Recorded) (event : Option Recorded) (more : Bool) (later : List Stamped)
     → before ≡ option_to_list event ++ after
     → (event ≡ None → before ≡ [])

@@ -14,13 +14,13 @@ abbrev pub Ends : List Stamped → End → Type 0
 Ends events (Halted at) = HaltsAt events at
 Ends events Spent = NoHalt events
 
--- the traces are equal, with so many events, and both runs end so
+-- the traces are equal, with this many events, and both runs end so
 pub record AreEqual (first second : List Stamped) (count : ℕ) (end : End) : Type 0 where
   pub same : first ≡ second
   pub counted : length first ≡ count
   pub ends : Ends first end
 
--- The traces are equal in so many events. The event behind these is another in each trace, or one trace has none.
+-- The first events of the traces, this many, are equal. The next event differs, or one trace has none.
 pub record DifferAfter (first second : List Stamped) (count : ℕ) : Type 0 where
   pub same : take count first ≡ take count second
   pub counted : length (take count first) ≡ count

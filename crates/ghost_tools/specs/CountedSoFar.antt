@@ -4,7 +4,7 @@ use Rattle.lt_isa.specs.Trace.{Stamped}
 use Rattle.ghost_tools.specs.Counting.{CountsEvents}
 use Rattle.ghost_tools.specs.declared.counting.Tally.{Tally}
 
--- the counts are those of a front of the trace, behind which these events are left
+-- the counts are those of a prefix of the trace, after which these events are left
 pub record CountedSoFar (events left : List Stamped) (tally : Tally) : Type 0 where
   pub done : List Stamped
   pub is : events ≡ done ++ left

@@ -23,8 +23,8 @@ observed_in owned.Halt = Halted
 abbrev pub stamped_of : Recorded → Stamped
 stamped_of event = seen_at event.stamp (observed_in event.event)
 
--- the events of what was told are recorded after those that were recorded before
--- (This and what follows is for the recorder's own contract.)
+-- the reported events are recorded after those that were recorded before (This and what follows is for the recorder's
+-- own contract.)
 abbrev pub Records : List Recorded → List WatcherTold → List Recorded → Type 0
 Records before told now = map stamped_of now ≡ map stamped_of before ++ events_in told
 

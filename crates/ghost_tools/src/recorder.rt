@@ -40,7 +40,7 @@ impl OwnedEvent {
         }
     }
 
-    /// What tells the event from others.
+    /// What distinguishes the event from others.
     pub(crate) fn parts(&self) -> EventParts<'_>
         ensures kind { result.kind ≡ kind_of (observed_in self.now) }
         ensures number { result.number ≡ number_of (observed_in self.now) }
@@ -84,7 +84,7 @@ pub struct Recorded {
     pub event: OwnedEvent,
 }
 
-/// A watcher that records the events that it is told, and passes over paths. It fails only if memory runs out.
+/// A watcher that records the events that it receives, and ignores paths. It fails only if memory runs out.
 #[derive(Drop)]
 pub(crate) struct Recorder {
     alloc: Global,

@@ -45,7 +45,7 @@ impl Rng for Octal {
     }
 }
 
-/// A bank of so many blocks of 8 words, each 0.
+/// A bank of this many blocks of 8 words, each 0.
 fn bank_of<R: Rng + Drop>(alloc: Global, words: R, blocks: usize) -> Result<PathOram<R>, Fail> {
     if blocks == 0 || blocks > 4096 {
         return Err(Fail::from("no such bank"));
@@ -77,8 +77,8 @@ fn holds<R: Rng + Drop>(bank: &PathOram<R>, level: u32, index: u32, block: u32) 
     false
 }
 
-/// What reading a block shows, and how three blocks stand then: their leaves, how many are in the stash, and each bucket
-/// of four leaves that holds one, as its level and number.
+/// What reading a block shows, and the state of three blocks afterwards: their leaves, how many are in the stash, and
+/// each bucket of four leaves that holds one, as its level and number.
 fn shown<R: Rng + Drop>(alloc: Global, bank: &mut PathOram<R>, at: u32) -> Result<String, Fail> {
     let (leaf, word) = read(bank, at)?;
     if bank.blocks() != 3 {
@@ -144,7 +144,7 @@ fn rearranged_words_show_the_same(rt: HostRuntime) -> Result<(), Fail> {
     Ok(())
 }
 
-/// How many blocks stay in the stash after an access, where all of so many have leaf 0.
+/// How many blocks stay in the stash after an access, if all of this many have leaf 0.
 fn left_over(alloc: Global, count: usize) -> Result<u32, Fail> {
     let mut bank = bank_of(alloc, Octal(0), count)?;
     read(&mut bank, 0)?;

@@ -9,8 +9,8 @@ use processor::{Machine, PlainBank, WatchFailed, load_start};
 use std::alloc::Global;
 use std::test::Fail;
 
-/// A watcher that keeps so many transfers, and fails at the next one: the core, the stamp, and the block of plain memory
-/// that was read.
+/// A watcher that keeps this many transfers, and fails at the next one: the core, the stamp, and the block of plain
+/// memory that was read.
 #[derive(Drop)]
 struct Marks {
     marks: Vec<(u8, u32, Option<u32>)>,
@@ -56,7 +56,7 @@ impl BusWatch for Marks {
     ghost same_through = { λ before between after first second. tt };
 }
 
-/// A watcher that was told nothing, with room for so many transfers.
+/// A watcher that has received nothing, with room for this many transfers.
 fn watcher_of(alloc: Global, room: usize) -> Marks
     ensures { result.whole ≡ true }
 {
@@ -129,8 +129,8 @@ fn reading(alloc: Global, window: &str) -> Result<Accepted, Fail> {
     )
 }
 
-/// Two cores on a bus, whose windows stand a thousand cycles apart: runs them for 5,000 cycles, or plays the turns,
-/// before a watcher with room for so many transfers. Answers what it was told, whether the bus is sound, and the halts.
+/// Two cores on a bus, whose windows are a thousand cycles apart: runs them for 5,000 cycles, or plays the turns, with
+/// a watcher that has room for this many transfers. Returns what it received, whether the bus is sound, and the halts.
 fn played(
     alloc: Global,
     turns: &[Turn],
@@ -145,7 +145,7 @@ fn played(
     Ok((watch.marks, sound, halts))
 }
 
-/// Whether a bus of these two cores is sound behind its turns, and the halts.
+/// Whether a bus of these two cores is sound after its turns, and the halts.
 fn ends_of(
     alloc: Global,
     turns: &[Turn],
@@ -161,7 +161,7 @@ fn ends_of(
     Ok((bus.sound(), halts))
 }
 
-/// Runs a bus of two cores for 5,000 cycles, or plays the turns, and answers their halts.
+/// Runs a bus of two cores for 5,000 cycles, or plays the turns, and returns their halts.
 fn halts_of(
     alloc: Global,
     turns: &[Turn],

@@ -117,7 +117,7 @@ fn constants(alloc: Global, count: usize, mask: u64) -> Result<Vec<Instr>, Fail>
     Ok(code)
 }
 
-// The microseconds of the check of a branch whose one arm has so many constants, chosen by a mask.
+// The microseconds of the check of a branch with this many constants in one arm, chosen by a mask.
 fn time_of(rt: &HostRuntime, count: u32, mask: u64) -> Result<u128, Fail>
     requires { count ≤ 65536 }
 {

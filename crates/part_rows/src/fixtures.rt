@@ -25,7 +25,7 @@ ldb 0 D r1
 halt
 ";
 
-/// The object that an assembly text spells.
+/// The object of an assembly text.
 pub(crate) fn object_of(alloc: Global, text: &str) -> Result<Object, Fail>
     ensures { IfOk result (λ object. SpellsInText text.now object) }
 {
@@ -38,7 +38,7 @@ pub(crate) fn object_of(alloc: Global, text: &str) -> Result<Object, Fail>
     }
 }
 
-/// The object that an assembly text spells, which the check has to accept.
+/// The object of an assembly text, which the check must accept.
 pub(crate) fn accepted_of(alloc: Global, text: &str) -> Result<Accepted, Fail>
     ensures spelled { IfOk result (λ accepted. SpellsInText text.now accepted) }
     ensures accepts { IfOk result (λ accepted. Accepts accepted) }
@@ -66,7 +66,7 @@ pub(crate) fn inputs_of(alloc: Global, accepted: &Accepted, json: &str) -> Resul
     }
 }
 
-/// The program that a source text spells.
+/// The program of a source text.
 pub(crate) fn program_of(alloc: Global, text: &[u8]) -> Result<Program, Fail> {
     if text.len() > 1_048_576 {
         return Err(Fail::from("a long text"));
@@ -80,7 +80,7 @@ pub(crate) fn program_of(alloc: Global, text: &[u8]) -> Result<Program, Fail> {
     }
 }
 
-/// The program that a source text spells, which has to be well typed and within the limits.
+/// The program of a source text, which must be well typed and within the limits.
 pub(crate) fn typed_of(alloc: Global, text: &[u8]) -> Result<Typed, Fail> {
     match type_program(alloc, program_of(alloc, text)?) {
         Ok(typed) => Ok(typed),

@@ -1,5 +1,5 @@
-//! Worked examples of the library crates, each a test of what a library call alone shows. What the whole program shows
-//! by words, files, statuses and texts is a case of ghost_rows. Nothing stands on this crate.
+//! Worked examples of the library crates, each a test of something that only a library call shows. What the whole
+//! program shows by words, files, statuses and texts is a case of ghost_rows. No crate depends on this one.
 #![tactic(auto)]
 
 #[cfg(test)]

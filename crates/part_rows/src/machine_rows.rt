@@ -25,7 +25,7 @@ halt
 
 type Ended = Result<End, WatchFailed>;
 
-/// How a run ends before a watcher of which the second call fails, and how many events it was told.
+/// How a run ends with a watcher whose second call fails, and how many events it received.
 fn watched(alloc: Global, accepted: &Accepted, inputs: &Inputs) -> Result<(Ended, usize), Fail>
     requires { FitsObject accepted.now inputs.now }
 {
@@ -69,7 +69,7 @@ fn variables_stand_at_their_places(rt: HostRuntime) -> Result<(), Fail> {
     Ok(())
 }
 
-/// Runs the object for so many cycles, and then to its halt; answers how many events were told by then and in all.
+/// Runs the object for this many cycles, and then to its halt; returns the number of events up to then and in all.
 fn cut_at(
     alloc: Global,
     accepted: &Accepted,

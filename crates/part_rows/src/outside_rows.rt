@@ -72,7 +72,7 @@ fn a_stuck_output_is_told_at_a_later_put_or_at_the_end(rt: HostRuntime) -> Resul
 
 type Put = Result<(), SinkFailed>;
 
-/// What a put comes to, the mark behind it, a flush, and a put of these bytes.
+/// The result of a put, the mark after it, a flush, and a put of these bytes.
 fn told(sink: &mut RealSink<Stuck>, long: &[u8]) -> (Put, usize, Put, Put) {
     let first = sink.put(b"a line\n");
     let mark = sink.mark();

@@ -47,7 +47,7 @@ fn read_between(alloc: Global, before: u32, after: u32) -> Result<Pattern, Fail>
     Ok(pattern)
 }
 
-// Two gaps, and behind them a read between gaps.
+// Two gaps, followed by a read between gaps.
 fn met_gaps(alloc: Global) -> Result<Pattern, Fail> {
     let read = read_between(alloc, 0, 3)?;
     let mut arm = Pattern::new(alloc);

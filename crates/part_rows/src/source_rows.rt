@@ -3,7 +3,7 @@ use src_tree::print;
 use std::alloc::Global;
 use std::test::Fail;
 
-// The text of the program that a text spells.
+// The text of the program that a text parses as.
 fn printed(alloc: Global, text: &[u8]) -> Result<Vec<u8>, Fail> {
     let program = program_of(alloc, text)?;
     match print(alloc, &program) {

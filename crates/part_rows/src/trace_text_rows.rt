@@ -39,7 +39,7 @@ const SPENT: &[u8] = b"0 O3\nend spent\n";
 
 const STORED: &[u8] = b"1 D r 0 0 0 0 0 0 0 0 0\n638 D w 0 7 0 0 0 0 0 0 0\n1272 H\nend halted\n";
 
-/// The text of the trace that a text spells, where a block has eight words.
+/// The text of the trace that a text encodes, if a block has eight words.
 fn rewritten(alloc: Global, text: &[u8]) -> Result<Vec<u8>, Fail> {
     if text.len() >= 1000 {
         return Err(Fail::from("too long"));

@@ -5,7 +5,7 @@ use recursive_oram::RecursiveOram;
 use std::alloc::Global;
 use std::test::Fail;
 
-/// A recursive bank of so many blocks of 8 words, each 0.
+/// A recursive bank of this many blocks of 8 words, each 0.
 fn recursive<R: Rng + Drop>(
     alloc: Global,
     words: R,
@@ -49,7 +49,7 @@ fn kept_above<R: Rng + Drop>(
 /// Blocks, and what is kept of each at the start.
 const KEPT: &[(u32, &str)] = &[(0, "3 1: 3 3"), (1, "3 1: 6 6"), (4, "3 1: 5 5")];
 
-/// Blocks that are read, what each read shows, and what is kept of the block behind it.
+/// Blocks that are read, what each read shows, and what is kept of the block after it.
 const READS: &[(u32, (u8, u32, u32, i64), &str)] = &[
     (4, (2, 0, 5, 0), "3 1: 2 2"),
     (4, (2, 1, 2, 0), "3 1: 7 7"),

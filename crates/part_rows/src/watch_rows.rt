@@ -3,7 +3,7 @@ use processor::{Leaves, ListWatch, NoWatch, PlainBank, Watch, WatchFailed, paths
 use std::alloc::Global;
 use std::test::Fail;
 
-/// A watcher that was told a read of plain memory, an oblivious access and its path.
+/// A watcher that has received a read of plain memory, an oblivious access and its path.
 fn told(alloc: Global) -> Result<ListWatch, Fail> {
     let mut watch = ListWatch::new(alloc, [3].to_vec(alloc)?, 2, 2)?;
     watch.seen(0, &Event::RamRead(4, [-5, 6].as_slice()))?;
