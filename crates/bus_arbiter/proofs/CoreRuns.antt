@@ -1,4 +1,4 @@
--- One core's runs, one behind the other.
+-- One core's runs, in sequence.
 use Rattle.std.proofs.Common.{◌≡◌, ℕ, ◌≤◌, max, List, [], ◌++◌, Option, Some, None, refl, sym, ap, ◌∙◌, subst, ⊎_elim, arith}
 use Rattle.std.proofs.lemmas.List.{append-nil}
 use Rattle.std.proofs.lemmas.List.Elements.{Contains-append_right}
@@ -253,7 +253,7 @@ module _ {B : Type 0} (c d e : Core B) (m n to : ℕ) (range : IsInRange c.machi
         first-halts 0 c d m n range shaped stamp (sym (ap (λ (x : Core B). x.halted) last) ∙ halted) first;
   }
 
-  -- the second run goes on from where the first was spent
+  -- the second run continues from where the first was spent
   way-on : d.halted ≡ None → RanTo c m d → StoppedBy d n e → StoppedBy c to e
   way-on on first second =
       ⊎_elim

@@ -101,7 +101,7 @@ pub record Moves (o : Parts) (k from : ℕ) (t : Transfer) : Type 0 where
 abbrev pub Ending : Parts → Transfer → ℕ
 Ending o t = t.stamp + latency_of o (bank_used t.event)
 
--- the transfer of a step that goes on
+-- the transfer of a step after which the run continues
 step-moves : (o : Parts) → IsInRange o → (s : State) → IsShaped o s → (event : Option Observed) (next : State)
     → step o s ≡ Goes event next → (k : ℕ) (t : Transfer)
     → Contains (transfers_of k (stamped (step_start o s) event)) t

@@ -1,4 +1,4 @@
--- The joined list of the cores that stand on a bus is the one that is worked out.
+-- The joined list of the cores of a bus is the computed one.
 use Rattle.std.proofs.Common.{◌≡◌, ℕ, zero, suc, List, [], ◌∷◌, length, map, Option, Some, None, refl, sym, ap, ap₂, subst, arith}
 use Rattle.std.specs.Prelude.{slice_get}
 use Rattle.bus_arbiter.specs.declared.shares.Share.{Share}

@@ -1,4 +1,4 @@
--- What is told of a run of a core's machine.
+-- What a run of a core's machine reports.
 use Rattle.std.proofs.Common.{◌≡◌, ℕ, List, ap, subst}
 use Rattle.lt_isa.specs.Object.{Parts}
 use Rattle.lt_isa.specs.Machine.{State}
@@ -24,7 +24,7 @@ module _ {B : Type 0} (shows : B → List ℕ → List Leaves) (o : Parts) (s : 
       → TellsOn before now (transfers_of core (trace_from o s n))
   run-told before now heard = subst (TellsOn before now) shown-moves heard
 
-  -- the watcher that heard a front is given by its core and by what it tells
+  -- the watcher that heard a prefix is given by its core and by what it reports
   pub run-failed : {W : Type 0} (hears : W → List WatcherTold → W → Type 0) (was is : W)
       (before now : List Transfer → Type 0) (torn : Transfer → Type 0) (torn_now : WatcherTold → Type 0)
       → ((told : List WatcherTold) → hears was told is → HearsMoves core before told now)

@@ -11,7 +11,7 @@ use Rattle.bus_arbiter.proofs.TransferLists.{transfers_of-append}
 
 -- ---- one call
 
--- a transfer was told
+-- a transfer was reported
 pub event-heard : (before now : List Transfer → Type 0) (core at : ℕ) (event seen : Observed) → seen ≡ event
     → transfer_of core at event ≡ moved_by core at event ∷ [] → TellsOn before now (moved_by core at seen ∷ [])
     → HearsMoves core before (AnEvent (seen_at at seen) ∷ []) now
@@ -21,7 +21,7 @@ event-heard before now core at event seen is one tells =
     ∙ ap (λ e. moved_by core at e ∷ []) (sym is)))
     tells
 
--- a halt is told, which is no transfer
+-- a halt is reported, which isn't a transfer
 pub halt-heard : (tells : List Transfer → Type 0) (core at : ℕ) (seen : Observed) → seen ≡ Halted
     → HearsMoves core tells (AnEvent (seen_at at seen) ∷ []) tells
 halt-heard tells core at seen is =

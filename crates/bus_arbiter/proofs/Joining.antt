@@ -1,4 +1,4 @@
--- All cores of a bus, run window by window: what is told is the joined list.
+-- All cores of a bus, run window by window: what is reported is the joined list.
 use Rattle.std.proofs.Common.{◌≡◌, ◌≢◌, ℕ, zero, suc, ◌<◌, ◌≤◌, max, List, [], ◌∷◌, ◌++◌, length, Contains, Option, Some, None, refl, sym, ap, ◌∙◌, subst, ⊎_elim, arith, append_assoc}
 use Rattle.std.specs.Prelude.{slice_get, slice_set, slice_index_or}
 use Rattle.std.proofs.lemmas.List.{append-nil, length-map, get_or-map}
@@ -23,7 +23,7 @@ use Rattle.bus_arbiter.proofs.Plays.{get-set_other, get-set_same, length-put, ot
 
 -- ---- one core
 
--- whatever a core shows, a run of its object shows, if it hasn't halted
+-- anything that a core shows, a run of its object shows, if it hasn't halted
 pub shown-live : {B : Type 0} (k : ℕ) (c : Core B) (n : ℕ) (t : Transfer) → Contains (shows_to k c n) t
     → (c.halted ≡ None) × Contains (transfers_of k (trace_to c n)) t
 shown-live k c n t found = by c.halted refl
@@ -174,7 +174,7 @@ module _ {B : Type 0} (before between after : List (Core B)) (told : List Transf
         left = on.left;
       }
 
-  -- what is told now was left before, and starts in time
+  -- what is reported now was left before, and starts in time
   new-left : (t : Transfer) → Contains new t → Contains (shows_to core was n) t
   new-left t found = subst (λ l. Contains l t) (sym parts) (Contains-append_left new (shows_to core now n) t found)
 

@@ -1,4 +1,4 @@
--- Cores that are run in turns, and what is told of each.
+-- Cores that are run in turns, and what is reported of each.
 use Rattle.std.proofs.Common.{◌≡◌, ◌≢◌, ℕ, zero, suc, ◌+◌, ◌<◌, ◌≤◌, max, cond, ◌==◌, List, [], ◌∷◌, ◌++◌, length, get_or, drop, Contains, Option, Some, None, ◌⊎◌, inl, inr, refl, sym, ap, ◌∙◌, subst, ⊎_elim, arith, append_assoc}
 use Rattle.std.specs.Prelude.{slice_get, slice_set}
 use Rattle.std.proofs.lemmas.List.{append-nil, drop_all}
@@ -36,7 +36,7 @@ length-put [] k x = refl
 length-put (y ∷ ys) zero x = refl
 length-put (y ∷ ys) (suc k) x = ap suc (length-put ys k x)
 
--- ---- what is told of a core
+-- ---- what is reported of a core
 
 shows-core : {B : Type 0} (k : ℕ) (c : Core B) (n : ℕ) (t : Transfer) → Contains (shows_to k c n) t → t.core ≡ k
 shows-core k c n t = by c.halted
@@ -221,7 +221,7 @@ plays-all before now all was is_told done = (
     same : (k : ℕ) → done.to k ≡ until all k
     same k = omega (arith, done.rest k)
 
--- what is shown up to a cycle is a front of what is shown up to a later one
+-- what is shown up to a cycle is a prefix of what is shown up to a later one
 pub shows-front : {B : Type 0} (k : ℕ) (c : Core B) (m n : ℕ) → m ≤ n → IsInRange c.machine.object
     → IsShaped c.machine.object c.machine.state
     → (rest : List Transfer) × (shows_to k c n ≡ shows_to k c m ++ rest)

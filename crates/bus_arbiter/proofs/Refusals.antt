@@ -45,7 +45,7 @@ apart-false s t one other apart = by (meets s t) refl
 
 -- ---- what is worked out
 
--- what an answer says
+-- the meaning of a result
 abbrev pub Judged : List Share → Share → Option BusError → Type 0
 Judged plan s None = PlanTakes plan s
 Judged plan s (Some cause) = PlanRefuses plan s cause
@@ -153,7 +153,7 @@ module _ (plan : List Share) (s : Share) (all : EachFits plan) (fits : ShareFits
       by false is =
           after-window (λ one. false≢true (sym is ∙ eq-eqb s.period 1 one)) (of_period plan s) (periods-judged plan s)
 
-  -- ---- one answer alone
+  -- ---- only one result
 
   never-both-judged : PlanTakes plan s → (cause : BusError) → PlanRefuses plan s cause → ⊥
   never-both-judged takes NoWindow is = takes.windowed is

@@ -235,7 +235,7 @@ module _ {B : Type 0} (between : List (Core B)) (at to m n core : ℕ)
     (is_told tells_now : List Transfer → Type 0) (torn : Transfer → Type 0)
     (failed : FailedAt is_told tells_now torn (shows_to core c m)) (first : List (Core B)) (told : List Transfer)
     (so_far : JoinedSoFar first between told at n) where
-  -- what the core shows up to the slot's end, and behind it
+  -- what the core shows up to the slot's end, and after it
   behind : (rest : List Transfer) × (shows_to core c n ≡ shows_to core c m ++ rest)
   behind = shows-front core c m n m_by (stand core c there).0 (stand core c there).1
 
@@ -266,7 +266,7 @@ module _ {B : Type 0} (between : List (Core B)) (at to m n core : ℕ)
   part-late : (t : Transfer) → Contains part t → at ≤ t.stamp
   part-late t found = so_far.late core c there t (part-shown t found)
 
-  -- what is told or torn starts in the slot
+  -- what is reported or fails starts in the slot
   part-early : (t : Transfer) → Contains part t → t.stamp < m
   part-early t found =
       let shown : Contains (shows_to core c m) t =
@@ -477,7 +477,7 @@ join-failed before n was is_told torn live failed joined is =
       at = failed.at;
     }
 
--- nothing was told yet, and more is told
+-- nothing was reported yet, and more is reported
 pub joined-first : {B : Type 0} (cores : List (Core B)) (n : ℕ) (tells : List Transfer → Type 0)
     → ((k : ℕ) (c : Core B) → slice_get cores k ≡ Some c
     → IsInRange c.machine.object × IsShaped c.machine.object c.machine.state)

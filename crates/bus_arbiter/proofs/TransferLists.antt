@@ -55,7 +55,7 @@ has-transfer k at (EncWrite block) other = in-here _ []
 has-transfer k at (Oram bank) other = in-here _ []
 has-transfer k at Halted other = absurd (other refl)
 
--- a core's transfers are its events that are no halt
+-- a core's transfers are its events that aren't a halt
 pub record IsShownAs (k : ℕ) (es : List Stamped) (t : Transfer) : Type 0 where
   pub core : t.core ≡ k
   pub shown : Contains es (seen_at t.stamp t.event)
@@ -172,8 +172,8 @@ rise-between (x ∷ ts) us rises t u ct cu =
     (λ rest. rise-between ts us rises.1 t u rest cu)
     (in-cases x ts t ct)
 
--- Of a list with rising stamps others are the front: their stamps rise too, they are all in it, and whatever else is in
--- it is behind them all.
+-- If others are a prefix of a list with rising stamps, their stamps rise too, they are all in it, and anything else in
+-- it comes after them all.
 pub rise-begins : (ts us : List Transfer) → Rise ts → Rise us → ((u : Transfer) → Contains us u → Contains ts u)
     → ((t : Transfer) → Contains ts t → Contains us t ⊎ ((u : Transfer) → Contains us u → u.stamp < t.stamp))
     → (rest : List Transfer) × (ts ≡ us ++ rest)

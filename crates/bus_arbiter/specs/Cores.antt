@@ -34,7 +34,7 @@ trace_to c n = trace_from c.machine.object c.machine.state n
 abbrev pub traces_to : {B : Type 0} → List (Core B) → ℕ → List (List Stamped)
 traces_to cores n = map (λ c. trace_to c n) cores
 
--- what is told of core k where it runs up to cycle n: nothing where it has halted before
+-- what is reported of core k when it runs up to cycle n: nothing if it has halted before
 abbrev pub shown_if : Option ℕ → List Transfer → List Transfer
 shown_if None transfers = transfers
 shown_if (Some at) transfers = []
@@ -73,7 +73,7 @@ OnItsWayIf (Some at) before n after = after ≡ before
 abbrev pub OnItsWay : {B : Type 0} → Core B → ℕ → Core B → Type 0
 OnItsWay before n after = OnItsWayIf before.halted before n after
 
--- a core stands on the bus with its share
+-- a core is on the bus with its share
 pub record Stands {B : Type 0} (c : Core B) (s : Share) : Type 0 where
   pub in_range : IsInRange c.machine.object
   pub shaped : IsShaped c.machine.object c.machine.state

@@ -44,8 +44,9 @@ pub record ShareFits (s : Share) : Type 0 where
   pub some : 1 ≤ s.longest
   pub most_longest : s.longest ≤ most_latency
 
--- What a plan wants of the share of its next core: a window (in a period of one cycle memory is always open), the
--- period of the others, an end within the period, and a reach that meets none of the first so many cores'.
+-- What a plan requires of the share of its next core: a window (in a period of one cycle memory is always open), the
+-- period of the others, an end within the period, and a reach that has no cycle in common with those of this many first
+-- cores.
 abbrev pub HasWindow : Share → Type 0
 HasWindow s = s.period ≢ 1
 
@@ -76,8 +77,8 @@ PlanRefuses plan s (Overlap core) =
     × IsApartFrom plan core s
 PlanRefuses plan s Memory = ⊥
 
--- Shares that stand side by side on one bus: each has a window of one period, its reach ends within it, and the
--- reaches of two cores have no cycle in common.
+-- Shares that fit on one bus: each has a window of one period, its reach ends within it, and the reaches of two cores
+-- have no cycle in common.
 pub record IsPlan (plan : List Share) : Type 0 where
   pub count : length plan ≤ 8
   pub fits : (k : ℕ) → k < length plan → ShareFits (share_at plan k)

@@ -51,7 +51,7 @@ abbrev pub Rise : List Transfer → Type 0
 Rise [] = Unit {0}
 Rise (t ∷ ts) = ((later : Transfer) → Contains ts later → t.stamp < later.stamp) × Rise ts
 
--- a transfer stands in the trace of its core
+-- a transfer is in the trace of its core
 pub record IsTransferIn (traces : List (List Stamped)) (t : Transfer) : Type 0 where
   pub core : t.core < length traces
   pub shown : Contains (slice_index_or traces t.core []) (seen_at t.stamp t.event)
@@ -62,7 +62,7 @@ pub record IsJoined (traces : List (List Stamped)) (joined : List Transfer) : Ty
   pub rises : Rise joined
   pub each : (t : Transfer) → Contains joined t ↔ IsTransferIn traces t
 
--- The joined list, worked out: all transfers, each put in its place by its stamp.
+-- The joined list, computed: all transfers, each inserted by its stamp.
 abbrev pub all_transfers : ℕ → List (List Stamped) → List Transfer
 all_transfers k [] = []
 all_transfers k (es ∷ traces) = transfers_of k es ++ all_transfers (k + 1) traces

@@ -27,8 +27,8 @@ pub record Turned {B : Type 0} (before after : List (Core B)) (core to : ℕ) (t
   pub left : LeftAt was to now
   pub told : tells (shows_to core was to)
 
--- A watcher failed while cores were run, each up to its own cycle: what it was told of each is a front of what that
--- shows, and it is torn at the next transfer of some core.
+-- A watcher failed while cores were run, each up to its own cycle: it received a prefix of what each shows, and failed
+-- at the next transfer of some core.
 pub record PlayFailed {B : Type 0} (was is_told : List Transfer → Type 0) (torn : Transfer
     → Type 0) (before : List (Core B)) (to : ℕ → ℕ) : Type 0 where
   pub told : List Transfer

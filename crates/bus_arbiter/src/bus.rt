@@ -53,8 +53,8 @@ impl<'a, B: Bank + Drop> Bus<'a, B> {
         }
     }
 
-    /// How many machines have entered. Each stands on the bus with the share of the plan at its place, and none has
-    /// halted while no core was run.
+    /// The number of machines that have entered. Each is on the bus with the share of the plan at its place, and none
+    /// has halted as long as no core was run.
     pub fn entered(&self) -> u8
         ensures count { result ≡ length self.now.cores }
         ensures plan { IsPlan self.now.plan }
@@ -128,8 +128,8 @@ impl<'a, B: Bank + Drop> Bus<'a, B> {
         self.seats[core as usize].machine.outputs(alloc)
     }
 
-    /// Runs cores on turn by turn, each up to the cycle of its turn. The watcher is told of each core's transfers in
-    /// order. If it fails, each core keeps its object and is in a state of its own run. Allocates no memory.
+    /// Runs cores turn by turn, each up to the cycle of its turn. The watcher receives each core's transfers in order.
+    /// If it fails, each core keeps its object and is in a state of its own run. Allocates no memory.
     pub fn play<W: BusWatch>(&mut self, turns: &[Turn], watch: &mut W) -> Result<(), WatchFailed>
         requires all { length self.old.cores ≡ length self.old.plan }
         requires sound { IsTrue self.old.sound }

@@ -9,10 +9,10 @@ ghost use Rattle.bus_arbiter.specs.Transfers.{IsJoined, Transfer, joined_of, of_
 ghost use Rattle.bus_arbiter.specs.declared.errors.BusError.{BusError};
 ghost use Rattle.bus_arbiter.specs.declared.shares.Share.{Share};
 
-/// Does nothing; its clauses are the laws of a bus. Runs that a plan has taken have one joined list, the one that is
-/// worked out, in no cycle are two of its transfers on the bus, and a core's part of it is what that core's run shows
-/// alone. Inputs that agree give the same traces, so the joined lists and the halts are the same too. And a plan takes
-/// a share, or refuses it for one cause, the one that is worked out.
+/// Does nothing; its clauses are the laws of a bus. Runs that a plan has taken have one joined list, the computed one;
+/// in no cycle are two of its transfers on the bus; and a core's part of it is what that core's run shows without the
+/// others. Inputs that agree give the same traces, so the joined lists and the halts are the same too. And a plan takes
+/// a share, or refuses it for one cause, the computed one.
 pub fn bus_laws()
     ensures none_overlap { (runs : List Run)
         → AreOnBus runs

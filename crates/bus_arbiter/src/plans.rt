@@ -75,7 +75,7 @@ impl Plan {
         }
     }
 
-    /// The cycles of a period, or 1 where there is no core.
+    /// The cycles of a period, or 1 if there are no cores.
     pub(crate) fn period(&self) -> u32
         ensures period { 0 < length self.now → result ≡ (share_at self.now 0).period }
         ensures some { 1 ≤ result }

@@ -33,7 +33,7 @@ impl Share {
     }
 }
 
-/// The cycle of a period behind the last one in which a transfer of this share may be on the bus.
+/// The cycle of a period after the last one in which a transfer of this share may be on the bus.
 pub(crate) fn end(share: &Share) -> u32
     requires { ShareFits share.now }
     ensures { result ≡ end_of share.now }

@@ -1,4 +1,4 @@
--- What is put for people: nothing that a terminal acts on but ends of lines. (This project's profile.)
+-- An explanation has nothing that a terminal acts on except ends of lines. (This project's profile.)
 use Rattle.std.specs.Prelude.{◌≡◌, ℕ, ◌≤◌, ◌⊎◌}
 
 -- a printable ASCII character, or a line feed

@@ -1,7 +1,7 @@
 //! Where the two ways through a branch on a secret first differ.
 //!
-//! The ways are followed side by side, access by access. Values are told apart by hashes, so what is said here is a hint:
-//! whether the ways differ is the check's to say.
+//! The ways are followed side by side, access by access. Values are distinguished by hashes, so the words are a hint:
+//! whether the ways differ is the check's verdict.
 
 use crate::refusals::{Refused, bank_of, is_secret};
 use crate::words::Words;
@@ -104,7 +104,7 @@ impl Way {
         }
     }
 
-    // The access of an instruction, and what is known behind it.
+    // The access of an instruction, and what is known after it.
     fn access_of(&mut self, instr: Instr) -> Option<Access> {
         match instr {
             Instr::Ldb { slot, bank, reg } => {
@@ -117,7 +117,7 @@ impl Way {
         }
     }
 
-    // What is known behind an instruction that accesses no memory.
+    // What is known after an instruction that accesses no memory.
     fn follow(&mut self, instr: Instr) {
         match instr {
             Instr::Li { rd, value } => self.hold(rd, Some(constant(value))),

@@ -1,4 +1,4 @@
-//! Why an assembly text spells no object.
+//! Why an assembly text isn't an object.
 
 use crate::nearest::Nearest;
 use crate::texts::{Source, is_word_of, length_up_to, line_of, line_start, piece, spot_at};
@@ -10,7 +10,7 @@ use std::alloc::Global;
 /// The most bytes of an assembly text.
 const TEXT_BYTES: usize = 67_108_864;
 
-/// Explains why an assembly text spells no object.
+/// Explains why an assembly text isn't an object.
 pub(crate) fn explain_assembly(alloc: Global, name: &str, text: &[u8], out: &mut Words) {
     if text.len() > TEXT_BYTES {
         return;
@@ -77,7 +77,7 @@ fn explain_line(
     source.put(start.saturating_add(indent), what, hint, out)
 }
 
-// What bytes are that no text has, and how that is mended.
+// What the bytes are that no text has, and how to fix it.
 fn of_foreign(bytes: &[u8]) -> (&'static str, &'static str) {
     match bytes {
         [b'\r', ..] => (
@@ -186,7 +186,7 @@ const FORMS: &[(&str, &str)] = &[
     ),
 ];
 
-// The form of the line that begins with a word, within the text or behind it.
+// The form of the line that begins with a word, within the text or after it.
 fn form_of(word: &[u8], is_within: bool) -> &'static str {
     for (words, form) in FORMS {
         if is_word_of(words, word) {

@@ -7,8 +7,8 @@ use crate::words::Words;
 use gr_base::Memory;
 use std::alloc::Global;
 
-/// What is meant by some texts: the first words of the statement and the token before it, each one of some words, or any
-/// where there is no word; the texts, of which the file continues with one; and how it is said here.
+/// What is meant by some texts: the first words of the statement and the token before it, each one of some words, or
+/// any if there is no word; the texts, of which the file continues with one; and how to write it here.
 type Text = [&'static str; 4];
 
 const LISTS: &str =
@@ -142,7 +142,7 @@ fn begins_with(words: &str, text: &[u8]) -> bool {
     false
 }
 
-// What is meant by the rest of a text, behind the tokens before it.
+// What is meant by the rest of a text, after the tokens before it.
 fn said_of(alloc: Global, tokens: Tokens<'_>, rest: &[u8]) -> Result<&'static str, Memory> {
     let end = tokens.all.len();
     if begins_with(",", rest)

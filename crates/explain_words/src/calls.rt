@@ -1,4 +1,4 @@
-//! A call of the program that met a fault: which of its files are read again, and what is said of each.
+//! A call of the program that met a fault: which of its files are read again, and the words about each.
 
 ghost use Rattle.std.specs.Prelude.{◌≤◌, IfOk, IfSome, All};
 ghost use Rattle.gr_word.specs.Fitting.{AreVariables};
@@ -31,7 +31,7 @@ pub enum Kind {
 }
 
 impl Kind {
-    // The kind of file that a word of a verb's line stands for.
+    // The kind of file that a word of a verb's line names.
     fn named(word: &str) -> Option<Kind> {
         match word {
             "OBJ" => Some(Kind::Object),
@@ -91,7 +91,7 @@ impl<'a, 'b> Call<'a, 'b> {
         })
     }
 
-    /// The words that stand in their places, behind the verb.
+    /// The positional words after the verb.
     pub fn placed(&self) -> &[&'a str] {
         self.sorted.placed.as_slice()
     }
@@ -164,7 +164,7 @@ impl<'a, 'b> Call<'a, 'b> {
         }
     }
 
-    // What is wrong with a file alone.
+    // The fault of a file by itself.
     fn explain_one(&self, alloc: Global, file: &File<'_>, out: &mut Words) {
         let name = file.name;
         let bytes = file.bytes;
@@ -191,7 +191,7 @@ impl<'a, 'b> Call<'a, 'b> {
         }
     }
 
-    // The first inputs that don't fit what stands before them.
+    // The first inputs that don't fit the file before them.
     fn explain_pairs(&self, alloc: Global, files: &[File<'_>], out: &mut Words) {
         for (first, second) in files.iter().zip(files.iter().skip(1)) {
             if out.is_empty() && matches!(second.kind, Kind::Inputs) {

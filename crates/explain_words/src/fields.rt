@@ -1,4 +1,4 @@
-//! Which field of an object file stands at a byte.
+//! The field of an object file at a byte.
 
 use crate::texts::piece;
 
@@ -83,7 +83,7 @@ fn bank_field(ahead: usize) -> Field {
     field_of("the latency of bank", "1 to 1,000,000 cycles", number)
 }
 
-// A field from the symbols on; they begin behind their number.
+// A field from the symbols on; they begin after their number.
 fn symbol_field(bytes: &[u8], at: usize, symbols: usize) -> Field {
     let mut start = symbols.saturating_add(2);
     for number in 0..number_at(bytes, symbols, 2) {
@@ -131,7 +131,7 @@ fn field_of_symbol(at: usize, start: usize, place: usize, number: usize) -> Fiel
     field_of(name, allowed, Some(number))
 }
 
-// A field from the notes on; they begin behind their number.
+// A field from the notes on; they begin after their number.
 fn note_field(bytes: &[u8], at: usize, notes: usize) -> Field {
     let start = notes.saturating_add(4);
     let code = number_at(bytes, notes, 4)

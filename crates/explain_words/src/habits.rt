@@ -4,9 +4,9 @@ use crate::texts::is_word_of;
 use crate::tokens::Tokens;
 use crate::wanted::Wanted;
 
-/// A habit, by the tokens around one that can't stand: the first of its statement, the one before it, itself, and the one
-/// behind it, each one of some words, or any where there is no word; what could have stood there, or whatever; and how
-/// what the habit would say is said here.
+/// A habit of another language, by the tokens around an unexpected one: the first of its statement, the one before it,
+/// itself, and the one after it, each one of some words, or any if there is no word; the tokens expected there, or any;
+/// and how to write here what was meant.
 type Habit = [&'static str; 6];
 
 /// Words of other languages for output.
@@ -16,7 +16,7 @@ pub(crate) const PRINTING: &str = "print printf println puts putchar echo write 
 pub(crate) const OUTPUT: &str =
     "A program prints nothing: the final values of its variables are its output, which `eval` and `run` write.";
 
-/// What stands for a loop that counts.
+/// How to write a loop that counts.
 pub(crate) const FOR: &str = "There is no `for`: write `i = 0; while (i < n) { .. i = i + 1; }`.";
 
 const HABITS: &[Habit] = &[
@@ -543,7 +543,7 @@ fn sentence_of(
     None
 }
 
-/// How what is meant is said here, if a habit is known that leads to a token that isn't wanted there.
+/// How to write here what was meant, if a known habit leads to the unexpected token.
 pub(crate) fn said_here(tokens: Tokens<'_>, at: usize, wanted: &Wanted) -> Option<&'static str> {
     sentence_of(HABITS, tokens, at, wanted)
 }

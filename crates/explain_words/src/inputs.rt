@@ -24,7 +24,7 @@ use src_procs::inline;
 use src_tree::Program;
 use std::alloc::Global;
 
-/// The variables of the object that a file spells.
+/// The variables of a file's object.
 pub(crate) fn variables_of_object(alloc: Global, bytes: &[u8]) -> Option<Vec<Want>>
     ensures { IfSome result (λ wants. AreVariables wants.items) }
 {
@@ -34,7 +34,7 @@ pub(crate) fn variables_of_object(alloc: Global, bytes: &[u8]) -> Option<Vec<Wan
     }
 }
 
-/// The variables of the program that a source spells. `has_procs` says whether it may have procedures.
+/// The variables of a source's program. `has_procs` says whether it may have procedures.
 pub(crate) fn variables_of_source(alloc: Global, text: &[u8], has_procs: bool) -> Option<Vec<Want>>
     ensures { IfSome result (λ wants. AreVariables wants.items) }
 {
@@ -225,7 +225,7 @@ fn nearest_variable<'a>(
     Ok(nearest.found())
 }
 
-// The item of a list of the right length that is no word, by its number.
+// The number of the item that isn't a word, in a list of the right length.
 fn faulty_item(want: &Want, value: &Value) -> Option<usize> {
     let items = value.as_array()?;
     if want.shape == Shape::Scalar || items.len() != want.length as usize {

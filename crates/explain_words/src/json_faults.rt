@@ -4,7 +4,7 @@ use crate::texts::{is_word_of, length_up_to, piece};
 use gr_base::Memory;
 use std::alloc::Global;
 
-/// Why a text is no JSON value from a byte on; and the bracket or quotation mark that is still open, if one matters.
+/// Why a text isn't a JSON value from a byte on; and the bracket or quotation mark that is still open, if one matters.
 #[derive(Clone, Copy)]
 pub(crate) struct JsonFault {
     pub at: usize,

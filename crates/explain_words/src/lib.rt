@@ -1,10 +1,10 @@
-//! Words for people: what a fault of a file means, where it stands, and how it is mended.
+//! Explanations: what a fault of a file means, where it is, and how to fix it.
 //!
 //! A [`Call`] of the program met a fault. From the bytes of its files ([`File`]) the first fault is found again, by the
-//! libraries that the program stands on, and some lines are said of it: the place, what is wrong there, the line with a
-//! caret below it, and what to write instead. Where no fault is found, nothing is said. The words are tested and no
-//! contract fixes them; what is proved is that each call ends, is safe, names places within the file, and puts nothing
-//! that a terminal acts on.
+//! libraries that the program is built from, and some lines explain it: the place, the reason, the line with a caret
+//! below it, and what to write instead. If no fault is found, nothing is printed. The words are tested and no contract
+//! fixes them; it is proved that each call ends, is safe, names places within the file, and prints nothing that a
+//! terminal acts on.
 #![tactic(auto)]
 
 mod arms;

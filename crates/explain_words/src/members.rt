@@ -1,8 +1,8 @@
-//! Where a member of a JSON object stands in its text.
+//! Where a member of a JSON object is in its text.
 
 use crate::texts::piece;
 
-/// What stands around a byte of a JSON text: how deep it lies, and whether it is in a string, behind a backslash.
+/// The context of a byte of a JSON text: its depth, and whether it is in a string, after a backslash.
 #[derive(Clone, Copy)]
 struct Walk {
     depth: usize,
@@ -32,7 +32,7 @@ impl Walk {
     }
 }
 
-// Whether a member of this name begins at a byte: the name in quotation marks, and behind them a colon.
+// Whether a member of this name begins at a byte: the name in quotation marks, followed by a colon.
 fn is_member(text: &[u8], at: usize, name: &[u8]) -> bool {
     let start = at.saturating_add(1);
     if piece(text, start, name.len()) != name {
@@ -48,7 +48,7 @@ fn is_white(byte: u8) -> bool {
     matches!(byte, b' ' | b'\t' | b'\n' | b'\r')
 }
 
-// Whether a colon stands there, behind white space.
+// Whether a colon follows there, after white space.
 fn begins_value(text: &[u8]) -> bool {
     for byte in text {
         if !is_white(*byte) {

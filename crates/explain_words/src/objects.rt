@@ -1,4 +1,4 @@
-//! Why a file spells no object.
+//! Why a file isn't an object.
 
 ghost use Rattle.std.specs.Prelude.{◌≤◌, length};
 
@@ -13,7 +13,7 @@ use std::alloc::Global;
 /// The most bytes of an object file.
 const OBJECT_BYTES: usize = 33_554_432;
 
-/// The object that a file spells, if it spells one.
+/// The object that a file encodes, if it encodes one.
 pub(crate) fn object_in(alloc: Global, bytes: &[u8]) -> Option<Object> {
     if bytes.len() > OBJECT_BYTES {
         return None;
@@ -21,7 +21,7 @@ pub(crate) fn object_in(alloc: Global, bytes: &[u8]) -> Option<Object> {
     decode(alloc, bytes).ok()
 }
 
-/// Explains why a file spells no object.
+/// Explains why a file isn't an object.
 pub(crate) fn explain_file(alloc: Global, name: &str, bytes: &[u8], out: &mut Words) {
     if bytes.len() > OBJECT_BYTES {
         return;
@@ -61,7 +61,7 @@ fn put_fault(bytes: &[u8], fault: DecodeError, out: &mut Words) {
     }
 }
 
-// A place that lies within the file, or at its end.
+// A place that is within the file, or at its end.
 fn place_in(bytes: &[u8], at: usize) -> usize
     ensures { result ≤ length bytes.now }
 {

@@ -23,7 +23,8 @@ const NOTHING_KNOWN: Note = Note {
     slots: [255; 8],
 };
 
-/// What is known at a place, in the form of a note, and the branch whose region the place lies in, if it lies in one.
+/// What is known at a place, in the form of a note, and the branch of the region that contains the place, if there is
+/// one.
 #[derive(Clone, Copy)]
 struct Standing {
     known: Note,
@@ -38,7 +39,7 @@ pub(crate) struct Refused<'a> {
     pub listing: &'a [u8],
 }
 
-/// Explains why the object that a file spells is refused.
+/// Explains why a file's object is rejected.
 pub(crate) fn explain_refusal(alloc: Global, name: &str, bytes: &[u8], out: &mut Words) {
     let Some(object) = object_in(alloc, bytes) else {
         return;
@@ -97,7 +98,7 @@ impl Refused<'_> {
         }
     }
 
-    // Why there are no notes.
+    // Why an object has no least notes.
     fn put_lack(&self, fault: InferError, out: &mut Words) {
         match fault {
             InferError::Memory => out.starve(),
@@ -203,7 +204,7 @@ fn bind(known: &mut Note, slot: u8, bank: u8) {
     }
 }
 
-// What is known behind an instruction of public code.
+// What is known after an instruction of public code.
 fn step(known: &mut Note, instr: Instr) {
     match instr {
         Instr::Li { rd, .. } => label_register(known, rd, false),
@@ -232,7 +233,7 @@ fn note_at(object: &Object, place: usize) -> Option<Note> {
     if note.pc == place { Some(note) } else { None }
 }
 
-// Where the branch at a place, if it is one on a secret, leads on by its region: what is known at the join.
+// The join of the region of the branch at a place, if it is one on a secret, and what is known there.
 enum Led {
     On,
     Joins(usize, Note),
@@ -268,7 +269,7 @@ fn led_from(
     }
 }
 
-// What is known at a place of the code that the check comes to, before the note there.
+// What is known at a place of the code that the check reaches, before the note there.
 fn standing_at(alloc: Global, object: &Object, place: usize) -> Result<Standing, Memory> {
     let mut shared = RegionValues::new();
     standing_behind(alloc, object, &mut shared, place)
@@ -359,7 +360,7 @@ fn put_slot(known: &Note, slot: u8, out: &mut Words) {
     }
 }
 
-// The place that an instruction leads to, which may lie outside the code.
+// The place that an instruction leads to, which may be outside the code.
 fn target_of(place: usize, instr: Instr) -> i64 {
     let offset = match instr {
         Instr::Jmp { offset } => offset,

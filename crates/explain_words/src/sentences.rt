@@ -19,7 +19,7 @@ pub(crate) fn of_limit(limit: Which) -> &'static str {
     }
 }
 
-/// What a reason of the check means, and how it is mended.
+/// What a reason of the check means, and how to fix it.
 pub(crate) fn of_reason(reason: Reason) -> &'static str {
     match reason {
         Reason::SecretAddress => {

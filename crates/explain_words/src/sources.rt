@@ -197,7 +197,7 @@ fn explain_room(alloc: Global, name: &str, typed: &Typed, room: Room, out: &mut 
     }
 }
 
-// Says what has no room in blocks of so many words.
+// Explains what has no room in blocks of this many words.
 fn put_lack(name: &str, lack: PlaceError, words: u64, out: &mut Words) {
     let (what, numbers) = match lack {
         PlaceError::TooManyScalars(Label::Public) => (

@@ -89,7 +89,7 @@ impl Tokens<'_> {
         self.all.len()
     }
 
-    /// The end of a statement's own expressions: the semicolon of an assignment, or the brace behind a guard.
+    /// The end of a statement's own expressions: the semicolon of an assignment, or the brace after a guard.
     pub(crate) fn own_end(&self, first: usize) -> usize {
         for at in first..self.all.len().max(first) {
             if self.is(at, ";") || self.is(at, "{") {
@@ -140,7 +140,7 @@ impl Tokens<'_> {
         self.all.len()
     }
 
-    // Whether a token is a name with a bracket behind it, at the head of a statement or behind `proc`.
+    // Whether a token is a name followed by a bracket, at the head of a statement or after `proc`.
     fn names_one(&self, at: usize, is_procedure: bool) -> bool {
         if !self.is_name(at) || !self.is(at.saturating_add(1), "(") {
             return false;

@@ -2,7 +2,7 @@ ghost use Rattle.std.specs.Prelude.{◌≤◌, length};
 
 use crate::words::Words;
 
-/// The most bytes of a line that are shown before the place, and behind it.
+/// The most bytes of a line that are shown before the place, and after it.
 const SHOWN_BEFORE: usize = 60;
 
 const SHOWN_BEHIND: usize = 40;
@@ -23,7 +23,7 @@ pub(crate) struct Spot {
     pub end: usize,
 }
 
-/// The place of a byte. A byte behind the text has the place of the text's end.
+/// The place of a byte. A byte past the text has the place of the text's end.
 pub(crate) fn spot_at(text: &[u8], at: usize) -> Spot
     ensures begins { result.start ≤ result.at }
     ensures ends { result.at ≤ result.end }
@@ -47,7 +47,7 @@ pub(crate) fn spot_at(text: &[u8], at: usize) -> Spot
     }
 }
 
-/// How many bytes stand before the first that is one of some marks.
+/// The number of bytes before the first that is one of some marks.
 pub(crate) fn length_up_to(text: &[u8], marks: &[u8]) -> usize {
     for (at, byte) in text.iter().enumerate() {
         if marks.contains(byte) {
@@ -117,7 +117,7 @@ impl Words {
         self.fill("{}:{}", &[spot.line as u64, column as u64]);
     }
 
-    /// Adds the line of a place, cut to what stands near it, and a caret below the place.
+    /// Adds the line of a place, cut to the part around it, and a caret below the place.
     pub(crate) fn put_line(&mut self, text: &[u8], spot: Spot) {
         let before = spot.at.saturating_sub(spot.start).min(SHOWN_BEFORE);
         let behind = spot.end.saturating_sub(spot.at).min(SHOWN_BEHIND);
@@ -141,7 +141,7 @@ impl Source<'_> {
         out.put_line(self.text, spot);
     }
 
-    /// The same, and how it is mended.
+    /// The same, and how to fix it.
     pub(crate) fn put(&self, at: usize, what: &str, hint: &str, out: &mut Words) {
         self.point(at, what, out);
         out.line(hint);

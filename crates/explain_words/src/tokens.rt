@@ -69,7 +69,7 @@ impl<'a> Tokens<'a> {
         matches!(self.before(at), b"" | b";" | b"{" | b"}")
     }
 
-    /// The first token of the statement, or of the guard and what is before it, that a token stands in.
+    /// The first token of a token's statement, or of its guard and what is before the guard.
     pub(crate) fn first_of(&self, at: usize) -> usize {
         for back in 0..at {
             let first = at.saturating_sub(back);

@@ -34,7 +34,7 @@ impl Tokens<'_> {
         (first, self.own_end(first))
     }
 
-    // The place of a token, the token, what is said of it, and its line.
+    // The place of a token, the token, the words about it, and its line.
     fn put(&self, at: usize, what: &str, out: &mut Words) {
         let spot = spot_at(self.text, self.start(at));
         out.put_place(self.name, spot);
@@ -43,7 +43,7 @@ impl Tokens<'_> {
         out.put_line(self.text, spot);
     }
 
-    // A token, and what is said of it.
+    // A token, and the words about it.
     fn tell(&self, at: usize, what: &str, out: &mut Words) {
         out.quote(self.word(at));
         out.say(what);
@@ -62,7 +62,8 @@ impl Tokens<'_> {
         }
     }
 
-    // The first name of a statement that isn't declared, or stands with an index or without one against its declaration.
+    // The first name of a statement that isn't declared, or is used with an index or without one against its
+    // declaration.
     fn misnamed(&self, alloc: Global, number: u64, out: &mut Words) {
         let (first, end) = self.own(number);
         for at in first..end.max(first) {
@@ -188,7 +189,7 @@ impl Tokens<'_> {
         }
     }
 
-    // The first secret name in the index behind a public array.
+    // The first secret name in the index of a public array.
     fn secret_index(&self, at: usize, end: usize) -> Option<usize> {
         let open = at.saturating_add(1);
         if !self.is_name(at) || !self.is(open, "[") || !self.has_label(at, false) {

@@ -23,7 +23,7 @@ struct Parsed<'a> {
     has_procs: bool,
 }
 
-/// Explains why tokens are no program, or no file with procedures.
+/// Explains why tokens aren't a program, or a file with procedures.
 pub(crate) fn explain_tokens(
     alloc: Global,
     tokens: Tokens<'_>,
@@ -54,7 +54,7 @@ pub(crate) fn explain_tokens(
 }
 
 impl Parsed<'_> {
-    // What could have stood in the place of the token that starts at a byte.
+    // What was expected instead of the token that starts at a byte.
     fn wanted(&self, alloc: Global, start: u32) -> Result<Wanted, Memory> {
         let front = piece(self.tokens.text, 0, start as usize);
         Wanted::behind(alloc, front, start, self.has_procs)
@@ -80,7 +80,7 @@ impl Parsed<'_> {
         self.put_other(alloc, at, &wanted, out)
     }
 
-    // A token of which only what could have stood there is known.
+    // A token about which only the expected ones are known.
     fn put_other(
         &self,
         alloc: Global,
@@ -178,7 +178,7 @@ fn put_token(tokens: Tokens<'_>, at: usize, out: &mut Words) {
     out.put_line(tokens.text, spot);
 }
 
-// A word that is no keyword, and the keyword that it seems to be.
+// A word that isn't a keyword, and the keyword that it seems to be.
 fn put_meant(tokens: Tokens<'_>, at: usize, keyword: &[u8], out: &mut Words) {
     let spot = spot_at(tokens.text, tokens.start(at));
     out.put_place(tokens.name, spot);

@@ -1,5 +1,5 @@
-//! The words of a call, by the verb's line in the table of verbs: its words that must stand, `..` where they may stand
-//! again, and its options in square brackets.
+//! The words of a call, by the verb's line in the table of verbs: its required words, `..` if they may be repeated, and
+//! its options in square brackets.
 
 use crate::words::Words;
 use gr_base::Memory;
@@ -43,14 +43,14 @@ fn option_in(word: &str) -> Option<(&str, Option<&str>)> {
 /// The words of a call, sorted.
 #[derive(Drop)]
 pub(crate) struct Sorted<'a> {
-    /// Those that stand in their places, behind the verb.
+    /// The positional words, after the verb.
     pub placed: Vec<&'a str>,
     /// Options, each with its value, if it has one.
     pub options: Vec<(&'a str, Option<&'a str>)>,
 }
 
 impl<'a> Sorted<'a> {
-    /// Sorts the words behind the verb by the verb's line.
+    /// Sorts the words after the verb by the verb's line.
     pub(crate) fn of(alloc: Global, usage: &str, words: &[&'a str]) -> Result<Sorted<'a>, Memory> {
         let mut sorted = Sorted {
             placed: Vec::new(alloc),
@@ -166,7 +166,7 @@ fn put_option(usage: &str, sorted: &Sorted<'_>, out: &mut Words) -> bool {
     false
 }
 
-// The numbers that a word of the verb's line stands for.
+// The numbers that a word of the verb's line allows.
 fn range_of(kind: &str) -> Option<(u64, u64)> {
     match kind {
         "N" => Some((1, 4_294_967_295)),
@@ -177,7 +177,7 @@ fn range_of(kind: &str) -> Option<(u64, u64)> {
     }
 }
 
-// A number of decimal digits alone: a sign, which may stand before a number elsewhere, is none.
+// A number of decimal digits only: a sign, which may precede a number elsewhere, isn't allowed.
 fn number_in(text: &str) -> Option<u64> {
     if text.starts_with("+") {
         return None;
@@ -206,7 +206,7 @@ fn is_window(text: &str) -> bool {
     }
 }
 
-// Whether a value is one that a word of the verb's line stands for.
+// Whether a value is one that a word of the verb's line allows.
 fn is_value(kind: &str, value: &str) -> bool {
     let Some((least, most)) = range_of(kind) else {
         return kind != "P:O:C" || is_window(value);

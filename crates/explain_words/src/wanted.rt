@@ -8,10 +8,11 @@ use src_lexer::{Token, TokenKind};
 use src_parser::{ParseError, parse};
 use std::alloc::Global;
 
-/// A token of each kind that grammars tell apart: an operator stands for all operators, a comparison for all.
+/// A token of each kind that grammars distinguish: one operator represents all operators, one comparison all
+/// comparisons.
 const CANDIDATES: &[u8] = b"public secret int if else while ( ) [ ] { } ; = * - == 1 x";
 
-/// What could have stood at a place, in place of the token there.
+/// The tokens expected at a place, instead of the one there.
 #[derive(Drop)]
 pub(crate) struct Wanted {
     names: Vec<&'static [u8]>,
@@ -33,7 +34,7 @@ fn may_stand(alloc: Global, tokens: &[Token], has_procs: bool, last: u32) -> Res
     }
 }
 
-// Whether a token of this kind may stand behind the tokens, which are left as they were.
+// Whether a token of this kind may follow the tokens, which are left as they were.
 fn is_wanted(
     alloc: Global,
     tokens: &mut Vec<Token>,
@@ -52,7 +53,7 @@ fn is_wanted(
 }
 
 impl Wanted {
-    /// What could stand behind a front of a source, each candidate tried in turn as a token that starts at a byte.
+    /// The tokens that may follow a prefix of a source, each candidate tried in turn as a token that starts at a byte.
     pub(crate) fn behind(
         alloc: Global,
         front: &[u8],
@@ -67,7 +68,7 @@ impl Wanted {
         Ok(wanted)
     }
 
-    // Adds the candidates that could stand behind the tokens, which are left as they were.
+    // Adds the candidates that may follow the tokens, which are left as they were.
     fn gather(
         &mut self,
         alloc: Global,
@@ -84,7 +85,7 @@ impl Wanted {
         Ok(())
     }
 
-    /// Whether a piece could have stood there.
+    /// Whether a token was expected there.
     pub(crate) fn has(&self, piece: &[u8]) -> bool {
         for name in &self.names {
             if *name == piece {
@@ -94,7 +95,7 @@ impl Wanted {
         false
     }
 
-    /// Whether each of some pieces could have stood there, with a space between them.
+    /// Whether each of some tokens was expected there, with a space between them.
     pub(crate) fn has_each(&self, pieces: &str) -> bool {
         for piece in pieces.split(" ") {
             if !self.has(piece.as_bytes()) {
@@ -104,7 +105,7 @@ impl Wanted {
         true
     }
 
-    /// The keyword that could have stood there and is nearest to a word, if one is near.
+    /// The keyword that was expected there and is nearest to a word, if one is near.
     pub(crate) fn nearest(
         &self,
         alloc: Global,
@@ -119,7 +120,7 @@ impl Wanted {
         Ok(nearest.found())
     }
 
-    /// Adds what could have stood there.
+    /// Adds the expected tokens.
     pub(crate) fn put(&self, out: &mut Words) {
         let has_operators = self.has(b"*");
         let count = self.names.len().saturating_sub(usize::from(has_operators));

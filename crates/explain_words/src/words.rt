@@ -38,7 +38,7 @@ impl Words {
         }
     }
 
-    /// Whether nothing was said so far.
+    /// Whether nothing was written so far.
     pub(crate) fn is_empty(&self) -> bool {
         self.text.is_empty() && !self.lacks_memory
     }

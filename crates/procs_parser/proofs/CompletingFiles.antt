@@ -30,7 +30,7 @@ shown_both [] b s t = t
 shown_both (kind.Word name ∷ a) b s t = (s.0, shown_both a b s.1 t)
 shown_both (_ ∷ a) b s t = shown_both a b s t
 
--- tokens without names, and others behind them
+-- tokens without names, followed by others
 nameless : (a b : List TokenKind) → HasNoName a → HasNoHiddenName b → HasNoHiddenName (a ++ b)
 nameless [] b h t = t
 nameless (kind.Word name ∷ a) b h t = absurd h
@@ -110,7 +110,7 @@ form_completes {test = test} ForChoice us more shown e room g is =
 form_completes {test = test} ForLoop us more shown e room g is =
     statement_completes us more shown (Loop test Nothing) e (writes_at _ _ is (Repeats g room Ends Ends))
 
--- a part that some more tokens make whole, with an empty block behind a guard
+-- a part that some more tokens make whole, with an empty block after a guard
 made_completes : {most : Limits} {front : Front} {outer : List Outer} {depth : ℕ} {here : List Statement}
     {ts all : List TokenKind} {made : Made} (us more : List TokenKind) → HasNoName more
     → Enclosed most front outer depth here ts → depth < most.braces → Makes most made all → all ≡ us ++ more
@@ -184,7 +184,7 @@ declared_completes {most} {decls} {first} d = record {
       (simp append-nil refl) (Program d NoProcedure Ends);
 }
 
--- `x` is no hidden name
+-- `x` isn't a hidden name
 rest_shown : (heading : Heading) → HasNoHiddenName (rest_of heading (120 ∷ []))
 rest_shown (Labelled label) = (refl, tt)
 rest_shown (Typed label) = (refl, tt)
@@ -193,7 +193,7 @@ rest_shown (Sizing label name) = tt
 rest_shown (Sized label name n) = tt
 rest_shown (Closing label name n) = tt
 
--- a procedure with no statements, of which so many tokens stand
+-- a procedure without statements, of which this many tokens were read
 head_completes : {most : Limits} {decls locals : List Decl} {procedures : List Procedure} {name : List ℕ}
     {parameters : List Parameter} {before ps ls : List TokenKind} (us more : List TokenKind) → HasNoHiddenName more
     → Begun most (Outside decls procedures) 0 before → Parameters ps parameters → 0 < most.braces → Locals ls locals

@@ -60,7 +60,7 @@ settled most front outer here test first [] h = settled_end front outer here tes
 settled most front outer here test first (k ∷ ks) h =
     ap (λ t. after_advance t (λ next. parsed most next ks)) (settled_kind most front outer here test first k ks h)
 
--- a part in a statement goes on as its tokens are read
+-- a part in a statement continues as its tokens are read
 part_runs : (most : Limits) (front : Front) (outer : List Outer) (here : List Statement)
     → PartRuns most (λ s ks. parsed most (with_part front outer here s) ks)
 part_runs most front outer here = record {

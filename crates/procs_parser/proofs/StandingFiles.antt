@@ -18,7 +18,7 @@ use Rattle.src_parser.proofs.PartTokens.{word_of, PartStands}
 use Rattle.src_parser.proofs.Reached.{Reached}
 use Rattle.procs_parser.specs.FileAdvances.{Outer, InFirst, InSecond, InLoop, Phase, Ready, MayElse, Named, Calling, Argument, Called, InPart, Guarded, Otherwise, ParserState, Between, Declaring, Naming, Doing, HeadPhase, Opening, NoneYet, OneMore, ScalarLabelled, ScalarTyped, ArrayTyped, ArrayTitled, ArrayClosing, Behind, AllRead, LocalFresh, LocalLabelled, LocalTyped, LocalTitled, Front, Outside, InProcedure, depth_of}
 
--- tokens that are a file, whatever its names
+-- tokens that are a file, for any names
 pub data Sentence (most : Limits) : List TokenKind → File → Type 0 where
   Program : {first middle back : List TokenKind} {decls : List Decl} {procedures : List Procedure} {body : Block}
       → Declares first decls → Procedures most middle procedures → SpellsBlock most 0 back body
@@ -34,7 +34,7 @@ pub data Begun (most : Limits) : Front → (depth : ℕ) → List TokenKind → 
       → Begun most (InProcedure decls procedures name parameters locals) 1
       (before ++ (kind.Word proc_word ∷ kind.Word name ∷ kind.LParen ∷ (ps ++ kind.RParen ∷ kind.LBrace ∷ ls)))
 
--- these tokens lead into these open blocks, of which there are so many, with these statements in the innermost
+-- these tokens lead into these open blocks, this many, with these statements in the innermost
 pub data Enclosed (most : Limits) : Front → List Outer → (depth : ℕ) → List Statement → List TokenKind
     → Type 0 where
   Top : {before back : List TokenKind} {front : Front} {depth : ℕ} {here : List Statement}
@@ -57,13 +57,13 @@ pub data Enclosed (most : Limits) : Front → List Outer → (depth : ℕ) → L
       → Enclosed most front (InLoop test before ∷ outer) (depth + 1) here
       (tokens ++ (kind.While ∷ kind.LParen ∷ (guard ++ kind.RParen ∷ kind.LBrace ∷ inner)))
 
--- these tokens of a call lead to its next argument, behind these, at so many used operators
+-- these tokens of a call lead to its next argument, after these, with this many used operators
 pub data Argues (most : Limits) (name : List ℕ) : (before : List Tree) (start : ℕ) → List TokenKind → Type 0 where
   IsFirst : Argues most name [] 0 (kind.Word name ∷ kind.LParen ∷ [])
   IsNext : {tokens : List TokenKind} {es : List Tree} → SpellsTrees most.brackets tokens es
       → Argues most name es (operators_of es) (kind.Word name ∷ kind.LParen ∷ (tokens ++ kind.Semi ∷ []))
 
--- these tokens of a statement lead to where it stands
+-- these tokens of a statement lead to its phase
 pub data Stands (most : Limits) (depth : ℕ) : Phase → List TokenKind → Type 0 where
   IsReady : Stands most depth Ready []
   IsMayElse : {guard inner : List TokenKind} {test : Test} {first : List Statement}
@@ -86,7 +86,7 @@ pub data Stands (most : Limits) (depth : ℕ) : Phase → List TokenKind → Typ
       → Stands most depth (Otherwise test first)
       (kind.If ∷ kind.LParen ∷ (guard ++ kind.RParen ∷ kind.LBrace ∷ (inner ++ kind.RBrace ∷ kind.Else ∷ [])))
 
--- parameters with a `;` behind each
+-- parameters with a `;` after each
 pub data ParametersBefore : List TokenKind → List Parameter → Type 0 where
   NoneBefore : ParametersBefore [] []
   SomeBefore : {ts : List TokenKind} {ps : List Parameter} → SpellsParameters ts ps
@@ -96,7 +96,7 @@ pub data ParametersBefore : List TokenKind → List Parameter → Type 0 where
 abbrev pub head_of : List ℕ → List TokenKind → List TokenKind
 head_of name ts = kind.Word proc_word ∷ kind.Word name ∷ kind.LParen ∷ ts
 
--- these tokens of a procedure lead to where its head stands, or its locals
+-- these tokens of a procedure lead to the phase of its head, or of its locals
 pub data Names (most : Limits) (name : List ℕ) : HeadPhase → List TokenKind → Type 0 where
   IsOpening : Names most name Opening (kind.Word proc_word ∷ kind.Word name ∷ [])
   IsNoneYet : Names most name NoneYet (head_of name [])
@@ -193,7 +193,7 @@ pub data Standing (most : Limits) : ParserState → List TokenKind → Type 0 wh
       {ts us : List TokenKind} → Enclosed most front outer depth here ts → Stands most depth mode us
       → Standing most (Doing front outer here mode) (ts ++ us)
 
--- how deep a block lies
+-- the depth of a block
 pub enclosed_depth : {most : Limits} {front : Front} {outer : List Outer} {depth : ℕ} {here : List Statement}
     {ts : List TokenKind} → Enclosed most front outer depth here ts → depth_of front outer ≡ depth
 enclosed_depth (Top (AtTop d p) w) = refl
@@ -202,7 +202,7 @@ enclosed_depth (First e g room w) = let h = enclosed_depth e in omega arith
 enclosed_depth (Second e g room w v) = let h = enclosed_depth e in omega arith
 enclosed_depth (Looped e g room w) = let h = enclosed_depth e in omega arith
 
--- one block and another behind it
+-- one block followed by another
 abbrev pub followed : Block → Block → Block
 followed Nothing block = block
 followed (Then s rest) block = Then s (followed rest block)

@@ -62,7 +62,7 @@ beginning_stands o kind.While next e = went _ next e (InBlock o (IsPart (IsGuard
 beginning_stands o kind.RBrace next e = leaving_stands o next e
 beginning_stands o _ next e = absurd (cc)
 
--- a token behind the first block of a choice, once that stands as a statement
+-- a token after the first block of a choice, once that is a statement
 elsing_begins : {most : Limits} {front : Front} {outer : List Outer} {depth : ℕ} {here : List Statement}
     {ts : List TokenKind} {test : Test} (first : List Statement)
     → Enclosed most front outer depth (chosen here test first) ts
@@ -84,7 +84,7 @@ elsing_stands {ts = ts} {guard = guard} {inner = inner} {test = test} first o g 
 same_word : (name : List ℕ) → bytes_eq name proc_word ≡ true → name ≡ proc_word
 same_word name e = (bytes_eq-Decides name proc_word).0 e
 
--- no procedure begins in a block, or behind a statement
+-- no procedure begins in a block, or after a statement
 in_block : (front : Front) (o : Outer) (outer : List Outer) (here : List Statement) (b : Bool) (name : List ℕ)
     (next : ParserState) → opening front (o ∷ outer) here b name ≡ Goes next → ⊥
 in_block (Outside decls procedures) o outer here b name next e = absurd (cc)
@@ -200,7 +200,7 @@ otherwise_stands {most} {front = front} {outer = outer} {ts = ts} {guard = guard
     (λ t. standing_at _ _ (simp (append_assoc, append-nil) refl) (InBlock (Second o g room w Ends) IsReady))
 otherwise_stands first o g room w _ next e = absurd (cc)
 
--- a token behind an argument of a call
+-- a token after an argument of a call
 behind_argument_stands : {most : Limits} {front : Front} {outer : List Outer} {depth start : ℕ}
     {here : List Statement} {ts before us : List TokenKind} {name : List ℕ} {es : List Tree} (tree : Tree) (used : ℕ)
     → Enclosed most front outer depth here ts → Argues most name es start before → Ended most 0 start us tree used
@@ -408,7 +408,7 @@ names_stand {before = before} b (IsLocalTitled {ts = ts} {us = us} label x p roo
     (InHead b (IsLocalFresh p room (one_local label x l))))
 names_stand b (IsLocalTitled label x p room l) _ next e = absurd (cc)
 
--- a token leads on
+-- a token continues a file
 pub steps : {most : Limits} {state : ParserState} {tokens : List TokenKind} → Standing most state tokens
     → (k : TokenKind) (next : ParserState) → advanced most state k ≡ Goes next → Standing most next (tokens ++ k ∷ [])
 steps (InBetween d) k next e = between_stands d k next e

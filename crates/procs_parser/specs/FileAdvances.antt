@@ -22,7 +22,7 @@ pub data Outer : Type 0 where
   InSecond : (test : Test) (first before : List Statement) → Outer
   InLoop : (test : Test) (before : List Statement) → Outer
 
--- where the reading of statements stands
+-- the phase in which statements are read
 pub data Phase : Type 0 where
   Ready : Phase
   MayElse : (test : Test) (first : List Statement) → Phase
@@ -34,7 +34,7 @@ pub data Phase : Type 0 where
   Guarded : (form : Form) (test : Test) → Phase
   Otherwise : (test : Test) (first : List Statement) → Phase
 
--- where the reading of a procedure's head and of its locals stands, by the parameters, and the locals, read so far
+-- the phase in which a procedure's head and its locals are read, by the parameters, and the locals, read so far
 pub data HeadPhase : Type 0 where
   Opening : HeadPhase
   NoneYet : HeadPhase
@@ -51,7 +51,7 @@ pub data HeadPhase : Type 0 where
   LocalTyped : (parameters : List Parameter) (locals : List Decl) (label : Label) → HeadPhase
   LocalTitled : (parameters : List Parameter) (locals : List Decl) (label : Label) (name : List ℕ) → HeadPhase
 
--- what stands before statements: the declarations, the procedures, and the procedure that they are in
+-- what comes before statements: the declarations, the procedures, and the procedure that they are in
 pub data Front : Type 0 where
   Outside : (decls : List Decl) (procedures : List Procedure) → Front
   InProcedure : (decls : List Decl) (procedures : List Procedure) (name : List ℕ) (parameters : List Parameter)
@@ -116,12 +116,12 @@ between_statements front outer here k = begun front outer here (begins k)
 abbrev pub chosen : List Statement → Test → List Statement → List Statement
 chosen here test first = here ++ Choice test (block_of first) Nothing ∷ []
 
--- a token behind the first block of a choice
+-- a token after the first block of a choice
 abbrev pub elsing : Front → List Outer → List Statement → Test → List Statement → TokenKind → Advance ParserState
 elsing front outer here test first kind.Else = Goes (Doing front outer here (Otherwise test first))
 elsing front outer here test first k = between_statements front outer (chosen here test first) k
 
--- a procedure begins behind the name `proc`, where no statement stands before
+-- a procedure begins after the name `proc`, if no statement comes before
 abbrev pub opening : Front → List Outer → List Statement → Bool → List ℕ → Advance ParserState
 opening (Outside decls procedures) [] [] true name = Goes (Naming decls procedures name Opening)
 opening front outer here b name = Wrong
@@ -135,18 +135,18 @@ with_part front outer here (Done (ElementSet name index value)) =
     Doing front outer (here ++ SetElement name index value ∷ []) Ready
 with_part front outer here (Done (GuardRead form test)) = Doing front outer here (Guarded form test)
 
--- a token behind a name
+-- a token after a name
 abbrev pub behind_name : Front → List Outer → List Statement → List ℕ → TokenKind → Advance ParserState
 behind_name front outer here name kind.LParen = Goes (Doing front outer here (Calling name))
 behind_name front outer here name (kind.Word other) = opening front outer here (bytes_eq name proc_word) other
 behind_name front outer here name k = mapped (with_part front outer here) (targeting name k)
 
--- a token behind the brackets of a call
+-- a token after the brackets of a call
 abbrev pub calling_ends : Front → List Outer → List Statement → List ℕ → List Tree → TokenKind → Advance ParserState
 calling_ends front outer here name es kind.Semi = Goes (Doing front outer (here ++ Call name es ∷ []) Ready)
 calling_ends front outer here name es _ = Wrong
 
--- the block behind a guard
+-- the block after a guard
 abbrev pub block_opened : Form → Test → List Statement → Outer
 block_opened ForChoice test here = InFirst test here
 block_opened ForLoop test here = InLoop test here
@@ -162,7 +162,7 @@ otherwise most front outer here test first kind.LBrace =
     with_braces (nat_lt (depth_of front outer) most.braces) (Doing front (InSecond test first here ∷ outer) [] Ready)
 otherwise most front outer here test first _ = Wrong
 
--- a token behind an argument of a call
+-- a token after an argument of a call
 abbrev pub behind_argument : Front → List Outer → List Statement → List ℕ → List Tree → Tree → ℕ → TokenKind
     → Advance ParserState
 behind_argument front outer here name before tree used kind.Semi =
@@ -293,7 +293,7 @@ program_of (Doing front outer here Ready) = file_at front outer here
 program_of (Doing front outer here (MayElse test first)) = file_at front outer (chosen here test first)
 program_of _ = None
 
--- how many braces are open in a head or behind it
+-- how many braces are open in a head or after it
 abbrev pub head_depth : HeadPhase → ℕ
 head_depth (LocalFresh ps ls) = 1
 head_depth (LocalLabelled ps ls label) = 1

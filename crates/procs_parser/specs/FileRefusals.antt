@@ -1,4 +1,4 @@
--- Why tokens are no file with procedures: the three refusals of the parser, each at its first place (this project's
+-- Why tokens aren't a file with procedures: the three errors of the parser, each at its first place (this project's
 -- profile).
 use Rattle.std.specs.Prelude.{List}
 use Rattle.src_lexer.specs.declared.tokens.Token.{Token}

@@ -52,7 +52,7 @@ fn parameter(state: &mut ParserState, head: Head, params: Vec<Param>, kind: &Tok
     }
 }
 
-// The first token behind the bracket of a head.
+// The first token after the bracket of a head.
 fn first(alloc: Global, state: &mut ParserState, head: Head, kind: &TokenKind) -> Advance
     ensures { advance_of result (state_of state.new)
         ≡ names_next limits head.decls.items (map procedure_of head.procs.items) head.name NoneYet

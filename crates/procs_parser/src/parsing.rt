@@ -47,7 +47,7 @@ fn start(
     }
 }
 
-// The next token of a file, whatever its name.
+// The next token of a file, for any name.
 fn advance(alloc: Global, state: &mut ParserState, kind: &TokenKind) -> Result<Advance, Memory>
     ensures { IfOk result (λ t. advance_of t (state_of state.new) ≡ advanced limits (state_of state.old) kind.now) }
 {
@@ -95,7 +95,7 @@ fn unfinished(_blocks: Blocks) -> Option<ProcFile>
     None
 }
 
-// The file, where its statements stand between two parts and are whole.
+// The file, if its statements are between two parts and complete.
 fn paused(alloc: Global, mut blocks: Blocks, pause: Pause) -> Result<Option<ProcFile>, Memory>
     ensures { IfOk result (λ p. option_map file_of p ≡ program_of (doing blocks (pause_of pause))) }
 {
@@ -176,12 +176,12 @@ fn conclude(alloc: Global, state: ParserState) -> Result<Option<ProcFile>, Memor
 /// The tree of a file with procedures. The tokens are read once, from the first to the last, with what is open on a
 /// stack.
 ///
-/// `Unexpected` and `TooDeep` name the first byte of the first token at fault: with `Unexpected` no file goes on with
-/// it, as with a name that begins with `__`; with `TooDeep` it passes a limit of nesting (those of programs, where the
-/// brace of a procedure counts, and the arguments of a call are one statement's expressions). `EndOfText` says that the
-/// tokens begin a file and are none. `Memory` says nothing of the tokens.
+/// `Unexpected` and `TooDeep` name the first byte of the first token at fault: with `Unexpected` no file continues with
+/// it, as with a name that begins with `__`; with `TooDeep` it exceeds a limit of nesting (those of programs; the brace
+/// of a procedure counts, and the arguments of a call are one statement's expressions). `EndOfText` means that the
+/// tokens begin a file but aren't one. `Memory` says nothing about the tokens.
 ///
-/// No declared name of a file begins with `__`, as `inline` of `src_procs` wants it.
+/// No declared name of a file begins with `__`, as `inline` of `src_procs` requires.
 pub fn parse_procs(alloc: Global, tokens: &[Token]) -> Result<ProcFile, ParseError>
     ensures parsed { IfOk result (λ f. SpellsFile limits (token_kinds tokens.now) (file_of f)) }
     ensures plain { IfOk result (λ f. ArePlain f.decls.items) }

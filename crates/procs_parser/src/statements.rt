@@ -63,7 +63,7 @@ fn close(alloc: Global, blocks: &mut Blocks, mode: &mut Phase) -> Result<Advance
     }
 }
 
-// A block ends, and its statement is behind those before it.
+// A block ends, and its statement follows those before it.
 fn end_block(blocks: &mut Blocks, mode: &mut Phase, outer: Outer) -> Result<Advance, Memory>
     ensures { IfOk result (λ t. advance_of t (doing blocks.new (mode_of mode.new))
         ≡ leaving (front_of blocks.old.front) (outer_of outer ∷ outers_of blocks.old.outer.items)
@@ -166,7 +166,7 @@ pub(crate) fn choose(
     Ok(())
 }
 
-// A token behind the first block of a choice.
+// A token after the first block of a choice.
 fn may_else(
     alloc: Global,
     blocks: &mut Blocks,
@@ -198,7 +198,7 @@ fn is_proc(name: &Name) -> bool
     name.bytes() == b"proc".as_slice()
 }
 
-// What stands before a procedure that begins with its name behind `proc`, where no statement stands before it.
+// What comes before a procedure that begins with its name after `proc`, if no statement comes before it.
 fn open(alloc: Global, blocks: &mut Blocks, is_proc: bool, name: Name) -> Option<Head>
     ensures { opened result ≡ opening (front_of blocks.old.front) (outers_of blocks.old.outer.items)
         (calls_seen blocks.old.here.items) is_proc name }
@@ -235,7 +235,7 @@ fn settle(blocks: &mut Blocks, mode: &mut Phase, made: Made) -> Result<Advance, 
     }
 }
 
-// An assignment goes on behind its name.
+// An assignment continues after its name.
 fn assign(
     alloc: Global,
     blocks: &mut Blocks,
@@ -258,7 +258,7 @@ fn assign(
     }
 }
 
-// A token behind a name.
+// A token after a name.
 fn named(
     alloc: Global,
     blocks: &mut Blocks,
@@ -286,7 +286,7 @@ fn named(
     }
 }
 
-// A token behind an argument of a call.
+// A token after an argument of a call.
 fn behind_argument(
     alloc: Global,
     blocks: &Blocks,
@@ -329,7 +329,7 @@ fn whole(mut reading: Reading) -> Option<Expr>
     finish(&mut reading)
 }
 
-// A token of an argument of a call, behind those before it.
+// A token of an argument of a call, after those before it.
 fn argue(
     alloc: Global,
     blocks: &Blocks,
@@ -435,7 +435,7 @@ fn nest(
     Ok(Advance::Goes)
 }
 
-// The block behind a guard.
+// The block after a guard.
 fn enter(
     alloc: Global,
     blocks: &mut Blocks,
@@ -463,7 +463,7 @@ fn enter(
     }
 }
 
-// The block behind `else`.
+// The block after `else`.
 fn other(
     alloc: Global,
     blocks: &mut Blocks,

@@ -16,8 +16,8 @@ pub(crate) enum Outer {
     InLoop(Guard, Vec<PStmt>),
 }
 
-// What stands between two parts of statements: nothing; the first block of a choice; a name, of an assignment, of a
-// call or `proc`; a call up to its arguments, in one with those before it, and behind them; the guard of a block; an
+// What was read between two parts of statements: nothing; the first block of a choice; a name, of an assignment, of a
+// call or `proc`; a call up to its arguments, in one with those before it, and after them; the guard of a block; an
 // `else`.
 #[derive(Drop)]
 pub(crate) enum Pause {
@@ -31,7 +31,7 @@ pub(crate) enum Pause {
     Otherwise(Guard, Vec<PStmt>),
 }
 
-// Where the reading of statements stands.
+// The phase in which statements are read.
 #[derive(Drop)]
 pub(crate) enum Phase {
     Between(Pause),
@@ -47,7 +47,7 @@ pub(crate) enum Beginning {
     Nothing,
 }
 
-// Where the reading of a procedure's head and of its locals stands, by the parameters, and the locals, read so far.
+// The phase in which a procedure's head and its locals are read, by the parameters, and the locals, read so far.
 #[derive(Drop)]
 pub(crate) enum HeadPhase {
     Opening,
@@ -66,7 +66,7 @@ pub(crate) enum HeadPhase {
     LocalTitled(Vec<Param>, Vec<Decl>, Label, Name),
 }
 
-// What stands before a procedure's head or its locals, and its name.
+// What comes before a procedure's head or its locals, and its name.
 #[derive(Drop)]
 pub(crate) struct Head {
     pub decls: Vec<Decl>,
@@ -74,7 +74,7 @@ pub(crate) struct Head {
     pub name: Name,
 }
 
-// What stands before statements: the declarations, the procedures, and the procedure that they are in, with its
+// What comes before statements: the declarations, the procedures, and the procedure that they are in, with its
 // parameters and locals.
 #[derive(Drop)]
 pub(crate) enum Front {
@@ -82,8 +82,8 @@ pub(crate) enum Front {
     InProcedure(Head, Vec<Param>, Vec<Decl>),
 }
 
-// What was read of the statements: what stands before them, the open blocks, the last behind the others, and the
-// statements of the innermost.
+// What was read of the statements: what comes before them, the open blocks, the innermost last, and the statements of
+// the innermost.
 #[derive(Drop)]
 pub(crate) struct Blocks {
     pub front: Front,
@@ -91,7 +91,7 @@ pub(crate) struct Blocks {
     pub here: Vec<PStmt>,
 }
 
-// Where the reading stands before statements: between declarations, in one, or in a procedure's head or locals.
+// The phase before statements: between declarations, in one, or in a procedure's head or locals.
 #[derive(Drop)]
 pub(crate) enum Start {
     Between(Vec<Decl>),
@@ -99,15 +99,15 @@ pub(crate) enum Start {
     Naming(Head, HeadPhase),
 }
 
-// What was read of a file, and where the reading stands.
+// What was read of a file, and the phase.
 #[derive(Drop)]
 pub(crate) enum ParserState {
     Before(Start),
     Doing(Blocks, Phase),
 }
 
-// What a token does to a file: it is read; it is the name of a procedure that begins; none goes on with it; it passes a
-// limit.
+// What a token does to a file: it is read; it is the name of a procedure that begins; no file continues with it; it
+// exceeds a limit.
 #[derive(Drop)]
 pub(crate) enum Advance {
     Goes,

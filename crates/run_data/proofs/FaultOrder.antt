@@ -1,4 +1,5 @@
--- In whatever order variables stand whose names differ, an input text has the same first fault, or gives each the same.
+-- In any order of variables whose names differ, an input text has the same first fault, or gives each variable the
+-- same.
 use Rattle.std.proofs.Common.{◌≡◌, ℕ, Bool, true, false, cond, ℤ, List, ◌∷◌, map, Option, Some, None, Ok, refl, sym, ap, ap₂, ◌∙◌, bytes_eq}
 use Rattle.std.specs.Result.{result_map_both}
 use Rattle.std.specs.List.Sorted.{IsPermutation}

@@ -22,7 +22,7 @@ pub list_of-items_of : (values : List Data) → list_of (items_of values) ≡ va
 list_of-items_of [] = refl
 list_of-items_of (value ∷ values) = ap (λ more. value ∷ more) (list_of-items_of values)
 
--- a list for an array has a wrong length, an element that is no word, or neither
+-- a list for an array has a wrong length, an element that isn't a word, or neither
 pub array_fault : (want : Want) (value : Data) (values : List Value)
     → want.shape ≡ Array → Some (items_view values) ≡ as_array value
     → value_fault want value ≡ cond (not (eqb (length values) want.length)) (Some (WrongLength want.name))

@@ -1,4 +1,4 @@
--- In whatever order variables stand whose names differ, the members of their words are the same.
+-- In any order of variables whose names differ, the members of their words are the same.
 use Rattle.std.proofs.Common.{◌≡◌, ◌≢◌, ℕ, ℤ, List, map, Ordering, Less, Equal, Greater, is_eq, nat_cmp, refl, sym, ap, ◌∙◌}
 use Rattle.std.specs.Ordering.{ordering_reverse}
 use Rattle.std.specs.List.Sorted.{IsPermutation}

@@ -10,7 +10,7 @@ use Rattle.std.proofs.lemmas.Str.Ascii.{IsAscii-nil, IsAscii-cons}
 use Rattle.json.specs.Print.{escape_byte}
 use Rattle.gr_word.specs.Names.{is_name, is_name_byte}
 
--- a byte of a name stands in a JSON text for itself
+-- a byte of a name is itself in a JSON text
 record Plain (byte : ℕ) : Type 0 where
   above : 47 < byte
   other : byte ≢ 92

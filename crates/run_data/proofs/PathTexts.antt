@@ -1,9 +1,9 @@
--- The lines of levels behind a text.
+-- The lines of levels after a text.
 use Rattle.std.proofs.Common.{◌≡◌, ℕ, ◌+◌, List, [], ◌∷◌, ◌++◌, length, Option, sym, ap, ◌∙◌, arith, append_assoc}
 use Rattle.std.proofs.lemmas.List.{append-nil}
 use Rattle.run_data.specs.PathText.{levels_behind, levels_line}
 
--- levels are written behind what stands
+-- levels are appended to the text so far
 pub behind-text : (text : List ℕ) (b : ℕ) (levels : List (List (Option ℕ)))
     → levels_behind text b levels ≡ text ++ levels_behind [] b levels
 behind-text text b [] = sym (append-nil text)

@@ -1,4 +1,4 @@
--- Pieces of a line that are put one after another.
+-- Pieces of a line that are written in sequence.
 use Rattle.std.proofs.Common.{◌≡◌, ◌≤◌, ◌<◌, ◌-◌, ◌^◌, ℕ, ℤ, List, ◌∷◌, ◌++◌, length, take, drop, Option, Result, Ok, Err, OnOk, OnErr, sym, ap, ◌∙◌, subst, arith, length-append, append_assoc}
 use Rattle.std.proofs.lemmas.List.{take-append-drop}
 use Rattle.std.proofs.lemmas.Grind.{flat_map-append}
@@ -17,7 +17,7 @@ cut_within old middle new done piece more text one some less is =
     subst (AddsLess old new) is (AddsLess-then old middle new done (piece ++ more) one
     (omega (arith, length-append piece more)) (AddsLess-more middle new piece more less))
 
--- the last piece: with it the whole text is put
+-- the last piece: with it the whole text is written
 pub puts_last : (old middle new : Option (List ℕ)) (before mid now : ℕ) (done piece text : List ℕ)
     (r : Result (Unit {0}) SinkFailed) → Adds old middle done → 0 < length piece → done ++ piece ≡ text
     → mid ≡ before → OnOk r (Adds middle new piece) → OnOk r (now ≡ mid) → OnErr r (AddsLess middle new piece)

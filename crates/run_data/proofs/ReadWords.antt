@@ -88,7 +88,7 @@ number_found : (text : List ℕ) → Finds (number_of text)
 unfolding number_of
 number_found text n e = search (either_found, negative_found, unsigned_found, float_found)
 
--- a member is put among others
+-- a member is added to others
 put_holds : (name : List ℕ) (d : Data) (found : Members) → Holds d → HoldMembers found → HoldMembers (put name d found)
 put_holds name d no_members one others = (one, tt)
 put_holds name d (member other e rest) one others =

@@ -1,4 +1,4 @@
--- Variables are put into a map in byte order, which is seen as the members of an object.
+-- Variables are added to a map in byte order, which is seen as the members of an object.
 use Rattle.std.proofs.Common.{◌≡◌, ℕ, suc, ◌+◌, ◌<◌, ℤ, List, [], ◌∷◌, length, get_or, drop, Bor, Ordering, Less, Equal, Greater, IsTrue, refl, ap, ◌∙◌, add-one, drop-cons}
 use Rattle.std.specs.Ordering.{match_ordering}
 use Rattle.std.specs.BTreeMap.{insert_entry}
@@ -55,7 +55,7 @@ pub members-turn : (found : Members) (wants : List Want) (lists : List (List ℤ
     (drop (i + 1) wants) (drop (i + 1) lists)
 members-turn found wants lists i d one two = rw (drop-cons wants i d one, drop-cons lists i [] two, add-one) refl
 
--- a variable is put at its turn
+-- a variable is added in its turn
 pub member_put : (entries new : List Entry) (name : Bor (List ℕ)) (words : Bor (List ℤ)) (want : Want)
     (wants : List Want) (lists : List (List ℤ)) (i : ℕ) → i < length wants → i < length lists
     → new ≡ insert_entry key_cmp entries name (want.shape, words) → want ≡ get_or wants i want → name.now ≡ want.name

@@ -1,4 +1,4 @@
--- Pieces that are joined by a byte that stands in none of them are the parts at that byte.
+-- Pieces that are joined by a byte that is in none of them are the parts at that byte.
 use Rattle.std.proofs.Common.{◌≡◌, ℕ, true, false, eqb, List, [], ◌∷◌, ◌++◌, refl, sym, ap, ◌∙◌, append_assoc, eq-eqb}
 use Rattle.std.specs.List.{slice_split, join_with_byte, flat_map}
 use Rattle.std.proofs.lemmas.List.{append-nil}
@@ -6,7 +6,7 @@ use Rattle.std.proofs.lemmas.List.Elements.{All-cons, All-append}
 use Rattle.std.proofs.lemmas.List.Splits.{slice_split_at, slice_split_none, join_with_byte-slice_split}
 use Rattle.run_data.proofs.Numerals.{Without}
 
--- the byte stands in none of the pieces
+-- the byte is in none of the pieces
 abbrev pub NoneHas : ℕ → List (List ℕ) → Type 0
 NoneHas c [] = Unit {0}
 NoneHas c (piece ∷ pieces) = Without c piece × NoneHas c pieces
@@ -27,7 +27,7 @@ pub joined : (c : ℕ) (bytes : List ℕ) (pieces : List (List ℕ))
     → slice_split (λ byte. eqb byte c) bytes ≡ pieces → bytes ≡ join_with_byte c pieces
 joined c bytes pieces is = sym (join_with_byte-slice_split c bytes) ∙ ap (join_with_byte c) is
 
--- what stands in no piece, and isn't the byte between them, isn't in the whole
+-- a byte in no piece that isn't the separator isn't in the whole
 pub Without-join : (c between : ℕ) (piece : List ℕ) (pieces : List (List ℕ))
     → eqb between c ≡ false → NoneHas c (piece ∷ pieces) → Without c (join_with_byte between (piece ∷ pieces))
 Without-join c between piece [] other none = none.0
@@ -36,7 +36,7 @@ Without-join c between piece (next ∷ pieces) other none =
     (All-cons (λ byte. eqb byte c ≡ false) between (join_with_byte between (next ∷ pieces)) other
     (Without-join c between next pieces other none.1))
 
--- lines, each with the byte behind it, are the lines and nothing behind the last, joined
+-- lines, each followed by the byte, are the lines and nothing after the last, joined
 pub join-ended : (c : ℕ) (line : List ℕ) (lines : List (List ℕ))
     → join_with_byte c (line ∷ (lines ++ [] ∷ [])) ≡ flat_map (λ l. l ++ c ∷ []) (line ∷ lines)
 join-ended c line [] = sym (append-nil (line ++ c ∷ []))

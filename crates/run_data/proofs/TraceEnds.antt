@@ -83,7 +83,7 @@ stuck size lines events halts run within other (all, halted, rest, are, is) =
     ⊎_elim (λ end. other end.0) (λ event. run.stops within event.0 event.1.0 event.1.1 event.1.2 event.1.3)
     (next-line size run.least halts next.0 halted line rest next.1 next.2)
 
--- .. behind its end ..
+-- .. after its end ..
 stuck_behind : (size : ℕ) (lines : List (List ℕ)) (events : List Stamped) (halts : Bool)
     (run : RunStops size lines events halts) → length events + 1 < length lines
     → get_or lines (length events) [] ≡ ending_text halts → TraceBegins size (take (length events + 2) lines) → ⊥
@@ -112,7 +112,7 @@ unended size lines events halts run past all halted are is =
     let next = run.read.back all halted [] are whole in
     lines_some next.0 halted next.2
 
--- the lines that were read begin a trace, with its end behind them a whole one
+-- the lines that were read begin a trace, and followed by its end they are a whole one
 begun : (size : ℕ) (lines : List (List ℕ)) (events : List Stamped) (halts : Bool)
     → RunStops size lines events halts → TraceBegins size (take (length events) lines)
 begun size lines events halts run =
@@ -260,7 +260,7 @@ broken-trace size parts events halts m some run is =
     (eqb (n + 2) (length parts))
     (eqb (length (get_or parts (n + 1) [])) 0) (n + 1) (n + 2) m is)
 
--- lines that break are no trace, from that line on
+-- lines that break aren't a trace, from that line on
 pub breaks-at : (size : ℕ) (text : List ℕ) (parts : List (List ℕ)) (events : List Stamped) (halts : Bool) (m : ℕ)
     → slice_split (λ byte. eqb byte 10) text ≡ parts → 1 ≤ length parts → RunStops size (front_parts parts) events halts
     → break_of parts (length events) halts ≡ Some m → BreaksAt size text m

@@ -1,4 +1,4 @@
--- The parts of a trace's text are its lines and nothing behind the last; what may follow lines that were read.
+-- The parts of a trace's text are its lines and nothing after the last; what may follow lines that were read.
 use Rattle.std.proofs.Common.{◌≡◌, ◌≢◌, ℕ, ◌+◌, ◌<◌, ◌≤◌, ◌^◌, Bool, true, false, not, eqb, ⊎_elim, ◌⊎◌, inl, inr, List, [], ◌∷◌, ◌++◌, length, get_or, refl, sym, ap, ◌∙◌, subst, arith, decimal, append_assoc}
 use Rattle.std.specs.List.{slice_split, join_with_byte, flat_map, list_all}
 use Rattle.std.specs.Int.{IsInRange}
@@ -31,7 +31,7 @@ text-joined [] halted = join-ended 10 (ending_text halted) [] ∙ lines-text [] 
 text-joined (s ∷ events) halted =
     join-ended 10 (line_of s.stamp s.event) (trace_lines events halted) ∙ lines-text (s ∷ events) halted
 
--- other events go on behind an event, or it is a halt and the last
+-- other events follow after an event, or it is a halt and the last
 pub GoesOn-cases : (e : Observed) (events : List Stamped) (halted : Bool) (others : Type 0)
     → GoesOn e events halted others → others ⊎ ((events ≡ []) × (halted ≡ true))
 GoesOn-cases Halted events halted others goes = inr goes
@@ -95,7 +95,7 @@ pub text-from_parts : (text : List ℕ) (events : List Stamped) (halted : Bool)
 text-from_parts text events halted is =
     joined 10 text (trace_lines events halted ++ [] ∷ []) is ∙ text-joined events halted
 
--- the line of an event is no last line
+-- the line of an event isn't a last line
 first_digit : (n : ℕ) → n < 2 ^ 64 → 0 < length (decimal n) → get_or (decimal n) 0 0 ≤ 57
 first_digit n below some =
     let digit : IsInRange 48 57 (get_or (decimal n) 0 0) =

@@ -1,4 +1,4 @@
--- What is read from pieces is what they spell, and nothing is read only where they spell nothing that fits.
+-- What is read from pieces is what they encode, and nothing is read only if they encode nothing that fits.
 use Rattle.std.proofs.Common.{◌≡◌, ◌≢◌, ℕ, ◌<◌, ◌≤◌, ◌+◌, ◌^◌, eqb, ℤ, pos, List, [], ◌∷◌, ◌++◌, length, map, get_or, Bor, Option, Some, None, true, bytes_eq, take, refl, sym, ap, ◌∙◌, subst, arith, decimal}
 use Rattle.std.specs.Fmt.{signed_decimal}
 use Rattle.std.specs.List.{slice_split}
@@ -17,7 +17,7 @@ use Rattle.run_data.specs.TraceFiles.{observed_in, stamped_in}
 use Rattle.run_data.specs.TracePieces.{contents, event_pieces, PiecesFound, LineFound}
 use Rattle.run_data.proofs.TraceSpelling.{split-line, line-from_pieces, same-line}
 
--- a bank that is no oblivious one
+-- a bank that isn't oblivious
 pub no_bank : (size : ℕ) (number : List ℕ) (bank : ℕ)
     → number ≡ decimal bank → bank < 2 ^ 32 → (2 ≤ bank → bank ≤ 9 → ⊥) → (event : Observed) → EventFits size event
     → (79 ∷ number) ∷ [] ≡ event_pieces event → ⊥
@@ -30,7 +30,7 @@ no_bank size number bank is below other Halted fits pieces =
     omega (arith, ap (λ bytes. get_or bytes 0 0) first)
 no_bank size number bank is below other event fits pieces = omega (arith, ap length pieces)
 
--- a piece that is no word
+-- a piece that isn't a word
 pub no_words : (pieces : List (Bor (List ℕ))) (i : ℕ) (d : Bor (List ℕ))
     → i < length pieces → ((z : ℤ) → IsWord z → (get_or pieces i d).now ≢ signed_decimal z) → (words : List ℤ)
     → AreWords words → contents pieces ≢ map signed_decimal words

@@ -15,7 +15,7 @@ use Rattle.run_data.specs.TracePieces.{event_pieces, line_pieces}
 use Rattle.run_data.proofs.Numerals.{Without, Without-decimal, Without-signed, mag-word}
 use Rattle.run_data.proofs.Splits.{NoneHas, split-join, joined, Without-join}
 
--- words behind a piece
+-- words after a piece
 join-words : (piece : List ℕ) (words : List ℤ)
     → join_with_byte 32 (piece ∷ map signed_decimal words) ≡ piece ++ words_text words
 join-words piece [] = sym (append-nil piece)
@@ -142,7 +142,7 @@ same-event size (Oram a) (Oram b) fits gits is =
 same-event size Halted Halted fits gits is = refl
 same-event size e f fits gits is = absurd (omega (arith, ap first_letter is, ap second_letter is))
 
--- one line spells one event
+-- one line encodes one event
 pub same-line : (size : ℕ) (s t : Stamped)
     → LineFits size s → LineFits size t → line_of s.stamp s.event ≡ line_of t.stamp t.event → s ≡ t
 same-line size s t fits gits is =

@@ -28,7 +28,7 @@ MayFollow-from size least (EncRead block) more halted goes = goes
 MayFollow-from size least (EncWrite block) more halted goes = goes
 MayFollow-from size least (Oram bank) more halted goes = goes
 
--- an event stands at the front of a trace whose first line is its line
+-- an event is the first of a trace whose first line is its line
 first-event : (size least : ℕ) (all : List Stamped) (halted : Bool) (s : Stamped) (rest : List (List ℕ))
     → AreEvents size least all halted → LineFits size s → line_of s.stamp s.event ∷ rest ≡ trace_lines all halted
     → (more : List Stamped) × MayFollow (is_halt s.event) size (s.stamp + 1) more halted
@@ -70,7 +70,7 @@ pub end_follows : (halts : Bool) (size least : ℕ) → MayFollow halts size lea
 end_follows true size least = (refl, refl)
 end_follows false size least = refl
 
--- lines that were read are a trace once its end stands behind them
+-- lines that were read are a trace once its end follows them
 pub ended : (size least : ℕ) (lines : List (List ℕ)) (events : List Stamped) (halts : Bool)
     → AreRead size lines events halts least
     → AreEvents size 0 events halts × (trace_lines events halts ≡ lines ++ ending_text halts ∷ [])
@@ -79,7 +79,7 @@ ended size least lines events halts read = (
   lines-of_events events halts ∙ ap (λ l. l ++ ending_text halts ∷ []) (sym read.read),
 )
 
--- what stands next in a trace: its end, or the line of an event that may stand there
+-- what comes next in a trace: its end, or the line of an event that is allowed there
 pub next-line : (size least : ℕ) (halts : Bool) (more : List Stamped) (halted : Bool) (line : List ℕ)
     (rest : List (List ℕ)) → MayFollow halts size least more halted → line ∷ rest ≡ trace_lines more halted
     → ((line ≡ ending_text halts) × (rest ≡ []))

@@ -1,4 +1,4 @@
--- A text spells one trace at most.
+-- A text encodes at most one trace.
 use Rattle.std.proofs.Common.{◌≡◌, ℕ, ◌+◌, Bool, true, false, eqb, ⊎_elim, List, [], ◌∷◌, ◌++◌, length, refl, sym, ap, ◌∙◌, subst, arith}
 use Rattle.std.specs.List.{slice_split}
 use Rattle.std.proofs.lemmas.List.{append_cancel_right}
@@ -43,7 +43,7 @@ same-lines size (s ∷ one) (t ∷ two) h g fit git is =
     let rest = same-lines size one two h g fit.1 git.1 tail in
     (ap (λ e. e ∷ one) first ∙ ap (λ es. t ∷ es) rest.0, rest.1)
 
--- one text spells one trace
+-- one text encodes one trace
 pub same-trace : (size : ℕ) (text : List ℕ) (one two : List Stamped) (h g : Bool)
     → SpellsTrace size text one h → SpellsTrace size text two g → (one ≡ two) × (h ≡ g)
 same-trace size text one two h g first second =

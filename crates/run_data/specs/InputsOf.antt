@@ -13,7 +13,7 @@ use Rattle.gr_word.specs.declared.variables.Shape.TheVariants.{Scalar, Array}
 use Rattle.run_data.specs.declared.errors.InputError.{InputError}
 use Rattle.run_data.specs.declared.errors.InputError.TheVariants.{BadJson, NotAnObject, UnknownName, WrongShape, WrongLength, NotAWord}
 
--- the JSON value that bytes spell, where they are text that spells one
+-- the JSON value that bytes encode, if they are text that encodes one
 abbrev pub json_of : List ℕ → Option Data
 json_of bytes = if is_utf8 bytes then read bytes else None
 
@@ -58,13 +58,13 @@ abbrev pub or_else : Option InputError → Option InputError → Option InputErr
 or_else None other = other
 or_else (Some fault) other = Some fault
 
--- the first fault of an object's members, which stand in the byte order of their names
+-- the first fault of an object's members, which are in the byte order of their names
 abbrev pub first_input_fault : List Want → Members → Option InputError
 first_input_fault wants no_members = None
 first_input_fault wants (member name value members) = or_else (named_fault wants name value)
     (first_input_fault wants members)
 
--- the words of values, 0 for one that is no word
+-- the words of values, 0 for one that isn't a word
 abbrev pub words_listed : List Data → List ℤ
 words_listed values = map (λ value. unwrap_or (word_of value) (pos 0)) values
 

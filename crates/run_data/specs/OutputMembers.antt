@@ -1,4 +1,4 @@
--- The map of the code from names to shapes and words. For private clauses and proofs alone.
+-- The map of the code from names to shapes and words. Only for private clauses and proofs.
 use Rattle.std.specs.Prelude.{ℕ, ℤ, List, [], ◌∷◌, IsTrue}
 use Rattle.std.specs.Borrow.{Bor}
 use Rattle.serde_json.specs.Data.{Members, no_members, member}

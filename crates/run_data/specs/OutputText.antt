@@ -48,7 +48,7 @@ abbrev pub names_of : Members → List (List ℕ)
 names_of no_members = []
 names_of (member name value members) = name ∷ names_of members
 
--- The names of members rise in byte order, so that none stands twice, and they are the names of these variables.
+-- The names of members rise in byte order, so that none occurs twice, and they are the names of these variables.
 pub record AreInOrder (wants : List Want) (members : Members) : Type 0 where
   pub rise : IsStrictlySortedBy (slice_cmp nat_cmp) (names_of members)
   pub named : (name : List ℕ)

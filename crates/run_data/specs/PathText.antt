@@ -1,4 +1,4 @@
--- The lines of paths: one behind each access to an oblivious bank, and one for each such bank behind the last line of a
+-- The lines of paths: one after each access to an oblivious bank, and one for each such bank after the last line of a
 -- trace, with the levels of its blocks (this project's profile).
 use Rattle.std.specs.Prelude.{ℕ, List, [], ◌∷◌, ◌++◌, ◌+◌, codes, decimal, flat_map, Option, Some, None}
 
@@ -22,7 +22,7 @@ levels_head bank = codes "levels " ++ decimal bank
 abbrev pub levels_line : ℕ → List (Option ℕ) → List ℕ
 levels_line bank levels = levels_head bank ++ flat_map level_text levels ++ codes "\n"
 
--- a text with the lines of banks from a number on behind it
+-- a text followed by the lines of banks from a number on
 abbrev pub levels_behind : List ℕ → ℕ → List (List (Option ℕ)) → List ℕ
 levels_behind text bank [] = text
 levels_behind text bank (levels ∷ more) = levels_behind (text ++ levels_line bank levels) (bank + 1) more

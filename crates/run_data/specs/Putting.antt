@@ -1,5 +1,5 @@
--- What a call that puts a text on a sink answers: the whole text was added, or less than it and the fault was counted.
--- (This project's profile.)
+-- The result of a call that writes a text to a sink: the whole text was added, or less than it and the fault was
+-- counted. (This project's profile.)
 use Rattle.std.specs.Prelude.{◌≡◌, ℕ, ◌-◌, ◌^◌, ◌≤◌, List, Option, Result, OnOk, OnErr}
 use Rattle.gr_base.specs.Counts.{Rose}
 use Rattle.gr_base.specs.Added.{Adds, AddsLess}

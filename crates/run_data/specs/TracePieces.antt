@@ -25,12 +25,12 @@ event_pieces Halted = codes "H" ∷ []
 abbrev pub line_pieces : Stamped → List (List ℕ)
 line_pieces s = decimal s.stamp ∷ event_pieces s.event
 
--- the words that the pieces spell, or that they spell none
+-- the words that the pieces encode, or that they encode none
 abbrev pub WordsFound : List (List ℕ) → Option (List ℤ) → Type 0
 WordsFound pieces (Some words) = AreWords words × (pieces ≡ map signed_decimal words)
 WordsFound pieces None = (words : List ℤ) → AreWords words → pieces ≢ map signed_decimal words
 
--- the event that the pieces spell, or that they spell none that fits
+-- the event that the pieces encode, or that they encode none that fits
 abbrev pub EventFound : ℕ → List (List ℕ) → Option SeenEvent → Type 0
 EventFound size pieces (Some event) = EventFits size (observed_in event) × (pieces ≡ event_pieces (observed_in event))
 EventFound size pieces None = (event : Observed) → EventFits size event → pieces ≢ event_pieces event
@@ -45,7 +45,7 @@ LineFound size bytes (Some line) =
     LineFits size (stamped_in line) × (bytes ≡ line_of line.stamp (observed_in line.event))
 LineFound size bytes None = (s : Stamped) → LineFits size s → bytes ≢ line_of s.stamp s.event
 
--- the next line of a trace, whose stamp isn't below the least and which stands behind no halt
+-- the next line of a trace, whose stamp isn't below the least and which doesn't follow a halt
 abbrev pub NextFound : ℕ → ℕ → Bool → List ℕ → Option TraceLine → Type 0
 NextFound size least halted bytes (Some line) =
     (halted ≡ false) × (least ≤ line.stamp) × LineFits size (stamped_in line)
@@ -58,8 +58,8 @@ abbrev pub MayFollow : Bool → ℕ → ℕ → List Stamped → Bool → Type 0
 MayFollow true size least events halted = (events ≡ []) × (halted ≡ true)
 MayFollow false size least events halted = AreEvents size least events halted
 
--- Lines that were read are those of events: whatever may follow them makes a trace, and what follows them in a trace is
--- what may follow.
+-- Lines that were read are those of events: anything that may follow them makes a trace, and what follows them in a
+-- trace is what may follow.
 pub record AreRead (size : ℕ) (lines : List (List ℕ)) (events : List Stamped) (halts : Bool) (least : ℕ) : Type 0 where
   pub read : lines ≡ map (λ s. line_of s.stamp s.event) events
   pub forth : (more : List Stamped) (halted : Bool)
@@ -84,8 +84,8 @@ pub record RunStops (size : ℕ) (lines : List (List ℕ)) (events : List Stampe
   pub stops : length events < length lines → halts ≡ false → (s : Stamped) → LineFits size s → least ≤ s.stamp
       → slice_index_or lines (length events) [] ≢ line_of s.stamp s.event
 
--- the line that breaks a trace of which the lines before number n are events: none where that is the last line and
--- nothing stands behind it
+-- the line that breaks a trace of which the lines before number n are events: none if that is the last line and nothing
+-- follows it
 abbrev pub break_of : List (List ℕ) → ℕ → Bool → Option ℕ
 break_of parts n halts =
     if n + 1 == length parts then Some (n + 1)

@@ -9,15 +9,15 @@ use std::alloc::{AllocError, AllocFailed};
 pub enum InputError {
     /// The bytes aren't the text of one JSON value.
     BadJson,
-    /// The value is no object.
+    /// The value isn't an object.
     NotAnObject,
     /// No variable has this name.
     UnknownName(NameText),
-    /// The value of this name is no number for a scalar, or no list for an array.
+    /// The value of this name isn't a number, for a scalar, or a list, for an array.
     WrongShape(NameText),
     /// The list of this name hasn't the length of its array.
     WrongLength(NameText),
-    /// The value of this name, or an element of its list, is no integer of 64 bits with a sign.
+    /// The value of this name, or an element of its list, isn't a signed 64-bit integer.
     NotAWord(NameText),
     /// Memory ran out, which says nothing of the text.
     Memory,

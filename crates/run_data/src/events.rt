@@ -16,10 +16,10 @@ const HEAD_BYTES: usize = 32;
 /// The most bytes of a word and the space before it.
 const WORD_BYTES: usize = 21;
 
-/// How many words are put at once.
+/// How many words are written at once.
 const WORDS_AT_ONCE: usize = 64;
 
-/// Room for a head, the words that are put at once, and a line feed.
+/// Room for a head, the words that are written at once, and a line feed.
 const PIECE_BYTES: usize = 1408;
 
 /// A piece of a line.
@@ -78,7 +78,7 @@ fn put_short<O: Sink>(out: &mut O, stamp: u32, kind: &[u8], number: u32) -> Resu
     put_piece(out, &line[start..])
 }
 
-/// Writes a number before an end, and answers where it starts.
+/// Writes a number before an end, and returns where it starts.
 #[tactic(auto, using(crate::proofs::Numerals::short_number))]
 #[inline]
 fn number_before(line: &mut [u8], end: usize, number: u32) -> usize
@@ -91,7 +91,7 @@ fn number_before(line: &mut [u8], end: usize, number: u32) -> usize
     write_digits(u64::from(number), line, end)
 }
 
-/// Writes bytes before an end, and answers where they start.
+/// Writes bytes before an end, and returns where they start.
 #[inline]
 fn bytes_before(line: &mut [u8], end: usize, bytes: &[u8]) -> usize
     requires room { length bytes.now ≤ end }

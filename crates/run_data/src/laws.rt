@@ -11,7 +11,7 @@ use crate::trace_files::{TraceError, TraceFile};
 use crate::traces::{read_trace, trace_text};
 use std::alloc::Global;
 
-/// Does nothing; its clause is the law that a text has one reading: it spells one trace at most.
+/// Does nothing; its clause is the law that a text has one reading: it encodes at most one trace.
 pub fn trace_laws()
     ensures one_reading { (size : ℕ) (text : List ℕ) (one two : List Stamped) (h g : Bool)
         → SpellsTrace size text one h → SpellsTrace size text two g → (one ≡ two) × (h ≡ g) }

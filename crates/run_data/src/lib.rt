@@ -1,10 +1,10 @@
 //! What goes into a run and what comes out of it, as text: inputs and outputs as JSON, and traces line by line.
 //!
 //! [`read_inputs`] gives the inputs that a JSON object holds for some variables, or the first fault of the text;
-//! [`output_text`] is the JSON of variables' words, in the order of their names ([`output_laws`]). [`put_event`] puts
-//! the line of one event on a sink, [`put_path`] that of the paths of one access, [`trace_text`] is the text of a whole
+//! [`output_text`] is the JSON of variables' words, in the order of their names ([`output_laws`]). [`put_event`] writes
+//! the line of one event to a sink, [`put_path`] that of the paths of one access, [`trace_text`] is the text of a whole
 //! trace, and [`read_trace`] reads such a text again ([`written_again`]) or names the line that breaks it; a text has
-//! one reading ([`trace_laws`]). The definitions in `specs/` say what each text is.
+//! one reading ([`trace_laws`]). The definitions in `specs/` state what each text is.
 #![tactic(auto)]
 
 mod errors;

@@ -5,7 +5,7 @@ ghost use Rattle.gr_word.specs.Words.{IsWord};
 use gr_base::numerals::numeral_up_to;
 use itoa::Buffer;
 
-/// The number that bytes spell in decimal digits, without zeros before it.
+/// The number that bytes encode in decimal digits, without leading zeros.
 pub fn read_number(bytes: &[u8]) -> Option<u32>
     ensures some { IfSome result (λ n. (n < 2 ^ 32) × (bytes.now ≡ decimal n)) }
     ensures none { IfNone result ((n : ℕ) → n < 2 ^ 32 → bytes.now ≢ decimal n) }
@@ -16,7 +16,7 @@ pub fn read_number(bytes: &[u8]) -> Option<u32>
     }
 }
 
-/// The word that bytes spell in decimal digits, without zeros before it, behind a `-` where it is below 0.
+/// The word that bytes encode in decimal digits, without leading zeros, after a `-` if it is below 0.
 pub fn read_word(bytes: &[u8]) -> Option<i64>
     ensures some { IfSome result (λ z. IsWord z × (bytes.now ≡ signed_decimal z)) }
     ensures none { IfNone result ((z : ℤ) → IsWord z → bytes.now ≢ signed_decimal z) }

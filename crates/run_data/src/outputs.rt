@@ -16,7 +16,7 @@ use std::collections::BTreeMap;
 type Members<'a> = BTreeMap<&'a [u8], (Shape, &'a [i64])>;
 
 /// The JSON of variables' words: an object without white space, its names in byte order, a number for a scalar and a
-/// list of numbers for an array. Beside the text, it takes memory for the variables alone and not for their words.
+/// list of numbers for an array. Beside the text, it allocates memory only for the variables and not for their words.
 pub fn output_text(alloc: Global, wants: &[Want], values: &Inputs) -> Result<Vec<u8>, Memory>
     requires { FitsWants wants.now values.now }
     ensures { IfOk result (λ text. text.items ≡ output_of wants.now values.now) }

@@ -3,7 +3,7 @@ ghost use Rattle.std.specs.Prelude.{◌≡◌, IfOk};
 use std::alloc::{AllocError, Global};
 use std::marker::Model;
 
-/// A name as it stands in an input: a text of any length. Seen as the list of its bytes.
+/// A name in an input: a text of any length. Seen as the list of its bytes.
 #[derive(Debug, Drop)]
 pub struct NameText {
     text: String,

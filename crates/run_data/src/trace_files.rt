@@ -66,7 +66,7 @@ pub struct TraceFile {
     pub halted: bool,
 }
 
-/// Why a text is no trace.
+/// Why a text isn't a trace.
 #[derive(Debug, Drop, Error)]
 pub enum TraceError {
     /// The line with this number, counted from 1, is the first with which the lines so far begin no trace.

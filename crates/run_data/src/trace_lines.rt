@@ -22,8 +22,8 @@ pub fn parts_of(alloc: Global, bytes: &[u8], at: u8) -> Result<Vec<&[u8]>, Alloc
     bytes.split(|byte| *byte == at).collect(alloc)
 }
 
-/// The next line of a trace, where a block has `size` words: none that stands behind a halt, whose stamp is below the
-/// least, or that is no event's line.
+/// The next line of a trace, if a block has `size` words: `None` if it follows a halt, if its stamp is below the least,
+/// or if it isn't an event's line.
 pub fn next_line(
     alloc: Global,
     size: usize,

@@ -11,9 +11,9 @@ use gr_base::Memory;
 use itoa::Buffer;
 use std::alloc::{AllocError, Global};
 
-/// The trace that a text of fewer than 2^32 bytes spells, where a block has 2^`block_log` words. `BadLine` names the
-/// first line with which the lines so far begin no trace; a line without its line feed is such a line, and where the
-/// text ends too soon it is the line behind the last.
+/// The trace that a text of fewer than 2^32 bytes encodes, if a block has 2^`block_log` words. `BadLine` names the
+/// first line with which the lines so far begin no trace; a line without its line feed is such a line, and if the text
+/// ends too soon it is the line after the last.
 pub fn read_trace(alloc: Global, text: &[u8], block_log: u8) -> Result<TraceFile, TraceError>
     requires least { 3 ≤ block_log }
     requires most { block_log ≤ 9 }
@@ -128,7 +128,7 @@ fn add_line(text: &mut Vec<u8>, line: &TraceLine) -> Result<(), Memory>
     }
 }
 
-/// Adds what stands behind a stamp: a kind of event, a number, words and a line feed.
+/// Adds what follows a stamp: a kind of event, a number, words and a line feed.
 fn add_access(text: &mut Vec<u8>, kind: &[u8], number: u32, words: &[i64]) -> Result<(), Memory>
     ensures { OnOk result (text.new.items
         ≡ text.old.items ++ (kind.now ++ decimal number ++ words_text words.now ++ codes "\n")) }

@@ -1,5 +1,5 @@
--- The start of a call: its assignments give each new variable its value, at a place of its own, and its names stand for
--- the same in both stores.
+-- The start of a call: its assignments give each new variable its value, at a place of its own, and its names refer to
+-- the same variables in both stores.
 use Rattle.std.proofs.Common.{◌≡◌, inl, inr, ℕ, zero, suc, ◌+◌, ◌<◌, ◌≤◌, ℤ, Bool, true, false, if◌then◌else◌, List, [], ◌∷◌, ◌++◌, length, map, get_or, set, Option, Some, None, refl, sym, ap, ◌∙◌, subst, append_assoc, arith, length-set, get_or-set_same, get_or-set_other}
 use Rattle.std.specs.Prelude.{bytes_eq}
 use Rattle.std.proofs.lemmas.Bool.{cases_lt}
@@ -14,7 +14,7 @@ use Rattle.src_procs.specs.CallMeaning.{Names, valued, one_word}
 use Rattle.src_procs.specs.Inlined.{Renaming, renamed, assigned, new_name, no_name}
 use Rattle.src_procs.proofs.Mirrors.{Sizes, ArePlaces, Mirrors, StandsAt, Nowhere, There, Match, valued_same, front_mirrors, words_set}
 
--- a new variable's number is its place, and what stands for nothing has no number
+-- a new variable's number is its place, and a name that refers to nothing has no number
 pub record NewNumbers (size : Sizes) (decls : List Decl) : Type 0 where
   pub new : (k : ℕ) → k < size.new → variable_number decls (new_name k) ≡ size.own + k
   pub none : size.own + size.new ≤ variable_number decls no_name
@@ -129,12 +129,12 @@ stands_more places more (There {j = j} lt is) =
     let all = length-append places more in
     There (omega (arith, all, lt)) (is ∙ sym (get_or_append_left places more 0 j lt))
 
--- the names of the caller stand for the same when there are more variables
+-- the names of the caller refer to the same variables if there are more variables
 pub match_more : {size : Sizes} {decls : List Decl} {names : Names} {to : Renaming} (places more : List ℕ)
     → Match size decls places names to → Match size decls (places ++ more) names to
 match_more places more is = record { stands = λ x. stands_more places more (is.stands x) }
 
--- the caller's variables alone
+-- only the caller's variables
 caller_mirrors : {size : Sizes} {next : ℕ} {places done : List ℕ} {s words t : Store}
     → Filled size next places done s words t → Mirrors size places s t
 caller_mirrors {size} {next} {places} {done} {s} {words} {t} f =
@@ -207,7 +207,7 @@ all_filled {size} next {places} done {s} words t decls numbers names to is f tur
           (append_assoc words (one_word names s e ∷ []) (map (one_word names s) es)) rest.filled));
     }
 
--- so many new variables from one on have their places
+-- this many new variables from one on have their places
 pub record HasPlaces (size : Sizes) (places : List ℕ) (next k count : ℕ) : Type 0 where
   pub low : (j : ℕ) → j < count → k + j < length places
   pub is : (j : ℕ) → j < count → get_or places (k + j) 0 ≡ size.own + (next + j)
@@ -263,7 +263,7 @@ labels_long (p ∷ ps) [] (d ∷ ds) = ap suc (labels_long [] [] ds)
 labels_long (OfValue label name ∷ ps) (e ∷ es) locals = ap suc (labels_long ps es locals)
 labels_long (OfVariable name ∷ ps) (e ∷ es) locals = labels_long ps es locals
 
--- what names stand for, once a name stands for something
+-- what names refer to, once one more name refers to something
 either_stands : {size : Sizes} {places : List ℕ} (decls : List Decl) (b : Bool) (o p : Option ℕ) (x y : List ℕ)
     → StandsAt size places o (variable_number decls x) → StandsAt size places p (variable_number decls y)
     → StandsAt size places (if b then o else p) (variable_number decls (if b then x else y))
@@ -323,7 +323,7 @@ no_more : (p : Parameter) (ps : List Parameter) (locals : List Decl)
 no_more p ps [] = refl
 no_more p ps (d ∷ ds) = refl
 
--- the names of a procedure stand for the same
+-- the names of a procedure refer to the same variables
 pub names_match : {size : Sizes} {places : List ℕ} (decls : List Decl) → NewNumbers size decls → (names : Names)
     (to : Renaming) (parameters : List Parameter) (arguments : List Tree) (locals : List Decl) (next k : ℕ)
     → Match size decls places names to

@@ -39,7 +39,7 @@ alike_then : {size : Sizes} {places : List ℕ} {second other : Execution} {r q 
 alike_then f BothSpent = BothSpent
 alike_then f (BothLeft {a = a} {b = b} same m) = alike_on f a b same m
 
--- one after the other
+-- in sequence
 pub both_follow : {size : Sizes} {places : List ℕ} {first second one other : Execution}
     → Follows size places first one → Follows size places second other
     → Follows size places (in_turn first second) (in_turn one other)
@@ -88,7 +88,7 @@ loop_follow test one body other agree f = record {
   alike = λ s t turns m. (looped_follow test one body other agree f turns).alike s t turns m;
 }
 
--- a statement alone, and two blocks
+-- a single statement, and two blocks
 then_nothing : (decls : List Decl) (r : Option Left) → option_and_then (run_of_block decls plain.Nothing) r ≡ r
 then_nothing decls None = refl
 then_nothing decls (Some a) = refl

@@ -218,7 +218,7 @@ handed_so given x name argument made same is h =
     h ∙ (ap (λ (o : Option (Bor Expr)). bare (option_map argument_seen o)) is
     ∙ ap (λ (y : List ℕ). bare (arguments_under given y)) same)
 
--- the arguments from one parameter on, by that one and those behind it
+-- the arguments from one parameter on, by that one and those after it
 pub one_before : (params : List Param) (arguments : List (Bor Expr)) (at : ℕ) (p : Param) (e : Bor Expr)
     (name : List ℕ) (given next : Arguments) → at < length params → at < length arguments
     → p ≡ get_or params at p → e ≡ get_or arguments at e → name ≡ parameter_name (parameter_of p)

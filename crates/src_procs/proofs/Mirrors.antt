@@ -1,5 +1,5 @@
--- Two stores, of which the second holds what the first does, each variable at a place of its own; and names that stand
--- for the same variables in both.
+-- Two stores, of which the second holds what the first does, each variable at a place of its own; and names that refer
+-- to the same variables in both.
 use Rattle.std.proofs.Common.{◌≡◌, ◌≢◌, ℕ, ◌+◌, ◌<◌, ◌≤◌, ℤ, pos, List, [], ◌++◌, length, take, get_or, set, Option, Some, None, refl, sym, ap, ◌∙◌, subst, ⊎_elim, arith, length-set, get_or-set_same, get_or-set_other}
 use Rattle.std.proofs.lemmas.Bool.{cases_eq}
 use Rattle.std.proofs.lemmas.List.{get_or_past, set_past, get_or_append_left, get_or-take, length-take-le, length-append}
@@ -26,7 +26,7 @@ pub record Mirrors (size : Sizes) (places : List ℕ) (s t : Store) : Type 0 whe
   pub same : (j : ℕ) → j < length places → words_of_number s j ≡ words_of_number t (get_or places j 0)
   pub scalars : (k : ℕ) → size.own ≤ k → k < size.own + size.new → length (words_of_number t k) ≡ 1
 
--- what a name stands for has its place in the second store, and what stands for nothing has none
+-- the variable that a name refers to has its place in the second store, and a name that refers to nothing has none
 pub data StandsAt (size : Sizes) (places : List ℕ) : Option ℕ → ℕ → Type 0 where
   Nowhere : {n : ℕ} → size.own + size.new ≤ n → StandsAt size places None n
   There : {j n : ℕ} → j < length places → n ≡ get_or places j 0 → StandsAt size places (Some j) n
@@ -155,7 +155,7 @@ element_mirrors {size} {next} {places} {s} {t} are few m (Some j) n (There lt is
     (with_word t (get_or places j 0) (wrapped ws index) v)) (m.same j lt)
     (word_mirrors are few m j (wrapped (words_of_number s j) index) v lt))
 
--- the first variables alone
+-- only the first variables
 pub front_mirrors : {size : Sizes} {s t : Store} (places more : List ℕ) (count : ℕ) → count ≡ length places
     → Mirrors size (places ++ more) s t → Mirrors size places (take count s) t
 front_mirrors {size} {s} {t} places more count is m =

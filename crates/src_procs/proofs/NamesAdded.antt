@@ -17,7 +17,7 @@ pub numbered_one : (m n : BTreeMap (Bor (List ℕ)) ℕ) (k : Bor (List ℕ)) (n
     → found_under n ≡ numbered (found_under m) k.now number
 numbered_one m n k number h = fun_ext (name_added m n k number h)
 
--- a name behind others
+-- a name after others
 pub seen_more : (names : List (Bor (List ℕ))) (name : Bor (List ℕ)) (others : List (List ℕ))
     → names_seen (names ++ name ∷ []) ++ others ≡ names_seen names ++ (name.now ∷ others)
 seen_more names name others =

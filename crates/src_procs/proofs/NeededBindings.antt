@@ -19,7 +19,7 @@ use Rattle.src_procs.specs.Trees.{Call, Parameter, OfValue, OfVariable, Procedur
 use Rattle.src_procs.proofs.Bindings.{begun_made}
 use Rattle.src_procs.proofs.OneStep.{held, some_expanded}
 
--- two bindings put the same, and bind these names alike
+-- two bindings append the same statements, and bind these names alike
 record Alike (needed : Names) (b c : Binding) : Type 0 where
   bound : (y : List ℕ) → is_some (needed y) ≡ true → b.bound y ≡ c.bound y
   blocks : b.open_blocks ≡ c.open_blocks

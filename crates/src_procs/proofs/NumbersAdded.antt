@@ -59,7 +59,7 @@ still_found ps k callable (Some j) f le e =
           ap (placed ps j) (le-ltb j (min k (length ps)) more) in absurd (cc))
     ]
 
--- a new name gets number i, which is no procedure before place i
+-- a new name gets number i, which isn't that of a procedure before place i
 kept : (ps : List Procedure) (numbers : Names) (i callable : ℕ) (x name : List ℕ) → callable ≤ i → numbers x ≡ None
     → (b : Bool) → (b ≡ true → x ≡ name)
     → found_before ps callable (numbers name) ≡ found_before ps callable (cond b (Some i) (numbers name))
@@ -98,7 +98,7 @@ none_there : (o : Option ℕ) → is_some o ≡ false → o ≡ None
 none_there None e = refl
 none_there (Some k) e = absurd (cc)
 
--- the first procedures have their numbers, and those behind them have no fault
+-- the first procedures have their numbers, and those after them have no fault
 pub record AreSoFar (ps : List Procedure) (i : ℕ) (numbers : Names) : Type 0 where
   pub numbered : (callable : ℕ) (name : List ℕ) → callable ≤ i
       → found (reverse (take callable ps)) name ≡ by_number ps callable numbers name

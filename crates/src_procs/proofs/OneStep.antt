@@ -35,7 +35,7 @@ pub held_same : (scopes : List Scope) (a b : List (List plain.Statement)) (l m :
     → held scopes a l ≡ held scopes b m
 held_same scopes a b l m e f = ap (λ o. held scopes o l) e ∙ ap (held scopes b) f
 
--- the code of two pieces is put one after the other
+-- the code of two pieces is appended in sequence
 made_both : (x : Held) (one : Inlined) (two : ℕ → Inlined)
     → with_made x (both one two (length x.labels))
     ≡ with_made (with_made x one) (two (length (with_made x one).labels))
@@ -56,7 +56,7 @@ nothing_expanded [] open_blocks labels = refl
 nothing_expanded (scope ∷ scopes) open_blocks labels =
     held_same (scope ∷ scopes) _ _ _ _ (put_nothing open_blocks) (append-nil labels)
 
--- a statement and those behind it
+-- a statement and those after it
 pub then_expanded : (s : Statement) (rest : Block) (scopes : List Scope) (open_blocks : List (List plain.Statement))
     (labels : List Label)
     → expanded (Then s rest) (held scopes open_blocks labels)
@@ -157,7 +157,7 @@ inlines_none (p ∷ earlier) name e to arguments next = by (bytes_eq name p.name
     by true e rest = absurd (cc)
     by false e rest = rest e to arguments next
 
--- the last of the first procedures stands first
+-- the last of the first procedures comes first
 pub found_last : (procedures : List Procedure) (k : ℕ) (d : Procedure) (name : List ℕ) → k < length procedures
     → found (reverse (take (k + 1) procedures)) name
     ≡ cond (bytes_eq name (get_or procedures k d).name)

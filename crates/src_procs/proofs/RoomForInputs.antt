@@ -32,7 +32,7 @@ added_scalar next [] k d lt = absurd (omega (arith, lt))
 added_scalar next (label ∷ labels) zero d lt = refl
 added_scalar next (label ∷ labels) (suc k) d lt = added_scalar (next + 1) labels k d (omega (arith, lt))
 
--- a new variable, behind the file's own
+-- a new variable, after the file's own
 added_at : (ds : List Decl) (labels : List Label) (k : ℕ) (d : Decl) → length ds ≤ k
     → k < length (ds ++ added 0 labels) → words_of (get_or (ds ++ added 0 labels) k d) ≡ 1
 added_at ds labels k d from below =

@@ -1,4 +1,4 @@
--- Statements as a block, the first and those behind it.
+-- Statements as a block, the first and those after it.
 use Rattle.std.proofs.Common.{◌≡◌, false, List, [], ◌∷◌, length, drop, get_or, ap, ◌∙◌}
 use Rattle.std.specs.Prelude.{◌==◌}
 use Rattle.src_procs.specs.declared.live.Live.{Live}

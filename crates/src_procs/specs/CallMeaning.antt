@@ -1,8 +1,8 @@
 -- The meaning of a file with procedures. A call evaluates its scalar arguments in the caller's variables, and runs the
--- procedure's statements with these values and locals that are 0; each array parameter is another name of the caller's
--- variable that its argument names. The call's own variables stand behind the others in the store while it runs, and
--- are gone behind it. It says something of every tree: a name that stands for nothing reads 0, and to write it changes
--- nothing; a call of no procedure does nothing.
+-- procedure's statements with these values as its parameters and with locals that are 0; each array parameter is
+-- another name of the caller's variable that its argument names. While the call runs, its own variables follow the
+-- others in the store; afterwards they are removed. Every tree has a meaning: a name that refers to nothing reads 0,
+-- and writing it changes nothing; a call of an unknown procedure does nothing.
 use Rattle.std.specs.Prelude.{ℕ, ◌+◌, ℤ, pos, Bool, if◌then◌else◌, List, [], ◌∷◌, ◌++◌, length, take, map, reverse, bytes_eq, Option, Some, None}
 use Rattle.std.specs.Option.{option_map}
 use Rattle.gr_word.specs.Words.{applied, compared}
@@ -12,7 +12,7 @@ use Rattle.src_tree.specs.Meaning.{Store, Left, Execution, scalar, element, scal
 use Rattle.src_procs.specs.Trees.{Statement, SetVariable, SetElement, Choice, Loop, Call, Block, Nothing, Then, Procedure, File}
 use Rattle.src_procs.specs.Frames.{naming_all, new_values}
 
--- the numbers of variables that names stand for, none where they stand for none
+-- the number of the variable that each name refers to, if there is one
 abbrev pub Names : Type 0
 Names = List ℕ → Option ℕ
 
@@ -46,7 +46,7 @@ valued names store (Operation op a b) = applied op (valued names store a) (value
 abbrev pub passes : Names → Test → Store → Bool
 passes names t store = compared t.cmp (valued names store t.left) (valued names store t.right)
 
--- what a call of a name does, by what the caller's names stand for and the arguments
+-- what a call of a name does, given what the caller's names refer to and the arguments
 abbrev pub RunsOfCalls : Type 0
 RunsOfCalls = List ℕ → Names → List Tree → Execution
 
@@ -68,7 +68,7 @@ abbrev mutual
   does_all calls names Nothing before = Some before
   does_all calls names (Then s rest) before = in_turn (does calls names s) (does_all calls names rest) before
 
--- the variables of the caller alone
+-- only the variables of the caller
 abbrev pub of_caller : ℕ → Left → Left
 of_caller count after = record after { store = take count after.store }
 
@@ -85,7 +85,7 @@ called calls p caller arguments before =
       store = before.store ++ map (one_word caller before.store) (new_values p.parameters arguments p.locals);
     }))
 
--- calls of these procedures, the last first: each calls those that stand before it
+-- calls of these procedures, the last first: each calls only those before it
 abbrev pub calls_of : List Procedure → RunsOfCalls
 calls_of [] name caller arguments before = Some before
 calls_of (p ∷ earlier) name caller arguments before =

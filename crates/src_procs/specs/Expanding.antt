@@ -19,7 +19,7 @@ pub data Pending : Type 0 where
   EndChoice : (test : Test) → Pending
   EndLoop : (test : Test) → Pending
 
--- where statements stand: the procedures before them, the last first, and what their names are in the program
+-- the scope of statements: the procedures before them, the last first, and what their names are in the program
 pub record Scope : Type 0 where
   pub callable : List Procedure
   pub names : Renaming
@@ -56,7 +56,7 @@ end_choice t x = record x { open_blocks = closed_choice t x.open_blocks }
 abbrev pub end_loop : Test → Held → Held
 end_loop t x = record x { open_blocks = closed_loop t x.open_blocks }
 
--- the statements of some code, put behind what there is
+-- the statements of some code, appended to what there is
 abbrev pub with_made : Held → Inlined → Held
 with_made x i = record x { open_blocks = put (statements_of i.block) x.open_blocks; labels = x.labels ++ i.labels }
 
@@ -119,7 +119,7 @@ abbrev pub put_where : Option plain.Statement → Held → Held
 put_where None x = x
 put_where (Some s) x = record x { open_blocks = put (s ∷ []) x.open_blocks }
 
--- an assignment alone
+-- a single assignment
 abbrev pub assigned_one : Statement → Held → Held
 assigned_one s x = in_scope x.scopes (λ scope. put_where (plain_statement scope.names s) x) x
 
@@ -148,13 +148,13 @@ nothing_bound y = None
 abbrev pub bound_after : Bound → List ℕ → List ℕ → Bound
 bound_after bound name stands y = option_or (bound y) (if bytes_eq y name then Some stands else None)
 
--- what a call's names are so far, and what was put: the names, the open blocks and the labels
+-- what a call's names are so far, and what was appended: the names, the open blocks and the labels
 pub record Binding : Type 0 where
   pub bound : Bound
   pub open_blocks : List (List plain.Statement)
   pub labels : List Label
 
--- a new variable that a name stands for, with a statement that assigns to it
+-- a new variable for a name, with a statement that assigns to it
 abbrev pub with_variable : Binding → Label → List ℕ → List ℕ → plain.Statement → Binding
 with_variable b label name stands s = record {
   bound = bound_after b.bound name stands;

@@ -19,7 +19,7 @@ abbrev pub naming_locals : {X : Type 0} → (ℕ → X) → X → ℕ → List D
 naming_locals new nothing next [] y = nothing
 naming_locals new nothing next (d ∷ ds) y = naming d.name (new next) (naming_locals new nothing (next + 1) ds) y
 
--- the names of a procedure, its new variables being number `next` and the ones behind it
+-- the names of a procedure, if its new variables are number `next` and the ones after it
 abbrev pub naming_all : {X : Type 0} → (ℕ → X) → X → (List ℕ → X) → ℕ → List Parameter → List Tree → List Decl
     → List ℕ → X
 naming_all new nothing caller next [] arguments locals y = naming_locals new nothing next locals y

@@ -1,7 +1,7 @@
 -- The first cause for which the calls of a file can't be replaced. Procedure by procedure, in their order: a name that
--- stands twice, then a variable that isn't the procedure's own. Then call by call, in the order of their first tokens:
--- no procedure of that name stands before it, another number of arguments, an array's argument that is no bare name.
--- Last, how many statements the program without calls has (this project's profile).
+-- is declared twice, then a variable that isn't the procedure's own. Then call by call, in the order of their first
+-- tokens: no procedure of that name is declared before it, the number of arguments differs, an array's argument isn't a
+-- bare name. Last, the number of statements of the program without calls (this project's profile).
 use Rattle.std.specs.Prelude.{◌≡◌, ℕ, ◌+◌, ◌==◌, ◌&&◌, ◌||◌, nat_lt, Bool, true, false, not, List, [], ◌∷◌, ◌++◌, map, length, reverse, bytes_eq, if◌then◌else◌, Option, Some, None, is_some, Result, Ok, Err}
 use Rattle.std.specs.Option.{option_or}
 use Rattle.gr_base.specs.Results.{◌>>=◌}
@@ -67,12 +67,12 @@ abbrev mutual
   knows_block known Nothing = true
   knows_block known (Then s rest) = knows_statement known s && knows_block known rest
 
--- what is wrong with the names of procedure n, by its own names, numbered where each stands once
+-- the fault of the names of procedure n, by its own names, numbered if each is declared once
 abbrev pub body_fault : ℕ → Option Names → Block → Option InlineError
 body_fault n None body = Some (TwiceNamed (shown_place n))
 body_fault n (Some own) body = fault_where (not (knows_block own body)) (Undeclared (shown_place n))
 
--- the first fault of procedures, from number n on, behind those whose names are known
+-- the first fault of procedures, from number n on, after those whose names are known
 abbrev pub procedures_fault : Names → ℕ → List Procedure → Option InlineError
 procedures_fault known n [] = None
 procedures_fault known n (p ∷ ps) =
@@ -93,7 +93,7 @@ abbrev pub names_variable : Parameter → Bool
 names_variable (OfValue label name) = false
 names_variable (OfVariable name) = true
 
--- an array's argument is no bare name
+-- an array's argument isn't a bare name
 abbrev pub lacks_name : List Parameter → List Tree → Bool
 lacks_name [] es = false
 lacks_name (p ∷ ps) [] = false
@@ -119,7 +119,7 @@ next_call n (Some e) = Err e
 abbrev pub Called : Type 0
 Called = List ℕ → Option Procedure
 
--- the number of the call behind these, of which the first has number n, or their first fault
+-- the number of the call after these, of which the first has number n, or their first fault
 abbrev mutual
   pub calls_walked : Called → ℕ → Statement → Result ℕ InlineError
   calls_walked called n (SetVariable x e) = Ok n
@@ -132,7 +132,7 @@ abbrev mutual
   calls_walked_all called n Nothing = Ok n
   calls_walked_all called n (Then s rest) = calls_walked called n s >>= λ m. calls_walked_all called m rest
 
--- the calls of procedures, behind the earlier ones, the last of which stands first
+-- the calls of procedures, after the earlier ones, the last of which comes first
 abbrev pub procedures_walked : List Procedure → ℕ → List Procedure → Result ℕ InlineError
 procedures_walked earlier n [] = Ok n
 procedures_walked earlier n (p ∷ ps) =

@@ -22,7 +22,7 @@ by_number ps callable numbers name = found_before ps callable (numbers name)
 abbrev pub procedure_by_number : List Procedure → ℕ → Names → List ℕ → Option Procedure
 procedure_by_number ps callable numbers name = option_map (λ (f : Found). f.procedure) (by_number ps callable numbers name)
 
--- the numbers tell which procedure a name calls, wherever it stands
+-- the numbers determine which procedure a name calls, at any place
 abbrev pub AreNumbered : List Procedure → Names → Type 0
 AreNumbered ps numbers = (callable : ℕ) (name : List ℕ)
     → found (reverse (take callable ps)) name ≡ by_number ps callable numbers name

@@ -1,5 +1,5 @@
--- What replacing the calls keeps: the program does with the file's own variables what the file means, whatever its new
--- variables hold at the start.
+-- What replacing the calls keeps: the program does with the file's own variables what the file means, for any starting
+-- values of its new variables.
 use Rattle.std.specs.Prelude.{◌≡◌, ℕ, ◌<◌, ◌≤◌, List, [], ◌∷◌, length, take, false}
 use Rattle.std.specs.Option.{option_map}
 use Rattle.src_tree.specs.declared.trees.Decl.{Decl}
@@ -20,8 +20,8 @@ pub record HasNewWords (f : File) (store : Store) : Type 0 where
   pub scalars : (k : ℕ) → length f.decls ≤ k → k < length (inlined_file f).decls
       → length (words_of_number store k) ≡ 1
 
--- a program does with the variables of a file what the file means, for every store and whatever its other variables hold
--- at the start
+-- a program does with the variables of a file what the file means, for every store and any starting values of its other
+-- variables
 abbrev pub KeepsMeaning : File → Source → Type 0
 KeepsMeaning f p = (store : Store) (turns : ℕ) → HasNewWords f store
     → option_map (take (length f.decls)) (meaning p store turns) ≡ call_meaning f (take (length f.decls) store) turns

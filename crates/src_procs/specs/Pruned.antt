@@ -28,7 +28,7 @@ abbrev mutual
   pruned sizes Nothing = Nothing
   pruned sizes (Then s rest) = with_first (kept sizes s) (pruned sizes rest)
 
--- some statements, and a block behind them
+-- some statements, and a block after them
 abbrev pub behind : List Statement → Block → Block
 behind [] b = b
 behind (s ∷ ss) b = Then s (behind ss b)

@@ -61,7 +61,7 @@ fn bind<'a>(bounds: &mut Bounds<'a>, name: &'a [u8], stands: Name) -> Result<(),
     }
 }
 
-// A new variable, with the name that it stands for and the assignment of its value.
+// A new variable, with the name that refers to it and the assignment of its value.
 fn with_new<'a>(
     made: &mut Made,
     bounds: &mut Bounds<'a>,
@@ -105,7 +105,7 @@ fn alias<'a>(alloc: Global, caller: &Naming<'a>, e: &'a Expr) -> Result<Name, Me
     }
 }
 
-// A name that stands for another of the caller.
+// A name that refers to a variable of the caller.
 fn with_alias<'a>(bounds: &mut Bounds<'a>, name: &'a Name, other: Name) -> Result<(), Memory>
     ensures { OnOk result (found_under bounds.new ≡ spec.bound_after (found_under bounds.old) name.now other) }
 {

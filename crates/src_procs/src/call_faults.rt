@@ -39,7 +39,7 @@ fn lacks(param: &Param, argument: &Expr) -> bool
     names_variable(param) && !is_bare(argument)
 }
 
-// Whether an array's argument is no bare name.
+// Whether an array's argument isn't a bare name.
 fn lacks_name(params: &[Param], arguments: &[Expr]) -> bool
     ensures { result ≡ spec.lacks_name (map parameter_of params.now) (trees_of arguments.now) }
 {

@@ -12,11 +12,11 @@ pub enum InlineError {
     TwiceNamed(u32),
     /// The procedure's statements name a variable that is none of its parameters and locals.
     Undeclared(u32),
-    /// No procedure of that name stands before the call's place.
+    /// No procedure of that name is declared before the call's place.
     NoProcedure(u32),
     /// The call has another number of arguments than the procedure has parameters.
     WrongCount(u32),
-    /// An array's argument is no bare name.
+    /// An array's argument isn't a bare name.
     NotAnArray(u32),
     /// The program without calls has more than 8,192 statements.
     TooLarge,

@@ -27,15 +27,14 @@ pub(crate) enum Pending<'b, 'a> {
     EndLoop(Guard),
 }
 
-// What was made so far: the statements of the open blocks, the innermost behind the others, and the labels of the new
-// variables.
+// What was made so far: the statements of the open blocks, the innermost last, and the labels of the new variables.
 #[derive(Drop)]
 pub(crate) struct Made {
     pub open_blocks: Vec<Vec<Stmt>>,
     pub labels: Vec<Label>,
 }
 
-// The scopes, the last behind the others, and what was made so far.
+// The scopes, the innermost last, and what was made so far.
 #[derive(Drop)]
 pub(crate) struct Held<'a> {
     pub scopes: Vec<Scope<'a>>,
@@ -141,7 +140,7 @@ pub(crate) fn assignment<'a>(
     }
 }
 
-// The statements behind one are to be done.
+// The statements after one are to be done.
 pub(crate) fn waits_for<'b, 'a>(
     waiting: &mut Vec<Pending<'b, 'a>>,
     others: &'b [Live<'a>],
@@ -166,7 +165,7 @@ pub(crate) fn waits_for_call<'b, 'a>(
     Ok(())
 }
 
-// The blocks of a choice are to be done, the second in a block that opens behind the first.
+// The blocks of a choice are to be done, the second in a block that opens after the first.
 pub(crate) fn waits_for_choice<'b, 'a>(
     waiting: &mut Vec<Pending<'b, 'a>>,
     guard: Guard,

@@ -11,7 +11,7 @@ use gr_base::Memory;
 use std::alloc::Global;
 use std::collections::BTreeMap;
 
-// The numbers of procedures by their names, each of which stands once.
+// The numbers of procedures by their names, each of which is declared once.
 pub(crate) fn numbers_of<'a>(alloc: Global, procs: &'a [Proc]) -> Result<Numbers<'a>, Memory>
     requires { procedures_fault none_named 0 (map procedure_of procs.now) ≡ None }
     ensures { IfOk result (λ numbers. AreNumbered (map procedure_of procs.now) (found_under numbers)) }

@@ -91,7 +91,7 @@ fn added(alloc: Global, n: usize, label: Label) -> Result<Decl, Memory>
     })
 }
 
-// Declarations, and behind them those of the new variables.
+// Declarations, followed by those of the new variables.
 fn with_added(alloc: Global, decls: &[Decl], labels: &[Label]) -> Result<Vec<Decl>, Memory>
     ensures { IfOk result (λ all. all.items ≡ decls.now ++ added 0 labels.now) }
 {
@@ -208,13 +208,12 @@ fn finish<'a>(
 
 /// The program of a file with procedures, in which each call is replaced, outermost first, by an assignment of each
 /// scalar argument, an assignment of 0 to each local, and the procedure's statements. The scalar parameters and locals
-/// of the calls become new variables `__0`, `__1` and so on, in the order of the calls as they stand in the program,
-/// declared behind the file's own. No declared name of the file may begin with `__`, as in a file that was parsed.
+/// of the calls become new variables `__0`, `__1` and so on, in the order of the calls in the program, declared after
+/// the file's own. No declared name of the file may begin with `__`, as in a file that was parsed.
 ///
-/// The program does with the file's own variables what the file means, for every store and whatever its new variables
-/// hold at the start. The refusals come in the order of [`InlineError`]'s variants, those of procedures one procedure
-/// after the other, then those of calls one call after the other, and the first is answered. `Memory` says nothing of
-/// the file.
+/// The program does with the file's own variables what the file means, for every store and any starting values of its
+/// new variables. The errors come in the order of [`InlineError`]'s variants, those of procedures procedure by
+/// procedure, then those of calls call by call, and the first is returned. `Memory` says nothing about the file.
 pub fn inline(alloc: Global, f: &ProcFile) -> Result<Program, InlineError>
     requires plain { ArePlain f.now.decls.items }
     ensures inlined { IfOk result (λ p. source_of p ≡ inlined_file (file_of f.now)) }

@@ -1,9 +1,9 @@
 //! Procedures of the source language: their trees, their meaning, and programs without calls.
 //!
 //! A file has declarations, procedures and statements, among them calls (`specs/Trees`); what it means is in
-//! `specs/CallMeaning`. [`inline`] replaces its calls (`specs/Inlined`), or names the first cause for which they can't be
-//! replaced (`specs/InlineFaults`). The program that it makes does with the file's own variables what the file means, for
-//! every store and whatever its new variables hold at the start (`specs/Promise`).
+//! `specs/CallMeaning`. [`inline`] replaces its calls (`specs/Inlined`), or names the first cause for which they can't
+//! be replaced (`specs/InlineFaults`). The program that it makes does with the file's own variables what the file
+//! means, for every store and any starting values of its new variables (`specs/Promise`).
 #![tactic(auto)]
 
 mod binding;

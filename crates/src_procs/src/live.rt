@@ -38,7 +38,7 @@ fn each<'a>(alloc: Global, arguments: &'a [Expr]) -> Result<Vec<&'a Expr>, Memor
     Ok(all)
 }
 
-// Statements, and one more behind them, where there is one.
+// Statements, and one more after them, if there is one.
 #[tactic(auto, using(crate::proofs::Pruning::behind_push))]
 fn with_live<'a>(mut all: Vec<Live<'a>>, live: Option<Live<'a>>) -> Result<Vec<Live<'a>>, Memory>
     ensures { IfOk result (λ r. (b : Block) → behind (map live_of r.items) b

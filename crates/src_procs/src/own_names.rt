@@ -55,7 +55,7 @@ pub(crate) fn parameter_name<'a>(param: &'a Param) -> &'a [u8]
     }
 }
 
-// Names, and behind them those of parameters.
+// Names, followed by those of parameters.
 fn with_parameters<'a>(
     mut names: Vec<&'a [u8]>,
     params: &'a [Param],
@@ -69,7 +69,7 @@ fn with_parameters<'a>(
     Ok(names)
 }
 
-// Names, and behind them those of locals.
+// Names, followed by those of locals.
 fn with_locals<'a>(mut names: Vec<&'a [u8]>, locals: &'a [Decl]) -> Result<Vec<&'a [u8]>, Memory>
     ensures { IfOk result (λ r. names_seen r.items ≡ names_seen names.entry.items ++ map spec.local_name locals.now) }
 {
@@ -87,7 +87,7 @@ fn own_names<'a>(alloc: Global, p: &'a Proc) -> Result<Vec<&'a [u8]>, Memory>
     with_locals(names, p.locals.as_slice())
 }
 
-// The numbers of names, where each stands once.
+// The numbers of names, if each is declared once.
 fn gather<'a>(alloc: Global, names: &[&'a [u8]]) -> Result<Option<Numbers<'a>>, Memory>
     ensures { IfOk result (λ r. option_map found_under r ≡ spec.numbered_all spec.none_named 0 (names_seen names.now)) }
 {

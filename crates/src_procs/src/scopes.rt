@@ -21,7 +21,7 @@ pub(crate) enum Naming<'a> {
     Bound(Bounds<'a>),
 }
 
-// Where statements stand: how many procedures stand before them, and what their names are.
+// The scope of statements: how many procedures come before them, and what their names are.
 #[derive(Drop)]
 pub(crate) struct Scope<'a> {
     pub callable: usize,

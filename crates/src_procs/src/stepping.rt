@@ -163,7 +163,7 @@ fn repeat<'b, 'a>(
     open_block(alloc, &mut held.made.open_blocks)
 }
 
-// One statement, where statements stand in a scope.
+// One statement, in the scope of its statements.
 fn statement<'b, 'a>(
     alloc: Global,
     procs: &'a [Proc],
@@ -217,7 +217,7 @@ fn statement<'b, 'a>(
     }
 }
 
-// A statement with others behind it.
+// A statement followed by others.
 fn first_of<'b, 'a>(
     alloc: Global,
     procs: &'a [Proc],

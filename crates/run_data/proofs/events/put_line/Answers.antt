@@ -6,7 +6,7 @@ use Rattle.run_data.proofs.Pieces.{cut_within, puts_last, goes_on, goes_on_to}
 use Rattle.run_data.proofs.events.put_line.Goals as goal
 use Rattle.run_data.proofs.events.put_line.Goals.{After-as_slice}
 
--- with the piece, what is put and the words that are left still make the line
+-- with the piece, what is written and the words that are left still make the line
 turn : (g : _) (c : After-as_slice g)
     → (c.loop-rest.invariant.put.0 ++ c.as_slice.result.now) ++ words_text c.split_at.result.1.now
     ≡ c.args.line.now.items ++ words_text c.args.words.now
