@@ -5,26 +5,28 @@ ghost use Rattle.gr_word.specs.Names.{is_name, is_name_byte};
 use gr_base::Memory;
 use std::alloc::Global;
 use std::marker::Model;
+use std::rc::RcSlice;
 
 /// The most bytes of a name.
 pub const NAME_BYTES: usize = 32;
 
 /// The name of a variable: 1 to 32 bytes, all of them ASCII letters, digits or `_`, and the first isn't a digit.
-/// Contracts see it as the list of its bytes.
+/// Contracts see it as the list of its bytes, which all copies of a name share in memory.
 #[derive(Debug, Drop)]
 pub struct Name {
-    bytes: Vec<u8>,
+    bytes: RcSlice<u8>,
 }
 
 impl Model for Name {
     ghost use Rattle.std.specs.Prelude.{List, ℕ, IsTrue};
+    ghost use Rattle.std.specs.Rc.{rc_slice_items};
     ghost use Rattle.gr_word.specs.Names.{is_name};
 
     ghost Value = { List ℕ };
 
-    ghost view = { λ n. n.bytes.items };
+    ghost view = { λ n. rc_slice_items n.bytes };
 
-    ghost invariant = { λ n. IsTrue (is_name n.bytes.items) };
+    ghost invariant = { λ n. IsTrue (is_name (rc_slice_items n.bytes)) };
 }
 
 impl Name {
@@ -33,7 +35,7 @@ impl Name {
         requires { IsTrue (is_name bytes.now) }
         ensures { IfOk result (λ name. name ≡ bytes.now) }
     {
-        let bytes = Vec::from_slice(alloc, bytes)?;
+        let bytes = RcSlice::from_slice(alloc, bytes)?;
         Ok(Name { bytes })
     }
 
@@ -45,11 +47,12 @@ impl Name {
         self.bytes.as_slice()
     }
 
-    /// A copy of the name.
-    pub fn copy(&self, alloc: Global) -> Result<Name, Memory>
+    /// A copy of the name, which takes no memory of its own.
+    pub fn copy(&self, _alloc: Global) -> Result<Name, Memory>
         ensures { IfOk result (λ name. name ≡ self.now) }
     {
-        Name::new(alloc, self.bytes())
+        let bytes = self.bytes.clone()?;
+        Ok(Name { bytes })
     }
 }
 
