@@ -1,4 +1,4 @@
-ghost use Rattle.std.specs.Prelude.{◌≡◌, ◌≤◌, [], IfOk, Some, is_err, length};
+ghost use Rattle.std.specs.Prelude.{◌≡◌, ◌≤◌, [], IfOk, IsOk, Some, is_err, length};
 ghost use Rattle.gr_outside.specs.MemSink.{after_put, put_fails};
 
 use crate::sink::{Sink, SinkFailed};
@@ -74,6 +74,15 @@ impl Sink for MemSink {
             Ok(()) => Ok(()),
             Err(_) => unreachable!(),
         }
+    }
+
+    /// Does nothing. A flush has no number and never fails.
+    fn flush(&mut self) -> Result<(), SinkFailed>
+        ensures ok { IsOk result }
+        ensures stays { self.new ≡ self.old }
+    {
+        // Nothing is held back.
+        Ok(())
     }
 
     fn mark(&self) -> usize

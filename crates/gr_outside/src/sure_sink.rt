@@ -83,6 +83,15 @@ impl Sink for SureSink {
         }
     }
 
+    /// Does nothing.
+    fn flush(&mut self) -> Result<(), SinkFailed>
+        ensures ok { IsOk result }
+        ensures stays { self.new ≡ self.old }
+    {
+        // Nothing is held back.
+        Ok(())
+    }
+
     /// How many bytes the sink was given, up to 2^64 - 1.
     fn mark(&self) -> usize
         ensures put { result ≡ self.now.put }
