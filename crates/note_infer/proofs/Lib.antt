@@ -1,4 +1,5 @@
--- The theorem (Keeps to LeastAccepted, but for UnderWay) and the search (UnderWay, HigherStates to Looking).
+-- The theorem (Keeps to LeastAccepted, but for UnderWay), the search (UnderWay, HigherStates to Looking), and that least
+-- notes exist (Deciding to NotesExist).
 pub mod SameParts
 pub mod Keeps
 pub mod Lower
@@ -36,3 +37,7 @@ pub mod Marking
 pub mod Noted
 pub mod Inferring
 pub mod OneList
+pub mod Deciding
+pub mod Raised
+pub mod LeastExist
+pub mod NotesExist

@@ -5,7 +5,7 @@ use Rattle.std.specs.Prelude.{◌≡◌, ℕ, ◌<◌, ◌≤◌, List, [], leng
 use Rattle.gr_base.specs.Lists.{EachAfter}
 use Rattle.lt_isa.specs.declared.symbols.Note.{Note}
 use Rattle.lt_isa.specs.Object.{Parts}
-use Rattle.lt_isa.specs.Ranges.{next_place}
+use Rattle.lt_isa.specs.Ranges.{IsInRange, next_place}
 use Rattle.lt_isa.specs.Limits.{most_notes}
 use Rattle.trace_patterns.specs.Known.{Known, note_known}
 use Rattle.trace_patterns.specs.Accepts.{Accepts, FirstRefusal}
@@ -29,6 +29,10 @@ claim_of n = (n.pc, note_known n)
 abbrev pub LeastNotesAreOne : Parts → Type 0
 LeastNotesAreOne o = (one two : List Note) → ListLeastNotes o one → ListLeastNotes o two
     → map claim_of one ≡ map claim_of two
+
+-- An object in range has such a list if all its places are reachable.
+abbrev pub LeastNotesExist : Parts → Type 0
+LeastNotesExist o = IsInRange o → AllReachable o → (notes : List Note) × ListLeastNotes o notes
 
 -- where all places are reachable these are the least notes
 pub record HasLeastNotes (o : Parts) (notes : List Note) : Type 0 where

@@ -2,8 +2,8 @@
 //!
 //! [`infer`] finds them, regardless of the notes that the object has, and says exactly why there are none: a place that
 //! no steps lead to, too many notes, or the first refusal of the object with them. [`least_note_laws`] has the theorem
-//! on them: if some notes make an object accepted and open the regions that are crossed at last, the least notes make
-//! it accepted.
+//! on them: if some notes make an object accepted and open the regions that are crossed at last, the least notes make it
+//! accepted. It also states that least notes are unique, and that they exist if all places are reachable.
 #![tactic(auto)]
 
 mod brings;
