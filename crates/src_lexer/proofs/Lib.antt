@@ -1,3 +1,4 @@
+mod KnownNames
 pub mod Longest
 pub mod FirstPieces
 pub mod TokenByToken

@@ -3,3 +3,4 @@ pub mod Splits
 pub mod Found
 pub mod Seen
 pub mod Spans
+pub mod KnownNames

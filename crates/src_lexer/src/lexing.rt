@@ -4,6 +4,7 @@ ghost use Rattle.src_lexer.specs.Spans.{InOrder, AreSlices};
 ghost use Rattle.src_lexer.specs.Splits.{Splits};
 
 use crate::errors::LexError;
+use crate::known_names::KnownNames;
 use crate::pieces::{Piece, piece_at};
 use crate::tokens::Token;
 use std::alloc::Global;
@@ -20,10 +21,11 @@ pub fn lex(alloc: Global, text: &[u8]) -> Result<Vec<Token>, LexError>
     ensures slices { IfOk result (λ tokens. AreSlices text.now tokens.items) }
     ensures fault { IfErr result (λ e. (e ≡ Memory) ⊎ Splits 0 text.now (Err e)) }
 {
+    let mut names = KnownNames::new(alloc);
     let mut tokens = Vec::new(alloc);
     let mut at = 0;
     while at < text.len() {
-        match piece_at(alloc, rest(text, at), at as u32) {
+        match piece_at(alloc, &mut names, rest(text, at), at as u32) {
             Ok(Piece::Skipped(size)) => at += size,
             Ok(Piece::Known(kind, size)) => {
                 let token = Token {

@@ -5,6 +5,7 @@
 #![tactic(auto)]
 
 pub mod errors;
+mod known_names;
 pub mod laws;
 pub mod lexing;
 mod pieces;

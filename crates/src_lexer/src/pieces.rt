@@ -7,6 +7,7 @@ ghost use Rattle.src_lexer.specs.Pieces.{is_white, is_in_line, letter_run_of, pa
 ghost use Rattle.src_lexer.specs.Seen.{piece_seen};
 
 use crate::errors::LexError;
+use crate::known_names::KnownNames;
 use crate::runs::{Run, classify};
 use crate::signs::{Pair, single, together};
 use crate::tokens::TokenKind;
@@ -50,7 +51,12 @@ fn line_length(text: &[u8]) -> usize
 }
 
 // A piece that starts with a letter, a digit or `_`.
-fn word(alloc: Global, text: &[u8], at: u32) -> Result<Piece, LexError>
+fn word<'a>(
+    alloc: Global,
+    names: &mut KnownNames<'a>,
+    text: &'a [u8],
+    at: u32,
+) -> Result<Piece, LexError>
     requires some { 0 < length text.now }
     requires starts { is_name_byte (slice_index text.now 0) ≡ true }
     requires room { at + length text.now ≤ 2 ^ 20 }
@@ -62,7 +68,7 @@ fn word(alloc: Global, text: &[u8], at: u32) -> Result<Piece, LexError>
         ≡ Faulty e)) }
 {
     let size = name_length(text);
-    match classify(alloc, &text[..size])? {
+    match classify(alloc, names, &text[..size])? {
         Run::Is(kind) => Ok(Piece::Known(kind, size)),
         Run::Big => Err(LexError::NumberTooBig(at)),
         Run::Long => Err(LexError::NameTooLong(at)),
@@ -120,7 +126,12 @@ fn comment_length(text: &[u8]) -> usize
 }
 
 // The first piece of a text.
-pub(crate) fn piece_at(alloc: Global, text: &[u8], at: u32) -> Result<Piece, LexError>
+pub(crate) fn piece_at<'a>(
+    alloc: Global,
+    names: &mut KnownNames<'a>,
+    text: &'a [u8],
+    at: u32,
+) -> Result<Piece, LexError>
     requires some { 0 < length text.now }
     requires room { at + length text.now ≤ 2 ^ 20 }
     ensures piece { IfOk result (λ p. piece_seen p ≡ found_in at text.now) }
@@ -130,7 +141,7 @@ pub(crate) fn piece_at(alloc: Global, text: &[u8], at: u32) -> Result<Piece, Lex
         return Ok(Piece::Skipped(1));
     }
     if in_name(text[0]) {
-        return word(alloc, text, at);
+        return word(alloc, names, text, at);
     }
     sign(text, at)
 }

@@ -5,10 +5,10 @@ ghost use Rattle.gr_word.specs.Names.{is_name_byte, is_name};
 ghost use Rattle.src_lexer.specs.Pieces.{number_run, word_run, letter_run_of, Is};
 ghost use Rattle.src_lexer.specs.Seen.{run_seen, MixedWithin};
 
+use crate::known_names::KnownNames;
 use crate::tokens::TokenKind;
 use gr_base::Memory;
 use gr_base::numerals::number_capped;
-use gr_word::Name;
 use std::alloc::Global;
 
 // A run of letters, digits and `_`, classified.
@@ -59,7 +59,7 @@ fn same(a: &[u8], b: &[u8]) -> bool
 
 // Any other run.
 #[tactic(auto, unfolding(crate::specs::Pieces::word_run))]
-fn word(alloc: Global, run: &[u8]) -> Result<Run, Memory>
+fn word<'a>(alloc: Global, names: &mut KnownNames<'a>, run: &'a [u8]) -> Result<Run, Memory>
     requires { length run.now ≤ 32 → IsTrue (is_name run.now) }
     ensures value { IfOk result (λ r. run_seen r ≡ word_run run.now) }
     ensures within { IfOk result (MixedWithin (length run.now)) }
@@ -85,11 +85,15 @@ fn word(alloc: Global, run: &[u8]) -> Result<Run, Memory>
     if run.len() > NAME_BYTES {
         return Ok(Run::Long);
     }
-    Ok(Run::Is(TokenKind::Word(Name::new(alloc, run)?)))
+    Ok(Run::Is(TokenKind::Word(names.name_of(alloc, run)?)))
 }
 
 // Classifies a run.
-pub(crate) fn classify(alloc: Global, run: &[u8]) -> Result<Run, Memory>
+pub(crate) fn classify<'a>(
+    alloc: Global,
+    names: &mut KnownNames<'a>,
+    run: &'a [u8],
+) -> Result<Run, Memory>
     requires some { 0 < length run.now }
     requires each { list_all is_name_byte run.now ≡ true }
     ensures value { IfOk result (λ r. run_seen r ≡ letter_run_of run.now) }
@@ -98,5 +102,5 @@ pub(crate) fn classify(alloc: Global, run: &[u8]) -> Result<Run, Memory>
     if run[0].is_ascii_digit() {
         return Ok(number(run));
     }
-    word(alloc, run)
+    word(alloc, names, run)
 }
