@@ -1,5 +1,7 @@
 ghost use Rattle.std.specs.Prelude.{◌≡◌};
 
+use std::mem;
+
 /// Replaces a value, and drops the old one here. Only this function does: in an assignment to a place of a large type,
 /// everything that dropping may reach is proved in line, at each such place again.
 #[inline(always)]
@@ -7,4 +9,14 @@ pub fn put<T: Drop>(place: &mut T, value: T)
     ensures { place.new ≡ value }
 {
     *place = value;
+}
+
+/// Takes a list out of its place, puts another one there, and frees the memory that the first one has no items in.
+pub fn take_list<T>(place: &mut Vec<T>, next: Vec<T>) -> Vec<T>
+    ensures items { result.items ≡ place.old.items }
+    ensures next { place.new ≡ next }
+{
+    let mut list = mem::replace(place, next);
+    list.shrink_to_fit();
+    list
 }

@@ -7,7 +7,7 @@ ghost use Rattle.src_parser.specs.Tokenwise.{Goes, with_braces};
 ghost use Rattle.src_parser.specs.Advances.{leaving, between_statements, chosen, elsing, entering, otherwise, does, with_part, Doing, Ready};
 
 use crate::parts::{Form, Lead, Made, Part, PartAdvance, read_part};
-use crate::putting::put;
+use crate::putting::{put, take_list};
 use crate::states::{Advance, Blocks, MAX_BRACES, Outer, Pause, Phase};
 use gr_base::Memory;
 use src_lexer::TokenKind;
@@ -34,16 +34,16 @@ fn end_block(blocks: &mut Blocks, mode: &mut Phase, outer: Outer) -> Result<Adva
 {
     match outer {
         Outer::InFirst(guard, before) => {
-            let first = mem::replace(&mut blocks.here, before);
+            let first = take_list(&mut blocks.here, before);
             put(mode, Phase::Between(Pause::MayElse(guard, first)));
             Ok(Advance::Goes)
         }
         Outer::InSecond(guard, first, before) => {
-            let second = mem::replace(&mut blocks.here, before);
+            let second = take_list(&mut blocks.here, before);
             add(blocks, mode, Stmt::If(guard, first, second))
         }
         Outer::InLoop(guard, before) => {
-            let body = mem::replace(&mut blocks.here, before);
+            let body = take_list(&mut blocks.here, before);
             add(blocks, mode, Stmt::While(guard, body))
         }
     }
