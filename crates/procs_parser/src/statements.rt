@@ -16,7 +16,7 @@ use gr_word::Name;
 use src_lexer::TokenKind;
 use src_parser::expressions::{finish, fresh, read};
 use src_parser::parts::{Form, Lead, Made, Part, PartAdvance, read_part};
-use src_parser::putting::put;
+use src_parser::putting::{put, take_list};
 use src_parser::readings::{Reading, TokenStep};
 use src_procs::{PStmt, Proc};
 use src_tree::{Expr, Guard};
@@ -49,7 +49,7 @@ fn close(alloc: Global, blocks: &mut Blocks, mode: &mut Phase) -> Result<Advance
                 mut procs,
                 name,
             } = head;
-            let body = mem::replace(&mut blocks.here, Vec::new(alloc));
+            let body = take_list(&mut blocks.here, Vec::new(alloc));
             procs.push(Proc {
                 name,
                 params,
@@ -71,16 +71,16 @@ fn end_block(blocks: &mut Blocks, mode: &mut Phase, outer: Outer) -> Result<Adva
 {
     match outer {
         Outer::InFirst(guard, before) => {
-            let first = mem::replace(&mut blocks.here, before);
+            let first = take_list(&mut blocks.here, before);
             put(mode, Phase::Between(Pause::MayElse(guard, first)));
             Ok(Advance::Goes)
         }
         Outer::InSecond(guard, first, before) => {
-            let second = mem::replace(&mut blocks.here, before);
+            let second = take_list(&mut blocks.here, before);
             add(blocks, mode, PStmt::If(guard, first, second))
         }
         Outer::InLoop(guard, before) => {
-            let body = mem::replace(&mut blocks.here, before);
+            let body = take_list(&mut blocks.here, before);
             add(blocks, mode, PStmt::While(guard, body))
         }
     }
@@ -312,6 +312,7 @@ fn behind_argument(
         }
         TokenKind::RParen => {
             arguments.push(tree)?;
+            arguments.shrink_to_fit();
             put(mode, Phase::Between(Pause::Called(name, arguments)));
             Ok(Advance::Goes)
         }
