@@ -4,10 +4,12 @@ import glob
 import os
 import random
 import re
+import resource
 import subprocess
 import sys
 import tempfile
 
+import heavy_sources
 import many
 import wide_calls
 from many import place, read, write
@@ -17,6 +19,9 @@ COUNT, SEED = int(sys.argv[3]), int(sys.argv[4])
 
 # Each source of wide_calls takes less than a second on a machine with nothing else to do.
 WIDE_SECONDS = 15
+
+# What a process of the program takes without a file, with the pages of its libraries.
+PROGRAM_BYTES = 16 << 20
 
 STATUSES = {
     'check': (0, 6, 7), 'trace': (0, 6, 7, 9, 10), 'run': (0, 6, 7, 9, 10), 'asm': (0, 12), 'dis': (0, 6),
@@ -38,6 +43,11 @@ PIECES = {
 }
 
 
+def limited(memory):
+    """Limits the memory of a process to so many bytes, before it starts."""
+    return lambda: resource.setrlimit(resource.RLIMIT_AS, (memory, memory))
+
+
 class Case:
     """One damaged file: the answers that were seen, and what was wrong with them."""
 
@@ -51,13 +61,14 @@ class Case:
             file.write(data)
         self.wrong.append(f'FAILED: {" ".join(words)}: {why}; the file is kept as {kept}')
 
-    def call(self, words, data, writes=None, seconds=60):
-        """Calls the program on a damaged file, and judges its answer; returns the status and the text."""
+    def call(self, words, data, writes=None, seconds=60, memory=None):
+        """Calls the program on a damaged file, with so many bytes of memory, and judges its answer; returns the status and
+        the text."""
         if writes and os.path.exists(writes):
             os.remove(writes)
         try:
             ran = subprocess.run([PROGRAM, *words], stdin=subprocess.DEVNULL, stdout=subprocess.PIPE, stderr=subprocess.PIPE,
-                                 timeout=seconds)
+                                 timeout=seconds, preexec_fn=memory and limited(memory))
         except subprocess.TimeoutExpired:
             self.complain(words, data, f'no end within {seconds} seconds')
             return None, b''
@@ -137,6 +148,13 @@ class Case:
         out = place('out')
         self.call(['compile', place('file'), out, '--procs'], data, out, WIDE_SECONDS)
 
+    def try_heavy(self, shape):
+        """A source that takes much memory for its size is compiled, or rejected, with a limited number of bytes for each byte."""
+        data = shape()
+        write('file', data)
+        out = place('out')
+        self.call(['compile', place('file'), out], data, out, memory=PROGRAM_BYTES + heavy_sources.MOST_BYTES * len(data))
+
     def try_input(self, data):
         write('input', data)
         given, out = place('input'), place('out')
@@ -212,6 +230,9 @@ def attempt(named):
     if kind == 'wide':
         case.try_wide(wide_calls.SHAPES[number])
         return kind, case.seen, case.wrong
+    if kind == 'heavy':
+        case.try_heavy(heavy_sources.SHAPES[number])
+        return kind, case.seen, case.wrong
     chance = case.chance
     write('input', chance.choice(WHOLE['input']) if chance.randrange(2) else b'{}')
     getattr(case, f'try_{kind}')(damaged(chance, chance.choice(WHOLE[kind]), PIECES[kind]))
@@ -221,7 +242,8 @@ def attempt(named):
 def main():
     seen, passed, failed = collections.Counter(), 0, 0
     kinds = ('object', 'text', 'source', 'input')
-    cases = [(kind, number) for kind, some in (('whole', NOTED), ('wide', wide_calls.SHAPES)) for number in range(len(some))]
+    whole = ('whole', NOTED), ('wide', wide_calls.SHAPES), ('heavy', heavy_sources.SHAPES)
+    cases = [(kind, number) for kind, some in whole for number in range(len(some))]
     cases += [(kind, number) for kind in kinds for number in range(COUNT)]
     for _, answers, wrong in many.tried(attempt, cases):
         seen.update(answers)
