@@ -10,6 +10,7 @@ import sys
 import tempfile
 
 import heavy_sources
+import large_inputs
 import many
 import wide_calls
 from many import place, read, write
@@ -155,6 +156,20 @@ class Case:
         out = place('out')
         self.call(['compile', place('file'), out], data, out, memory=PROGRAM_BYTES + heavy_sources.MOST_BYTES * len(data))
 
+    def try_large(self, shape):
+        """A large input takes memory in proportion to its size, also if an explanation is printed."""
+        data = large_inputs.SHAPES[shape]
+        write('input', data)
+        words = ['trace', f'{EXAMPLES}/sum.obj', place('input')]
+        self.call(words, data)
+        for explain in '01':
+            ran = subprocess.Popen([PROGRAM, *words], env={**os.environ, 'GHOSTRIDER_EXPLAIN': explain},
+                                   stdin=subprocess.DEVNULL, stdout=subprocess.DEVNULL, stderr=subprocess.DEVNULL)
+            _, _, usage = os.wait4(ran.pid, 0)
+            taken = usage.ru_maxrss * 1024 - large_inputs.BESIDE
+            if taken > large_inputs.MOST * len(data):
+                self.complain(words, data, f'{taken / len(data):.0f} bytes of memory for each byte of {shape}')
+
     def try_input(self, data):
         write('input', data)
         given, out = place('input'), place('out')
@@ -233,6 +248,9 @@ def attempt(named):
     if kind == 'heavy':
         case.try_heavy(heavy_sources.SHAPES[number])
         return kind, case.seen, case.wrong
+    if kind == 'large':
+        case.try_large(list(large_inputs.SHAPES)[number])
+        return kind, case.seen, case.wrong
     chance = case.chance
     write('input', chance.choice(WHOLE['input']) if chance.randrange(2) else b'{}')
     getattr(case, f'try_{kind}')(damaged(chance, chance.choice(WHOLE[kind]), PIECES[kind]))
@@ -242,7 +260,8 @@ def attempt(named):
 def main():
     seen, passed, failed = collections.Counter(), 0, 0
     kinds = ('object', 'text', 'source', 'input')
-    whole = ('whole', NOTED), ('wide', wide_calls.SHAPES), ('heavy', heavy_sources.SHAPES)
+    whole = (('whole', NOTED), ('wide', wide_calls.SHAPES), ('heavy', heavy_sources.SHAPES),
+             ('large', large_inputs.SHAPES))
     cases = [(kind, number) for kind, some in whole for number in range(len(some))]
     cases += [(kind, number) for kind in kinds for number in range(COUNT)]
     for _, answers, wrong in many.tried(attempt, cases):

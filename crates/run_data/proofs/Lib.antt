@@ -1,5 +1,7 @@
 pub mod Fits
 pub mod Given
+pub mod JsonReading
+pub mod JsonTokens
 pub mod NameTexts
 pub mod Numerals
 pub mod OutputOrder

@@ -1,4 +1,5 @@
 pub mod InputsOf
+pub mod Given
 pub mod OutputText
 pub mod OutputMembers
 pub mod Putting

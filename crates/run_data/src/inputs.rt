@@ -1,26 +1,22 @@
 ghost use Rattle.std.specs.Prelude.{◌≡◌, ◌≢◌, ◌≤◌, [], ◌∷◌, All, IfOk, IfErr, OnOk, None, Some, Ok, Err, length, map, replicate, unwrap_or, pos};
-ghost use Rattle.std.specs.List.{list_all};
+ghost use Rattle.std.specs.Option.{option_map_or};
 ghost use Rattle.gr_word.specs.Fitting.{AreDistinct, AreVariables, AreWords, FitsWants};
 ghost use Rattle.gr_word.specs.Words.{IsWord};
-ghost use Rattle.run_data.specs.InputsOf.{
-  json_of,
-  word_of,
-  is_word,
-  list_of,
-  value_fault,
-  named_fault,
-  first_input_fault,
-  words_listed,
-  words_given,
-  inputs_in,
-  inputs_of,
+ghost use Rattle.run_data.specs.InputsOf.{json_of, inputs_of};
+ghost use Rattle.run_data.specs.Given.{
+  given_view,
+  given_values,
+  entries_view,
+  given_value_fault,
+  given_named_fault,
+  first_given_fault,
+  given_words,
 };
-ghost use Rattle.serde_json.specs.View.{view, members_view, items_view};
 
 use crate::errors::InputError;
+use crate::members::{Given, GivenMembers, Unread, read_text};
 use crate::texts::NameText;
 use gr_word::{Inputs, Memory, Name, Shape, Want};
-use serde_json::{Map, Value};
 use std::alloc::Global;
 
 /// The most bytes of an input file.
@@ -37,42 +33,36 @@ pub fn read_inputs(alloc: Global, wants: &[Want], json: &[u8]) -> Result<Inputs,
     ensures first { IfErr result (λ e. e ≢ InputError.Memory → inputs_of wants.now (json_of json.now) ≡ Err e) }
     ensures fits { IfOk result (λ inputs. AreVariables wants.now → FitsWants wants.now inputs) }
 {
-    let value = value_of(alloc, json)?;
-    let Some(members) = value.as_object() else {
+    let found = match read_text(alloc, json) {
+        Ok(found) => found,
+        Err(Unread::Invalid) => return Err(InputError::BadJson),
+        Err(Unread::Memory) => return Err(InputError::Memory),
+    };
+    let Some(members) = found else {
         return Err(InputError::NotAnObject);
     };
+    inputs_from(alloc, wants, &members)
+}
+
+/// The inputs that the members give, or their first fault.
+fn inputs_from(alloc: Global, wants: &[Want], members: &GivenMembers) -> Result<Inputs, InputError>
+    ensures given { IfOk result (λ inputs. (first_given_fault wants.now (entries_view members.now.entries) ≡ None)
+        × (inputs ≡ map (given_words (entries_view members.now.entries)) wants.now) × All AreWords inputs) }
+    ensures first { IfErr result (λ e. e ≢ InputError.Memory
+        → first_given_fault wants.now (entries_view members.now.entries) ≡ Some e) }
+{
     check_members(alloc, wants, members)?;
     Ok(gather(alloc, wants, members)?)
 }
 
-/// The JSON value of the bytes.
-fn value_of(alloc: Global, json: &[u8]) -> Result<Value, InputError>
-    ensures value { IfOk result (λ v. json_of json.now ≡ Some (view v)) }
-    ensures none { IfErr result (λ e. e ≢ InputError.Memory → json_of json.now ≡ None) }
-    ensures kind { IfErr result (λ e. e ≢ InputError.Memory → e ≡ InputError.BadJson) }
-{
-    match Value::from_slice(alloc, json) {
-        Ok(value) => Ok(value),
-        Err(error) => if error.is_memory() {
-            Err(InputError::Memory)
-        } else {
-            Err(InputError::BadJson)
-        },
-    }
-}
-
 /// Whether all members give their variables words; else the first fault.
-fn check_members(
-    alloc: Global,
-    wants: &[Want],
-    members: &Map<String, Value>,
-) -> Result<(), InputError>
-    ensures none { OnOk result (first_input_fault wants.now (members_view members.now.entries) ≡ None) }
+fn check_members(alloc: Global, wants: &[Want], members: &GivenMembers) -> Result<(), InputError>
+    ensures none { OnOk result (first_given_fault wants.now (entries_view members.now.entries) ≡ None) }
     ensures first { IfErr result (λ e. e ≢ InputError.Memory
-        → first_input_fault wants.now (members_view members.now.entries) ≡ Some e) }
+        → first_given_fault wants.now (entries_view members.now.entries) ≡ Some e) }
 {
-    for (name, value) in members {
-        match check_named(alloc, wants, name.as_str(), value) {
+    for (name, given) in members {
+        match check_named(alloc, wants, name.as_str(), given) {
             Ok(()) => {}
             Err(error) => return Err(error),
         }
@@ -81,43 +71,44 @@ fn check_members(
 }
 
 /// Whether a named value gives a variable words.
-fn check_named(alloc: Global, wants: &[Want], name: &str, value: &Value) -> Result<(), InputError>
-    ensures none { OnOk result (named_fault wants.now name.now (view value.now) ≡ None) }
+fn check_named(alloc: Global, wants: &[Want], name: &str, given: &Given) -> Result<(), InputError>
+    ensures none { OnOk result (given_named_fault wants.now name.now (given_view given.now) ≡ None) }
     ensures first { IfErr result
-        (λ e. e ≢ InputError.Memory → named_fault wants.now name.now (view value.now) ≡ Some e) }
+        (λ e. e ≢ InputError.Memory → given_named_fault wants.now name.now (given_view given.now) ≡ Some e) }
 {
     for want in wants {
         if want.name.bytes() == name.as_bytes() {
-            return check_value(alloc, want, name, value);
+            return check_value(alloc, want, name, given);
         }
     }
     Err(InputError::UnknownName(NameText::new(alloc, name)?))
 }
 
 /// Whether a value gives a variable words. The name is the variable's, as a text.
-fn check_value(alloc: Global, want: &Want, name: &str, value: &Value) -> Result<(), InputError>
+fn check_value(alloc: Global, want: &Want, name: &str, given: &Given) -> Result<(), InputError>
     requires { want.now.name ≡ name.now }
-    ensures none { OnOk result (value_fault want.now (view value.now) ≡ None) }
-    ensures first { IfErr result (λ e. e ≢ InputError.Memory → value_fault want.now (view value.now) ≡ Some e) }
+    ensures none { OnOk result (given_value_fault want.now (given_view given.now) ≡ None) }
+    ensures first { IfErr result
+        (λ e. e ≢ InputError.Memory → given_value_fault want.now (given_view given.now) ≡ Some e) }
 {
     match want.shape {
         Shape::Scalar => {
-            let Some(number) = value.as_number() else {
+            let Given::Number(word) = given else {
                 return Err(InputError::WrongShape(NameText::new(alloc, name)?));
             };
-            if number.as_i64().is_none() {
+            if word.is_none() {
                 return Err(InputError::NotAWord(NameText::new(alloc, name)?));
             }
             Ok(())
         }
         Shape::Array => {
-            let Some(values) = value.as_array() else {
+            let Given::Items(list) = given else {
                 return Err(InputError::WrongShape(NameText::new(alloc, name)?));
             };
-            if values.len() != want.length as usize {
+            if list.words.len() != want.length as usize {
                 return Err(InputError::WrongLength(NameText::new(alloc, name)?));
             }
-            if !are_words(values) {
+            if !list.are_words {
                 return Err(InputError::NotAWord(NameText::new(alloc, name)?));
             }
             Ok(())
@@ -125,15 +116,9 @@ fn check_value(alloc: Global, want: &Want, name: &str, value: &Value) -> Result<
     }
 }
 
-fn are_words(values: &[Value]) -> bool
-    ensures { result ≡ list_all (λ value. is_word (view value)) values.now }
-{
-    values.iter().all(|value| value.is_i64())
-}
-
 /// The words that the members give the variables.
-fn gather(alloc: Global, wants: &[Want], members: &Map<String, Value>) -> Result<Inputs, Memory>
-    ensures given { IfOk result (λ inputs. inputs ≡ map (words_given (members_view members.now.entries)) wants.now) }
+fn gather(alloc: Global, wants: &[Want], members: &GivenMembers) -> Result<Inputs, Memory>
+    ensures given { IfOk result (λ inputs. inputs ≡ map (given_words (entries_view members.now.entries)) wants.now) }
     ensures words { IfOk result (λ inputs. All AreWords inputs) }
 {
     let mut inputs = Inputs::new(alloc);
@@ -144,21 +129,30 @@ fn gather(alloc: Global, wants: &[Want], members: &Map<String, Value>) -> Result
 }
 
 /// The words that the members give a variable.
-fn words_given(alloc: Global, want: &Want, members: &Map<String, Value>) -> Result<Vec<i64>, Memory>
-    ensures given { IfOk result (λ words. words.items ≡ words_given (members_view members.now.entries) want.now) }
+fn words_given(alloc: Global, want: &Want, members: &GivenMembers) -> Result<Vec<i64>, Memory>
+    ensures given { IfOk result (λ words. words.items ≡ given_words (entries_view members.now.entries) want.now) }
     ensures words { IfOk result (λ words. AreWords words.items) }
 {
-    let Some(value) = members.get(name_text(&want.name)) else {
+    let Some(given) = members.get(name_text(&want.name)) else {
         return zeros(alloc, want.length);
     };
+    words_of(alloc, want, given)
+}
+
+/// The words that a value gives a variable, and zeros if it doesn't fit.
+fn words_of(alloc: Global, want: &Want, given: &Given) -> Result<Vec<i64>, Memory>
+    ensures given { IfOk result (λ words. words.items ≡ option_map_or (λ listed. listed.0)
+        (given_values want.now.shape (given_view given.now)) (replicate want.now.length (pos 0))) }
+    ensures words { IfOk result (λ words. AreWords words.items) }
+{
     match want.shape {
-        Shape::Scalar => match value.as_number() {
-            Some(number) => one_word(alloc, number.as_i64()),
-            None => zeros(alloc, want.length),
+        Shape::Scalar => match given {
+            Given::Number(word) => one_word(alloc, *word),
+            _ => zeros(alloc, want.length),
         },
-        Shape::Array => match value.as_array() {
-            Some(values) => words_in(alloc, values),
-            None => zeros(alloc, want.length),
+        Shape::Array => match given {
+            Given::Items(list) => copied(alloc, &list.words),
+            _ => zeros(alloc, want.length),
         },
     }
 }
@@ -180,17 +174,15 @@ fn one_word(alloc: Global, word: Option<i64>) -> Result<Vec<i64>, Memory>
     Ok(words)
 }
 
-/// The words of values, 0 for one that is no word.
-fn words_in(alloc: Global, values: &[Value]) -> Result<Vec<i64>, Memory>
-    ensures value { IfOk result
-        (λ words. words.items ≡ map (λ value. unwrap_or (word_of (view value)) (pos 0)) values.now) }
-    ensures words { IfOk result (λ words. AreWords words.items) }
+fn copied(alloc: Global, words: &[i64]) -> Result<Vec<i64>, Memory>
+    ensures copied { IfOk result (λ copy. copy.items ≡ words.now) }
+    ensures words { IfOk result (λ copy. AreWords copy.items) }
 {
-    let mut words = Vec::with_capacity(alloc, values.len())?;
-    for value in values {
-        words.push(value.as_i64().unwrap_or(0))?;
+    let mut copy = Vec::with_capacity(alloc, words.len())?;
+    for word in words {
+        copy.push(*word)?;
     }
-    Ok(words)
+    Ok(copy)
 }
 
 /// The text of a name, which is ASCII.
