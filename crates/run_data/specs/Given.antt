@@ -1,4 +1,4 @@
--- What a JSON value gives a variable: of a number its word, and of a list the words of its items.
+-- For proofs and private clauses: what a JSON value gives a variable, the word of a number and the words of a list.
 use Rattle.std.specs.Prelude.{ℕ, Bool, if◌then◌else◌, not, bytes_eq, ℤ, pos, List, [], ◌∷◌, length, map, replicate, Option, Some, None, option_and_then, unwrap_or, is_some, String, string_bytes}
 use Rattle.std.specs.List.{list_all}
 use Rattle.std.specs.Option.{option_map_or}
