@@ -28,7 +28,7 @@ use Rattle.src_tree.specs.Limits.{tree_weight}
 use Rattle.src_tree.specs.Meaning.{Store, element, evaluated, variable_number, words_of_number}
 use Rattle.src_tree.specs.Trees.{Tree, Number, Variable, Element, Operation}
 use Rattle.src_tree.specs.Typing.{TypedTree, Flows}
-use Rattle.source_folding.specs.Folded.{number_of, is_product, is_remainder, power_of, mask_of, by_power, by_numbers, operation, folded}
+use Rattle.source_folding.specs.Folded.{number_of, is_product, is_remainder, power_of, mask_of, by_power, by_right, by_numbers, operation, folded}
 use Rattle.source_folding.specs.Numbers.{NumbersFit}
 
 -- an expression that is a number
@@ -102,14 +102,23 @@ pub data Made (op : Op) (a b : Tree) : Tree → Type 0 where
   AsBefore : Made op a b (Operation op a b)
   Computed : (y z : ℤ) → a ≡ Number y → b ≡ Number z → Made op a b (Number (applied op y z))
   Swapped : op ≡ Mul → Made op a b (Operation op b a)
+  SwappedShift : (y : ℤ) (k : ℕ) → a ≡ Number y → op ≡ Mul → IsPower y k → Made op a b (Operation Shl b (Number (pos k)))
   Shifted : (z : ℤ) (k : ℕ) → b ≡ Number z → op ≡ Mul → IsPower z k → Made op a b (Operation Shl a (Number (pos k)))
   Masked : (z : ℤ) (k : ℕ) → b ≡ Number z → op ≡ Remu → IsPower z k
       → Made op a b (Operation And a (Number (mask_of z)))
 
-left-made : (op : Op) (a b : Tree) (s : Bool) → is_product op ≡ s
-    → Made op a b (cond s (Operation op b a) (Operation op a b))
-left-made op a b true e = Swapped (product-is op e)
-left-made op a b false e = AsBefore
+turned-made : (op : Op) (a b : Tree) (y : ℤ) → a ≡ Number y → is_product op ≡ true → (k : Option ℕ)
+    → power_of (unsigned_of y) ≡ k → Made op a b (by_power op b y a k)
+turned-made op a b y is product None e = Swapped (product-is op product)
+turned-made op a b y is product (Some k) e =
+    subst (λ (s : Bool). Made op a b (cond s (Operation Shl b (Number (pos k)))
+    (cond (is_remainder op) (Operation And b (Number (mask_of y))) (Operation op b a))))
+    (sym product) (SwappedShift y k is (product-is op product) (power-is y k e))
+
+left-made : (op : Op) (a b : Tree) (y : ℤ) → a ≡ Number y → (s : Bool) → is_product op ≡ s
+    → Made op a b (cond s (by_right op b y a) (Operation op a b))
+left-made op a b y is true e = turned-made op a b y is e (power_of (unsigned_of y)) refl
+left-made op a b y is false e = AsBefore
 
 remainder-made : (op : Op) (a b : Tree) (z : ℤ) (k : ℕ) → b ≡ Number z → IsPower z k → (s : Bool) → is_remainder op ≡ s
     → Made op a b (cond s (Operation And a (Number (mask_of z))) (Operation op a b))
@@ -130,7 +139,7 @@ right-made op a b z is (Some k) e = product-made op a b z k is (power-is z k e) 
 numbers-made : (op : Op) (a b : Tree) (y z : Option ℤ) → number_of a ≡ y → number_of b ≡ z
     → Made op a b (by_numbers op a b y z)
 numbers-made op a b (Some y) (Some z) e f = Computed y z (is-number a y e) (is-number b z f)
-numbers-made op a b (Some y) None e f = left-made op a b (is_product op) refl
+numbers-made op a b (Some y) None e f = left-made op a b y (is-number a y e) (is_product op) refl
 numbers-made op a b None (Some z) e f = right-made op a b z (is-number b z f) (power_of (unsigned_of z)) refl
 numbers-made op a b None None e f = AsBefore
 
@@ -198,6 +207,12 @@ module _ (decls : List Decl) (wants : List Want) (store : Store) (fits : FitsWan
       ap (λ o. applied o (evaluated decls store b) (evaluated decls store a)) e
       ∙ ap (int_wrap w64) (*ℤ_comm (evaluated decls store b) (evaluated decls store a))
       ∙ sym (ap (λ o. applied o (evaluated decls store a) (evaluated decls store b)) e)
+  made-value op a b _ (SwappedShift y k f e is) first second =
+      shifted-value (evaluated decls store b) y k second (subst IsWord (ap (evaluated decls store) f) first) is.few
+      is.power
+      ∙ ap (int_wrap w64) (*ℤ_comm (evaluated decls store b) y)
+      ∙ sym (ap (λ o. applied o y (evaluated decls store b)) e)
+      ∙ ap (λ w. applied op w (evaluated decls store b)) (sym (ap (evaluated decls store) f))
   made-value op a b _ (Shifted z k f e is) first second =
       shifted-value (evaluated decls store a) z k first (subst IsWord (ap (evaluated decls store) f) second) is.few
       is.power
@@ -237,6 +252,9 @@ made-label known op a b _ AsBefore = refl
 made-label known op a b _ (Computed y z e f) =
     sym (ap (λ t. higher (label_of known t) (label_of known b)) e ∙ ap (label_of known) f)
 made-label known op a b _ (Swapped e) = higher-swapped (label_of known b) (label_of known a)
+made-label known op a b _ (SwappedShift y k f e is) =
+    higher-swapped (label_of known b) Public
+    ∙ ap (λ l. higher l (label_of known b)) (sym (ap (label_of known) f))
 made-label known op a b _ (Shifted z k f e is) = ap (higher (label_of known a)) (sym (ap (label_of known) f))
 made-label known op a b _ (Masked z k f e is) = ap (higher (label_of known a)) (sym (ap (label_of known) f))
 
@@ -255,6 +273,7 @@ made-typed : (known : Context) (op : Op) (a b m : Tree) → Made op a b m → Ty
 made-typed known op a b _ AsBefore first second = (first, second)
 made-typed known op a b _ (Computed y z e f) first second = tt
 made-typed known op a b _ (Swapped e) first second = (second, first)
+made-typed known op a b _ (SwappedShift y k f e is) first second = (second, tt)
 made-typed known op a b _ (Shifted z k f e is) first second = (first, tt)
 made-typed known op a b _ (Masked z k f e is) first second = (first, tt)
 
@@ -272,6 +291,7 @@ made-height : (op : Op) (a b m : Tree) → Made op a b m → height_of m ≤ max
 made-height op a b _ AsBefore = omega arith
 made-height op a b _ (Computed y z e f) = omega arith
 made-height op a b _ (Swapped e) = omega arith
+made-height op a b _ (SwappedShift y k f e is) = let one = ap height_of f in omega arith
 made-height op a b _ (Shifted z k f e is) = let one = ap height_of f in omega arith
 made-height op a b _ (Masked z k f e is) = let one = ap height_of f in omega arith
 
@@ -289,6 +309,7 @@ made-weight : (op : Op) (a b m : Tree) → Made op a b m → tree_weight m ≤ 1
 made-weight op a b _ AsBefore = omega arith
 made-weight op a b _ (Computed y z e f) = omega arith
 made-weight op a b _ (Swapped e) = omega arith
+made-weight op a b _ (SwappedShift y k f e is) = let one = ap tree_weight f in omega arith
 made-weight op a b _ (Shifted z k f e is) = let one = ap tree_weight f in omega arith
 made-weight op a b _ (Masked z k f e is) = let one = ap tree_weight f in omega arith
 

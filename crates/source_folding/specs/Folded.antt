@@ -1,7 +1,7 @@
 -- A program with cheaper expressions. An operation on two numbers is the number that results; a product by a power of
 -- two is a shift; the number of any other product is written on the right; and an unsigned remainder by a power of two
--- is what a mask leaves. An expression with a variable
--- in it never becomes a number, so it keeps its label. (This project's compiler.)
+-- is what a mask leaves. An expression with a variable in it never becomes a number, so it keeps its label. (This
+-- project's compiler.)
 use Rattle.std.specs.Prelude.{ℕ, ◌-◌, ◌^◌, ◌==◌, Bool, true, false, if◌then◌else◌, ℤ, pos, find, Option, Some, None}
 use Rattle.std.specs.Int.{w64, cast_signed}
 use Rattle.std.specs.List.{range_with_len}
@@ -53,10 +53,7 @@ power_of n = find (λ k. 2 ^ k == n) (range_with_len 0 63)
 abbrev pub mask_of : ℤ → ℤ
 mask_of z = cast_signed w64 (unsigned_of z - 1)
 
--- an operation with a number on its left, and with a number on its right that may be a power of two
-abbrev pub by_left : Op → Tree → Tree → Tree
-by_left op a b = if is_product op then Operation op b a else Operation op a b
-
+-- an operation with a number on its right, which may be a power of two
 abbrev pub by_power : Op → Tree → ℤ → Tree → Option ℕ → Tree
 by_power op a z b None = Operation op a b
 by_power op a z b (Some k) =
@@ -66,10 +63,14 @@ by_power op a z b (Some k) =
 abbrev pub by_right : Op → Tree → ℤ → Tree → Tree
 by_right op a z b = by_power op a z b (power_of (unsigned_of z))
 
+-- and with a number on its left
+abbrev pub by_left : Op → Tree → ℤ → Tree → Tree
+by_left op a y b = if is_product op then by_right op b y a else Operation op a b
+
 -- an operation on two expressions, each of which may be a number
 abbrev pub by_numbers : Op → Tree → Tree → Option ℤ → Option ℤ → Tree
 by_numbers op a b (Some y) (Some z) = Number (applied op y z)
-by_numbers op a b (Some y) None = by_left op a b
+by_numbers op a b (Some y) None = by_left op a y b
 by_numbers op a b None (Some z) = by_right op a z b
 by_numbers op a b None None = Operation op a b
 

@@ -29,17 +29,6 @@ fn plain(alloc: Global, op: Op, left: Expr, right: Expr) -> Result<Expr, Memory>
     Ok(Expr::Bin(op, left, right))
 }
 
-// An operation with a number on its left.
-fn by_left(alloc: Global, op: Op, left: Expr, right: Expr) -> Result<Expr, Memory>
-    ensures { IfOk result (λ e. expr_tree e ≡ by_left op (expr_tree left) (expr_tree right)) }
-{
-    if is_product(op) {
-        plain(alloc, op, right, left)
-    } else {
-        plain(alloc, op, left, right)
-    }
-}
-
 // An operation by a power of two.
 fn by_power(
     alloc: Global,
@@ -70,6 +59,17 @@ fn by_right(alloc: Global, op: Op, left: Expr, number: i64, right: Expr) -> Resu
     }
 }
 
+// An operation with a number on its left.
+fn by_left(alloc: Global, op: Op, left: Expr, number: i64, right: Expr) -> Result<Expr, Memory>
+    ensures { IfOk result (λ e. expr_tree e ≡ by_left op (expr_tree left) number (expr_tree right)) }
+{
+    if is_product(op) {
+        by_right(alloc, op, right, number, left)
+    } else {
+        plain(alloc, op, left, right)
+    }
+}
+
 // An operation on two expressions that are folded.
 fn operation(alloc: Global, op: Op, left: Expr, right: Expr) -> Result<Expr, Memory>
     ensures { IfOk result (λ e. expr_tree e ≡ operation op (expr_tree left) (expr_tree right)) }
@@ -77,7 +77,7 @@ fn operation(alloc: Global, op: Op, left: Expr, right: Expr) -> Result<Expr, Mem
     match number_of(&left) {
         Some(first) => match number_of(&right) {
             Some(second) => Ok(Expr::Num(apply(op, first, second))),
-            None => by_left(alloc, op, left, right),
+            None => by_left(alloc, op, left, first, right),
         },
         None => match number_of(&right) {
             Some(second) => by_right(alloc, op, left, second, right),
