@@ -15,16 +15,41 @@ static const struct expr *kept(struct expr made)
 
 static const struct expr *folded(const struct expr *expr);
 
+static const struct expr *number(int64_t value)
+{
+    return kept((struct expr){.kind = CONSTANT, .height = 1, .weight = 1, .number = value});
+}
+
+/* Whether a number is 2^k for a k from 0 to 62. */
+static bool is_power(int64_t value)
+{
+    return value > 0 && (value & (value - 1)) == 0;
+}
+
+static int64_t log_of(int64_t power)
+{
+    int64_t log = 0;
+    while (power >> log != 1)
+        log++;
+    return log;
+}
+
 /* An operation on two expressions that are folded. */
 static const struct expr *folded_operation(const struct expr *expr, const struct expr *left, const struct expr *right)
 {
     struct expr made = *expr;
+    made.left = left;
+    made.right = right;
     if (left->kind == CONSTANT && right->kind == CONSTANT)
-        return kept((struct expr){.kind = CONSTANT, .height = 1, .weight = 1,
-                                  .number = result_of(expr->opcode, left->number, right->number)});
-    const bool is_turned = expr->opcode == MUL && left->kind == CONSTANT;
-    made.left = is_turned ? right : left;
-    made.right = is_turned ? left : right;
+        return number(result_of(expr->opcode, left->number, right->number));
+    if (expr->opcode == MUL && left->kind == CONSTANT) {
+        made.left = right;
+        made.right = left;
+    }
+    if (expr->opcode == MUL && made.right->kind == CONSTANT && is_power(made.right->number)) {
+        made.opcode = SHL;
+        made.right = number(log_of(made.right->number));
+    }
     return made.left == expr->left && made.right == expr->right ? expr : kept(made);
 }
 
