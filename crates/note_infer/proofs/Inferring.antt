@@ -182,6 +182,7 @@ why_refused o whole notes (check.Refused pc reason object) e is f few h tells =
       notes = notes;
       least = least_found o notes f;
       few = few;
+      in_range = found_in_range o notes f few;
       refused = subst (λ (a : Parts). FirstRefusal a pc reason) is h.0;
     })
 why_refused o whole notes (check.Memory object) e is f few h tells = subst (IsWhyNot o) (sym tells) tt

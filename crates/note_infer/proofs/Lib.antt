@@ -1,5 +1,5 @@
 -- The theorem (Keeps to LeastAccepted, but for UnderWay), the search (UnderWay, HigherStates to Looking), and that least
--- notes exist (Deciding to NotesExist).
+-- notes exist (Deciding to Answered).
 pub mod SameParts
 pub mod Keeps
 pub mod Lower
@@ -41,3 +41,4 @@ pub mod Deciding
 pub mod Raised
 pub mod LeastExist
 pub mod NotesExist
+pub mod Answered

@@ -15,12 +15,13 @@ use Rattle.lt_isa.specs.Ranges.{IsInRange}
 use Rattle.trace_patterns.specs.Known.{Known, bank_known, claimed_bank, marks, claims, note_known}
 use Rattle.trace_patterns.specs.Carries.{without_notes}
 use Rattle.trace_patterns.proofs.Masks.{length-marks, marks-set_bit, length-claims, get_or-claims}
+use Rattle.note_infer.specs.Steps.{AllReachable}
 use Rattle.note_infer.specs.Ways.{is_crossed}
 use Rattle.note_infer.specs.Least.{IsFull}
 use Rattle.note_infer.specs.Brings.{at_places}
 use Rattle.note_infer.specs.Growth.{HasLast}
 use Rattle.note_infer.specs.Inferred.{LeastNotesExist}
-use Rattle.note_infer.specs.Noting.{is_marked_at, Marks, MarksFrom, MarksBelow, NotesBelow}
+use Rattle.note_infer.specs.Noting.{FindsNotes, is_marked_at, Marks, MarksFrom, MarksBelow, NotesBelow}
 use Rattle.note_infer.proofs.LeastAccepted.{reachable_renoted}
 use Rattle.note_infer.proofs.Marking.{marks_one, marks_nothing, marks_goes, marks_halts, marks_jumps, marks_branches, marks_crossed, marks_begun, marks_more, marks_skip}
 use Rattle.note_infer.proofs.Noted.{notes_begun, notes_skip, notes_push}
@@ -92,7 +93,7 @@ mask_of labels (suc n) le = by (mask_of labels n (omega (arith, le))) (get_or la
           },
         )
 
--- the claims of some banks
+-- the bytes by which a note names some banks
 abbrev byte_of : Option ℕ → ℕ
 byte_of None = 255
 byte_of (Some bank) = bank
@@ -218,15 +219,20 @@ module _ (o : Parts) (crossed : List ℕ) (states : List (Option Known)) (range 
         note_more n (omega (arith, le)) (noted_below n (omega (arith, le))) (is_marked_at marked n) refl
         (at_places states n) refl
 
-pub least_notes_exist : (o : Parts) → LeastNotesExist o
+-- the least notes are found, for steps that lead to all places of the object without its own
+pub notes_found : (o : Parts) → IsInRange o → AllReachable (without_notes o)
+    → (notes : List Note) × FindsNotes (without_notes o) notes
 unfolding Marked Noted
-least_notes_exist o range reachable =
+notes_found o range reachable =
     let bare = without_notes o in
     let bare_range = bare_in_range o range in
     let l = last_exists bare bare_range in
     let size : length bare.code ≤ length bare.code = omega arith in
     let m = marked_below bare l.crossed l.states bare_range l.last (length bare.code) size in
     let n = noted_below bare l.crossed l.states bare_range l.last m.0 (length bare.code) size in
-    let found = least_found o n.0 (finds bare l.crossed l.states m.0 n.0 bare_range
-    (λ p lt. reachable_renoted o [] p (reachable p lt)) l.last m.1 n.1) in
-    (n.0, found.listed)
+    (n.0, finds bare l.crossed l.states m.0 n.0 bare_range reachable l.last m.1 n.1)
+
+pub least_notes_exist : (o : Parts) → LeastNotesExist o
+least_notes_exist o range reachable =
+    let n = notes_found o range (λ p lt. reachable_renoted o [] p (reachable p lt)) in
+    (n.0, (least_found o n.0 n.1).listed)

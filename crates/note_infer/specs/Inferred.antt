@@ -1,7 +1,7 @@
 -- What is answered where notes are to be found: the object with its least notes, where that is accepted; and else why
 -- not.
 -- (This project's profile.)
-use Rattle.std.specs.Prelude.{◌≡◌, ℕ, ◌<◌, ◌≤◌, List, [], length, map}
+use Rattle.std.specs.Prelude.{◌≡◌, ◌≢◌, ℕ, ◌<◌, ◌≤◌, ◌⊎◌, List, [], length, map}
 use Rattle.gr_base.specs.Lists.{EachAfter}
 use Rattle.lt_isa.specs.declared.symbols.Note.{Note}
 use Rattle.lt_isa.specs.Object.{Parts}
@@ -56,6 +56,7 @@ pub record IsRefusedWith (o : Parts) (pc : ℕ) (reason : Reason) : Type 0 where
   pub notes : List Note
   pub least : HasLeastNotes o notes
   pub few : length notes ≤ most_notes
+  pub in_range : IsInRange (with_notes o notes)
   pub refused : FirstRefusal (with_notes o notes) pc reason
 
 -- memory may run out at any object
@@ -64,6 +65,10 @@ IsWhyNot o (Dead place) = IsDead o place
 IsWhyNot o (Refused pc reason) = IsRefusedWith o pc reason
 IsWhyNot o (TooMany count) = AreTooMany o count
 IsWhyNot o Memory = Unit {0}
+
+-- An object gets notes, or one of the causes is true of it; that memory ran out isn't one.
+abbrev pub IsAnswered : Parts → Type 0
+IsAnswered o = ((found : Parts) × IsInferred o found) ⊎ ((why : InferError) × (why ≢ Memory) × IsWhyNot o why)
 
 -- Some notes make the object accepted, and open the regions that are crossed at last.
 pub record WouldDo (o : Parts) (notes : List Note) : Type 0 where
