@@ -1,19 +1,27 @@
--- What `infer` finds of an object is one object: notes that are in range are known by what they claim.
-use Rattle.std.proofs.Common.{◌≡◌, ℕ, zero, suc, ◌<◌, ◌==◌, Bool, false, List, [], ◌∷◌, length, map, get_or, Option, Some, None, refl, sym, ap, ◌∙◌, subst, ⊎_elim, arith}
+-- What `infer` finds of an object is one object, or one cause why there is none: notes that are in range are known by
+-- what they claim.
+use Rattle.std.proofs.Common.{◌≡◌, ◌≢◌, ℕ, zero, suc, ◌<◌, ◌≤◌, ◌==◌, Bool, false, List, [], ◌∷◌, length, map, get_or, Option, Some, None, Result, Ok, Err, refl, sym, ap, ap₂, ◌∙◌, subst, ⊎_elim, arith}
 use Rattle.std.specs.Prelude.{if◌then◌else◌}
 use Rattle.std.specs.Int.{bit_at}
-use Rattle.std.proofs.lemmas.Bool.{cases_eq, eqb-true, eq-eqb, ne_eqb}
-use Rattle.std.proofs.lemmas.List.{ext_get_or}
+use Rattle.std.proofs.lemmas.Bool.{cases_eq, cases_lt, eqb-true, eq-eqb, ne_eqb}
+use Rattle.std.proofs.lemmas.List.{ext_get_or, length-map}
 use Rattle.std.proofs.lemmas.Nat.Bits.{bit_at-lt, same_from_bits_below}
 use Rattle.gr_base.specs.Lists.{EachAfter}
 use Rattle.lt_isa.specs.declared.symbols.Note.{Note}
+use Rattle.lt_isa.specs.Object.{Parts}
 use Rattle.lt_isa.specs.Ranges.{IsInRange, NoteFits}
+use Rattle.lt_checker.proofs.AcceptanceLaws.{first_refusal-once, refused_is_not_accepted}
+use Rattle.trace_patterns.specs.Accepts.{Accepts, FirstRefusal}
 use Rattle.trace_patterns.specs.Known.{Known, claimed_bank}
 use Rattle.trace_patterns.proofs.Masks.{get_or-marks, get_or-claims}
 use Rattle.note_infer.specs.LeastNotes.{with_notes}
-use Rattle.note_infer.specs.Inferred.{claim_of}
+use Rattle.note_infer.specs.Inferred.{claim_of, HasLeastNotes, IsWhyNot}
+use Rattle.note_infer.specs.Steps.{IsDead}
+use Rattle.note_infer.specs.declared.faults.InferError.{InferError}
+use Rattle.note_infer.specs.declared.faults.InferError.TheVariants.{Dead, Refused, TooMany, Memory}
 use Rattle.note_infer.proofs.OneList.{least_notes_are_one}
-use Rattle.ghost_cli.specs.Inferred.{InferredOnce}
+use Rattle.ghost_cli.specs.Inferred.{GetsNotes, InferredOnce}
+use Rattle.ghost_cli.specs.Questions.{IsRight, WhatIsInferred}
 
 -- ---- one field
 
@@ -120,3 +128,64 @@ inferred-once o found other one two =
     (subst IsInRange b.is two.in_range).notes
     (least_notes_are_one o a.notes b.notes a.least.listed b.least.listed) in
     a.is ∙ ap (with_notes o) same ∙ sym b.is
+
+-- ---- why an object gets no notes
+
+dead-once : (o : Parts) (p q : ℕ) → IsDead o p → IsDead o q → p ≡ q
+dead-once o p q h g =
+    ⊎_elim (λ (lt : p < q). absurd (h.dead (g.lowest p lt)))
+    (λ (le : q ≤ p).
+    ⊎_elim (λ (lt : q < p). absurd (g.dead (h.lowest q lt))) (λ (ge : p ≤ q). omega (arith, le, ge)) (cases_lt q p))
+    (cases_lt p q)
+
+not-dead : (o : Parts) (notes : List Note) (p : ℕ) → HasLeastNotes o notes → IsDead o p → ⊥
+not-dead o notes p h d = d.dead (h.reachable p d.inside)
+
+counts-once : (o : Parts) (xs ys : List Note) → HasLeastNotes o xs → HasLeastNotes o ys → length xs ≡ length ys
+counts-once o xs ys h g =
+    sym (length-map xs claim_of) ∙ ap (λ (l : List (ℕ × Known)). length l) (least_notes_are_one o xs ys h.listed g.listed)
+    ∙ length-map ys claim_of
+
+in-range-once : (o : Parts) (xs ys : List Note) → HasLeastNotes o xs → HasLeastNotes o ys → IsInRange (with_notes o xs)
+    → IsInRange (with_notes o ys) → xs ≡ ys
+in-range-once o xs ys h g range too =
+    notes-once (length o.banks) [] [] xs ys range.notes too.notes (least_notes_are_one o xs ys h.listed g.listed)
+
+cause-once : (o : Parts) (a b : InferError) → a ≢ Memory → b ≢ Memory → IsWhyNot o a → IsWhyNot o b → a ≡ b
+cause-once o (Dead p) (Dead q) told told' h g = ap Dead (dead-once o p q h g)
+cause-once o (Dead p) (Refused q r) told told' h g = absurd (not-dead o g.notes p g.least h)
+cause-once o (Dead p) (TooMany n) told told' h g = absurd (not-dead o g.notes p g.least h)
+cause-once o (Refused q r) (Dead p) told told' h g = absurd (not-dead o h.notes p h.least g)
+cause-once o (Refused p r) (Refused q u) told told' h g =
+    let notes = in-range-once o g.notes h.notes g.least h.least g.in_range h.in_range in
+    let same = first_refusal-once (with_notes o h.notes) p q r u h.refused
+    (subst (λ (ns : List Note). FirstRefusal (with_notes o ns) q u) notes g.refused) in
+    ap₂ Refused same.0 same.1
+cause-once o (Refused p r) (TooMany n) told told' h g =
+    absurd (omega (arith, h.few, g.many, counts-once o h.notes g.notes h.least g.least))
+cause-once o (TooMany n) (Dead p) told told' h g = absurd (not-dead o h.notes p h.least g)
+cause-once o (TooMany n) (Refused p r) told told' h g =
+    absurd (omega (arith, g.few, h.many, counts-once o g.notes h.notes g.least h.least))
+cause-once o (TooMany n) (TooMany m) told told' h g =
+    ap TooMany (h.is ∙ counts-once o h.notes g.notes h.least g.least ∙ sym g.is)
+cause-once o Memory b told told' h g = absurd (told refl)
+cause-once o a Memory told told' h g = absurd (told' refl)
+
+-- an object that gets notes has no cause to get none
+found-or-not : (o found : Parts) (why : InferError) → GetsNotes o found → why ≢ Memory → IsWhyNot o why → ⊥
+found-or-not o found (Dead p) gets told h = not-dead o gets.inferred.notes p gets.inferred.least h
+found-or-not o found (Refused p r) gets told h =
+    let i = gets.inferred in
+    let notes = in-range-once o i.notes h.notes i.least h.least (subst IsInRange i.is gets.in_range) h.in_range in
+    refused_is_not_accepted (with_notes o h.notes) p r h.refused
+    (subst Accepts (i.is ∙ ap (with_notes o) notes) i.accepts)
+found-or-not o found (TooMany n) gets told h =
+    let i = gets.inferred in omega (arith, i.few, h.many, counts-once o i.notes h.notes i.least h.least)
+found-or-not o found Memory gets told h = told refl
+
+pub inference-once : (o : Parts) (a b : Result Parts InferError) → IsRight (WhatIsInferred o) a
+    → IsRight (WhatIsInferred o) b → a ≡ b
+inference-once o (Ok found) (Ok other) one two = ap Ok (inferred-once o found other one two)
+inference-once o (Ok found) (Err why) one two = absurd (found-or-not o found why one two.told two.cause)
+inference-once o (Err why) (Ok found) one two = absurd (found-or-not o found why two one.told one.cause)
+inference-once o (Err why) (Err other) one two = ap Err (cause-once o why other one.told two.told one.cause two.cause)

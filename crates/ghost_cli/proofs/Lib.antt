@@ -40,6 +40,8 @@ pub mod Pairing
 pub mod SharedBus
 pub mod BusAgreeing
 pub mod OneAnswers
+pub mod OneSourceFault
+pub mod OneRoom
 pub mod WordLooks
 pub mod WordWalks
 pub mod WordsRead
@@ -60,6 +62,7 @@ pub mod VerbRows
 pub mod VerbCommands
 pub mod VerbWords
 pub mod SourceAnswers
+pub mod SomeAnswers
 pub mod DoneWork
 pub mod HeadlineCalls
 pub mod HeadlineVerbs

@@ -32,14 +32,14 @@ use Rattle.ghost_cli.specs.declared.replies.InputFault.{InputFault}
 use Rattle.ghost_cli.specs.declared.replies.Done.{Done}
 use Rattle.ghost_cli.specs.declared.replies.Done.TheVariants.{Assembled, Disassembled, Inferred}
 use Rattle.ghost_cli.specs.declared.replies.Verdict.{Verdict}
-use Rattle.ghost_cli.specs.declared.replies.Verdict.TheVariants.{Accepted, Traced, BadAssembly, BadInput, Malformed}
+use Rattle.ghost_cli.specs.declared.replies.Verdict.TheVariants.{Accepted, Traced, BadAssembly, BadInput, Malformed, NoNotes}
 use Rattle.ghost_cli.specs.Bus.{Pair, Read, bus_work, none_read, on_plan, one_read, shares_bus, with_cores, with_halts}
 use Rattle.ghost_cli.specs.Assemble.{assemble_work}
 use Rattle.ghost_cli.specs.Check.{check_work}
 use Rattle.ghost_cli.specs.Disassemble.{disassemble_work}
 use Rattle.ghost_cli.specs.Infer.{infer_work, infers_to, on_inferred}
-use Rattle.ghost_cli.specs.OneAnswer.{HasOneAnswer, HoldRun, IsDoneOnce, TraceAgrees}
-use Rattle.ghost_cli.specs.Promises.{Answers, AnswersSo, IsDone, NoAnswer}
+use Rattle.ghost_cli.specs.OneAnswer.{HasOneAnswer, HoldRun, TraceAgrees}
+use Rattle.ghost_cli.specs.Promises.{Answers, AnswersSo, NoAnswer}
 use Rattle.ghost_cli.specs.Texts.{Said}
 use Rattle.lt_assembler.specs.Canonical.{canonical}
 use Rattle.note_infer.specs.declared.faults.InferError.{InferError}
@@ -53,8 +53,7 @@ use Rattle.ghost_cli.specs.Steps.{input_limit, on_judged, or_ends, with_accepted
 use Rattle.ghost_cli.specs.Trace.{shows_on, trace_work, traces_on}
 use Rattle.ghost_cli.specs.Work.{Answered, Asks, Ended, Ending, Ends, Found, Holds, IsTooLong, IsUnread, IsVerdict, IsWritten, MayEnd, Missing, Reads, TooLong, Work, Writes, Wrote, files_at, said_at}
 use Rattle.ghost_cli.proofs.BusAgreeing.{one-halt}
-use Rattle.ghost_cli.proofs.Behind.{not-done}
-use Rattle.ghost_cli.proofs.InferredOnce.{inferred-once}
+use Rattle.ghost_cli.proofs.InferredOnce.{inference-once}
 use Rattle.ghost_cli.proofs.Pairing.{none-read, one-read}
 use Rattle.ghost_cli.proofs.Saying.{traces-agree}
 
@@ -154,20 +153,26 @@ judged-once o (Some r) (Some u) first second =
 
 -- ---- one ending
 
--- two endings of this kind
-module _ (P : Ending → Type 0) (files : Files) where
+abbrev pub same-ending : Ending → Ending → Type 0
+same-ending one other = one ≡ other
+
+-- two endings are related, each to itself
+module _ (R : Ending → Ending → Type 0) (own : (ending : Ending) → R ending ending) (files : Files) where
   abbrev pub Once : Work → Type 0
-  Once work =
-      (one other : Ending) → MayEnd (Holds files) work one → MayEnd (Holds files) work other → P one → P other
-      → one ≡ other
+  Once work = (one other : Ending) → MayEnd (Holds files) work one → MayEnd (Holds files) work other → R one other
+
+  equal-once : (one other : Ending) → one ≡ other → R one other
+  equal-once one other same = subst (R one) same (own one)
 
   pub ends-once : (seen : Seen) (verdict : Verdict) → Once (Ends seen verdict)
-  ends-once seen verdict one other first second p q =
-      of-told files (Ends seen verdict) one first ∙ sym (of-told files (Ends seen verdict) other second)
+  ends-once seen verdict one other first second =
+      equal-once one other
+      (of-told files (Ends seen verdict) one first ∙ sym (of-told files (Ends seen verdict) other second))
 
   pub writes-once : (name bytes : List ℕ) (done : Done) → Once (Writes name bytes done)
-  writes-once name bytes done one other first second p q =
-      of-told files (Writes name bytes done) one first ∙ sym (of-told files (Writes name bytes done) other second)
+  writes-once name bytes done one other first second =
+      equal-once one other
+      (of-told files (Writes name bytes done) one first ∙ sym (of-told files (Writes name bytes done) other second))
 
   pub reads-once : (name : List ℕ) (limit : ℕ) (next : List ℕ → Work) → ((bytes : List ℕ) → Once (next bytes))
       → Once (Reads name limit next)
@@ -181,23 +186,23 @@ module _ (P : Ending → Type 0) (files : Files) where
           absurd (omega (arith, long, le))
 
       by : (one other : Ending) → OfRead files name limit next one → OfRead files name limit next other
-          → P one → P other → one ≡ other
-      by one other (Lacks none) (Lacks none') p q = refl
-      by one other (Lacks none) (Exceeds bytes gives long) p q = none-some (get files name) bytes none gives
-      by one other (Lacks none) (Gives bytes ending gives short comes) p q =
+          → R one other
+      by one other (Lacks none) (Lacks none') = own _
+      by one other (Lacks none) (Exceeds bytes gives long) = none-some (get files name) bytes none gives
+      by one other (Lacks none) (Gives bytes ending gives short comes) =
           none-some (get files name) bytes none gives
-      by one other (Exceeds bytes gives long) (Lacks none) p q = none-some (get files name) bytes none gives
-      by one other (Exceeds bytes gives long) (Exceeds bytes' gives' long') p q = refl
-      by one other (Exceeds bytes gives long) (Gives bytes' ending gives' short comes) p q =
+      by one other (Exceeds bytes gives long) (Lacks none) = none-some (get files name) bytes none gives
+      by one other (Exceeds bytes gives long) (Exceeds bytes' gives' long') = own _
+      by one other (Exceeds bytes gives long) (Gives bytes' ending gives' short comes) =
           too-long bytes bytes' (some-once (get files name) bytes bytes' gives gives') long short
-      by one other (Gives bytes ending gives short comes) (Lacks none) p q =
+      by one other (Gives bytes ending gives short comes) (Lacks none) =
           none-some (get files name) bytes none gives
-      by one other (Gives bytes ending gives short comes) (Exceeds bytes' gives' long) p q =
+      by one other (Gives bytes ending gives short comes) (Exceeds bytes' gives' long) =
           too-long bytes' bytes (some-once (get files name) bytes' bytes gives' gives) long short
-      by one other (Gives bytes ending gives short comes) (Gives bytes' ending' gives' short' comes') p q =
+      by one other (Gives bytes ending gives short comes) (Gives bytes' ending' gives' short' comes') =
           once bytes one other comes
           (subst (λ (l : List ℕ). MayEnd (Holds files) (next l) other)
-          (some-once (get files name) bytes' bytes gives' gives) comes') p q
+          (some-once (get files name) bytes' bytes gives' gives) comes')
 
   pub asks-once : (question : Question) (next : Answer question → Work)
       → ((a b : Answer question) → IsRight question a → IsRight question b → a ≡ b)
@@ -261,6 +266,15 @@ module _ (P : Ending → Type 0) (files : Files) where
       asks-once (WhenItHalts o d cycles) next (one-halt o range d fits cycles) (λ halt is. once halt)
 
   -- ---- verbs
+
+  pub infer-once : (object output : List ℕ) → Once (infer_work object output)
+  infer-once object output =
+      object-step object (infers_to output) (λ o range. asks-once (WhatIsInferred o) (on_inferred output)
+      (inference-once o) (λ a right. by a))
+    where
+      by : (a : Result Parts InferError) → Once (on_inferred output a)
+      by (Ok found) = writes-once output (spelling found) (Inferred (length found.notes))
+      by (Err why) = ends-once nothing_seen (NoNotes why)
 
   pub check-once : (object : List ℕ) → Once (check_work object)
   check-once object = accepted-step object _ (λ o range. ends-once nothing_seen Accepted)
@@ -336,54 +350,12 @@ answer-of files asked said left (AnswersSo work' ending comes) work is =
       leaves = refl;
     }
 
-abbrev pub any : Ending → Type 0
-any ending = Unit {0}
-
-abbrev pub is_done : Ending → Type 0
-is_done ending = IsDone (said_at ending).status
-
-pub one-answer : (work : Work) → ((files : Files) → Once any files work) → HasOneAnswer work
+pub one-answer : (work : Work) → ((files : Files) → Once same-ending (λ ending. refl) files work) → HasOneAnswer work
 one-answer work once files said other left right first second =
     let a = answer-of files (Some work) said left first work refl in
     let b = answer-of files (Some work) other right second work refl in
-    let same = once files a.ending b.ending a.comes b.comes tt tt in
+    let same = once files a.ending b.ending a.comes b.comes in
     (a.is ∙ ap said_at same ∙ sym b.is, a.leaves ∙ ap (λ (e : Ending). files_at e files) same ∙ sym b.leaves)
-
-pub done-once : (work : Work) → ((files : Files) → Once is_done files work) → IsDoneOnce work
-done-once work once files said other left right first second done done' =
-    let a = answer-of files (Some work) said left first work refl in
-    let b = answer-of files (Some work) other right second work refl in
-    let same =
-    once files a.ending b.ending a.comes b.comes (subst (λ (s : Said). IsDone s.status) a.is done)
-    (subst (λ (s : Said). IsDone s.status) b.is done') in
-    (a.is ∙ ap said_at same ∙ sym b.is, a.leaves ∙ ap (λ (e : Ending). files_at e files) same ∙ sym b.leaves)
-
-pub infer-done : (object output : List ℕ) (files : Files) → Once is_done files (infer_work object output)
-infer-done object output files = object-step is_done files object (infers_to output) (λ o range. by o)
-  where
-    refuses : {X : Type 0} (ending : Ending) (why : InferError)
-        → MayEnd (Holds files) (on_inferred output (Err why)) ending
-        → is_done ending → X
-    refuses ending why comes done =
-        not-done ending _ (of-told files _ ending comes) done (λ e. omega (arith, e)) (λ e. omega (arith, e))
-
-    at : (o : Parts) (a b : Result Parts InferError) → IsRight (WhatIsInferred o) a
-        → IsRight (WhatIsInferred o) b → (one other : Ending)
-        → MayEnd (Holds files) (on_inferred output a) one → MayEnd (Holds files) (on_inferred output b) other
-        → is_done one → is_done other → one ≡ other
-    at o (Ok found) (Ok found') are are' one other first second done done' =
-        of-told files (on_inferred output (Ok found)) one first
-        ∙ ap (λ (x : Parts). IsWritten output (spelling x) (Inferred (length x.notes)))
-        (inferred-once o found found' are are')
-        ∙ sym (of-told files (on_inferred output (Ok found')) other second)
-    at o (Ok found) (Err why) are are' one other first second done done' = refuses other why second done'
-    at o (Err why) b are are' one other first second done done' = refuses one why first done
-
-    by : (o : Parts) → Once is_done files (infers_to output o)
-    by o one other first second =
-        let a = of-told files (infers_to output o) one first in
-        let b = of-told files (infers_to output o) other second in
-        at o a.0 b.0 a.1 b.1 one other a.2 b.2
 
 -- ---- two calls of `trace`
 

@@ -1,13 +1,23 @@
--- If the contents of files and the requested work are known, there is one answer: one status, one text, and one map of
--- files. (This project's profile.) For verbs whose rejections may differ, this is stated if the work is done. Two
--- things are left open: the object that `compile` and `sample` make, and the levels of blocks with `--paths`.
-use Rattle.std.specs.Prelude.{◌≡◌, ℕ, ◌≤◌, ℤ, Bool, false, List, length, Some, None, Ok}
+-- If the contents of files and the requested work are known, there is at most one answer: one status, one text, and one
+-- map of files. (This project's profile.) Two things are left open: the object that `compile` and `sample` make, and the
+-- levels of blocks with `--paths`.
+use Rattle.std.specs.Prelude.{◌≡◌, ◌≢◌, ℕ, ◌<◌, ◌≤◌, ℤ, Bool, false, List, length, All, Some, None, Result, Ok}
 use Rattle.std.specs.FinMap.{get}
 use Rattle.gr_outside.specs.Shelf.{Files, SameBut}
 use Rattle.ghost_cli.specs.declared.targets.Target.{Target}
 use Rattle.lt_isa.specs.Object.{Parts}
 use Rattle.lt_isa.specs.Start.{Agree, wants_of}
 use Rattle.trace_patterns.specs.Accepts.{Accepts}
+use Rattle.src_lexer.specs.declared.tokens.Token.{Token}
+use Rattle.src_parser.specs.Grammar.{limits}
+use Rattle.src_parser.specs.Refusals.{token_kinds}
+use Rattle.src_parser.specs.declared.errors.ParseError.{ParseError}
+use Rattle.src_parser.specs.declared.errors.ParseError.TheVariants.{Memory}
+use Rattle.procs_parser.specs.FileGrammar.{SpellsFile}
+use Rattle.procs_parser.specs.FileRefusals.{ExplainsFile}
+use Rattle.src_procs.specs.Trees.{File}
+use Rattle.src_tree.specs.Trees.{Source}
+use Rattle.ghost_cli.specs.declared.source_faults.SourceFault.{SourceFault}
 use Rattle.ghost_cli.specs.Assemble.{assemble_work}
 use Rattle.ghost_cli.specs.Bus.{Pair, bus_work}
 use Rattle.ghost_cli.specs.Check.{check_work}
@@ -17,7 +27,7 @@ use Rattle.ghost_cli.specs.Evaluate.{evaluate_work}
 use Rattle.ghost_cli.specs.Infer.{infer_work}
 use Rattle.ghost_cli.specs.Objects.{SpellsObject, object_limit}
 use Rattle.ghost_cli.specs.Promises.{Answers, IsDone}
-use Rattle.ghost_cli.specs.Questions.{AreInputs}
+use Rattle.ghost_cli.specs.Questions.{AreInputs, IsRight, WhichSource}
 use Rattle.ghost_cli.specs.Run.{run_work}
 use Rattle.ghost_cli.specs.Steps.{input_limit}
 use Rattle.ghost_cli.specs.Texts.{Said, usage}
@@ -30,21 +40,20 @@ HasOneAnswer work =
     (files : Files) (said other : Said) (left right : Files) → Answers files (Some work) said left
     → Answers files (Some work) other right → (said ≡ other) × (left ≡ right)
 
--- two answers by which the work is done are equal
-abbrev pub IsDoneOnce : Work → Type 0
-IsDoneOnce work =
-    (files : Files) (said other : Said) (left right : Files) → Answers files (Some work) said left
-    → Answers files (Some work) other right → IsDone said.status → IsDone other.status
-    → (said ≡ other) × (left ≡ right)
+-- Two answers are equal; or the work is done by both, and they have the same text and leave the same files except for
+-- one.
+pub data AreOneBut (output : List ℕ) (said other : Said) (left right : Files) : Type 0 where
+  Same : said ≡ other → left ≡ right → AreOneBut output said other left right
+  DoneBut : IsDone said.status → said ≡ other → SameBut output (Some left) (Some right)
+      → AreOneBut output said other left right
 
--- two answers by which the work is done have the same text, and leave the same files except for one
-abbrev pub IsDoneBut : List ℕ → Work → Type 0
-IsDoneBut output work =
+-- so it is for any two answers for a work
+abbrev pub HasOneAnswerBut : List ℕ → Work → Type 0
+HasOneAnswerBut output work =
     (files : Files) (said other : Said) (left right : Files) → Answers files (Some work) said left
-    → Answers files (Some work) other right → IsDone said.status → IsDone other.status
-    → (said ≡ other) × SameBut output (Some left) (Some right)
+    → Answers files (Some work) other right → AreOneBut output said other left right
 
--- so it is for the words that ask for no work, and for the work of these verbs
+-- the words that ask for no work, and the work of these verbs, have one answer
 pub record OneAnswer : Type 0 where
   pub no_work : (files : Files) (said : Said) (left : Files) → Answers files None said left
       → (said ≡ usage) × (left ≡ files)
@@ -55,11 +64,40 @@ pub record OneAnswer : Type 0 where
   pub assemble : (text output : List ℕ) → HasOneAnswer (assemble_work text output)
   pub disassemble : (object output : List ℕ) → HasOneAnswer (disassemble_work object output)
   pub bus : (pairs : List Pair) (cycles : ℕ) → HasOneAnswer (bus_work pairs cycles)
-  pub infer : (object output : List ℕ) → IsDoneOnce (infer_work object output)
+  pub infer : (object output : List ℕ) → HasOneAnswer (infer_work object output)
   pub evaluate : (source input output : List ℕ) (turns : ℕ) (procs : Bool)
-      → IsDoneOnce (evaluate_work source input output turns procs)
+      → HasOneAnswer (evaluate_work source input output turns procs)
   pub compile : (source output : List ℕ) (target : Target) (procs : Bool)
-      → IsDoneBut output (compile_work source output target procs)
+      → HasOneAnswerBut output (compile_work source output target procs)
+
+-- Tokens are at most one file with procedures, and no error of its parser is true of tokens that are one. A text has at
+-- most one answer as a source, with procedures or without: its program, or its first fault.
+pub record OneSource : Type 0 where
+  pub one_file : (tokens : List Token) (f g : File) → SpellsFile limits (token_kinds tokens) f
+      → SpellsFile limits (token_kinds tokens) g → f ≡ g
+  pub no_refusal : (tokens : List Token) (f : File) (e : ParseError) → SpellsFile limits (token_kinds tokens) f
+      → ExplainsFile e tokens → e ≢ Memory → ⊥
+  pub once : (procs : Bool) (text : List ℕ) (a b : Result Source SourceFault) → IsRight (WhichSource procs text) a
+      → IsRight (WhichSource procs text) b → a ≡ b
+
+-- The contents of files are bytes. Then there is an answer for a work.
+abbrev pub AreBytes : Files → Type 0
+AreBytes files = (name bytes : List ℕ) → get files name ≡ Some bytes → All (λ byte. byte < 256) bytes
+
+abbrev pub HasSomeAnswer : Work → Type 0
+HasSomeAnswer work =
+    (files : Files) → AreBytes files → (said : Said) × (left : Files) × Answers files (Some work) said left
+
+-- the work of these verbs has an answer
+pub record SomeAnswer : Type 0 where
+  pub check : (object : List ℕ) → HasSomeAnswer (check_work object)
+  pub trace : (object input : List ℕ) (cycles seed : ℕ) (recursive : Bool)
+      → HasSomeAnswer (trace_work object input cycles seed false recursive)
+  pub run : (object input output : List ℕ) (cycles : ℕ) → HasSomeAnswer (run_work object input output cycles)
+  pub assemble : (text output : List ℕ) → HasSomeAnswer (assemble_work text output)
+  pub disassemble : (object output : List ℕ) → HasSomeAnswer (disassemble_work object output)
+  pub bus : (pairs : List Pair) (cycles : ℕ) → length pairs ≤ 8 → HasSomeAnswer (bus_work pairs cycles)
+  pub infer : (object output : List ℕ) → HasSomeAnswer (infer_work object output)
 
 -- Files hold an accepted object under a name, and inputs of it under another. Neither file is too long.
 pub record HoldRun (files : Files) (object input : List ℕ) (o : Parts) (inputs : List (List ℤ)) : Type 0 where

@@ -4,7 +4,7 @@ ghost use Rattle.ghost_cli.specs.CompiledRuns.{CompiledRuns};
 ghost use Rattle.ghost_cli.specs.CompiledTexts.{CompiledTexts};
 ghost use Rattle.ghost_cli.specs.HeadlineFollows.{HeadlineFollows};
 ghost use Rattle.ghost_cli.specs.Inferred.{InferredOnce};
-ghost use Rattle.ghost_cli.specs.OneAnswer.{OneAnswer, TraceAgrees};
+ghost use Rattle.ghost_cli.specs.OneAnswer.{OneAnswer, OneSource, SomeAnswer, TraceAgrees};
 ghost use Rattle.ghost_cli.specs.Promises.{PromisesFollow};
 ghost use Rattle.ghost_cli.specs.Runs.{TracesAgree, TextsAgree};
 ghost use Rattle.ghost_cli.specs.Showing.{IsTraceText};
@@ -52,11 +52,23 @@ pub fn bus_agrees()
 {}
 
 /// Does nothing; its clause is a law: if the contents of files are known, the work of `check`, `run`, `asm`, `dis`,
-/// `bus`, and of `trace` without `--paths`, has one answer: one status, one text and one map of files. So has that of
-/// `eval` and `infer` if it is done, and that of `compile` except for the output's bytes. Two things are left open: the
+/// `bus`, `eval`, `infer`, and of `trace` without `--paths`, has at most one answer: one status, one text and one map of
+/// files. So has that of `compile`, except for the bytes of the output if it is done. Two things are left open: the
 /// object that `compile` and `sample` make, and the levels that `trace --paths` shows.
 pub fn one_answer()
     ensures { OneAnswer }
+{}
+
+/// Does nothing; its clause is a law: tokens are at most one file with procedures, and then no error of its parser is true
+/// of them. A source text, with procedures or without, gives at most one program or has at most one first fault.
+pub fn one_source()
+    ensures { OneSource }
+{}
+
+/// Does nothing; its clause is a law: for files of bytes the work of `check`, `run`, `asm`, `dis`, `infer`, of `bus` on
+/// up to eight pairs, and of `trace` without `--paths`, has an answer.
+pub fn some_answer()
+    ensures { SomeAnswer }
 {}
 
 /// Does nothing; its clause is a law: two calls of `trace` without `--paths` on one accepted object, with the same

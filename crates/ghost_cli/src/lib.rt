@@ -49,7 +49,8 @@ mod writing;
 pub use bus_lines::BusLines;
 pub use laws::{
     bus_agrees, calls_as_meant, compiled_runs, compiled_texts, headline_follows, inferred_once,
-    one_answer, promises_follow, trace_agrees, trace_alone, traces_agree, words_ask,
+    one_answer, one_source, promises_follow, some_answer, trace_agrees, trace_alone, traces_agree,
+    words_ask,
 };
 pub use pure::{checked_bytes, compiled_bytes, run_bytes};
 pub use top::ghostrider;
