@@ -80,7 +80,7 @@ pub record OneSource : Type 0 where
   pub once : (procs : Bool) (text : List ℕ) (a b : Result Source SourceFault) → IsRight (WhichSource procs text) a
       → IsRight (WhichSource procs text) b → a ≡ b
 
--- The contents of files are bytes. Then there is an answer for a work.
+-- The contents of files are bytes; then the work has an answer.
 abbrev pub AreBytes : Files → Type 0
 AreBytes files = (name bytes : List ℕ) → get files name ≡ Some bytes → All (λ byte. byte < 256) bytes
 

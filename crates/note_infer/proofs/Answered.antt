@@ -20,7 +20,7 @@ use Rattle.note_infer.proofs.Inferring.{dead_found, all_reached, why_whole, leas
 use Rattle.note_infer.proofs.LeastExist.{least_exists}
 use Rattle.note_infer.proofs.NotesExist.{notes_found}
 
--- an answer that isn't want of memory
+-- an object gets notes, or has a cause other than that memory ran out
 pub data Answered (o : Parts) : Type 0 where
   Gets : (found : Parts) → IsInRange found → IsInferred o found → Answered o
   Fails : (why : InferError) → why ≢ Memory → IsWhyNot o why → NoNotesWouldDo o why → Answered o
