@@ -12,6 +12,7 @@ pub mod Progress
 pub mod ToldSteps
 pub mod PathsTold
 pub mod QuickRuns
+pub mod Pausing
 pub mod FlatCode
 pub mod AtOnce
 pub mod Joining

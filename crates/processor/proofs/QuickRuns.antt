@@ -28,7 +28,7 @@ record IsSilent (o : Parts) (s : State) (i : Instr) : Type 0 where
   no_access : accessed_by o s i ≡ None
   at_once : start_of o.profile i s.cycle ≡ s.cycle
 
-no_store : (found : Slot) (event : ℕ → ℕ → List ℤ → Observed) (next : ℕ → ℕ → List ℤ → State) (t : State)
+pub no_store : (found : Slot) (event : ℕ → ℕ → List ℤ → Observed) (next : ℕ → ℕ → List ℤ → State) (t : State)
     → with_bound found (λ b a words. Goes (Some (event b a words)) (next b a words)) ≡ Goes None t → ⊥
 no_store Unbound event next t goes = cc
 no_store (Bound b a words) event next t goes = cc

@@ -13,6 +13,7 @@ pub mod Stepping
 pub mod Starting
 pub mod Flat
 pub mod Quick
+pub mod Pauses
 pub use Rattle.banks.specs.Banks
 pub use Rattle.banks.specs.Blocks
 pub use Rattle.banks.specs.Accesses

@@ -9,6 +9,7 @@ ghost use Rattle.lt_isa.specs.Trace.{final_from, seen_at, trace_from};
 ghost use Rattle.banks.specs.Accesses.{accesses_from};
 ghost use Rattle.processor.specs.Ends.{Broke, BrokeOff, EndsAs, is_spent};
 ghost use Rattle.processor.specs.ObliviousBanks.{ComeBy, ShowsOn};
+ghost use Rattle.processor.specs.Pauses.{PausesAt};
 ghost use Rattle.processor.specs.Quick.{RunsAlikeOn, StandsForStep};
 ghost use Rattle.processor.specs.Stepping.{
   CameTo,
@@ -104,6 +105,21 @@ impl<'a, B: Bank + Drop> Machine<'a, B> {
             }
         }
         Ok(End::Spent)
+    }
+
+    /// Runs the machine on to the next instruction that makes an access, halts or is a fault, or to this cycle. Returns
+    /// the cycle at which the next instruction starts. Nothing is shown on the way, so no watcher is needed. Allocates no
+    /// memory.
+    pub fn run_to_access(&mut self, cycles: u32) -> u64
+        requires { IsTrue self.old.live }
+        ensures object { self.new.object ≡ self.old.object }
+        ensures live { self.new.live ≡ self.old.live }
+        ensures orams { self.new.orams ≡ self.old.orams }
+        ensures paused { PausesAt self.old.object self.old.state cycles result self.new.state }
+        ensures in_range { IsInRange self.new.object }
+        ensures shaped { IsShaped self.new.object self.new.state }
+    {
+        self.next_access(cycles)
     }
 
     // Runs on to the next instruction that makes an access, halts or is a fault, or to this cycle. Answers the cycle at
