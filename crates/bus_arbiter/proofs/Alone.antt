@@ -24,7 +24,7 @@ module _ {B : Type 0} (between : List (Core B)) (core at n : ℕ) (early : at �
     more = shows_to core turned.was n;
     joined =
         joins-on first between after told at n n n core stand so_far turned.was turned.now turned.there turned.put
-        turned.left (omega arith) (omega arith) early none-else (λ t found late. late);
+        turned.left (omega arith) (λ t found below. below) early none-else (λ t found late. late);
     tells = turned.told;
   }
 

@@ -107,8 +107,8 @@ module _ {B : Type 0} (before between after : List (Core B)) (told : List Transf
     (stand : (k : ℕ) (c : Core B) → slice_get between k ≡ Some c
     → IsInRange c.machine.object × IsShaped c.machine.object c.machine.state)
     (so_far : JoinedSoFar before between told at n) (was now : Core B) (there : slice_get between core ≡ Some was)
-    (put : after ≡ slice_set between core now) (left : LeftAt was m now) (m_by : m ≤ n) (m_to : m ≤ to)
-    (le : at ≤ to)
+    (put : after ≡ slice_set between core now) (left : LeftAt was m now) (m_by : m ≤ n)
+    (in_time : (t : Transfer) → Contains (shows_to core was m) t → t.stamp < m → t.stamp < to) (le : at ≤ to)
     (closed : (k : ℕ) (d : Core B) → k ≢ core → slice_get between k ≡ Some d → (t : Transfer)
     → Contains (shows_to k d n) t → at ≤ t.stamp → to ≤ t.stamp)
     (reached : (t : Transfer) → Contains (shows_to core now n) t → m ≤ t.stamp → to ≤ t.stamp) where
@@ -184,7 +184,7 @@ module _ {B : Type 0} (before between after : List (Core B)) (told : List Transf
   new-early : (t : Transfer) → Contains new t → t.stamp < to
   new-early t found =
       let live = shown-live core was m t found in
-      omega (arith, moves-below was.machine.object stood.0 was.machine.state m stood.1 core t live.1, m_to)
+      in_time t found (moves-below was.machine.object stood.0 was.machine.state m stood.1 core t live.1)
 
   new-rises : Rise new
   new-rises = by was.halted

@@ -14,6 +14,7 @@ pub mod Finishing
 pub mod Rounding
 pub mod Stopping
 pub mod Alone
+pub mod Pausing
 pub mod JoinedLaws
 pub mod CoresJoined
 pub mod ShareRanges

@@ -141,7 +141,7 @@ module _ {B : Type 0} (plan : List Share) (fits : IsPlan plan) (between : List (
               joined =
                   joins-on first between after told (base + from) (base + (share_at plan core).closes) m n core stood
                   so_far turned.was turned.now turned.there turned.put turned.left
-                  (omega (arith, m-is)) (omega (arith, m-is)) from-to closed
+                  (omega (arith, m-is)) (λ t found below. omega (arith, m-is, below)) from-to closed
                   (λ t found late.
                   let live = shown-live core turned.now n t found in
                   let below =

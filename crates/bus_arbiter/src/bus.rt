@@ -2,6 +2,7 @@ ghost use Rattle.std.specs.Prelude.{◌≡◌, ◌≢◌, ◌<◌, ◌≤◌, �
 ghost use Rattle.gr_base.specs.Counts.{Rose};
 ghost use Rattle.lt_isa.specs.Outputs.{outputs};
 ghost use Rattle.bus_arbiter.specs.Cores.{AllStand, Core, NoneHalted, shows_to};
+ghost use Rattle.bus_arbiter.specs.Rounds.{CorePaused};
 ghost use Rattle.bus_arbiter.specs.Shares.{IsPlan, share_at, share_of};
 ghost use Rattle.bus_arbiter.specs.Telling.{FailedAt, TellsOn};
 ghost use Rattle.bus_arbiter.specs.Transfers.{Transfer};
@@ -196,5 +197,21 @@ impl<'a, B: Bank + Drop> Bus<'a, B> {
                 Err(e)
             }
         }
+    }
+
+    /// Runs one core on to its next access, or to this cycle. Returns the cycle at which its next instruction starts, or
+    /// this cycle if it has halted.
+    pub(crate) fn pause(&mut self, core: u8, cycles: u32) -> u64
+        requires exists { core < length self.old.cores }
+        requires sound { IsTrue self.old.sound }
+        requires fresh { self.old.fresh ≡ false }
+        ensures plan { self.new.plan ≡ self.old.plan }
+        ensures fresh { self.new.fresh ≡ false }
+        ensures sound { IsTrue self.new.sound }
+        ensures stand { AllStand self.new.plan self.new.cores }
+        ensures paused { CorePaused self.old.cores self.new.cores core cycles result }
+    {
+        let seat = &mut self.seats[core as usize];
+        seat.pause(cycles)
     }
 }

@@ -7,6 +7,7 @@ use Rattle.bus_arbiter.specs.Shares.{share_at}
 use Rattle.bus_arbiter.specs.Telling.{TellsOn}
 use Rattle.bus_arbiter.proofs.Alone.{alone-fails, alone-on}
 use Rattle.bus_arbiter.proofs.BusSteps.{all-stood}
+use Rattle.bus_arbiter.proofs.Pausing.{joined-stays}
 use Rattle.bus_arbiter.proofs.Rounding.{joined-fails, joined-first, joined-then, period-more, quiet-late}
 use Rattle.bus_arbiter.proofs.Stopping.{joined-stops, turn-stops}
 use Rattle.bus_arbiter.proofs.bus.Bus.go_through.Goals as goal
@@ -36,33 +37,48 @@ periods-init g c = record {
   same = g.met.W.BusWatch.same_itself c.args.watch.now;
 }
 
+pub skip-base-requires-clause-whole_periods : goal.skip-base-requires-clause-whole_periods
+skip-base-requires-clause-whole_periods g c = (
+  c.periods.invariant.whole_periods.0 + 1,
+  period-more c.periods.invariant.whole_periods.0 c.periods.base c.from-period.result
+      c.periods.invariant.whole_periods.1,
+)
+
 pub periods-preserved : goal.periods-preserved
 periods-preserved g c =
     let some : 0 < length c.args.self.now.plan =
     omega (arith, c.in-Some.ensures.live, c.periods.invariant.all, c.requires.all) in
     let same = c.periods.invariant.period some ∙ ap (λ l. (share_at l 0).period) (sym c.periods.invariant.plan) in
+    let round =
+    subst (λ x. JoinedOn c.args.self.now.cores c.go_round.new.self.cores [] (c.periods.base + x) c.args.cycles
+    (TellsOn (g.W.BusWatch.tells c.args.watch.now) (g.W.BusWatch.tells c.go_round.new.watch))) (sym same)
+    (joined-then c.args.self.now.cores c.periods.self.cores c.go_round.new.self.cores c.periods.base _
+    c.args.cycles (g.W.BusWatch.tells c.args.watch.now) (g.W.BusWatch.tells c.periods.watch)
+    (g.W.BusWatch.tells c.go_round.new.watch) c.periods.invariant.joined c.in-Ok-go_round.ensures.on) in
     record {
-      plan = c.in-Ok-go_round.ensures.plan ∙ c.periods.invariant.plan;
-      sound = c.in-Ok-go_round.ensures.sound;
-      fresh = c.in-Ok-go_round.ensures.fresh;
-      stand = c.in-Ok-go_round.ensures.stand;
-      all = c.in-Ok-go_round.ensures.all ∙ c.periods.invariant.all;
+      plan = c.skip-base.ensures.plan ∙ c.in-Ok-go_round.ensures.plan ∙ c.periods.invariant.plan;
+      sound = c.skip-base.ensures.sound;
+      fresh = c.skip-base.ensures.fresh;
+      stand = c.skip-base.ensures.stand;
+      all = c.skip-base.ensures.all ∙ c.in-Ok-go_round.ensures.all ∙ c.periods.invariant.all;
       whole = c.in-Ok-go_round.ensures.whole;
       period = c.periods.invariant.period;
       some = c.periods.invariant.some;
       small = c.periods.invariant.small;
-      near = omega (arith, c.periods-test.true, c.from.ensures, c.ranges.cycles.fits, c.periods.invariant.small);
-      whole_periods = (
-        c.periods.invariant.whole_periods.0 + 1,
-        period-more c.periods.invariant.whole_periods.0 c.periods.base c.from-period.result
-            c.periods.invariant.whole_periods.1,
+      near = omega (
+        arith,
+        c.periods-test.true,
+        c.from.ensures,
+        c.ranges.cycles.fits,
+        c.periods.invariant.small,
+        c.skip-base.ensures.most,
       );
+      whole_periods = c.skip-base.ensures.whole_periods;
       joined =
-          subst (λ x. JoinedOn c.args.self.now.cores c.go_round.new.self.cores [] (c.periods.base + x) c.args.cycles
-          (TellsOn (g.W.BusWatch.tells c.args.watch.now) (g.W.BusWatch.tells c.go_round.new.watch))) (sym same)
-          (joined-then c.args.self.now.cores c.periods.self.cores c.go_round.new.self.cores c.periods.base _
-          c.args.cycles (g.W.BusWatch.tells c.args.watch.now) (g.W.BusWatch.tells c.periods.watch)
-          (g.W.BusWatch.tells c.go_round.new.watch) c.periods.invariant.joined c.in-Ok-go_round.ensures.on);
+          joined-stays c.args.self.now.cores c.go_round.new.self.cores c.skip-base.new.self.cores
+          (c.periods.base + c.from-period.result) c.skip-base.result c.args.cycles
+          (TellsOn (g.W.BusWatch.tells c.args.watch.now) (g.W.BusWatch.tells c.go_round.new.watch)) round
+          c.skip-base.ensures.stay;
       count = omega (arith, c.periods.invariant.count, c.in-Ok-go_round.ensures.count);
       count_stays = λ full. c.in-Ok-go_round.ensures.count_stays (c.periods.invariant.count_stays full);
       same = g.met.W.BusWatch.same_through c.args.watch.now c.periods.watch c.go_round.new.watch
