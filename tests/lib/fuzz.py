@@ -9,6 +9,7 @@ import subprocess
 import sys
 import tempfile
 
+import heavy
 import heavy_sources
 import large_inputs
 import many
@@ -23,6 +24,10 @@ WIDE_SECONDS = 15
 
 # What a process of the program takes without a file, with the pages of its libraries.
 PROGRAM_BYTES = 16 << 20
+
+# Two looping cores take about as long on a bus as in separate runs. The check of a large region takes up to seven bytes for each
+# byte of the object (docs/RUNNING.md), beside the program's own code.
+BUS_RATIO, REGION_BYTES, CODE_BYTES = 2, 8, 1 << 22
 
 STATUSES = {
     'check': (0, 6, 7), 'trace': (0, 6, 7, 9, 10), 'run': (0, 6, 7, 9, 10), 'asm': (0, 12), 'dis': (0, 6),
@@ -170,6 +175,41 @@ class Case:
             if taken > large_inputs.MOST * len(data):
                 self.complain(words, data, f'{taken / len(data):.0f} bytes of memory for each byte of {shape}')
 
+    def seconds(self, words, data):
+        """The processor seconds of a call whose cycles are spent."""
+        with subprocess.Popen([PROGRAM, *words], stdin=subprocess.DEVNULL, stdout=subprocess.DEVNULL) as process:
+            _, ended, used = os.wait4(process.pid, 0)
+            process.returncode = os.waitstatus_to_exitcode(ended)
+        if process.returncode != 10:
+            self.complain(words, data, f'status {process.returncode}')
+        return used.ru_utime + used.ru_stime
+
+    def assembled(self, name, text):
+        write('file', text)
+        self.call(['asm', place('file'), place(name)], text, place(name))
+        return place(name)
+
+    def try_looping(self):
+        """Two cores that loop without an access take about as long on a bus as alone."""
+        write('input', b'{}')
+        texts = [heavy.looping(opens) for opens in (0, 1)]
+        pairs = [(self.assembled(f'core{core}', text), place('input')) for core, text in enumerate(texts)]
+        end = ['--cycles', '60000000']
+        alone = sum(self.seconds(['trace', *pair, *end], text) for pair, text in zip(pairs, texts))
+        shared = self.seconds(['bus', *pairs[0], *pairs[1], *end], texts[0])
+        if shared > BUS_RATIO * alone:
+            self.complain(['bus'], texts[0], f'{shared:.2f} seconds, and {alone:.2f} for both cores alone')
+
+    def try_region(self, shape):
+        """The check of one large region takes only so many bytes for each byte of the object."""
+        text = shape()
+        made = self.assembled('region', text)
+        most = REGION_BYTES * os.path.getsize(made) + CODE_BYTES
+        ran = subprocess.run([PROGRAM, 'check', made], stdin=subprocess.DEVNULL, stdout=subprocess.PIPE, stderr=subprocess.PIPE,
+                             preexec_fn=lambda: resource.setrlimit(resource.RLIMIT_AS, (most, most)))
+        if ran.stdout != b'accepted\n':
+            self.complain(['check'], text, f'{ran.stdout!r} with {most} bytes of memory')
+
     def try_input(self, data):
         write('input', data)
         given, out = place('input'), place('out')
@@ -251,6 +291,12 @@ def attempt(named):
     if kind == 'large':
         case.try_large(list(large_inputs.SHAPES)[number])
         return kind, case.seen, case.wrong
+    if kind == 'looping':
+        case.try_looping()
+        return kind, case.seen, case.wrong
+    if kind == 'region':
+        case.try_region(heavy.REGIONS[number])
+        return kind, case.seen, case.wrong
     chance = case.chance
     write('input', chance.choice(WHOLE['input']) if chance.randrange(2) else b'{}')
     getattr(case, f'try_{kind}')(damaged(chance, chance.choice(WHOLE[kind]), PIECES[kind]))
@@ -261,7 +307,7 @@ def main():
     seen, passed, failed = collections.Counter(), 0, 0
     kinds = ('object', 'text', 'source', 'input')
     whole = (('whole', NOTED), ('wide', wide_calls.SHAPES), ('heavy', heavy_sources.SHAPES),
-             ('large', large_inputs.SHAPES))
+             ('large', large_inputs.SHAPES), ('looping', '1'), ('region', heavy.REGIONS))
     cases = [(kind, number) for kind, some in whole for number in range(len(some))]
     cases += [(kind, number) for kind in kinds for number in range(COUNT)]
     for _, answers, wrong in many.tried(attempt, cases):
