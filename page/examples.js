@@ -165,5 +165,6 @@ const USAGES = {
  "infer": "infer OBJ OUT",
  "diff": "diff OBJ INPUT INPUT [--cycles N] [--seed S] [--paths] [--recursive]",
  "count": "count OBJ INPUT [--cycles N] [--seed S] [--paths] [--recursive]",
- "layout": "layout SRC [--fast] [--block-log W] [--window P:O:C] [--procs]"
+ "layout": "layout SRC [--fast] [--block-log W] [--window P:O:C] [--procs]",
+ "test": "test SRC CASES [--fast] [--block-log W] [--window P:O:C] [--procs] [--cycles N]"
 };

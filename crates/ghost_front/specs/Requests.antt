@@ -23,7 +23,11 @@ asks_front (word ∷ words) = is_about word || asks_help words
 
 -- the verbs that the front does itself
 abbrev pub is_tool : List ℕ → Bool
-is_tool word = bytes_eq word (codes "diff") || bytes_eq word (codes "count") || bytes_eq word (codes "layout")
+is_tool word =
+    bytes_eq word (codes "diff")
+    || bytes_eq word (codes "count")
+    || bytes_eq word (codes "layout")
+    || bytes_eq word (codes "test")
 
 -- the words of a call of one of these
 abbrev pub asks_tool : List (List ℕ) → Bool

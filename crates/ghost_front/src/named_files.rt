@@ -5,18 +5,19 @@ use crate::tools::Tool;
 use clap::ArgMatches;
 use explain_words::Kind;
 use ghost_cli::verbs::{matches_of, verb_named};
-use ghost_tools::words::{self, COUNT, DIFF, LAYOUT};
+use ghost_tools::words::{self, COUNT, DIFF, LAYOUT, TEST};
 use gr_base::Memory;
 use std::alloc::Global;
 
 /// The names under which the verbs' rows have files to read, with the kind of each file.
-const READ: [(&str, Kind); 6] = [
+const READ: [(&str, Kind); 7] = [
     ("OBJ", Kind::Object),
     ("SRC", Kind::Source),
     ("TEXT", Kind::Assembly),
     ("INPUT", Kind::Inputs),
     ("FIRST", Kind::Inputs),
     ("SECOND", Kind::Inputs),
+    ("CASES", Kind::Inputs),
 ];
 
 /// The name under which they have the file to write.
@@ -71,6 +72,7 @@ impl<'a> NamedFiles<'a> {
             Tool::Diff => DIFF,
             Tool::Count => COUNT,
             Tool::Layout => LAYOUT,
+            Tool::Test => TEST,
         };
         if let Some(matches) = words::matches_of(alloc, row, words)? {
             files.add(&matches)?;

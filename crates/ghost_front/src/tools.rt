@@ -10,7 +10,7 @@ ghost use Rattle.ghost_front.specs.Streams.{told};
 use crate::named_files::NamedFiles;
 use crate::serving::{Ended, Stop, refused, starved, take_input};
 use crate::streams::StreamShelf;
-use ghost_tools::{count, diff, layout};
+use ghost_tools::{count, diff, layout, test};
 use gr_outside::{Shelf, Sink};
 use std::alloc::Global;
 use std::io::Read;
@@ -24,6 +24,8 @@ pub(crate) enum Tool {
     Count,
     /// Prints where the compiler stores variables.
     Layout,
+    /// Tries a program on cases.
+    Test,
 }
 
 /// The tool that the first word names, if it names one.
@@ -47,6 +49,9 @@ fn tool_named(word: &str) -> Option<Tool>
     }
     if word == "layout" {
         return Some(Tool::Layout);
+    }
+    if word == "test" {
+        return Some(Tool::Test);
     }
     None
 }
@@ -91,5 +96,6 @@ fn run_tool<F: Shelf + Drop, O: Sink>(
         Tool::Diff => diff(alloc, words, shelf, out),
         Tool::Count => count(alloc, words, shelf, out),
         Tool::Layout => layout(alloc, words, shelf, out),
+        Tool::Test => test(alloc, words, shelf, out),
     }
 }

@@ -10,7 +10,7 @@ pub struct VerbHelp {
 }
 
 /// The verbs, in the order in which `help` lists them.
-pub(crate) const VERBS: [VerbHelp; 13] = [
+pub(crate) const VERBS: [VerbHelp; 14] = [
     VerbHelp {
         usage: "check OBJ",
         text: "    Checks an object file and prints whether it is accepted.\n",
@@ -74,8 +74,14 @@ pub(crate) const VERBS: [VerbHelp; 13] = [
     },
     VerbHelp {
         usage: "layout SRC [--fast] [--block-log W] [--window P:O:C] [--procs]",
-        text: "    Prints the bank and the block in which the compiler stores each variable, and with --fast\n    \
-            which ones stay in a slot of the scratchpad.\n",
+        text: "    Prints the bank and the block in which the compiler stores each variable, and why: the\n    \
+            secret index that makes an array oblivious, or the slot of the scratchpad.\n",
+    },
+    VerbHelp {
+        usage: "test SRC CASES [--fast] [--block-log W] [--window P:O:C] [--procs] [--cycles N]",
+        text: "    Compiles a program and tries it on cases, one a line of CASES: inputs, and outputs that are\n    \
+            expected. It prints each case whose run leaves other outputs, or differs from the evaluation,\n    \
+            or shows another trace than a case with the same public inputs.\n",
     },
 ];
 
@@ -85,11 +91,11 @@ pub(crate) const NOTES: &str =
     4294967295; the default is 1000000000. S is the seed of the random words of oblivious banks, from 0\n\
     to 18446744073709551615; the default is 0. W is from 3 to 9; the default is 9. A file to read may be\n\
     `-`, standard input; if OUT is `-`, the file goes to standard output, and the verb's line to standard\n\
-    error. Exit status: 0 done, 1 traces differ (diff), 2 usage error, 3 a file couldn't be read, 4 output\n\
-    couldn't be written, 5 out of memory, 6 not an object file, 7 object rejected, 8 source rejected, 9\n\
-    inputs don't fit, 10 cycles or iterations are spent, 11 file too long, 12 not an assembly text, 13\n\
-    object can't be a core of the bus; of the script only 69 no toolchain to build with, 70 the build\n\
-    failed.\n";
+    error. Exit status: 0 done, 1 traces differ (diff) or a case fails (test), 2 usage error, 3 a file\n\
+    couldn't be read, 4 output couldn't be written, 5 out of memory, 6 not an object file, 7 object\n\
+    rejected, 8 source rejected, 9 inputs don't fit, 10 cycles or iterations are spent, 11 file too long,\n\
+    12 not an assembly text, 13 object can't be a core of the bus; of the script only 69 no toolchain to\n\
+    build with, 70 the build failed.\n";
 
 /// The name of a verb: the first word of its usage.
 pub(crate) fn name_of(verb: VerbHelp) -> &'static str {

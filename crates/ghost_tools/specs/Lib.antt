@@ -7,3 +7,4 @@ pub mod EventParts
 pub mod Judging
 pub mod SoFar
 pub mod CountedSoFar
+pub mod Runs

@@ -1,5 +1,5 @@
 -- What the exit statuses of the tools say of the traces.
-use Rattle.std.specs.Prelude.{◌≡◌, ◌≢◌, ℕ, List}
+use Rattle.std.specs.Prelude.{◌≡◌, ◌≢◌, ℕ, zero, suc, List}
 use Rattle.lt_isa.specs.Trace.{Stamped, HaltsAt}
 use Rattle.processor.specs.declared.ends.End.{End}
 use Rattle.processor.specs.declared.ends.End.TheVariants.{Halted, Spent}
@@ -32,3 +32,8 @@ pub data SaysOfBoth (first second : List Stamped) : ℕ → Type 0 where
 pub data SaysOfOne (events : List Stamped) : ℕ → Type 0 where
   RunHalted : Halts events → SaysOfOne events 0
   RunSpent : NoHalt events → SaysOfOne events 10
+
+-- the status of cases of which so many failed: 0 if none did
+abbrev pub status_of : ℕ → ℕ
+status_of zero = 0
+status_of (suc failed) = 1

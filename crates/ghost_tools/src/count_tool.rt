@@ -6,10 +6,11 @@ ghost use Rattle.ghost_tools.specs.Statuses.{SaysOfOne};
 
 use crate::counting::{Tally, count_events};
 use crate::reports::{Report, end_status, print};
+use crate::runs::{RunWords, run_in};
 use crate::words::{COUNT, matches_of};
 use clap::ArgMatches;
 use ghost_cli::oblivious::{Seeded, SeededOram, SeededRecursive, load_seeded};
-use ghost_cli::options::{flag_given, number_given, seed_given, value};
+use ghost_cli::options::value;
 use ghost_cli::reading::{find_accepted, find_inputs};
 use ghost_cli::replies::Reply;
 use gr_base::Memory;
@@ -19,15 +20,12 @@ use lt_checker::Accepted;
 use processor::End;
 use std::alloc::Global;
 
-/// The names of the files of a run, its number of cycles, the seed of the random words of oblivious banks, and whether
-/// these banks are recursive.
+/// The names of the files of a run, and how it is made.
 #[derive(Clone, Copy)]
 pub struct CountWords<'a> {
     object: &'a str,
     input: &'a str,
-    cycles: u32,
-    seed: u64,
-    recursive: bool,
+    run: RunWords,
 }
 
 /// The tool `count OBJ INPUT [--cycles N] [--seed S] [--paths] [--recursive]`: runs an accepted object on inputs, and
@@ -63,9 +61,7 @@ fn words_in<'a>(matches: &ArgMatches<'a>) -> Option<CountWords<'a>> {
     Some(CountWords {
         object: value(matches, "OBJ")?,
         input: value(matches, "INPUT")?,
-        cycles: number_given(value(matches, "cycles"))?,
-        seed: seed_given(value(matches, "seed"))?,
-        recursive: flag_given(value(matches, "recursive")),
+        run: run_in(matches)?,
     })
 }
 
@@ -78,7 +74,7 @@ fn count_files<'a, S: Shelf>(
 {
     let accepted = find_accepted(alloc, asked.object, shelf)?;
     let inputs = find_inputs(alloc, &accepted, asked.input, shelf)?;
-    Ok(report(alloc, &accepted, &inputs, asked)?)
+    Ok(report(alloc, &accepted, &inputs, asked.run)?)
 }
 
 // Counts the events of an accepted object's run on inputs. What the status says of its trace is proved.
@@ -86,12 +82,12 @@ fn report(
     alloc: Global,
     accepted: &Accepted,
     inputs: &Inputs,
-    asked: CountWords<'_>,
+    asked: RunWords,
 ) -> Result<Report, Memory>
     requires in_range { IsInRange accepted.now }
     requires fits { FitsObject accepted.now inputs.now }
     ensures { IfOk result
-        (λ report. SaysOfOne (trace accepted.now inputs.now asked.entry.cycles) report.status) }
+        (λ report. SaysOfOne (trace accepted.now inputs.now asked.cycles) report.status) }
 {
     let tally = tally_run(alloc, accepted, inputs, asked)?;
     let text = table_of(alloc, &tally)?;
@@ -105,11 +101,11 @@ fn tally_run(
     alloc: Global,
     accepted: &Accepted,
     inputs: &Inputs,
-    asked: CountWords<'_>,
+    asked: RunWords,
 ) -> Result<Tally, Memory>
     requires in_range { IsInRange accepted.now }
     requires fits { FitsObject accepted.now inputs.now }
-    ensures { IfOk result (λ tally. CountsEvents tally (trace accepted.now inputs.now asked.entry.cycles)) }
+    ensures { IfOk result (λ tally. CountsEvents tally (trace accepted.now inputs.now asked.cycles)) }
 {
     if asked.recursive {
         return tally_over::<SeededRecursive>(alloc, accepted, inputs, asked);
@@ -122,11 +118,11 @@ fn tally_over<B: Seeded + Drop>(
     alloc: Global,
     accepted: &Accepted,
     inputs: &Inputs,
-    asked: CountWords<'_>,
+    asked: RunWords,
 ) -> Result<Tally, Memory>
     requires in_range { IsInRange accepted.now }
     requires fits { FitsObject accepted.now inputs.now }
-    ensures { IfOk result (λ tally. CountsEvents tally (trace accepted.now inputs.now asked.entry.cycles)) }
+    ensures { IfOk result (λ tally. CountsEvents tally (trace accepted.now inputs.now asked.cycles)) }
 {
     let mut machine = load_seeded::<B>(alloc, accepted, inputs, asked.seed, 0)?;
     let banks = accepted.object().banks().len();

@@ -1,16 +1,15 @@
 ghost use Rattle.std.specs.Prelude.{◌≡◌, ◌≢◌, IfOk, IfSome};
 ghost use Rattle.lt_isa.specs.Ranges.{IsInRange};
 ghost use Rattle.lt_isa.specs.Start.{FitsObject, trace};
-ghost use Rattle.ghost_tools.specs.Comparing.{Compares};
 ghost use Rattle.ghost_tools.specs.Statuses.{SaysOfBoth, comparison_status};
 
-use crate::comparing::{Comparison, compare};
+use crate::comparing::Comparison;
 use crate::differences::{push_comparison, push_disagreements};
 use crate::reports::{Report, end_status, print};
+use crate::runs::{RunWords, compare_runs, run_in};
 use crate::words::{DIFF, matches_of};
 use clap::ArgMatches;
-use ghost_cli::oblivious::{Seeded, SeededOram, SeededRecursive, load_seeded};
-use ghost_cli::options::{flag_given, number_given, seed_given, value};
+use ghost_cli::options::value;
 use ghost_cli::reading::{find_accepted, find_inputs};
 use ghost_cli::replies::Reply;
 use gr_base::Memory;
@@ -19,16 +18,13 @@ use gr_word::Inputs;
 use lt_checker::Accepted;
 use std::alloc::Global;
 
-/// The names of the files of a comparison, the number of cycles of each run, the seed of the random words of oblivious
-/// banks, and whether these banks are recursive.
+/// The names of the files of a comparison, and how each run is made.
 #[derive(Clone, Copy)]
 pub struct DiffWords<'a> {
     object: &'a str,
     first: &'a str,
     second: &'a str,
-    cycles: u32,
-    seed: u64,
-    recursive: bool,
+    run: RunWords,
 }
 
 /// The tool `diff OBJ INPUT INPUT [--cycles N] [--seed S] [--paths] [--recursive]`: compares the events of an accepted
@@ -66,9 +62,7 @@ fn words_in<'a>(matches: &ArgMatches<'a>) -> Option<DiffWords<'a>> {
         object: value(matches, "OBJ")?,
         first: value(matches, "FIRST")?,
         second: value(matches, "SECOND")?,
-        cycles: number_given(value(matches, "cycles"))?,
-        seed: seed_given(value(matches, "seed"))?,
-        recursive: flag_given(value(matches, "recursive")),
+        run: run_in(matches)?,
     })
 }
 
@@ -82,7 +76,7 @@ fn compare_files<'a, S: Shelf>(
     let accepted = find_accepted(alloc, asked.object, shelf)?;
     let first = find_inputs(alloc, &accepted, asked.first, shelf)?;
     let second = find_inputs(alloc, &accepted, asked.second, shelf)?;
-    Ok(report(alloc, &accepted, &first, &second, asked)?)
+    Ok(report(alloc, &accepted, &first, &second, asked.run)?)
 }
 
 // Compares the runs of an accepted object on two inputs. What the status says of their traces is proved.
@@ -91,14 +85,14 @@ fn report(
     accepted: &Accepted,
     first: &Inputs,
     second: &Inputs,
-    asked: DiffWords<'_>,
+    asked: RunWords,
 ) -> Result<Report, Memory>
     requires in_range { IsInRange accepted.now }
     requires first { FitsObject accepted.now first.now }
     requires second { FitsObject accepted.now second.now }
     ensures { IfOk result (λ report. SaysOfBoth
-        (trace accepted.now first.now asked.entry.cycles)
-        (trace accepted.now second.now asked.entry.cycles)
+        (trace accepted.now first.now asked.cycles)
+        (trace accepted.now second.now asked.cycles)
         report.status) }
 {
     let comparison = compare_runs(alloc, accepted, first, second, asked)?;
@@ -110,46 +104,6 @@ fn report(
         status: status_of(&comparison),
         text,
     })
-}
-
-fn compare_runs(
-    alloc: Global,
-    accepted: &Accepted,
-    first: &Inputs,
-    second: &Inputs,
-    asked: DiffWords<'_>,
-) -> Result<Comparison, Memory>
-    requires in_range { IsInRange accepted.now }
-    requires first { FitsObject accepted.now first.now }
-    requires second { FitsObject accepted.now second.now }
-    ensures { IfOk result (Compares
-        (trace accepted.now first.now asked.entry.cycles)
-        (trace accepted.now second.now asked.entry.cycles)) }
-{
-    if asked.recursive {
-        return compare_over::<SeededRecursive>(alloc, accepted, first, second, asked);
-    }
-    compare_over::<SeededOram>(alloc, accepted, first, second, asked)
-}
-
-// Compares the runs over oblivious banks of a kind.
-fn compare_over<B: Seeded + Drop>(
-    alloc: Global,
-    accepted: &Accepted,
-    first: &Inputs,
-    second: &Inputs,
-    asked: DiffWords<'_>,
-) -> Result<Comparison, Memory>
-    requires in_range { IsInRange accepted.now }
-    requires first { FitsObject accepted.now first.now }
-    requires second { FitsObject accepted.now second.now }
-    ensures { IfOk result (Compares
-        (trace accepted.now first.now asked.entry.cycles)
-        (trace accepted.now second.now asked.entry.cycles)) }
-{
-    let mut one = load_seeded::<B>(alloc, accepted, first, asked.seed, 0)?;
-    let mut other = load_seeded::<B>(alloc, accepted, second, asked.seed, 0)?;
-    compare(alloc, &mut one, &mut other, asked.cycles)
 }
 
 // The exit status of a comparison.

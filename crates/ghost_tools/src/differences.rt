@@ -1,6 +1,6 @@
 use crate::comparing::Comparison;
 use crate::recorder::{OwnedEvent, Recorded};
-use crate::variables::{label_text, push_two_words};
+use crate::variables::{label_text, push_two_words, words_of};
 use gr_base::Memory;
 use gr_word::{Inputs, Label};
 use lt_isa::symbol_places::first_word;
@@ -28,15 +28,6 @@ pub(crate) fn push_disagreements(
         }
     }
     Ok(())
-}
-
-// The words of a variable, by its number; none if there is no such variable.
-fn words_of(inputs: &Inputs, variable: usize) -> &[i64] {
-    if variable < inputs.len() {
-        inputs.words(variable)
-    } else {
-        &[]
-    }
 }
 
 // Adds a line if the words of a public variable differ.

@@ -1,36 +1,24 @@
-ghost use Rattle.std.specs.Prelude.{◌≡◌, ◌≢◌, IfSome};
-ghost use Rattle.gr_base.specs.Lists.{Within};
+ghost use Rattle.std.specs.Prelude.{◌≡◌, ◌≢◌};
 ghost use Rattle.lt_isa.specs.Ranges.{ProfileFits};
 
+use crate::reasons::{Reasons, slots_of};
 use crate::reports::{Report, print};
+use crate::source_texts::SourceText;
+use crate::sources::{ReadSource, SourceWords, read_source, source_in_words};
 use crate::variables::{label_text, push_name};
 use crate::words::{LAYOUT, matches_of};
-use clap::ArgMatches;
-use flow_types::Typed;
 use ghost_cli::compile::object_of;
-use ghost_cli::options::{block_log_given, flag_given, value};
 use ghost_cli::replies::Reply;
-use ghost_cli::sources::find_source;
-use ghost_cli::targets::Target;
-use ghost_cli::windows::{window_given, windowed};
 use gr_base::Memory;
 use gr_outside::{Shelf, Sink};
 use gr_word::Shape;
-use lt_isa::{BankKind, Symbol, bank_kind};
-use resident_alloc::resident_plan;
-use src_tree::Decl;
+use lt_isa::{BankKind, Object, Symbol, bank_kind};
 use std::alloc::Global;
 
-/// The name of the source file, what it is compiled for, and whether it may have procedures.
-#[derive(Clone, Copy)]
-pub struct LayoutWords<'a> {
-    source: &'a str,
-    target: Target,
-    procs: bool,
-}
-
 /// The tool `layout SRC [--fast] [--block-log W] [--window P:O:C] [--procs]`: compiles a program in memory, and prints in
-/// which bank and from which word on each variable is stored, and with `--fast` which slot holds it for the whole run.
+/// which bank and from which word on each variable is stored, and why: the secret index that makes an array oblivious,
+/// or the slot of the scratchpad that holds the variable for the whole run or caches its blocks. With `--procs` places
+/// are those of the program without calls.
 ///
 /// Statuses: 0 the program was compiled; 2, 3, 5, 8 and 11 as of `compile`, with the same lines; 4 the text couldn't be
 /// printed.
@@ -51,7 +39,7 @@ fn laid_out<'a, S: Shelf>(
     let Some(matches) = matches_of(alloc, LAYOUT, words)? else {
         return Err(Reply::Usage);
     };
-    let Some(asked) = words_in(&matches) else {
+    let Some(asked) = source_in_words(&matches) else {
         return Err(Reply::Usage);
     };
     lay_out_file(alloc, asked, shelf)
@@ -59,75 +47,33 @@ fn laid_out<'a, S: Shelf>(
 
 fn lay_out_file<'a, S: Shelf>(
     alloc: Global,
-    asked: LayoutWords<'a>,
+    asked: SourceWords<'a>,
     shelf: &mut S,
 ) -> Result<Report, Reply<'a>>
     requires { ProfileFits asked.target.profile }
     ensures { (S.seen shelf.new).files ≡ (S.seen shelf.old).files }
 {
-    let program = find_source(alloc, asked.source, asked.procs, shelf)?;
+    let ReadSource { text, program } = read_source(alloc, asked, shelf)?;
     let object = object_of(alloc, &program, &asked.target)?;
-    let slots = if asked.target.fast {
-        held_slots(alloc, &program, asked.target.profile.block_log)?
-    } else {
-        Vec::new(alloc)
-    };
+    let slots = slots_of(alloc, &program, &asked.target)?;
+    let source = SourceText::of(alloc, text, program.program(), asked.procs)?;
     let decls = program.program().decls.as_slice();
-    Ok(report(alloc, object.symbols(), decls, slots.as_slice())?)
-}
-
-fn words_in<'a>(matches: &ArgMatches<'a>) -> Option<LayoutWords<'a>>
-    ensures { IfSome result (λ asked. ProfileFits asked.target.profile) }
-{
-    Some(LayoutWords {
-        source: value(matches, "SRC")?,
-        target: Target {
-            profile: windowed(
-                block_log_given(value(matches, "block-log"))?,
-                window_given(value(matches, "window"))?,
-            ),
-            fast: flag_given(value(matches, "fast")),
-        },
-        procs: flag_given(value(matches, "procs")),
-    })
-}
-
-// The slot that holds each variable for the whole run, if one does, in order of declaration.
-fn held_slots(alloc: Global, program: &Typed, block_log: u8) -> Result<Vec<Option<u8>>, Memory>
-    requires { Within 3 9 block_log }
-{
-    let Ok(plan) = resident_plan(alloc, program.program(), block_log) else {
-        return Err(Memory);
+    let accesses = source.secret_accesses(alloc, decls)?;
+    let reasons = Reasons {
+        source: &source,
+        accesses: &accesses,
+        decls,
+        slots: &slots,
     };
-    let mut held = Vec::new(alloc);
-    for slot in plan.slots.of_var.iter() {
-        let is_held = match plan.slots.pins.get(usize::from(*slot)) {
-            Some(pin) => pin.is_some(),
-            None => false,
-        };
-        held.push(if is_held { Some(*slot) } else { None })?;
-    }
-    Ok(held)
+    Ok(report(alloc, &object, reasons)?)
 }
 
 // A line for each variable of an object, in the order of banks and places.
-fn report(
-    alloc: Global,
-    symbols: &[Symbol],
-    decls: &[Decl],
-    slots: &[Option<u8>],
-) -> Result<Report, Memory> {
+fn report(alloc: Global, object: &Object, reasons: Reasons<'_>) -> Result<Report, Memory> {
     let mut text = String::new(alloc);
-    for symbol in symbols {
+    for symbol in object.symbols() {
         push_line(alloc, &mut text, symbol)?;
-        let number = decls
-            .iter()
-            .position(|decl| decl.name.bytes() == symbol.name.bytes());
-        if let Some(number) = number
-            && let Some(Some(slot)) = slots.get(number)
-        {
-            text.push_str(format!(in alloc; ", held in slot {slot}")?.as_str())?;
-        }
+        reasons.push_reason(alloc, &mut text, object, symbol)?;
         text.push_str("\n")?;
     }
     Ok(Report { status: 0, text })

@@ -1,18 +1,27 @@
 //! Tools over the machine and the compiler: [`diff`] compares the traces of two runs, [`count`] counts the events of
-//! one, and [`layout`] prints where the compiler stores each variable.
+//! one, [`layout`] prints where the compiler stores each variable and why, and [`test`] tries a program on cases.
 //!
 //! [`compare`] and [`count_events`] say what their results mean of the traces, by the machine's own definitions. Both
 //! read a trace window by window of cycles, so that the memory needed doesn't grow with the trace. No tool writes a file.
 #![tactic(auto)]
 
+mod case_problems;
+mod cases;
 pub mod comparing;
 pub mod count_tool;
 pub mod counting;
 pub mod diff_tool;
 pub mod differences;
+mod expectations;
 pub mod layout_tool;
+mod reasons;
 pub mod recorder;
 pub mod reports;
+pub mod runs;
+mod source_texts;
+pub mod sources;
+mod suites;
+pub mod test_tool;
 mod trace_reader;
 pub mod variables;
 pub mod words;
@@ -22,3 +31,4 @@ pub use count_tool::count;
 pub use counting::{Tally, count_events};
 pub use diff_tool::diff;
 pub use layout_tool::layout;
+pub use test_tool::test;

@@ -1,6 +1,7 @@
 use gr_base::Memory;
-use gr_word::{Label, Name, Shape};
+use gr_word::{Inputs, Label, Name, Shape};
 use lt_isa::Symbol;
+use src_tree::Decl;
 use std::alloc::Global;
 
 /// The word for a label.
@@ -34,4 +35,23 @@ pub(crate) fn push_two_words(
     let (one, other) = words;
     text.push_str(format!(in alloc; ": {one} and {other}")?.as_str())?;
     Ok(())
+}
+
+/// The words of a variable, by its number; none if there is no such variable.
+pub(crate) fn words_of(inputs: &Inputs, variable: usize) -> &[i64] {
+    if variable < inputs.len() {
+        inputs.words(variable)
+    } else {
+        &[]
+    }
+}
+
+/// The number of the variable of a name, in the order of declaration.
+pub(crate) fn number_of(decls: &[Decl], name: &[u8]) -> Option<usize> {
+    for (number, decl) in decls.iter().enumerate() {
+        if decl.name.bytes() == name {
+            return Some(number);
+        }
+    }
+    None
 }

@@ -31,6 +31,15 @@ pub const LAYOUT: VerbWords<'static> = VerbWords {
     flags: &["procs", "fast"],
 };
 
+/// The words that `test` takes.
+pub const TEST: VerbWords<'static> = VerbWords {
+    name: "test",
+    place: Argument::Word,
+    places: &["SRC", "CASES"],
+    options: &["block-log", "window", "cycles"],
+    flags: &["procs", "fast"],
+};
+
 /// What a tool finds in the words, its name first, or `None` if they don't fit.
 pub fn matches_of<'a>(
     alloc: Global,

@@ -1,5 +1,5 @@
 use Rattle.ghost_tools.proofs.Begun.{compares-begun}
-use Rattle.ghost_tools.proofs.diff_tool.compare_over.Goals as goal
+use Rattle.ghost_tools.proofs.runs.compare_over.Goals as goal
 
 pub returns : goal.returns
 returns g c =

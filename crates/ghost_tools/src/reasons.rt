@@ -1,0 +1,144 @@
+//! Why a variable is stored where it is.
+
+ghost use Rattle.lt_isa.specs.Ranges.{ProfileFits};
+
+use crate::source_texts::{Access, SourceText};
+use crate::variables::{number_of, push_name};
+use bank_alloc::banks;
+use flow_types::Typed;
+use ghost_cli::targets::Target;
+use gr_base::Memory;
+use lt_isa::{BankKind, Object, Symbol, bank_kind};
+use resident_alloc::resident_plan;
+use scratch_alloc::{SlotPlan, slots};
+use src_tree::Decl;
+use std::alloc::Global;
+
+/// The most variables that are named as sharing a slot.
+const MOST_NAMED: u32 = 4;
+
+/// What decides where the variables of a program are stored.
+#[derive(Clone, Copy)]
+pub(crate) struct Reasons<'a> {
+    pub source: &'a SourceText,
+    pub accesses: &'a [Option<Access>],
+    pub decls: &'a [Decl],
+    pub slots: &'a SlotPlan,
+}
+
+/// How the code of a program uses the slots of the scratchpad.
+pub(crate) fn slots_of(alloc: Global, program: &Typed, target: &Target) -> Result<SlotPlan, Memory>
+    requires { ProfileFits target.now.profile }
+{
+    let block_log = target.profile.block_log;
+    if target.fast {
+        return match resident_plan(alloc, program.program(), block_log) {
+            Ok(plan) => Ok(plan.slots),
+            Err(_) => Err(Memory),
+        };
+    }
+    match banks(alloc, program.program(), block_log) {
+        Ok(places) => slots(alloc, &places),
+        Err(_) => Err(Memory),
+    }
+}
+
+/// Whether a slot holds one block for the whole run.
+pub(crate) fn is_pinned(slots: &SlotPlan, slot: u8) -> bool {
+    match slots.pins.get(usize::from(slot)) {
+        Some(pin) => pin.is_some(),
+        None => false,
+    }
+}
+
+impl Reasons<'_> {
+    /// Adds why a variable of an object is in its bank.
+    pub(crate) fn push_reason(
+        &self,
+        alloc: Global,
+        text: &mut String,
+        object: &Object,
+        symbol: &Symbol,
+    ) -> Result<(), Memory> {
+        match bank_kind(symbol.bank) {
+            BankKind::Oblivious => self.push_oblivious(alloc, text, object, symbol),
+            BankKind::Plain | BankKind::Encrypted => self.push_slot(alloc, text, symbol),
+        }
+    }
+
+    // Adds the secret index that makes an array oblivious, and what an access costs.
+    fn push_oblivious(
+        &self,
+        alloc: Global,
+        text: &mut String,
+        object: &Object,
+        symbol: &Symbol,
+    ) -> Result<(), Memory> {
+        text.push_str("; oblivious")?;
+        if let Some(access) = self.access_to(symbol) {
+            let spot = self.source.spot_of(access);
+            let (line, column) = (spot.line, spot.column);
+            text.push_str(": the index of ")?;
+            self.source.push_access(text, access)?;
+            text.push_str(format!(in alloc; " at {line}:{column}")?.as_str())?;
+            if self.source.expanded {
+                text.push_str(" of the program without calls")?;
+            }
+            text.push_str(" is secret")?;
+        }
+        if let Some(bank) = object.banks().get(usize::from(symbol.bank)) {
+            let cycles = bank.latency;
+            text.push_str(format!(in alloc; "; an access takes {cycles} cycles")?.as_str())?;
+        }
+        Ok(())
+    }
+
+    // The first access with a secret index to a variable of an object.
+    fn access_to(&self, symbol: &Symbol) -> Option<Access> {
+        let number = number_of(self.decls, symbol.name.bytes())?;
+        *self.accesses.get(number)?
+    }
+
+    // Adds the slot of a variable of plain or encrypted memory.
+    fn push_slot(&self, alloc: Global, text: &mut String, symbol: &Symbol) -> Result<(), Memory> {
+        let Some(number) = number_of(self.decls, symbol.name.bytes()) else {
+            return Ok(());
+        };
+        let Some(slot) = self.slots.of_var.as_slice().get(number) else {
+            return Ok(());
+        };
+        let slot = *slot;
+        if is_pinned(self.slots, slot) {
+            text.push_str(format!(in alloc; "; resident: slot {slot}")?.as_str())?;
+            return Ok(());
+        }
+        text.push_str(format!(in alloc; "; cached: slot {slot}")?.as_str())?;
+        self.push_sharers(alloc, text, number, slot)
+    }
+
+    // Adds the other variables of a slot.
+    fn push_sharers(
+        &self,
+        alloc: Global,
+        text: &mut String,
+        number: usize,
+        slot: u8,
+    ) -> Result<(), Memory> {
+        let mut sharers: u32 = 0;
+        let slots = self.slots.of_var.as_slice();
+        for (other, (decl, own)) in self.decls.iter().zip(slots).enumerate() {
+            if other != number && *own == slot {
+                if sharers < MOST_NAMED {
+                    text.push_str(if sharers == 0 { ", shared with " } else { ", " })?;
+                    push_name(text, &decl.name)?;
+                }
+                sharers = sharers.saturating_add(1);
+            }
+        }
+        if sharers > MOST_NAMED {
+            let more = sharers - MOST_NAMED;
+            text.push_str(format!(in alloc; " and {more} more")?.as_str())?;
+        }
+        Ok(())
+    }
+}

@@ -1,0 +1,114 @@
+ghost use Rattle.std.specs.Prelude.{◌≡◌, ◌≢◌, ◌≤◌, IfOk, IfSome};
+ghost use Rattle.lt_isa.specs.Ranges.{ProfileFits};
+ghost use Rattle.ghost_tools.specs.Statuses.{status_of};
+
+use crate::reports::{Report, print};
+use crate::sources::{SourceWords, accepted_of, read_file, read_source, source_in_words};
+use crate::suites::{Subject, Tried, try_cases};
+use crate::words::{TEST, matches_of};
+use clap::ArgMatches;
+use ghost_cli::compile::object_of;
+use ghost_cli::options::{number_given, value};
+use ghost_cli::replies::{InputFault, Reply, Verdict};
+use gr_base::Memory;
+use gr_outside::{Shelf, Sink};
+use std::alloc::Global;
+
+/// The most bytes of a file of cases.
+const CASES_BYTES: u32 = 67_108_864;
+
+/// The source, the name of the file of cases, and the number of cycles of each run.
+#[derive(Clone, Copy)]
+pub struct TestWords<'a> {
+    source: SourceWords<'a>,
+    cases: &'a str,
+    cycles: u32,
+}
+
+/// The tool `test SRC CASES [--fast] [--block-log W] [--window P:O:C] [--procs] [--cycles N]`: compiles a program in
+/// memory and tries it on cases. Each line of CASES is one, a JSON object of two objects: `in` has the inputs, and `out`
+/// the outputs that are expected. A case passes if its run halts and leaves these outputs, the evaluation of the program
+/// leaves what the run does, and the run shows the same as that of the first case with the same public inputs. The tool
+/// prints a line for each case that fails, and the numbers of both.
+///
+/// Statuses: 0 all cases pass; 1 a case fails; 2, 3, 5, 8 and 11 as of `compile`, with the same lines; 9 the file of
+/// cases isn't UTF-8; 4 the text couldn't be printed.
+pub fn test<S: Shelf, O: Sink>(alloc: Global, words: &[&str], shelf: &mut S, out: &mut O) -> u8
+    ensures files { (S.seen shelf.new).files ≡ (S.seen shelf.old).files }
+    ensures calm { result ≢ 4 → (O.seen out.new).faults ≡ (O.seen out.old).faults }
+{
+    print(alloc, tested(alloc, words, shelf), out)
+}
+
+fn tested<'a, S: Shelf>(
+    alloc: Global,
+    words: &'a [&'a str],
+    shelf: &mut S,
+) -> Result<Report, Reply<'a>>
+    ensures { (S.seen shelf.new).files ≡ (S.seen shelf.old).files }
+{
+    let Some(matches) = matches_of(alloc, TEST, words)? else {
+        return Err(Reply::Usage);
+    };
+    let Some(asked) = words_in(&matches) else {
+        return Err(Reply::Usage);
+    };
+    test_files(alloc, asked, shelf)
+}
+
+fn words_in<'a>(matches: &ArgMatches<'a>) -> Option<TestWords<'a>>
+    ensures profile { IfSome result (λ asked. ProfileFits asked.source.target.profile) }
+    ensures some_cycle { IfSome result (λ asked. 1 ≤ asked.cycles) }
+{
+    Some(TestWords {
+        source: source_in_words(matches)?,
+        cases: value(matches, "CASES")?,
+        cycles: number_given(value(matches, "cycles"))?,
+    })
+}
+
+fn test_files<'a, S: Shelf>(
+    alloc: Global,
+    asked: TestWords<'a>,
+    shelf: &mut S,
+) -> Result<Report, Reply<'a>>
+    requires profile { ProfileFits asked.source.target.profile }
+    requires some_cycle { 1 ≤ asked.cycles }
+    ensures { (S.seen shelf.new).files ≡ (S.seen shelf.old).files }
+{
+    let source = read_source(alloc, asked.source, shelf)?;
+    let object = object_of(alloc, &source.program, &asked.source.target)?;
+    let accepted = accepted_of(alloc, object)?;
+    let bytes = read_file(asked.cases, CASES_BYTES, shelf)?;
+    let Ok(text) = str::from_utf8(&bytes) else {
+        return Err(Reply::Comes(Verdict::BadInput(InputFault::Json)));
+    };
+    let subject = Subject {
+        program: &source.program,
+        accepted: &accepted,
+        cycles: asked.cycles,
+    };
+    let tried = try_cases(alloc, subject, text)?;
+    Ok(report(alloc, tried)?)
+}
+
+// The lines of the cases that failed, and how many passed and failed.
+fn report(alloc: Global, tried: Tried) -> Result<Report, Memory>
+    ensures { IfOk result (λ report. report.status ≡ status_of tried.failed) }
+{
+    let status = status_of(&tried);
+    let Tried {
+        passed,
+        failed,
+        lines,
+    } = tried;
+    let mut text = lines;
+    text.push_str(format!(in alloc; "passed {passed}, failed {failed}\n")?.as_str())?;
+    Ok(Report { status, text })
+}
+
+fn status_of(tried: &Tried) -> u8
+    ensures { result ≡ status_of tried.now.failed }
+{
+    if tried.failed == 0 { 0 } else { 1 }
+}
