@@ -60,7 +60,7 @@ const Places = (() => {
     const [first, ...more] = words.trimEnd().split('\n');
     const cut = (pattern) => pattern.exec(first);
     const result = { file: null, line: null, column: null, instruction: null, symbol: null, words: first, more };
-    let found = cut(/^(program|input):(\d+):(\d+): (.*)$/);
+    let found = cut(/^(program|input):(\d+):(\d+)[:,] (.*)$/);
     if (found) {
       const [, file, line, column, said] = found;
       return { ...result, file, line: Number(line), column: Number(column), words: said };
@@ -94,6 +94,7 @@ const Places = (() => {
     [/,? by `(?:tail|tr) [^`]*`/, ''],
     [/A call needs the option --procs, and a procedure/, 'A call needs a procedure'],
     [/Procedures need the option --procs: /, 'A procedure is written '],
+    [/, and needs the option --procs\./, '.'],
   ];
   const onThePage = (words) => ON_THE_PAGE.reduce((it, [from, to]) => it.replace(from, to), words);
 

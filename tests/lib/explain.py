@@ -109,7 +109,7 @@ def cases():
 
 # ---- damaged files
 
-PLACES = re.compile(rb'^\S*file:([0-9]+):([0-9]+): |^\S*file:byte ([0-9]+): |^\S*file:place ([0-9]+): ')
+PLACES = re.compile(rb'^\S*file:([0-9]+):([0-9]+)[:,] |^\S*file:byte ([0-9]+): |^\S*file:place ([0-9]+): ')
 
 
 def lies_within(words, data):

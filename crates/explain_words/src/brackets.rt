@@ -103,11 +103,16 @@ impl Tokens<'_> {
         })
     }
 
-    /// The `if` with a secret guard, the innermost, in whose blocks a token is.
-    pub(crate) fn secret_choice(&self, alloc: Global, end: usize) -> Result<Option<usize>, Memory> {
+    /// The first tokens of the statements from a token on in whose blocks another token is, the outermost first.
+    pub(crate) fn heads_around(
+        &self,
+        alloc: Global,
+        from: usize,
+        end: usize,
+    ) -> Result<Vec<usize>, Memory> {
         let mut around = Vec::new(alloc);
         let mut closed = 0usize;
-        for at in 0..end {
+        for at in from..end.max(from) {
             if self.is(at, "{") {
                 let is_second = self.before(at) == b"else".as_slice();
                 around.push(if is_second { closed } else { self.first_of(at) })?;
@@ -115,13 +120,7 @@ impl Tokens<'_> {
                 closed = around.pop().unwrap_or(0);
             }
         }
-        let mut found = None;
-        for head in &around {
-            if self.is(*head, "if") && self.secret_name(*head, self.own_end(*head)).is_some() {
-                found = Some(*head);
-            }
-        }
-        Ok(found)
+        Ok(around)
     }
 }
 

@@ -7,7 +7,7 @@ use crate::wanted::Wanted;
 /// A habit of another language, by the tokens around an unexpected one: the first of its statement, the one before it,
 /// itself, and the one after it, each one of some words, or any if there is no word; the tokens expected there, or any;
 /// and how to write here what was meant.
-type Habit = [&'static str; 6];
+pub(crate) type Habit = [&'static str; 6];
 
 /// Words of other languages for output.
 pub(crate) const PRINTING: &str = "print printf println puts putchar echo write output";
@@ -21,7 +21,7 @@ pub(crate) const FOR: &str = "There is no `for`: write `i = 0; while (i < n) { .
 
 const HABITS: &[Habit] = &[
     [
-        "function func fn def",
+        "function func fn def void",
         "",
         "",
         "",
@@ -195,7 +195,7 @@ const HABITS: &[Habit] = &[
         loop by its guard.",
     ],
     [
-        "char long short unsigned signed float double bool string void const static private final",
+        "char long short unsigned signed float double bool string const static private final",
         "",
         "",
         "",
@@ -216,7 +216,8 @@ const HABITS: &[Habit] = &[
         "int public secret",
         "",
         "if",
-        "Declarations are at the head of the file, before all procedures and statements: move this one up.",
+        "Declarations are at the head of the file, before all procedures and statements, or at the head of a \
+        procedure: move this one up.",
     ],
     [
         "",
@@ -267,6 +268,14 @@ const HABITS: &[Habit] = &[
         "There is no `+=` or its like: write `x = x + 1;`.",
     ],
     ["", "", "=", ">", "", "Did you mean `>=`?"],
+    [
+        "",
+        ">>",
+        ">",
+        "",
+        "",
+        "There is no `>>>`: `>>` keeps the sign.",
+    ],
     ["", "<", ">", "", "", "There is no `<>`: compare by `!=`."],
     [
         "",
@@ -441,6 +450,14 @@ const HABITS: &[Habit] = &[
     [
         "",
         "",
+        ")",
+        "",
+        ";",
+        "No `(` is open here: remove the `)`, or open it.",
+    ],
+    [
+        "",
+        "",
         ";",
         "",
         "=",
@@ -466,56 +483,6 @@ const HABITS: &[Habit] = &[
 
 const NO_VALUE: &str = "A call has no value: compute it by statements before this one.";
 
-/// Habits in a file that may have procedures.
-const WITH_PROCEDURES: &[Habit] = &[
-    [
-        "proc",
-        "",
-        "",
-        "",
-        "= [",
-        "Procedures come after the declarations and before all statements: move this one up.",
-    ],
-    [
-        "proc int",
-        "",
-        ") ;",
-        "",
-        "[",
-        "A parameter is `secret int p`, `public int p`, or an array `int a[]`.",
-    ],
-];
-
-/// Habits in a file with a procedure, where none is allowed.
-const WITHOUT_OPTION: &[Habit] = &[
-    [
-        "proc",
-        "",
-        "",
-        "",
-        "= [",
-        "Procedures need the option --procs: `proc f(secret int p; int a[]) { .. }`.",
-    ],
-    [
-        "",
-        "",
-        "(",
-        "",
-        "= [",
-        "A call needs the option --procs, and a procedure of that name before it.",
-    ],
-];
-
-/// Habits in a file without a procedure, where none is allowed.
-const WITHOUT_PROCEDURES: &[Habit] = &[[
-    "",
-    "",
-    "(",
-    "",
-    "= [",
-    "No function has this name: a statement is an assignment, an `if` or a `while`.",
-]];
-
 fn is_among(words: &str, token: &[u8]) -> bool {
     words.is_empty() || is_word_of(words, token)
 }
@@ -529,7 +496,8 @@ fn fits(habit: &Habit, tokens: Tokens<'_>, at: usize, wanted: &Wanted) -> bool {
         && (wants.is_empty() || wanted.has_each(wants))
 }
 
-fn sentence_of(
+/// The sentence of the first habit that fits.
+pub(crate) fn sentence_of(
     habits: &'static [Habit],
     tokens: Tokens<'_>,
     at: usize,
@@ -546,21 +514,4 @@ fn sentence_of(
 /// How to write here what was meant, if a known habit leads to the unexpected token.
 pub(crate) fn said_here(tokens: Tokens<'_>, at: usize, wanted: &Wanted) -> Option<&'static str> {
     sentence_of(HABITS, tokens, at, wanted)
-}
-
-/// The same of procedures and calls, which only a file with procedures may have.
-pub(crate) fn said_of_procedures(
-    tokens: Tokens<'_>,
-    at: usize,
-    wanted: &Wanted,
-    has_procs: bool,
-) -> Option<&'static str> {
-    let habits = if has_procs {
-        WITH_PROCEDURES
-    } else if tokens.has_procedure() {
-        WITHOUT_OPTION
-    } else {
-        WITHOUT_PROCEDURES
-    };
-    sentence_of(habits, tokens, at, wanted)
 }

@@ -3,19 +3,20 @@
 ghost use Rattle.src_procs.specs.Promise.{ArePlain};
 
 use crate::bytes::explain_byte;
-use crate::habits::{OUTPUT, PRINTING};
-use crate::texts::{Source, is_word_of};
-use crate::tokens::{SOURCE_BYTES, Tokens, tokens_of};
+use crate::call_faults::explain_calls_fault;
+use crate::texts::Source;
+use crate::tokens::{SOURCE_BYTES, Tokens};
+use crate::typing::explain_typing;
 use crate::unexpected::explain_tokens;
 use crate::words::Words;
 use bank_alloc::{PlaceError, banks};
-use flow_types::{TypeError, Typed, type_program};
+use flow_types::{Typed, type_program};
 use gr_word::Label;
 use procs_parser::parse_procs;
-use src_lexer::{LexError, Token, lex};
+use src_lexer::{LexError, lex};
 use src_parser::parse;
-use src_procs::{InlineError, ProcFile, inline};
-use src_tree::{Program, print};
+use src_procs::{ProcFile, inline};
+use src_tree::Program;
 use std::alloc::Global;
 
 /// Whether a program has to have room in blocks, as `compile` asks: of 2^w words each, w from 3 to 9.
@@ -87,7 +88,7 @@ fn explain_program(
 ) {
     match type_program(alloc, program) {
         Ok(typed) => explain_room(alloc, tokens.name, &typed, room, out),
-        Err(fault) => tokens.explain_typing(alloc, fault, out),
+        Err(fault) => explain_typing(alloc, tokens, fault, out),
     }
 }
 
@@ -103,85 +104,8 @@ fn explain_calls(alloc: Global, tokens: Tokens<'_>, file: &ProcFile, room: Room,
     requires { ArePlain file.now.decls.items }
 {
     match inline(alloc, file) {
-        Ok(program) => explain_inlined(alloc, tokens.name, program, room, out),
-        Err(fault) => explain_inlining(alloc, tokens, fault, out),
-    }
-}
-
-fn explain_inlining(alloc: Global, tokens: Tokens<'_>, fault: InlineError, out: &mut Words) {
-    let Tokens { name, text, .. } = tokens;
-    let (number, is_procedure, what) = match fault {
-        InlineError::TwiceNamed(number) => (
-            number,
-            true,
-            "the procedure has the name of an earlier one, or two of its parameters and locals have one name",
-        ),
-        InlineError::Undeclared(number) => (
-            number,
-            true,
-            "the procedure names a variable that is none of its parameters and locals",
-        ),
-        InlineError::NoProcedure(number) => (
-            number,
-            false,
-            "no procedure of this name stands before the call",
-        ),
-        InlineError::WrongCount(number) => (
-            number,
-            false,
-            "the call has another number of arguments than the procedure has parameters",
-        ),
-        InlineError::NotAnArray(number) => (
-            number,
-            false,
-            "an array is handed on by its bare name",
-        ),
-        InlineError::TooLarge => {
-            out.name(name);
-            return out.line(": without its calls the program has more than 8,192 statements");
-        }
-        InlineError::Memory => return out.starve(),
-    };
-    let at = tokens.start(tokens.named(number, is_procedure));
-    Source { name, text }.point(at, what, out);
-    if let InlineError::NoProcedure(_) = fault {
-        put_near_procedure(alloc, tokens, tokens.named(number, is_procedure), out)
-    }
-}
-
-// What a call of no procedure may mean.
-fn put_near_procedure(alloc: Global, tokens: Tokens<'_>, at: usize, out: &mut Words) {
-    if is_word_of(PRINTING, tokens.word(at)) {
-        return out.line(OUTPUT);
-    }
-    match tokens.nearest_procedure(alloc, at) {
-        Ok(Some(nearest)) => out.suggest(nearest),
-        Ok(None) => {}
-        Err(_) => out.starve(),
-    }
-}
-
-// The program without calls: what is wrong in it is shown in its own text, since no place of the file stands for it.
-fn explain_inlined(alloc: Global, name: &str, program: Program, room: Room, out: &mut Words) {
-    match print(alloc, &program) {
-        Ok(text) => match type_program(alloc, program) {
-            Ok(typed) => explain_room(alloc, name, &typed, room, out),
-            Err(fault) => explain_printed(alloc, name, &text, fault, out),
-        },
-        Err(_) => out.starve(),
-    }
-}
-
-fn explain_printed(alloc: Global, name: &str, text: &[u8], fault: TypeError, out: &mut Words) {
-    if let Ok(all) = tokens_of(alloc, text) {
-        out.name(name);
-        out.line(": in the program without calls");
-        let tokens = Tokens {
-            name: "without calls",
-            text,
-            all: all.as_slice(),
-        };
-        tokens.explain_typing(alloc, fault, out)
+        Ok(program) => explain_program(alloc, tokens, program, room, out),
+        Err(fault) => explain_calls_fault(alloc, tokens, fault, out),
     }
 }
 

@@ -53,14 +53,6 @@ impl Tokens<'_> {
         None
     }
 
-    /// Whether the name at a token is declared, as a secret or not.
-    pub(crate) fn has_label(&self, name: usize, is_secret: bool) -> bool {
-        match self.declaration_of(name) {
-            Some(declared) => declared.is_secret == is_secret,
-            None => false,
-        }
-    }
-
     /// The name of the declaration of a number, and how many tokens there are where there is no such declaration.
     pub(crate) fn declared_name(&self, number: u64) -> usize {
         match self.declaration(number) {
@@ -69,24 +61,68 @@ impl Tokens<'_> {
         }
     }
 
-    // Whether a statement begins at a token of a program. Typing counts statements from 0, in the order of their first
-    // tokens.
-    fn begins_statement(&self, at: usize) -> bool {
-        self.is(at, "if") || self.is(at, "while") || (self.is_name(at) && self.is_head(at))
+    /// The token after the declarations at the head of a file.
+    pub(crate) fn end_of_declarations(&self) -> usize {
+        self.end_of_declarations_from(0)
     }
 
-    /// The first token of the statement of a number, and how many there are where there is no such statement.
-    pub(crate) fn statement(&self, number: u64) -> usize {
-        let mut left = number;
-        for at in 0..self.all.len() {
-            if self.begins_statement(at) {
-                if left == 0 {
-                    return at;
-                }
-                left -= 1;
+    /// The token after the declarations that begin at a token.
+    pub(crate) fn end_of_declarations_from(&self, from: usize) -> usize {
+        let mut at = from;
+        for _ in self.all {
+            let Some(declared) = self.declared_at(at) else {
+                break;
+            };
+            at = at.saturating_add(declared.size());
+        }
+        at
+    }
+
+    /// How many declarations there are at the head of a file.
+    pub(crate) fn count_declarations(&self) -> u64 {
+        let mut at = 0usize;
+        let mut count = 0u64;
+        for _ in self.all {
+            let Some(declared) = self.declared_at(at) else {
+                break;
+            };
+            at = at.saturating_add(declared.size());
+            count = count.saturating_add(1);
+        }
+        count
+    }
+
+    /// Whether the statement at a token is a call.
+    pub(crate) fn is_call(&self, at: usize) -> bool {
+        self.is_name(at) && self.is(at.saturating_add(1), "(")
+    }
+
+    /// The first statement from a token on, before an end. Before it there are only closing braces and `else`.
+    pub(crate) fn statement_from(&self, from: usize, end: usize) -> Option<usize> {
+        let mut at = from;
+        for _ in from..end.max(from) {
+            if at >= end {
+                return None;
+            }
+            if self.is(at, "else") {
+                at = at.saturating_add(2);
+            } else if self.is(at, "}") {
+                at = at.saturating_add(1);
+            } else {
+                return Some(at);
             }
         }
-        self.all.len()
+        None
+    }
+
+    /// The token after the statement at a token: after its semicolon, or the first one of its first block.
+    pub(crate) fn after(&self, statement: usize) -> usize {
+        let last = if self.is_call(statement) {
+            self.closing(statement.saturating_add(1)).saturating_add(1)
+        } else {
+            self.own_end(statement)
+        };
+        last.saturating_add(1)
     }
 
     /// The end of a statement's own expressions: the semicolon of an assignment, or the brace after a guard.
@@ -99,30 +135,20 @@ impl Tokens<'_> {
         self.all.len()
     }
 
-    /// The end of the brackets that open at a token, before an end.
-    pub(crate) fn bracket_end(&self, open: usize, end: usize) -> usize {
+    /// The bracket that closes the one at a token, or how many tokens there are if none does.
+    pub(crate) fn closing(&self, open: usize) -> usize {
         let mut depth = 0usize;
-        for at in open..end.max(open) {
-            if self.is(at, "[") {
-                depth = depth.saturating_add(1);
-            } else if self.is(at, "]") {
-                depth = depth.saturating_sub(1);
+        for at in open..self.all.len().max(open) {
+            match self.word(at) {
+                b"(" | b"[" | b"{" => depth = depth.saturating_add(1),
+                b")" | b"]" | b"}" => depth = depth.saturating_sub(1),
+                _ => {}
             }
             if depth == 0 {
                 return at;
             }
         }
-        end
-    }
-
-    /// The first secret name from a token to an end.
-    pub(crate) fn secret_name(&self, from: usize, end: usize) -> Option<usize> {
-        for at in from..end.max(from) {
-            if self.is_name(at) && self.has_label(at, true) {
-                return Some(at);
-            }
-        }
-        None
+        self.all.len()
     }
 
     /// The name of the procedure of a number, from 0, or of the call of a number; and how many tokens there are where there

@@ -1,5 +1,6 @@
 use crate::nearest::Nearest;
-use crate::texts::piece;
+use crate::texts::{piece, spot_at};
+use crate::words::Words;
 use gr_base::Memory;
 use src_lexer::{Token, TokenKind, lex};
 use std::alloc::Global;
@@ -54,6 +55,11 @@ impl<'a> Tokens<'a> {
             Some(token) => token.start as usize,
             None => self.text.len(),
         }
+    }
+
+    /// Adds the line and the column of a token.
+    pub(crate) fn put_where(&self, at: usize, out: &mut Words) {
+        out.put_numbers(spot_at(self.text, self.start(at)));
     }
 
     /// Whether a token is a name.

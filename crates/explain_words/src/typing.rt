@@ -1,7 +1,9 @@
 //! Why a program isn't well typed, or which limit it passes.
 
 use crate::nearest::Nearest;
+use crate::procedures::{Counted, Place, Procedures};
 use crate::sentences::of_limit;
+use crate::sight::{Seen, Sight, Value};
 use crate::texts::{is_word_of, length_up_to, piece, spot_at};
 use crate::tokens::Tokens;
 use crate::words::Words;
@@ -12,45 +14,51 @@ use std::alloc::Global;
 /// The most bytes of a guard that are shown.
 const GUARD_SHOWN: usize = 60;
 
-impl Tokens<'_> {
-    /// Explains why a program isn't well typed, or which limit it passes.
-    pub(crate) fn explain_typing(&self, alloc: Global, fault: TypeError, out: &mut Words) {
-        match fault {
-            TypeError::TwiceDeclared(number) => self.twice(u64::from(number), out),
-            TypeError::Undeclared(number) => self.misnamed(alloc, u64::from(number), out),
-            TypeError::WrongShape(number) => self.misnamed(alloc, u64::from(number), out),
-            TypeError::FlowToPublic(number) => self.flow(alloc, u64::from(number), out),
-            TypeError::SecretIndexOfPublic(number) => self.index(u64::from(number), out),
-            TypeError::SecretGuardOfLoop(number) => self.guard(u64::from(number), out),
-            TypeError::LoopInSecret(number) => self.loop_in_secret(alloc, u64::from(number), out),
-            TypeError::Limit(limit, number) => self.limit(limit, number, out),
-            TypeError::Memory => out.starve(),
+/// The most variables of a program.
+const MOST_VARIABLES: u64 = 256;
+
+/// Explains why the program of a file isn't well typed, or which limit it passes.
+pub(crate) fn explain_typing(alloc: Global, tokens: Tokens<'_>, fault: TypeError, out: &mut Words) {
+    let explained = match Procedures::of(alloc, tokens) {
+        Ok(procedures) => explain_fault(alloc, &procedures, fault, out),
+        Err(error) => Err(error),
+    };
+    if explained.is_err() {
+        out.starve();
+    }
+}
+
+fn explain_fault(
+    alloc: Global,
+    procedures: &Procedures<'_>,
+    fault: TypeError,
+    out: &mut Words,
+) -> Result<(), Memory> {
+    let number = match fault {
+        TypeError::TwiceDeclared(number) => {
+            procedures.tokens.put_twice(u64::from(number), out);
+            return Ok(());
         }
+        TypeError::Limit(limit, number) => {
+            return explain_limit(alloc, procedures, limit, number, out);
+        }
+        TypeError::Memory => return Err(Memory),
+        TypeError::Undeclared(number) => number,
+        TypeError::WrongShape(number) => number,
+        TypeError::FlowToPublic(number) => number,
+        TypeError::SecretIndexOfPublic(number) => number,
+        TypeError::SecretGuardOfLoop(number) => number,
+        TypeError::LoopInSecret(number) => number,
+    };
+    if let Some(sight) = Sight::of(alloc, procedures, u64::from(number))? {
+        sight.explain(alloc, fault, out);
     }
+    Ok(())
+}
 
-    // The first token of a statement, and the end of its own expressions.
-    fn own(&self, number: u64) -> (usize, usize) {
-        let first = self.statement(number);
-        (first, self.own_end(first))
-    }
-
-    // The place of a token, the token, the words about it, and its line.
-    fn put(&self, at: usize, what: &str, out: &mut Words) {
-        let spot = spot_at(self.text, self.start(at));
-        out.put_place(self.name, spot);
-        out.quote(self.word(at));
-        out.say(what);
-        out.put_line(self.text, spot);
-    }
-
-    // A token, and the words about it.
-    fn tell(&self, at: usize, what: &str, out: &mut Words) {
-        out.quote(self.word(at));
-        out.say(what);
-    }
-
+impl Tokens<'_> {
     // A declaration of a name that is declared before it.
-    fn twice(&self, number: u64, out: &mut Words) {
+    fn put_twice(&self, number: u64, out: &mut Words) {
         let at = self.declared_name(number);
         self.put(at, " is declared twice", out);
         if let Some(earlier) = self.declaration_of(at) {
@@ -62,37 +70,35 @@ impl Tokens<'_> {
         }
     }
 
-    // The first name of a statement that isn't declared, or is used with an index or without one against its
-    // declaration.
-    fn misnamed(&self, alloc: Global, number: u64, out: &mut Words) {
-        let (first, end) = self.own(number);
-        for at in first..end.max(first) {
-            if self.is_name(at) && self.is_misnamed(alloc, at, out) {
+    /// Adds the place of a token, the token, a text after it, and its line.
+    pub(crate) fn put(&self, at: usize, what: &str, out: &mut Words) {
+        let spot = spot_at(self.text, self.start(at));
+        out.put_place(self.name, spot);
+        out.quote(self.word(at));
+        out.say(what);
+        out.put_line(self.text, spot);
+    }
+
+    /// Adds a token, and a text after it.
+    pub(crate) fn tell(&self, at: usize, what: &str, out: &mut Words) {
+        out.quote(self.word(at));
+        out.say(what);
+    }
+
+    // The declared name that is nearest to the name at a token, if one is near.
+    fn nearest_declared(&self, alloc: Global, at: usize) -> Result<Option<&[u8]>, Memory> {
+        let mut nearest = Nearest::to(alloc, self.word(at))?;
+        for number in 0..MOST_VARIABLES {
+            let Some(declared) = self.declaration(number) else {
                 break;
-            }
+            };
+            nearest.compare(alloc, self.word(declared.name))?;
         }
+        Ok(nearest.found())
     }
 
-    fn is_misnamed(&self, alloc: Global, at: usize, out: &mut Words) -> bool {
-        let has_index = self.is(at.saturating_add(1), "[");
-        let Some(declared) = self.declaration_of(at) else {
-            self.undeclared(alloc, at, if has_index { "[32];`" } else { ";`" }, out);
-            return true;
-        };
-        if declared.is_array && !has_index {
-            self.put(at, " is an array, and stands without an index", out);
-            out.line("Name one of its words, as in `a[i]`.");
-            return true;
-        }
-        if has_index && !declared.is_array {
-            self.put(at, " is a scalar, and stands with an index", out);
-            out.line("Take the index away, or declare it as an array.");
-            return true;
-        }
-        false
-    }
-
-    fn undeclared(&self, alloc: Global, at: usize, end: &str, out: &mut Words) {
+    // Says that a name isn't declared, and how it is declared. `end` ends the declaration.
+    fn put_undeclared(&self, alloc: Global, at: usize, end: &str, out: &mut Words) {
         self.put(at, " is not declared", out);
         if is_word_of(
             "true false TRUE FALSE True False NULL null nil None",
@@ -117,51 +123,164 @@ impl Tokens<'_> {
         self.tell(at, end, out);
         out.line(".");
     }
+}
 
-    // The declared name that is nearest to the name at a token, if one is near.
-    fn nearest_declared(&self, alloc: Global, at: usize) -> Result<Option<&[u8]>, Memory> {
-        let mut nearest = Nearest::to(alloc, self.word(at))?;
-        for number in 0..256u64 {
-            let Some(declared) = self.declaration(number) else {
-                break;
-            };
-            nearest.compare(alloc, self.word(declared.name))?;
+impl Sight<'_> {
+    // Explains a fault of the statement.
+    fn explain(&self, alloc: Global, fault: TypeError, out: &mut Words) {
+        match fault {
+            TypeError::Undeclared(_) => self.misnamed(alloc, out),
+            TypeError::WrongShape(_) => self.misnamed(alloc, out),
+            TypeError::FlowToPublic(_) => match self.value {
+                None => self.flow(alloc, out),
+                Some(value) if value.is_local => self.flow_to_local(alloc, value, out),
+                Some(value) => self.flow_to_parameter(alloc, value, out),
+            },
+            TypeError::SecretIndexOfPublic(_) => self.index(out),
+            TypeError::SecretGuardOfLoop(_) => self.guard(out),
+            TypeError::LoopInSecret(_) => self.loop_in_secret(alloc, out),
+            TypeError::TwiceDeclared(_) | TypeError::Limit(_, _) | TypeError::Memory => {}
         }
-        Ok(nearest.found())
+    }
+
+    // The first name of the statement that isn't declared, or is used with an index or without one against its declaration.
+    fn misnamed(&self, alloc: Global, out: &mut Words) {
+        for at in self.first..self.end.max(self.first) {
+            if self.tokens.is_name(at) && self.is_misnamed(alloc, at, out) {
+                break;
+            }
+        }
+    }
+
+    fn is_misnamed(&self, alloc: Global, at: usize, out: &mut Words) -> bool {
+        let has_index = self.tokens.is(at.saturating_add(1), "[");
+        let seen = self.seen(self.depth(), at);
+        let Some(declared) = seen.declared else {
+            let end = if has_index { "[32];`" } else { ";`" };
+            self.tokens.put_undeclared(alloc, seen.at, end, out);
+            return true;
+        };
+        if declared.is_array && !has_index {
+            self.put(
+                self.depth(),
+                at,
+                " is an array, and stands without an index",
+                out,
+            );
+            self.put_alias(self.depth(), at, out);
+            out.line("Name one of its words, as in `a[i]`.");
+            return true;
+        }
+        if has_index && !declared.is_array {
+            self.put(
+                self.depth(),
+                at,
+                " is a scalar, and stands with an index",
+                out,
+            );
+            self.put_alias(self.depth(), at, out);
+            out.line(if seen.at == at {
+                "Take the index away, or declare it as an array."
+            } else {
+                "Pass an array in its place, or take the index away."
+            });
+            return true;
+        }
+        false
     }
 
     // An assignment of a secret, or from within secret code, to what is public.
-    fn flow(&self, alloc: Global, number: u64, out: &mut Words) {
-        let (first, end) = self.own(number);
+    fn flow(&self, alloc: Global, out: &mut Words) {
+        let depth = self.depth();
         self.put(
-            first,
+            depth,
+            self.first,
             " is public, and would come to depend on a secret",
             out,
         );
-        match self.secret_name(first.saturating_add(1), end) {
+        self.put_alias(depth, self.first, out);
+        let target = self.own_name(depth, self.first);
+        match self.secret_name(depth, self.first.saturating_add(1), self.end) {
             Some(at) => {
-                self.tell(at, " is secret: declare ", out);
-                self.tell(first, " secret too, or keep the secret out of it.\n", out);
+                self.tokens.tell(at, " is secret: declare ", out);
+                self.tokens.tell(target, " secret too, or keep the secret out of it.\n", out);
             }
             None => {
-                self.put_choice(alloc, first, out);
+                self.put_choice(alloc, out);
                 out.say(", and the assignment would tell which way was taken: declare ");
-                self.tell(first, " secret too, or assign outside the `if`.\n", out);
+                self.tokens
+                    .tell(target, " secret too, or assign outside the `if`.\n", out);
             }
         }
     }
 
-    // The secret guard in whose choice a token is, and that it is secret.
-    fn put_choice(&self, alloc: Global, at: usize, out: &mut Words) {
-        match self.secret_choice(alloc, at) {
-            Ok(Some(head)) => {
-                let from = self.start(head.saturating_add(2));
-                let up_to = self.start(self.own_end(head).saturating_sub(1));
-                let guard = piece(self.text, from, up_to.saturating_sub(from));
+    // A secret argument of a public parameter, or a call with a public parameter in secret code.
+    fn flow_to_parameter(&self, alloc: Global, value: Value, out: &mut Words) {
+        let depth = self.depth();
+        let secret = self.secret_name(depth, self.first, self.end);
+        self.put_place(depth, secret.unwrap_or(self.first), out);
+        out.say("argument ");
+        self.tokens.tell(value.target.name, " of ", out);
+        self.tokens
+            .tell(value.frame.callee.name, " is public, ", out);
+        match secret {
+            Some(at) => {
+                self.tokens.tell(at, " is secret", out);
+                self.put_line_of(at, out);
+                self.put_alias(depth, at, out);
+                out.say("Declare the parameter secret, at ");
+                self.tokens.put_where(value.target.name, out);
+                out.line(", or pass a public value.");
+            }
+            None => {
+                out.say("and the call is in a choice on a secret");
+                self.put_line_of(self.first, out);
+                self.put_choice(alloc, out);
+                out.say(
+                    ", and the parameter would tell which way was taken: declare it secret, at ",
+                );
+                self.tokens.put_where(value.target.name, out);
+                out.line(", or call outside the `if`.");
+            }
+        }
+    }
+
+    // A call in secret code of a procedure with a public local.
+    fn flow_to_local(&self, alloc: Global, value: Value, out: &mut Words) {
+        self.put_place(self.depth(), self.first, out);
+        out.say("local ");
+        self.tokens.tell(value.target.name, " of ", out);
+        self.tokens.tell(
+            value.frame.callee.name,
+            " is public, and the call is in a choice on a secret",
+            out,
+        );
+        self.put_line_of(self.first, out);
+        self.put_choice(alloc, out);
+        out.say(", and the local would tell which way was taken: declare it secret, at ");
+        self.tokens.put_where(value.target.name, out);
+        out.line(", or call outside the `if`.");
+    }
+
+    fn put_line_of(&self, at: usize, out: &mut Words) {
+        let Tokens { text, .. } = self.tokens;
+        out.put_line(text, spot_at(text, self.tokens.start(at)));
+    }
+
+    // The secret guard in whose choice the statement is, and that it is secret.
+    fn put_choice(&self, alloc: Global, out: &mut Words) {
+        match self.secret_choice(alloc) {
+            Ok(Some((head, _))) => {
+                let Tokens { text, .. } = self.tokens;
+                let from = self.tokens.start(head.saturating_add(2));
+                let up_to = self
+                    .tokens
+                    .start(self.tokens.own_end(head).saturating_sub(1));
+                let guard = piece(text, from, up_to.saturating_sub(from));
                 out.say("The guard `");
                 out.quote(piece(guard, 0, length_up_to(guard, b"\r\n").min(GUARD_SHOWN)));
                 out.say("` at ");
-                out.put_numbers(spot_at(self.text, from));
+                out.put_numbers(spot_at(text, from));
                 out.say(" is secret");
             }
             Ok(None) => out.say("It is in a choice on a secret"),
@@ -170,16 +289,18 @@ impl Tokens<'_> {
     }
 
     // A secret index of a public array.
-    fn index(&self, number: u64, out: &mut Words) {
-        let (first, end) = self.own(number);
-        for at in first..end.max(first) {
-            if let Some(secret) = self.secret_index(at, end) {
+    fn index(&self, out: &mut Words) {
+        let depth = self.depth();
+        for at in self.first..self.end.max(self.first) {
+            if let Some(secret) = self.secret_index(at) {
                 self.put(
+                    depth,
                     at,
                     " is a public array, and its index is secret, which the accesses would show",
                     out,
                 );
-                self.tell(
+                self.put_alias(depth, at, out);
+                self.tokens.tell(
                     secret,
                     " is secret: declare the array secret too, or index it by a public word.\n",
                     out,
@@ -190,23 +311,30 @@ impl Tokens<'_> {
     }
 
     // The first secret name in the index of a public array.
-    fn secret_index(&self, at: usize, end: usize) -> Option<usize> {
+    fn secret_index(&self, at: usize) -> Option<usize> {
         let open = at.saturating_add(1);
-        if !self.is_name(at) || !self.is(open, "[") || !self.has_label(at, false) {
+        if !self.tokens.is_name(at)
+            || !self.tokens.is(open, "[")
+            || !self.has_label(self.depth(), at, false)
+        {
             return None;
         }
-        self.secret_name(open, self.bracket_end(open, end))
+        self.secret_name(self.depth(), open, self.tokens.closing(open).min(self.end))
     }
 
     // A loop whose guard depends on a secret.
-    fn guard(&self, number: u64, out: &mut Words) {
-        let (first, end) = self.own(number);
-        let at = self.secret_name(first, end).unwrap_or(first);
+    fn guard(&self, out: &mut Words) {
+        let depth = self.depth();
+        let at = self
+            .secret_name(depth, self.first, self.end)
+            .unwrap_or(self.first);
         self.put(
+            depth,
             at,
             " is secret, and the loop would show how often it turns",
             out,
         );
+        self.put_alias(depth, at, out);
         out.line(
             "Let the loop turn a public number of times, with a choice within: `while (i < 100) { if (i < s) { .. } i = \
             i + 1; }`.",
@@ -214,40 +342,84 @@ impl Tokens<'_> {
     }
 
     // A loop in secret code.
-    fn loop_in_secret(&self, alloc: Global, number: u64, out: &mut Words) {
-        let at = self.statement(number);
+    fn loop_in_secret(&self, alloc: Global, out: &mut Words) {
         self.put(
-            at,
+            self.depth(),
+            self.first,
             " stands in a choice on a secret, and would show that it turns",
             out,
         );
-        self.put_choice(alloc, at, out);
+        self.put_choice(alloc, out);
         out.line(
             ". Put the choice into the loop: `while (i < 9) { if (s > 0) { .. } i = i + 1; }`.",
         );
     }
+}
 
-    fn limit(&self, limit: Which, number: u64, out: &mut Words) {
-        match limit {
-            Which::Variables => self.put_declaration(256, " is one variable too many", out),
-            Which::ArrayLength => {
-                self.put_declaration(number, " has a length that isn't allowed", out)
-            }
-            Which::TotalWords => self.put_declaration(number, " has more words than are left", out),
-            Which::Height => self.put(
-                self.statement(number),
-                " begins a statement that is too high",
-                out,
-            ),
-            Which::Weight => {
-                out.name(self.name);
-                out.fill(": the program weighs {}\n", &[number]);
+fn explain_limit(
+    alloc: Global,
+    procedures: &Procedures<'_>,
+    limit: Which,
+    number: u64,
+    out: &mut Words,
+) -> Result<(), Memory> {
+    let tokens = procedures.tokens;
+    match limit {
+        Which::Variables => put_variable_too_many(alloc, procedures, out)?,
+        Which::ArrayLength => tokens.put(
+            tokens.declared_name(number),
+            " has a length that isn't allowed",
+            out,
+        ),
+        Which::TotalWords => tokens.put(
+            tokens.declared_name(number),
+            " has more words than are left",
+            out,
+        ),
+        Which::Height => {
+            if let Some(sight) = Sight::of(alloc, procedures, number)? {
+                sight.put(
+                    sight.depth(),
+                    sight.first,
+                    " begins a statement that is too high",
+                    out,
+                );
             }
         }
-        out.line(of_limit(limit));
+        Which::Weight => {
+            out.name(tokens.name);
+            out.fill(": the program weighs {}\n", &[number]);
+        }
     }
+    out.line(of_limit(limit));
+    Ok(())
+}
 
-    fn put_declaration(&self, number: u64, what: &str, out: &mut Words) {
-        self.put(self.declared_name(number), what, out);
+// The declaration of one variable too many, or the call that adds it.
+fn put_variable_too_many(
+    alloc: Global,
+    procedures: &Procedures<'_>,
+    out: &mut Words,
+) -> Result<(), Memory> {
+    let tokens = procedures.tokens;
+    let own = tokens.count_declarations();
+    if own > MOST_VARIABLES {
+        tokens.put(
+            tokens.declared_name(MOST_VARIABLES),
+            " is one variable too many",
+            out,
+        );
+        return Ok(());
     }
+    let added = MOST_VARIABLES - own;
+    if let Some(origin) = procedures.origin(alloc, Counted::Variables, added)?
+        && let Place::Own(frame, _) = origin.place
+    {
+        tokens.put(
+            frame.call,
+            " adds one variable too many: each call adds one for each scalar parameter and local",
+            out,
+        );
+    }
+    Ok(())
 }

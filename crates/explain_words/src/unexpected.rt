@@ -1,6 +1,7 @@
 //! Tokens with which no program can continue, and texts that end too soon.
 
-use crate::habits::{said_here, said_of_procedures};
+use crate::call_habits::said_of_procedures;
+use crate::habits::said_here;
 use crate::nearest::Nearest;
 use crate::texts::{Source, is_word_of, piece, spot_at};
 use crate::tokens::Tokens;
@@ -73,7 +74,7 @@ impl Parsed<'_> {
             out.line(sentence);
             return Ok(());
         }
-        if lacks_semicolon(tokens, at, &wanted) {
+        if lacks_semicolon(tokens, at, &wanted) && !in_parentheses(alloc, tokens, at)? {
             put_semicolon(tokens, at, out);
             return Ok(());
         }
@@ -107,7 +108,7 @@ impl Parsed<'_> {
         let tokens = self.tokens;
         let end = tokens.all.len();
         let wanted = self.wanted(alloc, u32::MAX)?;
-        if wanted.has(b";") && end > 0 {
+        if wanted.has(b";") && end > 0 && !in_parentheses(alloc, tokens, end)? {
             put_semicolon(tokens, end, out);
             return Ok(());
         }
@@ -200,6 +201,14 @@ fn lacks_semicolon(tokens: Tokens<'_>, at: usize, wanted: &Wanted) -> bool {
         || tokens.is_name(at) && matches!(next, b"=" | b"[" | b"(")
 }
 
+// Whether a token is within parentheses, where a semicolon is between two arguments.
+fn in_parentheses(alloc: Global, tokens: Tokens<'_>, at: usize) -> Result<bool, Memory> {
+    Ok(match tokens.innermost(alloc, at)? {
+        Some(open) => tokens.is(open, "("),
+        None => false,
+    })
+}
+
 // The semicolon that is missing before a token, at the end of what it would end.
 fn put_semicolon(tokens: Tokens<'_>, at: usize, out: &mut Words) {
     let last = at.saturating_sub(1);
@@ -211,12 +220,6 @@ fn put_semicolon(tokens: Tokens<'_>, at: usize, out: &mut Words) {
     out.say("`");
     out.put_line(tokens.text, spot);
     out.line("Each declaration, assignment and call ends with a `;`.");
-}
-
-// The line and the column of a token.
-fn put_where(tokens: Tokens<'_>, at: usize, out: &mut Words) {
-    let spot = spot_at(tokens.text, tokens.start(at));
-    out.put_numbers(spot);
 }
 
 // The bracket that a closing bracket would close, if one is wanted.
@@ -233,7 +236,7 @@ fn put_open(tokens: Tokens<'_>, open: Option<usize>, wanted: &Wanted, out: &mut 
         out.say("The `");
         out.quote(tokens.word(open));
         out.say("` at ");
-        put_where(tokens, open, out);
+        tokens.put_where(open, out);
         out.line(" is still open.");
     }
 }
@@ -250,7 +253,7 @@ fn put_unclosed(alloc: Global, tokens: Tokens<'_>, out: &mut Words) -> Result<bo
     match unclosed.other {
         Some(other) => {
             out.say("The `}` at ");
-            put_where(tokens, other, out);
+            tokens.put_where(other, out);
             out.line(" is indented as the end of another block. Add a `}` before it.");
         }
         None => {

@@ -85,8 +85,8 @@ const FAULTS = [
   { what: 'an assembly text', source: INSTRUCTION, marks: '5 hop', says: 'Line 5, column 1: the line has none of the forms' },
   { what: 'a secret symbol in plain memory', source: SYMBOL, marks: '5 .symbol s secret scalar 0 0 0 1', says: '.symbol s' },
   { what: 'a text of 300 variables', source: MANY, marks: '257 v256', says: 'Line 257, column 12: v256 is one variable too many' },
-  { what: 'a procedure', source: PROCEDURE, marks: '3 f', says: 'Line 3, column 6: the procedure names a variable' },
-  { what: 'a fault in the program without calls', source: CALLS, marks: ' ', says: 'in the program without calls' },
+  { what: 'a procedure', source: PROCEDURE, marks: '4 x', says: 'Line 4, column 5: x is a variable of the file' },
+  { what: 'a fault beside procedures', source: CALLS, marks: '7 x', says: 'Line 7, column 1: x is public' },
   { what: 'a rejected object', example: 'leaks.asm', marks: /^9 stw r2 0 r1$/, says: 'Line 9, instruction 4: stw r2 0 r1' },
 ];
 
