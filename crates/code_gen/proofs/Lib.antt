@@ -31,4 +31,3 @@ pub mod Assembled
 pub mod AgreeingStores
 pub mod WantedInputs
 pub mod WantsInOrder
-pub mod FoldedPlans

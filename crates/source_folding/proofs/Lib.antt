@@ -1,4 +1,0 @@
-mod AmongPowers
-mod Joined
-pub mod FoldedTrees
-pub mod FoldedPrograms
