@@ -2,7 +2,7 @@
 BYTES = 2 << 20
 
 # The most memory for each byte of an input, and what a call takes beside it.
-MOST, BESIDE = 28, 8 << 20
+MOST, BESIDE = 40, 8 << 20
 
 
 def filled(begin, piece, end):
