@@ -5,6 +5,7 @@
  */
 #include "emitting.h"
 #include "files.h"
+#include "folding.h"
 #include "layout.h"
 #include "options.h"
 
@@ -51,6 +52,8 @@ int main(int count, char **words)
     struct source source = read_source(asked.source);
     struct object object;
     lay_out(&source, asked.block_log, asked.is_fast, &object);
+    if (asked.is_fast)
+        fold(&source);
     emit(&source, &object);
     size_t byte_count;
     uint8_t *bytes = encode(&object, &byte_count);

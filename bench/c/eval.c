@@ -31,23 +31,6 @@ struct store {
 
 static int64_t value_of(const struct store *store, const struct expr *expr);
 
-static int64_t result_of(const struct store *store, const struct expr *expr)
-{
-    const int64_t left = value_of(store, expr->left), right = value_of(store, expr->right);
-    switch (expr->opcode) {
-    case ADD: return (int64_t)((uint64_t)left + (uint64_t)right);
-    case SUB: return (int64_t)((uint64_t)left - (uint64_t)right);
-    case MUL: return (int64_t)((uint64_t)left * (uint64_t)right);
-    case DIV: return quotient(left, right);
-    case REM: return remainder_of(left, right);
-    case AND: return left & right;
-    case OR: return left | right;
-    case XOR: return left ^ right;
-    case SHL: return shifted_left(left, right);
-    default: return shifted_right(left, right); /* SHR */
-    }
-}
-
 static int64_t *element_of(const struct store *store, int32_t array, const struct expr *index)
 {
     return &store->words[array][(uint64_t)value_of(store, index) % store->variables[array].words];
@@ -59,7 +42,7 @@ static int64_t value_of(const struct store *store, const struct expr *expr)
     case CONSTANT: return expr->number;
     case SCALAR: return store->words[expr->variable][0];
     case ELEMENT: return *element_of(store, expr->variable, expr->left);
-    default: return result_of(store, expr); /* OPERATION */
+    default: return result_of(expr->opcode, value_of(store, expr->left), value_of(store, expr->right)); /* OPERATION */
     }
 }
 

@@ -2,6 +2,8 @@
 #ifndef WORDS_H
 #define WORDS_H
 
+#include "object.h"
+
 #include <stdint.h>
 
 static inline int64_t quotient(int64_t left, int64_t right)
@@ -32,6 +34,23 @@ static inline int64_t shifted_left(int64_t word, int64_t by)
 static inline int64_t shifted_right(int64_t word, int64_t by)
 {
     return word >> (by & 63);
+}
+
+/* The result of an operation, by its opcode. */
+static inline int64_t result_of(uint8_t opcode, int64_t left, int64_t right)
+{
+    switch (opcode) {
+    case ADD: return (int64_t)((uint64_t)left + (uint64_t)right);
+    case SUB: return (int64_t)((uint64_t)left - (uint64_t)right);
+    case MUL: return (int64_t)((uint64_t)left * (uint64_t)right);
+    case DIV: return quotient(left, right);
+    case REM: return remainder_of(left, right);
+    case AND: return left & right;
+    case OR: return left | right;
+    case XOR: return left ^ right;
+    case SHL: return shifted_left(left, right);
+    default: return shifted_right(left, right); /* SHR */
+    }
 }
 
 #endif

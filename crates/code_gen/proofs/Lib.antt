@@ -31,3 +31,4 @@ pub mod Assembled
 pub mod AgreeingStores
 pub mod WantedInputs
 pub mod WantsInOrder
+pub mod FoldedPlans

@@ -11,6 +11,7 @@ use Rattle.src_tree.specs.Trees.{Source}
 use Rattle.bank_alloc.specs.Fits.{Refuses}
 use Rattle.bank_alloc.specs.declared.places.PlaceError.TheVariants as place
 use Rattle.scratch_alloc.specs.Plans.{Plan, standard_plan}
+use Rattle.source_folding.specs.Folded.{folded_source}
 use Rattle.resident_alloc.specs.ResidentFits.{ResidentsRefuse}
 use Rattle.resident_alloc.specs.ResidentPlan.{resident_plan}
 use Rattle.block_cache_gen.specs.Settings.{setting_for}
@@ -41,9 +42,9 @@ stores_by p plan profile = added_up (stores_of_each (setting_for p plan profile)
 abbrev pub stores_in : Source → Profile → ℕ
 stores_in p profile = stores_by p (standard_plan p profile.block_log) profile
 
--- and with it
+-- and with it, where expressions are made cheaper
 abbrev pub stores_with_residents : Source → Profile → ℕ
-stores_with_residents p profile = stores_by p (resident_plan p profile.block_log) profile
+stores_with_residents p profile = stores_by (folded_source p) (resident_plan p profile.block_log) profile
 
 -- A program is refused where its variables lack room, as the first of them does. Want of memory says nothing.
 abbrev pub ExplainsRoom : CompileError → Source → ℕ → Type 0

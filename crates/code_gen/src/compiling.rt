@@ -18,6 +18,8 @@ ghost use Rattle.code_gen.specs.Emitted.{padding_of};
 ghost use Rattle.code_gen.specs.Implements.{Implements};
 ghost use Rattle.code_gen.specs.Made.{IsMadeOf};
 ghost use Rattle.code_gen.specs.Programs.{program_code, program_notes};
+ghost use Rattle.source_folding.specs.Folded.{folded_source};
+ghost use Rattle.source_folding.specs.Numbers.{BlockNumbersFit};
 
 use crate::banks::bank_specs;
 use crate::programs::program_code;
@@ -29,6 +31,7 @@ use gr_word::Label;
 use lt_isa::{Latencies, Object, Profile};
 use resident_alloc::resident_plan;
 use scratch_alloc::{SlotPlan, slots};
+use source_folding::folded;
 use src_tree::Program;
 use std::alloc::Global;
 
@@ -101,6 +104,28 @@ fn planned(
     assembled(alloc, &frame, l, made)
 }
 
+// The object of a program, made of cheaper expressions.
+fn planned_folded(
+    alloc: Global,
+    program: &Program,
+    places: &Places,
+    slots: &SlotPlan,
+    p: &Profile,
+    l: &Latencies,
+) -> Result<Object, Memory>
+    requires typed { IsTyped (source_of program.now) }
+    requires within { IsWithinLimits (source_of program.now) }
+    requires plan { IsSoundPlan (source_of program.now) p.now.block_log (plan_from places.now slots.now) }
+    requires profile { ProfileFits p.now }
+    requires latencies { LatenciesFit l.now }
+    ensures made { IfOk result (λ o. IsMadeOf (folded_source (source_of program.now)) (plan_from places.now slots.now) p.now
+        l.now o) }
+    ensures numbers { OnOk result (BlockNumbersFit (source_of program.now).body) }
+{
+    let program = folded(alloc, program)?;
+    planned(alloc, &program, places, slots, p, l)
+}
+
 // The object of a program whose variables have their places.
 fn compiled(
     alloc: Global,
@@ -151,7 +176,8 @@ pub fn compile(alloc: Global, t: &Typed, p: &Profile, l: &Latencies) -> Result<O
 }
 
 /// Compiles a program as [`compile`] does, for `--fast`: arrays stay in the scratchpad for the whole run if there is room
-/// for them, so that an access of them shows nothing on the bus. Each variable is at the place that
+/// for them, so that an access of them shows nothing on the bus, and expressions are made cheaper
+/// ([`source_folding::folded`]). Each variable is at the place that
 /// [`resident_alloc::resident_plan`] gives it. A program is refused exactly where its variables lack room at these
 /// places, with the first that does.
 pub fn compile_fast(
@@ -175,7 +201,7 @@ pub fn compile_fast(
     let program = t.program();
     match resident_plan(alloc, program, p.block_log) {
         Err(lack) => Err(CompileError::from(lack)),
-        Ok(plan) => match planned(alloc, program, &plan.places, &plan.slots, p, l) {
+        Ok(plan) => match planned_folded(alloc, program, &plan.places, &plan.slots, p, l) {
             Ok(object) => Ok(object),
             Err(_) => Err(CompileError::Memory),
         },

@@ -5,41 +5,50 @@ use Rattle.src_tree.specs.Typing.{IsTyped}
 use Rattle.scratch_alloc.specs.Plans.{IsSoundPlan}
 use Rattle.resident_alloc.specs.ResidentPlan.{resident_plan}
 use Rattle.resident_alloc.proofs.SoundPlan.{resident_sound}
+use Rattle.source_folding.specs.Folded.{folded_source}
+use Rattle.source_folding.specs.Numbers.{BlockNumbersFit}
+use Rattle.source_folding.proofs.FoldedPrograms.{folded-source_typed, folded-within}
 use Rattle.code_gen.specs.Made.{IsMadeOf}
 use Rattle.code_gen.proofs.Assembled.{CompilePromises, made-promises}
+use Rattle.code_gen.proofs.FoldedPlans.{folded-sound, folded-implements, folded-laid, folded-short}
 use Rattle.code_gen.proofs.compiling.compile_fast.Goals as goal
 
-pub planned-requires-clause-plan : goal.planned-requires-clause-plan
-planned-requires-clause-plan c =
+pub planned_folded-requires-clause-plan : goal.planned_folded-requires-clause-plan
+planned_folded-requires-clause-plan c =
     let p = c.program-program in
     let w = c.args.p.now.block_log in
     let limits = subst (λ q. IsWithinLimits (source_of q)) (sym p.ensures.program) p.ensures.within in
     subst (IsSoundPlan (source_of p.result.now) w) (sym c.in-Ok.ensures.plan)
     (resident_sound (source_of p.result.now) w limits c.requires.profile.block_log c.in-Ok.ensures.fits)
 
-pub returns-in-Ok-planned : goal.returns-in-Ok-planned
-returns-in-Ok-planned c =
+pub returns-in-Ok-planned_folded : goal.returns-in-Ok-planned_folded
+returns-in-Ok-planned_folded c =
     let p = c.program-program in
     let w = c.args.p.now.block_log in
+    let source = source_of p.result.now in
     let limits = subst (λ q. IsWithinLimits (source_of q)) (sym p.ensures.program) p.ensures.within in
-    let made = subst (λ plan. IsMadeOf (source_of p.result.now) plan c.args.p.now c.args.l.now c.in-Ok-planned.object)
-    c.in-Ok.ensures.plan c.in-Ok-planned.ensures in
-    let layout = subst (λ q. IsMadeOf (source_of q) (resident_plan (source_of q) w) c.args.p.now c.args.l.now
-    c.in-Ok-planned.object) p.ensures.program made in
-    let h = subst (λ q. CompilePromises (source_of q) (resident_plan (source_of q) w) c.args.p.now c.args.l.now
-    c.in-Ok-planned.object)
+    let typed = subst (λ q. IsTyped (source_of q)) (sym p.ensures.program) p.ensures.typed in
+    let sound = resident_sound source w limits c.requires.profile.block_log c.in-Ok.ensures.fits in
+    let object = c.in-Ok-planned_folded.object in
+    let made = subst (λ plan. IsMadeOf (folded_source source) plan c.args.p.now c.args.l.now object)
+    c.in-Ok.ensures.plan c.in-Ok-planned_folded.ensures.made in
+    let numbers = subst (λ q. BlockNumbersFit (source_of q).body) p.ensures.program
+    c.in-Ok-planned_folded.ensures.numbers in
+    let layout = subst (λ q. IsMadeOf (folded_source (source_of q)) (resident_plan (source_of q) w) c.args.p.now c.args.l.now
+    object) p.ensures.program made in
+    let h = subst (λ q. CompilePromises (folded_source (source_of q)) (resident_plan (source_of q) w) c.args.p.now c.args.l.now
+    object)
     p.ensures.program
-    (made-promises (source_of p.result.now) (resident_plan (source_of p.result.now) w) c.args.p.now c.args.l.now
-    (subst (λ q. IsTyped (source_of q)) (sym p.ensures.program) p.ensures.typed)
-    limits
-    (resident_sound (source_of p.result.now) w limits c.requires.profile.block_log c.in-Ok.ensures.fits)
-    c.requires.profile c.in-Ok-planned.object made) in
+    (made-promises (folded_source source) (resident_plan source w) c.args.p.now c.args.l.now
+    (folded-source_typed source typed) (folded-within source limits)
+    (folded-sound source w (resident_plan source w) sound) c.requires.profile object made) in
     record {
       accepted = h.accepted;
-      implements = h.implements;
-      laid_out = layout.layout;
+      implements = folded-implements (source_of c.args.t.now) object numbers h.implements;
+      laid_out =
+          folded-laid (source_of c.args.t.now) w (resident_plan (source_of c.args.t.now) w) object layout.layout;
       machine = h.machine;
-      size = h.size;
+      size = folded-short (source_of c.args.t.now) object h.size;
       stores = h.stores;
       in_range = layout.in_range;
       fits = search rules;

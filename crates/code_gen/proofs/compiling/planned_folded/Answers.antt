@@ -1,0 +1,25 @@
+use Rattle.std.proofs.Common.{sym, subst}
+use Rattle.src_tree.specs.Limits.{IsWithinLimits}
+use Rattle.src_tree.specs.Typing.{IsTyped}
+use Rattle.src_tree.specs.Trees.{source_of}
+use Rattle.scratch_alloc.specs.Plans.{IsSoundPlan, plan_from}
+use Rattle.source_folding.proofs.FoldedPrograms.{folded-source_typed, folded-within}
+use Rattle.code_gen.specs.Made.{IsMadeOf}
+use Rattle.code_gen.proofs.FoldedPlans.{folded-sound}
+use Rattle.code_gen.proofs.compiling.planned_folded.Goals as goal
+
+pub planned-requires-clause-typed : goal.planned-requires-clause-typed
+planned-requires-clause-typed c =
+    subst IsTyped (sym c.in_ok-program.ensures.folded) (folded-source_typed (source_of c.args.program.now) c.requires.typed)
+
+pub planned-requires-clause-within : goal.planned-requires-clause-within
+planned-requires-clause-within c =
+    subst IsWithinLimits (sym c.in_ok-program.ensures.folded)
+    (folded-within (source_of c.args.program.now) c.requires.within)
+
+pub planned-requires-clause-plan : goal.planned-requires-clause-plan
+planned-requires-clause-plan c =
+    let plan = plan_from c.args.places.now c.args.slots.now in
+    let w = c.args.p.now.block_log in
+    subst (λ q. IsSoundPlan q w plan) (sym c.in_ok-program.ensures.folded)
+    (folded-sound (source_of c.args.program.now) w plan c.requires.plan)

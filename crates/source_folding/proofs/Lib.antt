@@ -1,0 +1,4 @@
+mod AmongPowers
+mod Joined
+pub mod FoldedTrees
+pub mod FoldedPrograms
