@@ -16,7 +16,7 @@ use Rattle.bank_alloc.specs.Indexes.{secret_index_in, secret_index_in_test, secr
 use Rattle.scratch_alloc.specs.Plans.{Plan, IsSoundPlan, decl_at}
 use Rattle.source_folding.specs.Folded.{operation, folded, folded_test, folded_statement, folded_block, folded_source}
 use Rattle.source_folding.specs.Numbers.{BlockNumbersFit}
-use Rattle.source_folding.proofs.FoldedTrees.{Made, AsBefore, Computed, Swapped, Shifted, Masked, is-made, folded-label}
+use Rattle.source_folding.proofs.FoldedTrees.{Made, AsBefore, Computed, Swapped, Shifted, SwappedShift, Masked, is-made, folded-label}
 use Rattle.source_folding.proofs.FoldedPrograms.{folded-means, folded-weighs}
 use Rattle.code_gen.specs.Implements.{Implements}
 
@@ -25,10 +25,6 @@ or-swapped true true = refl
 or-swapped true false = refl
 or-swapped false true = refl
 or-swapped false false = refl
-
-or-false : (a : Bool) → (a || false) ≡ a
-or-false true = refl
-or-false false = refl
 
 -- a secret index stays one, and no other becomes one
 made-indexed : (known : Context) (x : List ℕ) (op : Op) (a b m : Tree) → Made op a b m
@@ -39,6 +35,9 @@ made-indexed known x op a b _ (Computed y z e f) =
 made-indexed known x op a b _ (Swapped e) = or-swapped (secret_index_in known x b) (secret_index_in known x a)
 made-indexed known x op a b _ (Shifted z k f e is) =
     ap (λ c. secret_index_in known x a || c) (sym (ap (secret_index_in known x) f))
+made-indexed known x op a b _ (SwappedShift y k f e is) =
+    or-swapped (secret_index_in known x b) false
+    ∙ ap (λ c. c || secret_index_in known x b) (sym (ap (secret_index_in known x) f))
 made-indexed known x op a b _ (Masked z k f e is) =
     ap (λ c. secret_index_in known x a || c) (sym (ap (secret_index_in known x) f))
 

@@ -20,7 +20,7 @@ use Rattle.ghost_cli.specs.declared.replies.Done.TheVariants.{Compiled}
 use Rattle.ghost_cli.specs.declared.replies.Reply.{Reply}
 use Rattle.ghost_cli.specs.Texts.{Said}
 use Rattle.ghost_cli.specs.Questions.{WhichCompiled}
-use Rattle.ghost_cli.specs.Compiled.{HasLayoutFor, HasRoom, IsCompiledTo, LacksRoom, plan_for, room_fault}
+use Rattle.ghost_cli.specs.Compiled.{HasLayoutFor, HasRoom, IsCompiledTo, LacksRoom, plan_for, source_for, room_fault}
 use Rattle.ghost_cli.specs.Outside.{outside, LeftBy, Explains}
 use Rattle.ghost_cli.specs.Windows.{WindowFits, windowed_profile}
 use Rattle.ghost_cli.specs.declared.windows.Window.{Window}
@@ -59,7 +59,9 @@ usual-latencies latencies is = subst LatenciesFit (sym is) (record {
 pub spelling-compiled : (p : Source) (target : Target) (latencies : Latencies) (o : Parts)
     → latencies ≡ usual_latencies → HasRoom target.fast p target.profile.block_log → IsInRange o → Accepts o
     → Implements p o → HasLayoutFor target.fast p target.profile.block_log o → IsFor target.profile latencies o
-    → stored_words o.code ≡ stores_by p (plan_for target.fast p target.profile.block_log) target.profile → IsCompiledTo p target (spelling o)
+    → stored_words o.code
+    ≡ stores_by (source_for target.fast p) (plan_for target.fast p target.profile.block_log) target.profile
+    → IsCompiledTo p target (spelling o)
 spelling-compiled p target latencies o usually room ranges accepted implements layout machine stores = record {
   room = room;
   o = o;

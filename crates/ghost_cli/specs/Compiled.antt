@@ -8,6 +8,7 @@ use Rattle.bank_alloc.specs.Layout.{IsLaidOut}
 use Rattle.scratch_alloc.specs.Plans.{Plan, standard_plan}
 use Rattle.resident_alloc.specs.ResidentFits.{ResidentsFit}
 use Rattle.resident_alloc.specs.ResidentPlan.{resident_plan}
+use Rattle.source_folding.specs.Folded.{folded_source}
 use Rattle.block_cache_gen.specs.StoredWords.{stored_words}
 use Rattle.code_gen.specs.Compiles.{ExplainsResidents, ExplainsRoom, IsFor, stores_by}
 use Rattle.code_gen.specs.Implements.{Implements}
@@ -35,6 +36,11 @@ LacksRoom true e p w = ExplainsResidents e p w
 abbrev pub HasLayoutFor : Bool → Source → ℕ → Parts → Type 0
 HasLayoutFor fast p w o = IsLaidOut p w (plan_for fast p w).places (plan_for fast p w).blocks o
 
+-- the program that code is made of: with `--fast` one of cheaper expressions
+abbrev pub source_for : Bool → Source → Source
+source_for false p = p
+source_for true p = folded_source p
+
 -- There is room for the program's variables. The bytes encode an object that is accepted, that computes what the
 -- program means, and that has the program's layout for the profile's blocks, that profile with the usual latencies, and
 -- the number of stores of a word that the padding makes.
@@ -46,7 +52,8 @@ pub record IsCompiledTo (p : Source) (target : Target) (bytes : List ℕ) : Type
   pub implements : Implements p o
   pub layout : HasLayoutFor target.fast p target.profile.block_log o
   pub machine : IsFor target.profile usual_latencies o
-  pub stores : stored_words o.code ≡ stores_by p (plan_for target.fast p target.profile.block_log) target.profile
+  pub stores : stored_words o.code
+      ≡ stores_by (source_for target.fast p) (plan_for target.fast p target.profile.block_log) target.profile
 
 -- what lacks room, as it is printed; want of memory isn't a fault
 abbrev pub room_fault : CompileError → Option SourceFault
