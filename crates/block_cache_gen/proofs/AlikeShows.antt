@@ -11,15 +11,17 @@ use Rattle.lt_isa.specs.Object.{Parts, is_ram, is_eram}
 use Rattle.lt_isa.specs.Costs.{operation_cost}
 use Rattle.symbolic_values.specs.Trees.{Value}
 use Rattle.src_tree.specs.Contexts.{context_of}
-use Rattle.src_tree.specs.Trees.{Tree, Statement}
+use Rattle.src_tree.specs.Trees.{Tree, Number, Statement}
 use Rattle.src_tree.specs.Typing.{UsedAs, TypedTree, TypedStatement}
 use Rattle.trace_patterns.specs.Events.{Oram}
 use Rattle.stretches.specs.Shows.{Show, Gap, Seen, pattern_of}
 use Rattle.trace_patterns.specs.SymStates.{SymSlot, OramSlot}
 use Rattle.block_cache_gen.specs.Homes.{Home, Setting, home_of, HasHomes}
-use Rattle.block_cache_gen.specs.Codes.{is_cached, is_masked, is_power, literal, fixed_index}
-use Rattle.block_cache_gen.specs.PatternsOf.{operation_gap, word_gap, reducing, block_tree, found_shows, plain_loaded, encrypted_loaded, block_loaded, load_shows, placed_shows, shows_by, loads_by, stored_by, Loads, then_loads, one_load, index_loads, element_slot, access_shows, access_loads, tree_of_expr, shows_of_expr, slots_of_expr, shows_of_set, slots_of_set, pattern_of_expr, pattern_of_set}
-use Rattle.block_cache_gen.specs.Alike.{is_product, InOneBank, AreReducedAlike, Residents, ToResidents, Alike, Numbers, Scalars, Oblivious, Same, Operations, Pair, ToScalars, ToOblivious, ToSame}
+use Rattle.block_cache_gen.specs.Codes.{is_cached, is_masked, is_power, literal, fixed_index, steps_at}
+use Rattle.strength_reduction.specs.Steps.{Step}
+use Rattle.block_cache_gen.proofs.StepsAt.{not-stepped}
+use Rattle.block_cache_gen.specs.PatternsOf.{operation_gap, word_gap, reducing, block_tree, found_shows, plain_loaded, encrypted_loaded, block_loaded, load_shows, placed_shows, shows_by, loads_by, stored_by, Loads, then_loads, one_load, index_loads, no_loads, operation_shows, operation_loads, element_slot, access_shows, access_loads, tree_of_expr, shows_of_expr, slots_of_expr, shows_of_set, slots_of_set, pattern_of_expr, pattern_of_set}
+use Rattle.block_cache_gen.specs.Alike.{is_product, InOneBank, AreReducedAlike, Residents, ToResidents, Alike, Numbers, Scalars, Oblivious, Same, Operations, ByNumber, Pair, ToScalars, ToOblivious, ToSame}
 use Rattle.bank_alloc.proofs.Apart.{scalar_bank-lt}
 use Rattle.block_cache_gen.proofs.HomeFacts.{serves-oblivious}
 
@@ -98,7 +100,8 @@ alike-literal f i j (Scalars x y) = refl
 alike-literal f i j (Oblivious x y k l one alike) = refl
 alike-literal f i j (Residents x y k l one alike) = refl
 alike-literal f i j (Same x k cached) = refl
-alike-literal f i j (Operations op oq a b c d kind left right) = refl
+alike-literal f i j (Operations op oq a b c d plain other kind left right) = refl
+alike-literal f i j (ByNumber op a c z left) = refl
 
 alike-fixed : (f : Setting) (h g : Home) (i j : Tree) → is_cached h ≡ is_cached g → Alike f i j
     → is_some (fixed_index h i) ≡ is_some (fixed_index g j)
@@ -212,11 +215,19 @@ module _ (o : Parts) (f : Setting) (homes : HasHomes o f) where
       ap (λ (shows : List Show). shows ++ word_gap f ∷ [])
       (resident-shows x y i j one alike (alike-shows i j alike left.1.0 right.1.0))
   alike-shows a b (Same x i cached) left right = refl
-  alike-shows a b (Operations op oq l r m s kind one two) left right =
+  alike-shows a b (Operations op oq l r m s plain other kind one two) left right =
       let first = alike-shows l m one left.0 right.0 in
       let second = alike-shows r s two left.1 right.1 in
       let gap = alike-cost f op oq kind in
-      λ k. first k ++ (second k ++ gap k ∷ [])
+      let none = not-stepped f op r plain in
+      let none' = not-stepped f oq s other in
+      ap (λ (found : Option (List Step)). shows_of_expr f l ++ operation_shows f op found (shows_of_expr f r)) none
+      ∙ (λ k. first k ++ (second k ++ gap k ∷ []))
+      ∙ sym (ap (λ (found : Option (List Step)).
+      shows_of_expr f m ++ operation_shows f oq found (shows_of_expr f s)) none')
+  alike-shows a b (ByNumber op l m z one) left right =
+      ap (λ (shows : List Show). shows ++ operation_shows f op (steps_at f op (Number z)) (Gap 1 ∷ []))
+      (alike-shows l m one left.0 right.0)
 
   pub alike-slots : (a b : Tree) → Alike f a b → TypedTree (context_of f.decls) a → TypedTree (context_of f.decls) b
       → slots_of_expr f a ≡ slots_of_expr f b
@@ -227,10 +238,18 @@ module _ (o : Parts) (f : Setting) (homes : HasHomes o f) where
   alike-slots a b (Residents x y i j one alike) left right =
       resident-loads x y i j one alike (alike-slots i j alike left.1.0 right.1.0)
   alike-slots a b (Same x i cached) left right = refl
-  alike-slots a b (Operations op oq l r m s kind one two) left right =
+  alike-slots a b (Operations op oq l r m s plain other kind one two) left right =
       let first = alike-slots l m one left.0 right.0 in
       let second = alike-slots r s two left.1 right.1 in
-      λ k. then_loads (first k) (second k)
+      let none = not-stepped f op r plain in
+      let none' = not-stepped f oq s other in
+      ap (λ (found : Option (List Step)). then_loads (slots_of_expr f l) (operation_loads found (slots_of_expr f r))) none
+      ∙ (λ k. then_loads (first k) (second k))
+      ∙ sym (ap (λ (found : Option (List Step)).
+      then_loads (slots_of_expr f m) (operation_loads found (slots_of_expr f s))) none')
+  alike-slots a b (ByNumber op l m z one) left right =
+      ap (λ (loads : Loads). then_loads loads (operation_loads (steps_at f op (Number z)) no_loads))
+      (alike-slots l m one left.0 right.0)
 
   pub alike-patterns : (a b : Tree) → Alike f a b → TypedTree (context_of f.decls) a
       → TypedTree (context_of f.decls) b → pattern_of_expr f a ≡ pattern_of_expr f b

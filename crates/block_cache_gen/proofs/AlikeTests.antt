@@ -1,6 +1,6 @@
 -- The tests of alike expressions and of assignments that pair say what the relations say, and the count is that of the
 -- most statements that pair.
-use Rattle.std.proofs.Common.{◌≡◌, ℕ, ◌+◌, ◌≤◌, ◌==◌, Bool, true, false, not, ◌&&◌, ◌||◌, nat_lt, nat_le, List, refl, sym, ap, ◌∙◌, subst, ◌⊎◌, ⊎_elim, arith}
+use Rattle.std.proofs.Common.{◌≡◌, ℕ, ◌+◌, ◌≤◌, ◌==◌, Bool, true, false, not, ◌&&◌, ◌||◌, nat_lt, nat_le, ℤ, List, refl, sym, ap, ◌∙◌, subst, ◌⊎◌, ⊎_elim, arith}
 use Rattle.std.specs.Prelude.{◌↔◌, if◌then◌else◌, bytes_eq}
 use Rattle.std.proofs.lemmas.Bool.{and_parts, and_from, or_cases, eqb-true, eq-eqb, ltb-true, lt-ltb, leb-true, le-leb, or_left, or_right}
 use Rattle.std.proofs.lemmas.Bool.Decides.{Decides-int_eq}
@@ -9,8 +9,9 @@ use Rattle.symbolic_values.specs.Sameness.{same_op}
 use Rattle.symbolic_values.proofs.TreeEquality.{same_op-true, same_op-own}
 use Rattle.src_tree.specs.Trees.{Tree, Number, Variable, Element, Operation, Statement, SetVariable, SetElement, Block, Nothing, Then}
 use Rattle.block_cache_gen.specs.Homes.{Setting, home_of}
-use Rattle.block_cache_gen.specs.Codes.{is_cached, is_masked}
-use Rattle.block_cache_gen.specs.Alike.{is_product, InOneBank, AreReducedAlike, Residents, ToResidents, same_flag, reduced_alike, Alike, Numbers, Scalars, Oblivious, Same, Operations, Pair, ToScalars, ToOblivious, ToSame, StartsPaired, NonePaired, OnePaired, IsPairCount, is_same, in_one_bank, both_products, is_alike, is_pair, pair_count}
+use Rattle.block_cache_gen.specs.Codes.{is_cached, is_masked, may_step}
+use Rattle.gr_word.specs.declared.operations.Op.{Op}
+use Rattle.block_cache_gen.specs.Alike.{is_product, InOneBank, AreReducedAlike, Residents, ToResidents, same_flag, reduced_alike, Alike, Numbers, Scalars, Oblivious, Same, Operations, ByNumber, Pair, ToScalars, ToOblivious, ToSame, StartsPaired, NonePaired, OnePaired, IsPairCount, is_same, in_one_bank, both_products, are_plain, is_same_number, by_same_number, is_alike, is_pair, pair_count}
 
 -- expressions as they stand
 same-true : (a b : Tree) → is_same a b ≡ true → a ≡ b
@@ -101,6 +102,39 @@ module _ (f : Setting) where
   element-own : (x : List ℕ) (i : Tree) → (bytes_eq x x && is_same i i) ≡ true
   element-own x i = and_from (bytes_eq x x) (is_same i i) ((bytes_eq-Decides x x).1 refl) (same-own i)
 
+  -- a flag that isn't set
+  not-true : (b : Bool) → not b ≡ true → b ≡ false
+  not-true false e = refl
+  not-true true e = absurd (let f : false ≡ true = e in cc)
+
+  -- the same number
+  number-true : (b d : Tree) → is_same_number b d ≡ true → (z : ℤ) × (b ≡ Number z) × (d ≡ Number z)
+  number-true (Number y) (Number z) e = (z, ap Number ((Decides-int_eq y z).0 e), refl)
+  number-true _ _ e = absurd (let f : false ≡ true = e in cc)
+
+  -- alike operations
+  operations-true : (op oq : Op) (a b c d : Tree) → Alike f a c → (is_alike f b d ≡ true → Alike f b d)
+      → (by_same_number op b oq d || (are_plain f op b oq d && (both_products op oq && is_alike f b d))) ≡ true
+      → Alike f (Operation op a b) (Operation oq c d)
+  operations-true op oq a b c d left right e =
+      let plain = are_plain f op b oq d && (both_products op oq && is_alike f b d) in
+      ⊎_elim
+      (λ (same : by_same_number op b oq d ≡ true).
+      let parts = and_parts (same_op op oq) (is_same_number b d) same in
+      let ops = same_op-true op oq parts.0 in
+      let number = number-true b d parts.1 in
+      let own = ByNumber op a c number.0 left in
+      subst (λ (q : Op). Alike f (Operation op a b) (Operation q c d)) ops
+      (subst (λ (t : Tree). Alike f (Operation op a t) (Operation op c d)) (sym number.1)
+      (subst (λ (t : Tree). Alike f (Operation op a (Number number.0)) (Operation op c t)) (sym number.2) own)))
+      (λ (held : plain ≡ true).
+      let parts = and_parts (are_plain f op b oq d) (both_products op oq && is_alike f b d) held in
+      let none = and_parts (not (may_step f op b)) (not (may_step f oq d)) parts.0 in
+      let both = and_parts (both_products op oq) (is_alike f b d) parts.1 in
+      Operations op oq a b c d (not-true (may_step f op b) none.0) (not-true (may_step f oq d) none.1)
+      (kinds-true (is_product op) (is_product oq) both.0) left (right both.1))
+      (or_cases (by_same_number op b oq d) plain e)
+
   -- alike expressions
   alike-true : (a b : Tree) → is_alike f a b ≡ true → Alike f a b
   alike-true (Number y) (Number z) e = Numbers y z
@@ -130,10 +164,9 @@ module _ (f : Setting) where
           (subst (λ (k : Tree). Alike f (Element x i) (Element x k)) element.index own))
           held
   alike-true (Operation op a b) (Operation oq c d) e =
-      let parts = and_parts (both_products op oq) (is_alike f a c && is_alike f b d) e in
-      let both = and_parts (is_alike f a c) (is_alike f b d) parts.1 in
-      Operations op oq a b c d (kinds-true (is_product op) (is_product oq) parts.0) (alike-true a c both.0)
-      (alike-true b d both.1)
+      let plain = are_plain f op b oq d && (both_products op oq && is_alike f b d) in
+      let parts = and_parts (is_alike f a c) (by_same_number op b oq d || plain) e in
+      operations-true op oq a b c d (alike-true a c parts.0) (alike-true b d) parts.1
   alike-true _ _ e = absurd (let f : false ≡ true = e in cc)
 
   alike-own : (a b : Tree) → Alike f a b → is_alike f a b ≡ true
@@ -154,10 +187,19 @@ module _ (f : Setting) where
       (nat_lt (home_of f x).bank 2 && (bytes_eq x x && is_same i i))
       (and_from (nat_lt (home_of f x).bank 2) (bytes_eq x x && is_same i i) (lt-ltb (home_of f x).bank 2 cached)
       (element-own x i))
-  alike-own a b (Operations op oq l r m s kind left right) =
-      and_from (both_products op oq) (is_alike f l m && is_alike f r s)
-      (kinds-own (is_product op) (is_product oq) kind)
-      (and_from (is_alike f l m) (is_alike f r s) (alike-own l m left) (alike-own r s right))
+  alike-own a b (Operations op oq l r m s plain other kind left right) =
+      let both = are_plain f op r oq s && (both_products op oq && is_alike f r s) in
+      and_from (is_alike f l m) (by_same_number op r oq s || both) (alike-own l m left)
+      (or_right (by_same_number op r oq s) both
+      (and_from (are_plain f op r oq s) (both_products op oq && is_alike f r s)
+      (and_from (not (may_step f op r)) (not (may_step f oq s)) (ap not plain) (ap not other))
+      (and_from (both_products op oq) (is_alike f r s) (kinds-own (is_product op) (is_product oq) kind)
+      (alike-own r s right))))
+  alike-own a b (ByNumber op l m z left) =
+      let both = are_plain f op (Number z) op (Number z) && (both_products op op && is_alike f (Number z) (Number z)) in
+      and_from (is_alike f l m) (by_same_number op (Number z) op (Number z) || both) (alike-own l m left)
+      (or_left (by_same_number op (Number z) op (Number z)) both
+      (and_from (same_op op op) (is_same_number (Number z) (Number z)) (same_op-own op) ((Decides-int_eq z z).1 refl)))
 
   pub alike_decides : (a b : Tree) → (is_alike f a b ≡ true) ↔ Alike f a b
   alike_decides a b = (alike-true a b, alike-own a b)

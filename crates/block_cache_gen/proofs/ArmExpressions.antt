@@ -1,6 +1,6 @@
 -- The code of expressions and guards in secret code: walked in an arm, it shows what depends only on the expression.
-use Rattle.std.proofs.Common.{◌≡◌, ℕ, ◌+◌, ◌-◌, ◌<◌, ◌≤◌, ◌/◌, ℤ, pos, Bool, true, false, ◌&&◌, List, [], ◌∷◌, ◌++◌, length, get_or, Option, Some, None, refl, sym, ap, ◌∙◌, subst, arith, append_assoc}
-use Rattle.std.specs.Prelude.{if◌then◌else◌}
+use Rattle.std.proofs.Common.{◌≡◌, ℕ, ◌+◌, ◌-◌, ◌<◌, ◌≤◌, ◌/◌, ℤ, pos, Bool, true, false, ◌&&◌, ◌==◌, List, [], ◌∷◌, ◌++◌, length, map, get_or, Option, Some, None, refl, sym, ap, ◌∙◌, subst, arith, append_assoc}
+use Rattle.std.specs.Prelude.{All, IsTrue, if◌then◌else◌}
 use Rattle.std.specs.Option.{unwrap_or}
 use Rattle.std.proofs.lemmas.Bool.{eq-eqb}
 use Rattle.gr_word.specs.declared.operations.Op.{Op}
@@ -20,10 +20,16 @@ use Rattle.trace_patterns.specs.Single.{applied_trees}
 use Rattle.stretches.proofs.ArmCode.{Walked, walked-then}
 use Rattle.block_cache_gen.specs.declared.frames.Mode.{Mode}
 use Rattle.block_cache_gen.specs.Homes.{Home, Setting, home_of, words_a_block, blocks_set, HasHomes}
-use Rattle.block_cache_gen.specs.Codes.{may_skip_loads, is_cached, is_masked, fixed_index, fixed_word, scalar_code, reduced_code, shift_code, offset_code, placed_code, fixed_code, located_code, load_code, skips, access_by, expr_code, guard_code}
+use Rattle.block_cache_gen.specs.Codes.{may_skip_loads, is_cached, is_masked, fixed_index, fixed_word, scalar_code, reduced_code, shift_code, offset_code, placed_code, fixed_code, located_code, load_code, skips, access_by, operation_code, steps_at, expr_code, guard_code}
+use Rattle.lt_isa.specs.declared.profiles.Profile.{Profile}
+use Rattle.strength_reduction.specs.Steps.{Step, Constant, Compute, StepFits, reads_known, numbered, code_of}
+use Rattle.strength_reduction.proofs.Replacing.{result-alike}
+use Rattle.step_code.proofs.StepWalks.{steps_show, walks-steps}
+use Rattle.src_tree.proofs.TreeHeights.{height-some}
+use Rattle.block_cache_gen.proofs.StepsAt.{StepsOf, steps-of}
 use Rattle.block_cache_gen.specs.Carries.{CarriesInArm}
 use Rattle.block_cache_gen.specs.PublicIndexes.{shows_index, HasPublicIndexes, TestHasPublicIndexes}
-use Rattle.block_cache_gen.specs.PatternsOf.{operation_gap, word_gap, word_read, scalar_tree, reduced_tree, number_tree, shifted_tree, block_tree, reducing, placed_shows, placed_tree, shows_by, loads_by, element_by, found_shows, load_shows, Loads, no_loads, then_loads, one_load, index_loads, element_slot, tree_of_expr, shows_of_expr, slots_of_expr, shows_of_test, slots_of_test}
+use Rattle.block_cache_gen.specs.PatternsOf.{operation_gap, word_gap, word_read, scalar_tree, reduced_tree, number_tree, shifted_tree, block_tree, reducing, placed_shows, placed_tree, shows_by, loads_by, element_by, found_shows, load_shows, Loads, no_loads, then_loads, one_load, index_loads, element_slot, step_gap, steps_tree, operation_tree, operation_shows, operation_loads, tree_of_expr, shows_of_expr, slots_of_expr, shows_of_test, slots_of_test}
 use Rattle.block_cache_gen.proofs.ArmInstructions.{IsSeen, Sets, loaded-bank, sets-li, sets-alu, sets-ldw, walked-ldb}
 use Rattle.block_cache_gen.proofs.ArmStates.{LeavesTree, bound-of_bank, then_loads-held, one_load-held, serves-within, carries-same, carries-load, resident-read}
 use Rattle.block_cache_gen.proofs.HomeFacts.{shows-cached}
@@ -39,6 +45,12 @@ pub record LeavesTwo (o : Parts) (f : Setting) (depth : ℕ) (s : SymState) (cod
     (to : ℕ) (tree second : Option Value) (loads : Loads) : Type 0 where
   pub leaves : LeavesTree o f depth s code shows to tree loads
   pub next : tree_held leaves.state (to + 1) ≡ second
+
+-- the cycles of steps
+shows-same : (f : Setting) (steps : List Step) → steps_show f.profile steps ≡ map (step_gap f) steps
+shows-same f [] = refl
+shows-same f (Constant to value ∷ steps) = ap (λ xs. Gap 1 ∷ xs) (shows-same f steps)
+shows-same f (Compute op to left right ∷ steps) = ap (λ xs. operation_gap f op ∷ xs) (shows-same f steps)
 
 module _ (o : Parts) (f : Setting) (homes : HasHomes o f) (depth : ℕ) where
   -- code that sets a register, by itself and after other code
@@ -125,6 +137,26 @@ module _ (o : Parts) (f : Setting) (homes : HasHomes o f) (depth : ℕ) where
     };
     next = second.held;
   }
+
+  -- steps
+  steps-leave : (s : SymState) (to : ℕ) (steps : List Step) (value : Option Value) → CarriesInArm f s → to + 2 < 32
+      → All StepFits steps → IsTrue (reads_known (λ i. i == 0) steps) → tree_held s to ≡ value
+      → LeavesTree o f depth s (code_of to steps) (map (step_gap f) steps) to (steps_tree steps value) no_loads
+  steps-leave s to steps value carries inside fits reads held =
+      let trees : ℕ → Option Value = λ i. tree_held s (numbered to i) in
+      let walk = walks-steps o depth to inside steps trees s fits carries.registers (λ i low. refl) in
+      let shown = ap (λ (profile : Profile). steps_show profile steps) homes.profile ∙ shows-same f steps in
+      record {
+        state = walk.state;
+        walked = subst (λ (xs : List Show). Walked o depth s (code_of to steps) xs walk.state) shown walk.walked;
+        carries = carries-same f s walk.state carries walk.slots walk.registers;
+        held =
+            walk.own 0 (omega arith)
+            ∙ result-alike (λ z. Some (Const z)) applied_trees steps trees (λ i. if i == 0 then value else None) reads
+            held;
+        below = walk.below;
+        slots = λ k. ap (λ (slots : List SymSlot). get_or slots k AnySlot) walk.slots;
+      }
 
   -- the place of an element, by an index that is a number
   fixed-located : (s : SymState) (to : ℕ) (h : Home) (z : ℤ) → CarriesInArm f s → to + 2 < 32
@@ -407,6 +439,31 @@ module _ (o : Parts) (f : Setting) (homes : HasHomes o f) (depth : ℕ) where
         LeavesTree o f depth s ((code ++ rest) ++ last) xs to (applied_trees op left right) loads)
         (append_assoc shows more gaps) whole)
 
+    -- an operation, or the steps that replace it
+    either-leaves : (op : Op) (a b : Tree) (s : SymState) (to : ℕ) → to + 2 < 32
+        → (first : LeavesTree o f depth s (expr_code f mode to a) (shows_of_expr f a) to (tree_of_expr f a)
+        (slots_of_expr f a))
+        → LeavesTree o f depth first.state (expr_code f mode (to + 1) b) (shows_of_expr f b) (to + 1) (tree_of_expr f b)
+        (slots_of_expr f b)
+        → (found : Option (List Step)) → steps_at f op b ≡ found
+        → LeavesTree o f depth s (expr_code f mode to a ++ operation_code op to found (expr_code f mode (to + 1) b))
+        (shows_of_expr f a ++ operation_shows f op found (shows_of_expr f b)) to
+        (operation_tree op found (tree_of_expr f a) (tree_of_expr f b))
+        (then_loads (slots_of_expr f a) (operation_loads found (slots_of_expr f b)))
+    either-leaves op a b s to inside first second None e =
+        operation-leaves s to op (tree_of_expr f a) (tree_of_expr f b) (expr_code f mode to a)
+        (expr_code f mode (to + 1) b) (shows_of_expr f a) (shows_of_expr f b)
+        (then_loads (slots_of_expr f a) (slots_of_expr f b))
+        (two-leave s to (tree_of_expr f a) (tree_of_expr f b) (expr_code f mode to a) (expr_code f mode (to + 1) b)
+        (shows_of_expr f a) (shows_of_expr f b) (slots_of_expr f a) (slots_of_expr f b) first second) inside
+    either-leaves op a b s to inside first second (Some steps) e =
+        let of = steps-of f op b steps e in
+        let replaces = of.replaces in
+        leaves-then s (expr_code f mode to a) (shows_of_expr f a) to (tree_of_expr f a) (slots_of_expr f a) first
+        (code_of to steps) (map (step_gap f) steps) to (steps_tree steps (tree_of_expr f a)) no_loads (omega arith)
+        (steps-leave first.state to steps (tree_of_expr f a) first.carries inside replaces.fits replaces.reads
+        first.held)
+
     -- the code of an expression
     pub expr-leaves : (e : Tree) (s : SymState) (to : ℕ) → TypedTree (context_of f.decls) e → HasPublicIndexes f e
         → to + height_of e ≤ 26 → CarriesInArm f s
@@ -418,12 +475,8 @@ module _ (o : Parts) (f : Setting) (homes : HasHomes o f) (depth : ℕ) where
         typed.0 (λ cached. public-tree o f homes i typed.1.0 (public.0 cached))
     expr-leaves (Operation op a b) s to typed public low carries =
         let first = expr-leaves a s to typed.0 public.0 (omega arith) carries in
-        let second = expr-leaves b first.state (to + 1) typed.1 public.1 (omega arith) first.carries in
-        operation-leaves s to op (tree_of_expr f a) (tree_of_expr f b) (expr_code f mode to a)
-        (expr_code f mode (to + 1) b) (shows_of_expr f a) (shows_of_expr f b)
-        (then_loads (slots_of_expr f a) (slots_of_expr f b))
-        (two-leave s to (tree_of_expr f a) (tree_of_expr f b) (expr_code f mode to a) (expr_code f mode (to + 1) b)
-        (shows_of_expr f a) (shows_of_expr f b) (slots_of_expr f a) (slots_of_expr f b) first second) (omega arith)
+        either-leaves op a b s to (omega (arith, height-some b)) first
+        (expr-leaves b first.state (to + 1) typed.1 public.1 (omega arith) first.carries) (steps_at f op b) refl
 
     -- the code of a guard
     pub guard-leaves : (t : Test) (s : SymState) (to : ℕ) → TypedTest (context_of f.decls) t

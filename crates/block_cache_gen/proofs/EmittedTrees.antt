@@ -1,5 +1,6 @@
 -- What is appended for expressions, by their parts.
 use Rattle.std.proofs.Common.{◌≡◌, ℕ, ◌+◌, ◌*◌, ◌<◌, ◌≤◌, ◌^◌, Bool, true, false, append_assoc, List, [], ◌∷◌, ◌++◌, length, Option, Some, None, ℤ, refl, sym, ap, ◌∙◌, subst, arith, length-append, add_assoc}
+use Rattle.std.specs.Option.{option_map}
 use Rattle.gr_word.specs.declared.operations.Op.{Op}
 use Rattle.gr_word.specs.declared.variables.Label.{Label}
 use Rattle.lt_isa.specs.Limits.{most_instructions}
@@ -12,11 +13,12 @@ use Rattle.src_tree.specs.Limits.{tree_weight}
 use Rattle.src_tree.specs.Trees.{Tree, Element, Operation}
 use Rattle.block_cache_gen.specs.declared.frames.CodeBuf.{CodeBuf}
 use Rattle.block_cache_gen.specs.declared.frames.Mode.{Mode}
-use Rattle.block_cache_gen.specs.declared.frames.Mode.TheVariants.{Public}
+use Rattle.block_cache_gen.specs.declared.frames.Mode.TheVariants.{Public, Real, Mirrored}
 use Rattle.block_cache_gen.specs.Homes.{Home, Setting, home_of}
-use Rattle.block_cache_gen.specs.Codes.{access_by, found_by, reduced_code, shift_code, fixed_code, load_code, skips, access_code, fixed_index, expr_code}
-use Rattle.block_cache_gen.specs.Notes.{expr_notes, index_notes, loaded_notes, load_notes, marked_by}
-use Rattle.block_cache_gen.specs.Emitted.{Appended, no_notes, notes_in, access_notes, EmitsExpr, EmitsAccess}
+use Rattle.block_cache_gen.specs.Codes.{access_by, found_by, reduced_code, shift_code, fixed_code, load_code, skips, access_code, fixed_index, operation_code, steps_at, expr_code}
+use Rattle.strength_reduction.specs.Steps.{Step, code_of}
+use Rattle.block_cache_gen.specs.Notes.{expr_notes, operation_notes, index_notes, loaded_notes, load_notes, marked_by}
+use Rattle.block_cache_gen.specs.Emitted.{Appended, no_notes, notes_in, access_notes, OperationBy, EmitsOperation, EmitsExpr, EmitsAccess}
 use Rattle.block_cache_gen.proofs.Emitting.{appended_then, appended_as, appended_length, silent_behind, silent_before, notes_both, notes_by}
 use Rattle.block_cache_gen.proofs.Sizes.{expr_code_short}
 
@@ -160,21 +162,62 @@ element_emitted f mode mask to x i h a b c is y z =
     (silent_behind a b c (access_code f.profile.block_log mode h to (fixed_index h i) (expr_code f mode to i))
     (Ldw to h.slot to ∷ []) (λ place. notes_in mode (access_notes f h mask to i place)) y z)
 
-pub operation_emitted : (f : Setting) (mode : Mode) (mask to : ℕ) (op : Op) (l r : Tree) (other : ℕ) (a b c d : CodeBuf)
+-- the steps, or the right side and the operation
+pub steps_emitted : (f : Setting) (mode : Mode) (mask to : ℕ) (op : Op) (r : Tree) (steps : List Step) (code : List Instr)
+    (a b : CodeBuf) → steps_at f op r ≡ Some steps → code ≡ code_of to steps → Appended a b code no_notes
+    → EmitsOperation f mode mask to op r a b
+steps_emitted f mode mask to op r steps code a b is same x =
+    let P : Option (List Step) → Type 0 = λ found. OperationBy f mode mask to op r found a b in
+    subst P (sym is)
+    (appended_as a b code (code_of to steps) no_notes
+    (λ place. notes_in mode []) same (λ place. sym (nothing mode)) x)
+  where
+    nothing : (m : Mode) → notes_in m [] ≡ []
+    nothing Public = refl
+    nothing Real = refl
+    nothing Mirrored = refl
+
+-- what a search for steps returned
+pub found-some : (g : List Step → List Instr) (found : Option (List Step)) (code : List Instr)
+    → Some code ≡ option_map g found → (steps : List Step) × (found ≡ Some steps) × (code ≡ g steps)
+found-some g None code e = absurd (let f : ◌≡◌ {A = Option (List Instr)} (Some code) None = e in cc)
+found-some g (Some steps) code e =
+    (steps, refl, (let f : ◌≡◌ {A = Option (List Instr)} (Some code) (Some (g steps)) = e in cc))
+
+pub found-none : (g : List Step → List Instr) (found : Option (List Step)) → None ≡ option_map g found → found ≡ None
+found-none g None e = refl
+found-none g (Some steps) e = absurd (let f : ◌≡◌ {A = Option (List Instr)} None (Some (g steps)) = e in cc)
+
+pub steps_appended : (f : Setting) (mode : Mode) (mask to : ℕ) (op : Op) (r : Tree) (code : List Instr) (a b : CodeBuf)
+    → Some code ≡ option_map (code_of to) (steps_at f op r) → Appended a b code no_notes
+    → EmitsOperation f mode mask to op r a b
+steps_appended f mode mask to op r code a b e x =
+    let known = found-some (code_of to) (steps_at f op r) code e in
+    steps_emitted f mode mask to op r known.0 code a b known.1 known.2 x
+
+pub right_emitted : (f : Setting) (mode : Mode) (mask to : ℕ) (op : Op) (r : Tree) (a b c : CodeBuf)
+    → steps_at f op r ≡ None → EmitsExpr f mode mask (to + 1) r a b → Appended b c (Alu op to to (to + 1) ∷ []) no_notes
+    → EmitsOperation f mode mask to op r a c
+right_emitted f mode mask to op r a b c is x y =
+    let P : Option (List Step) → Type 0 = λ found. OperationBy f mode mask to op r found a c in
+    subst P (sym is)
+    (silent_behind a b c (expr_code f mode (to + 1) r) (Alu op to to (to + 1) ∷ [])
+    (λ place. notes_in mode (expr_notes f mask (to + 1) place r)) x y)
+
+pub operation_emitted : (f : Setting) (mode : Mode) (mask to : ℕ) (op : Op) (l r : Tree) (other : ℕ) (a b c : CodeBuf)
     → other ≡ marked_by (label_of (context_of f.decls) l) mask to
-    → EmitsExpr f mode mask to l a b → EmitsExpr f mode other (to + 1) r b c
-    → Appended c d (Alu op to to (to + 1) ∷ []) no_notes
-    → EmitsExpr f mode mask to (Operation op l r) a d
-operation_emitted f mode mask to op l r other a b c d is x y z =
-    let P : ℕ → Type 0 = λ m. Appended a d
-    (expr_code f mode to l ++ (expr_code f mode (to + 1) r ++ Alu op to to (to + 1) ∷ []))
+    → EmitsExpr f mode mask to l a b → EmitsOperation f mode other to op r b c
+    → EmitsExpr f mode mask to (Operation op l r) a c
+operation_emitted f mode mask to op l r other a b c is x y =
+    let found = steps_at f op r in
+    let P : ℕ → Type 0 = λ m. Appended a c
+    (expr_code f mode to l ++ operation_code op to found (expr_code f mode (to + 1) r))
     (λ place. notes_in mode
-    (expr_notes f mask to place l ++ expr_notes f m (to + 1) (place + length (expr_code f Public to l)) r)) in
+    (expr_notes f mask to place l
+    ++ operation_notes found (expr_notes f m (to + 1) (place + length (expr_code f Public to l)) r))) in
     subst P is
-    (expr_then f mode mask to l (expr_code f mode (to + 1) r ++ Alu op to to (to + 1) ∷ [])
-    (λ place. expr_notes f other (to + 1) place r) a b d x
-    (silent_behind b c d (expr_code f mode (to + 1) r) (Alu op to to (to + 1) ∷ [])
-    (λ place. notes_in mode (expr_notes f other (to + 1) place r)) y z))
+    (expr_then f mode mask to l (operation_code op to found (expr_code f mode (to + 1) r))
+    (λ place. operation_notes found (expr_notes f other (to + 1) place r)) a b c x y)
 
 -- after the left side there is room for the right one
 pub room_for_right : (f : Setting) (mode : Mode) (mask to : ℕ) (l : Tree) (right : ℕ) (a b : CodeBuf)
@@ -204,27 +247,27 @@ element_appended f mode mask to e x y i j h a b c is same_name same_index home a
 
 -- the pieces of an operation are its code
 pub operation_appended : (f : Setting) (mode : Mode) (mask to : ℕ) (e : Tree) (op : Op) (l r left again right : Tree)
-    (label : Label) (other : ℕ) (a b c d : CodeBuf)
+    (label : Label) (other : ℕ) (a b c : CodeBuf)
     → e ≡ Operation op l r → left ≡ l → again ≡ l → right ≡ r → label ≡ label_of (context_of f.decls) again
-    → other ≡ marked_by label mask to → EmitsExpr f mode mask to left a b → EmitsExpr f mode other (to + 1) right b c
-    → Appended c d (Alu op to to (to + 1) ∷ []) no_notes → EmitsExpr f mode mask to e a d
-operation_appended f mode mask to e op l r left again right label other a b c d is is_left is_again is_right is_label
-    is_other x y z =
-    let P : Tree → Type 0 = λ t. EmitsExpr f mode mask to t a d in
+    → other ≡ marked_by label mask to → EmitsExpr f mode mask to left a b → EmitsOperation f mode other to op right b c
+    → EmitsExpr f mode mask to e a c
+operation_appended f mode mask to e op l r left again right label other a b c is is_left is_again is_right is_label
+    is_other x y =
+    let P : Tree → Type 0 = λ t. EmitsExpr f mode mask to t a c in
     let Q : Tree → Type 0 = λ t. EmitsExpr f mode mask to t a b in
-    let R : Tree → Type 0 = λ t. EmitsExpr f mode other (to + 1) t b c in
+    let R : Tree → Type 0 = λ t. EmitsOperation f mode other to op t b c in
     subst P (sym is)
-    (operation_emitted f mode mask to op l r other a b c d
+    (operation_emitted f mode mask to op l r other a b c
     (is_other ∙ ap (λ k. marked_by k mask to) (is_label ∙ ap (label_of (context_of f.decls)) is_again))
-    (subst Q is_left x) (subst R is_right y) z)
+    (subst Q is_left x) (subst R is_right y))
 
 -- after the left side of an operation there is room for the right one
 pub room_behind_left : (f : Setting) (mode : Mode) (mask to : ℕ) (e : Tree) (op : Op) (l r left right : Tree)
     (a b : CodeBuf) → length a.code.items + 120 * tree_weight e ≤ most_instructions
     → e ≡ Operation op l r → left ≡ l → right ≡ r → EmitsExpr f mode mask to left a b
-    → length b.code.items + 120 * tree_weight right ≤ most_instructions
+    → length b.code.items + 120 * (1 + tree_weight right) ≤ most_instructions
 room_behind_left f mode mask to e op l r left right a b room is is_left is_right x =
     let w = ap tree_weight is in
     let v = ap tree_weight is_left in
     let u = ap tree_weight is_right in
-    room_for_right f mode mask to left (tree_weight right) a b (omega arith) x
+    room_for_right f mode mask to left (1 + tree_weight right) a b (omega arith) x

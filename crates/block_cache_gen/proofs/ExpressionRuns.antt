@@ -1,5 +1,5 @@
 -- The code of an expression, run, leaves its value, and is seen to make its accesses.
-use Rattle.std.proofs.Common.{◌≡◌, ℕ, ◌+◌, ◌/◌, ◌%◌, ◌<◌, ◌≤◌, Bool, true, false, ℤ, pos, List, [], ◌∷◌, ◌++◌, append-nil, Some, refl, sym, ap, ◌∙◌, subst, arith}
+use Rattle.std.proofs.Common.{◌≡◌, ℕ, ◌+◌, ◌/◌, ◌%◌, ◌<◌, ◌≤◌, Bool, true, false, ℤ, pos, List, [], ◌∷◌, ◌++◌, append-nil, Option, Some, None, refl, sym, ap, ◌∙◌, subst, arith}
 use Rattle.gr_word.specs.Words.{applied}
 use Rattle.gr_word.specs.declared.variables.Label.{Label}
 use Rattle.gr_word.specs.declared.variables.Shape.TheVariants.{Scalar, Array}
@@ -9,6 +9,7 @@ use Rattle.lt_isa.specs.Ranges.{IsInRange}
 use Rattle.lt_isa.specs.Machine.{State, register, block_at, word_in}
 use Rattle.lt_isa.specs.Shape.{IsShaped}
 use Rattle.lt_isa.specs.Step.{word_named}
+use Rattle.lt_isa.proofs.Shapes.{IsWord-register}
 use Rattle.stretches.specs.Standing.{StandsAt}
 use Rattle.stretches.specs.Coming.{RunsThrough, Sets}
 use Rattle.stretches.proofs.RunningThrough.{runs-cons, runs-one, runs-append, runs-weaker, sets-li, sets-alu, sets-ldw}
@@ -20,7 +21,11 @@ use Rattle.src_tree.specs.Typing.{TypedTree}
 use Rattle.src_tree.proofs.TreeHeights.{height-some}
 use Rattle.block_cache_gen.specs.declared.frames.Mode.{Mode}
 use Rattle.block_cache_gen.specs.Homes.{Setting, HasHomes, home_of, words_a_block, start_of_home}
-use Rattle.block_cache_gen.specs.Codes.{fixed_index, scalar_code, access_by, placed_code, expr_code}
+use Rattle.block_cache_gen.specs.Codes.{fixed_index, scalar_code, access_by, placed_code, operation_code, steps_at, expr_code}
+use Rattle.gr_word.specs.declared.operations.Op.{Op}
+use Rattle.strength_reduction.specs.Steps.{Step, numbered, words_after, code_of}
+use Rattle.step_code.proofs.StepRuns.{Leaves, runs-steps}
+use Rattle.block_cache_gen.proofs.StepsAt.{StepsOf, steps-of}
 use Rattle.block_cache_gen.specs.StandsFor.{StandsFor, FitsHomes}
 use Rattle.block_cache_gen.specs.Accesses.{access_of, accessed_by, accesses, word_number, block_in, slots_after, seen_of_all}
 use Rattle.block_cache_gen.specs.LeavesWord.{LeavesWord}
@@ -175,22 +180,21 @@ module _ (o : Parts) (fits : IsInRange o) (f : Setting) (homes : HasHomes o f) (
       (append-nil seen)
       (λ t shape done. done)
 
-  -- an expression
-  pub runs-expression : (mode : Mode) (e : Tree) → TypedTree (context_of f.decls) e → (to : ℕ) → to + height_of e ≤ 26
-      → (s : State) → IsShaped o s → StandsFor f s store → StandsAt o s.place (expr_code f mode to e)
-      → RunsThrough o s (expr_code f mode to e) (seen_of_all mode s.banks s.slots (accesses f store e))
-      (LeavesWord f store (accesses f store e) to (evaluated f.decls store e) s)
-  runs-expression mode (Number z) typed to room s shaped stands at =
-      runs-weaker s (Li to z ∷ []) [] [] (Sets s to z) (LeavesWord f store [] to z s)
-      (runs-one s (Li to z) [] (Sets s to z) at (sets-li o fits s shaped to z (omega arith)))
-      refl
-      (λ t shape sets. leaves-set stands sets)
-  runs-expression mode (Variable x) typed to room s shaped stands at =
-      runs-scalar x typed.0 typed.1 to (omega arith) s shaped stands at
-  runs-expression mode (Element x i) typed to room s shaped stands at =
-      runs-element mode x i typed.0.0 typed.0.1 to (omega (arith, height-some i)) s shaped stands
-      (runs-expression mode i typed.1.0 to (omega arith) s shaped stands) (home_of f x).resident refl at
-  runs-expression mode (Operation op left right) typed to room s shaped stands at =
+  -- an operation on two expressions, where what the code of each does is known
+  runs-operation : (mode : Mode) (op : Op) (left right : Tree) (to : ℕ) → to + 2 < 32 → (s : State) → IsShaped o s
+      → StandsFor f s store
+      → (StandsAt o s.place (expr_code f mode to left)
+      → RunsThrough o s (expr_code f mode to left) (seen_of_all mode s.banks s.slots (accesses f store left))
+      (LeavesWord f store (accesses f store left) to (evaluated f.decls store left) s))
+      → ((t : State) → IsShaped o t → StandsFor f t store → StandsAt o t.place (expr_code f mode (to + 1) right)
+      → RunsThrough o t (expr_code f mode (to + 1) right) (seen_of_all mode t.banks t.slots (accesses f store right))
+      (LeavesWord f store (accesses f store right) (to + 1) (evaluated f.decls store right) t))
+      → StandsAt o s.place (expr_code f mode to left ++ (expr_code f mode (to + 1) right ++ Alu op to to (to + 1) ∷ []))
+      → RunsThrough o s (expr_code f mode to left ++ (expr_code f mode (to + 1) right ++ Alu op to to (to + 1) ∷ []))
+      (seen_of_all mode s.banks s.slots (accesses f store left ++ accesses f store right))
+      (LeavesWord f store (accesses f store left ++ accesses f store right) to
+      (applied op (evaluated f.decls store left) (evaluated f.decls store right)) s)
+  runs-operation mode op left right to room s shaped stands run then_run at =
       let a = evaluated f.decls store left in
       let b = evaluated f.decls store right in
       let first = expr_code f mode to left in
@@ -204,13 +208,13 @@ module _ (o : Parts) (fits : IsInRange o) (f : Setting) (homes : HasHomes o f) (
       runs-weaker s (first ++ (second ++ join ∷ [])) (seen_first ++ (seen_then ++ []))
       (seen_of_all mode s.banks s.slots (before ++ then)) Done Done
       (runs-append s first (second ++ join ∷ []) seen_first (seen_then ++ []) (LeavesWord f store before to a s) Done at
-      (runs-expression mode left typed.0 to (omega arith) s shaped stands)
+      run
       (λ t shape leaves at'.
       runs-append t second (join ∷ []) seen_then [] (LeavesWord f store then (to + 1) b t) Done at'
       (λ at''.
       runs-weaker t second (seen_of_all mode t.banks t.slots then) seen_then (LeavesWord f store then (to + 1) b t)
       (LeavesWord f store then (to + 1) b t)
-      (runs-expression mode right typed.1 (to + 1) (omega arith) t shape leaves.stands at'')
+      (then_run t shape leaves.stands at'')
       (ap (λ l. seen_of_all mode l t.slots then) leaves.banks ∙ ap (λ l. seen_of_all mode s.banks l then) leaves.slots)
       (λ u shape' h. h))
       (λ u shape' leaves' at''.
@@ -236,3 +240,90 @@ module _ (o : Parts) (fits : IsInRange o) (f : Setting) (homes : HasHomes o f) (
       }))))
       (ap (λ l. seen_first ++ l) (append-nil seen_then) ∙ sym (seen_of_all-append mode s.banks s.slots before then))
       (λ t shape done. done)
+
+  -- an operation that steps replace
+  runs-stepped : (mode : Mode) (op : Op) (left right : Tree) (steps : List Step) → StepsOf op right steps → (to : ℕ)
+      → to + 2 < 32 → (s : State) → IsShaped o s → StandsFor f s store
+      → (StandsAt o s.place (expr_code f mode to left)
+      → RunsThrough o s (expr_code f mode to left) (seen_of_all mode s.banks s.slots (accesses f store left))
+      (LeavesWord f store (accesses f store left) to (evaluated f.decls store left) s))
+      → StandsAt o s.place (expr_code f mode to left ++ code_of to steps)
+      → RunsThrough o s (expr_code f mode to left ++ code_of to steps)
+      (seen_of_all mode s.banks s.slots (accesses f store left ++ accesses f store right))
+      (LeavesWord f store (accesses f store left ++ accesses f store right) to
+      (applied op (evaluated f.decls store left) (evaluated f.decls store right)) s)
+  runs-stepped mode op left right steps of to room s shaped stands run at =
+      let z = of.number in
+      let a = evaluated f.decls store left in
+      let first = expr_code f mode to left in
+      let before = accesses f store left in
+      let seen = seen_of_all mode s.banks s.slots before in
+      let replaces = of.replaces in
+      let result = applied op a z in
+      let same : before ≡ before ++ [] = sym (append-nil before) in
+      let Done : State → Type 0 = LeavesWord f store before to result s in
+      let runs : RunsThrough o s (first ++ code_of to steps) seen Done =
+      runs-weaker s (first ++ code_of to steps) (seen ++ []) seen Done Done
+      (runs-append s first (code_of to steps) seen [] (LeavesWord f store before to a s) Done at run
+      (λ t shape leaves at'.
+      let words : ℕ → ℤ = λ i. register t (numbered to i) in
+      runs-weaker t (code_of to steps) [] [] (Leaves to (words_after steps words) t) Done
+      (runs-steps o fits to room steps words t replaces.fits shape (λ i low. refl) at')
+      refl
+      (λ u shape' stepped. record {
+        value = stepped.own 0 (omega arith) ∙ replaces.result words (IsWord-register o t shape to)
+            ∙ ap (λ v. applied op v z) leaves.value;
+        below = λ r under. stepped.below r under ∙ leaves.below r under;
+        banks = stepped.banks ∙ leaves.banks;
+        slots = stepped.slots ∙ leaves.slots;
+        stands = stands-like f t u store stepped.slots stepped.banks leaves.stands;
+      })))
+      (append-nil seen)
+      (λ t shape done. done) in
+      subst (λ (e : Tree). RunsThrough o s (first ++ code_of to steps)
+      (seen_of_all mode s.banks s.slots (before ++ accesses f store e))
+      (LeavesWord f store (before ++ accesses f store e) to (applied op a (evaluated f.decls store e)) s))
+      (sym of.is)
+      (subst (λ l. RunsThrough o s (first ++ code_of to steps) (seen_of_all mode s.banks s.slots l)
+      (LeavesWord f store l to result s)) same runs)
+
+  -- an operation
+  runs-either : (mode : Mode) (op : Op) (left right : Tree) (to : ℕ) → to + 2 < 32 → (s : State) → IsShaped o s
+      → StandsFor f s store
+      → (StandsAt o s.place (expr_code f mode to left)
+      → RunsThrough o s (expr_code f mode to left) (seen_of_all mode s.banks s.slots (accesses f store left))
+      (LeavesWord f store (accesses f store left) to (evaluated f.decls store left) s))
+      → ((t : State) → IsShaped o t → StandsFor f t store → StandsAt o t.place (expr_code f mode (to + 1) right)
+      → RunsThrough o t (expr_code f mode (to + 1) right) (seen_of_all mode t.banks t.slots (accesses f store right))
+      (LeavesWord f store (accesses f store right) (to + 1) (evaluated f.decls store right) t))
+      → (found : Option (List Step)) → steps_at f op right ≡ found
+      → StandsAt o s.place (expr_code f mode to left ++ operation_code op to found (expr_code f mode (to + 1) right))
+      → RunsThrough o s (expr_code f mode to left ++ operation_code op to found (expr_code f mode (to + 1) right))
+      (seen_of_all mode s.banks s.slots (accesses f store left ++ accesses f store right))
+      (LeavesWord f store (accesses f store left ++ accesses f store right) to
+      (applied op (evaluated f.decls store left) (evaluated f.decls store right)) s)
+  runs-either mode op left right to room s shaped stands run then_run None e at =
+      runs-operation mode op left right to room s shaped stands run then_run at
+  runs-either mode op left right to room s shaped stands run then_run (Some steps) e at =
+      runs-stepped mode op left right steps (steps-of f op right steps e) to room s shaped stands run at
+
+  -- an expression
+  pub runs-expression : (mode : Mode) (e : Tree) → TypedTree (context_of f.decls) e → (to : ℕ) → to + height_of e ≤ 26
+      → (s : State) → IsShaped o s → StandsFor f s store → StandsAt o s.place (expr_code f mode to e)
+      → RunsThrough o s (expr_code f mode to e) (seen_of_all mode s.banks s.slots (accesses f store e))
+      (LeavesWord f store (accesses f store e) to (evaluated f.decls store e) s)
+  runs-expression mode (Number z) typed to room s shaped stands at =
+      runs-weaker s (Li to z ∷ []) [] [] (Sets s to z) (LeavesWord f store [] to z s)
+      (runs-one s (Li to z) [] (Sets s to z) at (sets-li o fits s shaped to z (omega arith)))
+      refl
+      (λ t shape sets. leaves-set stands sets)
+  runs-expression mode (Variable x) typed to room s shaped stands at =
+      runs-scalar x typed.0 typed.1 to (omega arith) s shaped stands at
+  runs-expression mode (Element x i) typed to room s shaped stands at =
+      runs-element mode x i typed.0.0 typed.0.1 to (omega (arith, height-some i)) s shaped stands
+      (runs-expression mode i typed.1.0 to (omega arith) s shaped stands) (home_of f x).resident refl at
+  runs-expression mode (Operation op left right) typed to room s shaped stands at =
+      runs-either mode op left right to (omega (arith, height-some right)) s shaped stands
+      (runs-expression mode left typed.0 to (omega arith) s shaped stands)
+      (λ t shape stands'. runs-expression mode right typed.1 (to + 1) (omega arith) t shape stands')
+      (steps_at f op right) refl at

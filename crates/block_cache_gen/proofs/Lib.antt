@@ -43,6 +43,7 @@ pub mod RunsOf
 pub mod SecretWalks
 pub mod SecretCodes
 pub mod SecretRegions
+pub mod StepsAt
 pub mod SomeCode
 pub mod HomesOfFrames
 pub mod Extending

@@ -10,8 +10,10 @@ use Rattle.src_tree.specs.Trees.{Tree, Number, Variable, Element, Operation}
 use Rattle.stretches.proofs.Passed.{LieBetween, lie_wider, lie_both}
 use Rattle.block_cache_gen.specs.declared.frames.Mode.TheVariants.{Public}
 use Rattle.block_cache_gen.specs.Homes.{Home, Setting, home_of}
-use Rattle.block_cache_gen.specs.Codes.{is_cached, fixed_index, reduced_code, shift_code, offset_code, located_code, load_code, skips, access_by, access_code, expr_code}
-use Rattle.block_cache_gen.specs.Notes.{marked_by, access_mask, note_of, loaded_notes, load_notes, index_notes, expr_notes}
+use Rattle.block_cache_gen.specs.Codes.{is_cached, fixed_index, reduced_code, shift_code, offset_code, located_code, load_code, skips, access_by, access_code, operation_code, steps_at, expr_code}
+use Rattle.gr_word.specs.declared.operations.Op.{Op}
+use Rattle.strength_reduction.specs.Steps.{Step, code_of}
+use Rattle.block_cache_gen.specs.Notes.{marked_by, access_mask, note_of, loaded_notes, load_notes, index_notes, operation_notes, expr_notes}
 
 -- a located word takes two instructions at least, and more than its index
 abbrev pub index_length : Option ℤ → List Instr → ℕ
@@ -103,9 +105,28 @@ expression-longer f (Element x i) to =
 expression-longer f (Operation op a b) to =
     omega (
       arith,
-      length-append (expr_code f Public to a) (expr_code f Public (to + 1) b ++ Alu op to to (to + 1) ∷ []),
+      length-append (expr_code f Public to a) (operation_code op to (steps_at f op b) (expr_code f Public (to + 1) b)),
       expression-longer f a to,
     )
+
+-- the notes of an operation, by those of its sides
+operation-lie : (f : Setting) (op : Op) (to p : ℕ) (first : List Instr) (before : List Note) (second : List Instr)
+    (later : List Note) (found : Option (List Step)) → LieBetween p (p + length first) before
+    → LieBetween (p + length first) (p + length first + length second) later
+    → LieBetween p (p + length (first ++ operation_code op to found second)) (before ++ operation_notes found later)
+operation-lie f op to p first before second later None one two =
+    let behind = second ++ Alu op to to (to + 1) ∷ [] in
+    let size : length (first ++ behind) ≡ length first + (length second + 1) = length-append first behind
+    ∙ ap (λ (n : ℕ). length first + n) (length-append second (Alu op to to (to + 1) ∷ [])) in
+    lie_both p (p + length (first ++ behind)) before later
+    (lie_wider p (p + length first) p (p + length (first ++ behind)) before (omega arith) (omega arith) one)
+    (lie_wider (p + length first) (p + length first + length second) p (p + length (first ++ behind)) later
+    (omega arith) (omega arith) two)
+operation-lie f op to p first before second later (Some steps) one two =
+    let size = length-append first (code_of to steps) in
+    lie_both p (p + length (first ++ code_of to steps)) before []
+    (lie_wider p (p + length first) p (p + length (first ++ code_of to steps)) before (omega arith) (omega arith) one)
+    tt
 
 -- the notes of an expression
 pub expression-lies : (f : Setting) (e : Tree) (mask to p : ℕ)
@@ -122,15 +143,8 @@ expression-lies f (Element x i) mask to p =
     (access-lie f h mask to p (fixed_index h i) index (expr_notes f mask to p i) (expression-lies f i mask to p))
 expression-lies f (Operation op a b) mask to p =
     let first = expr_code f Public to a in
-    let second = expr_code f Public (to + 1) b in
-    let behind = second ++ Alu op to to (to + 1) ∷ [] in
+    let mid = p + length first in
     let mask' = marked_by (label_of (context_of f.decls) a) mask to in
-    let size : length (first ++ behind) ≡ length first + (length second + 1) = length-append first behind
-    ∙ ap (λ (n : ℕ). length first + n) (length-append second (Alu op to to (to + 1) ∷ [])) in
-    lie_both p (p + length (first ++ behind)) (expr_notes f mask to p a)
-    (expr_notes f mask' (to + 1) (p + length first) b)
-    (lie_wider p (p + length first) p (p + length (first ++ behind)) (expr_notes f mask to p a) (omega arith)
-    (omega arith) (expression-lies f a mask to p))
-    (lie_wider (p + length first) (p + length first + length second) p (p + length (first ++ behind))
-    (expr_notes f mask' (to + 1) (p + length first) b) (omega arith) (omega arith)
-    (expression-lies f b mask' (to + 1) (p + length first)))
+    operation-lie f op to p first (expr_notes f mask to p a) (expr_code f Public (to + 1) b)
+    (expr_notes f mask' (to + 1) mid b) (steps_at f op b) (expression-lies f a mask to p)
+    (expression-lies f b mask' (to + 1) mid)

@@ -1,5 +1,5 @@
 -- The public code of an expression is passed, at any place.
-use Rattle.std.proofs.Common.{◌≡◌, ℕ, ◌+◌, ◌<◌, Bool, true, false, not, ◌||◌, ℤ, pos, List, [], ◌∷◌, ◌++◌, length, length-append, Option, Some, None, refl, sym, ap, ◌∙◌, arith}
+use Rattle.std.proofs.Common.{◌≡◌, ℕ, ◌+◌, ◌<◌, ◌≤◌, max, Bool, true, false, not, ◌||◌, ℤ, pos, List, [], ◌∷◌, ◌++◌, length, length-append, get_or, Option, Some, None, refl, sym, ap, ◌∙◌, arith}
 use Rattle.std.specs.Option.{option_map}
 use Rattle.std.proofs.lemmas.Bool.{eq-eqb, ne_eqb}
 use Rattle.gr_word.specs.declared.variables.Label.{Label}
@@ -7,6 +7,7 @@ use Rattle.gr_word.specs.declared.variables.Label.TheVariants as label
 use Rattle.gr_word.specs.declared.variables.Shape.{Shape}
 use Rattle.gr_word.specs.declared.variables.Shape.TheVariants.{Scalar, Array}
 use Rattle.gr_word.specs.declared.operations.Op.{Op}
+use Rattle.lt_isa.specs.declared.instructions.Instr.{Instr}
 use Rattle.lt_isa.specs.declared.instructions.Instr.TheVariants.{Li, Alu, Ldw}
 use Rattle.lt_isa.specs.Object.{Parts, is_ram}
 use Rattle.src_tree.specs.Contexts.{context_of}
@@ -18,18 +19,23 @@ use Rattle.trace_patterns.specs.Known.{Known, is_secret, bank_known, is_marked, 
 use Rattle.trace_patterns.specs.Rules.{claimed_at}
 use Rattle.stretches.specs.Passing.{HoldsAt, AsItComes, Passes}
 use Rattle.stretches.proofs.Standing.{standing-first, standing-rest, standing-head}
-use Rattle.stretches.proofs.Passed.{passes-then, passes-to, passes-one, passes-noted, NoMore, One, rules-li, rules-alu, rules-ldw, secret-same, notes-before, notes-behind, no_note-there, notes-within, no_note-behind, LieBetween, lie_wider, lie_both}
+use Rattle.stretches.proofs.Passed.{passes-then, passes-to, passes-one, passes-goes, passes-noted, NoMore, One, rules-li, rules-alu, rules-ldw, secret-same, notes-before, notes-behind, no_note-there, notes-within, no_note-behind, LieBetween, lie_wider, lie_both}
 use Rattle.block_cache_gen.specs.declared.frames.Mode.TheVariants.{Public}
 use Rattle.block_cache_gen.specs.Homes.{Setting, HasHomes, home_of, pin_of}
-use Rattle.block_cache_gen.specs.Codes.{expr_code}
-use Rattle.block_cache_gen.specs.Notes.{marked_by, expr_notes}
+use Rattle.block_cache_gen.specs.Codes.{operation_code, steps_at, expr_code}
+use Rattle.strength_reduction.specs.Steps.{Step, numbered, code_of}
+use Rattle.step_code.proofs.StepPasses.{passes-steps}
+use Rattle.block_cache_gen.proofs.StepsAt.{StepsOf, steps-of}
+use Rattle.src_tree.specs.Heights.{height_of}
+use Rattle.src_tree.proofs.TreeHeights.{height-some}
+use Rattle.block_cache_gen.specs.Notes.{marked_by, operation_notes, expr_notes}
 use Rattle.block_cache_gen.specs.Carries.{Carries}
 use Rattle.block_cache_gen.specs.PublicIndexes.{IndexIsPublic, HasPublicIndexes}
-use Rattle.block_cache_gen.specs.PublicCode.{HasLabel}
+use Rattle.block_cache_gen.specs.PublicCode.{HasLabel, StandsNoted}
 use Rattle.block_cache_gen.proofs.KeptBelow.{LeavesPublic, KeptBelow}
 use Rattle.block_cache_gen.proofs.NoteClaims.{unmarked-same, unmarked-other, leaves-without, leaves-later, leaves-higher}
 use Rattle.block_cache_gen.proofs.NotesOfCode.{expression-longer, expression-lies}
-use Rattle.block_cache_gen.proofs.KeptRegisters.{same-itself, same-set, kept-same, kept-itself}
+use Rattle.block_cache_gen.proofs.KeptRegisters.{SameBelow, same-itself, same-set, kept-same, kept-itself}
 use Rattle.block_cache_gen.proofs.HomeFacts.{shows-plain, plain-array}
 use Rattle.block_cache_gen.proofs.PublicAccesses.{ExprPasses, array_code, array_notes, access-passes}
 
@@ -68,6 +74,19 @@ element_label label.Secret i bank word plain back public known =
 higher_label : (a b : Label) → (secret_label a || secret_label b) ≡ secret_label (higher a b)
 higher_label label.Public b = refl
 higher_label label.Secret b = refl
+
+higher_number : (l : Label) → higher l label.Public ≡ l
+higher_number label.Public = refl
+higher_number label.Secret = refl
+
+-- Code at a place is passed, from what comes to it, where this holds at its first place: registers below `to` are kept,
+-- and register `to` has a label.
+record PassedCode (o : Parts) (f : Setting) (mask to place : ℕ) (code : List Instr) (l : Label)
+    (comes holds : Known) : Type 0 where
+  last : Known
+  passes : Passes o place comes (place + length code) last
+  kept : KeptBelow f mask to holds last
+  labelled : HasLabel last to l
 
 -- the mask after an expression
 marks_before : (l : Label) (mask to r : ℕ) → to < 32 → r < to → is_marked mask r ≡ false
@@ -181,7 +200,19 @@ module _ (o : Parts) (f : Setting) (homes : HasHomes o f) (once : DeclaredOnce f
             × Shape)). secret_label (higher (label_or_public q) (label_of (context_of f.decls) i))) (sym declared);
       }
 
-  operation_passes : (op : Op) (a b : Tree) → ExprPasses o f a → ExprPasses o f b → ExprPasses o f (Operation op a b)
+  -- an operation on two expressions, by its code and its notes
+  abbrev OperationPasses : Op → Tree → Tree → Option (List Step) → Type 0
+  OperationPasses op a b found =
+      (mask to p : ℕ) (k holds : Known) → to + (max (height_of a) (height_of b) + 1) ≤ 26
+      → StandsNoted o p (expr_code f Public to a ++ operation_code op to found (expr_code f Public (to + 1) b))
+      (expr_notes f mask to p a
+      ++ operation_notes found (expr_notes f (marked_by (label_of (context_of f.decls) a) mask to) (to + 1)
+      (p + length (expr_code f Public to a)) b))
+      → HoldsAt o p k holds → Carries f holds → LeavesPublic mask to holds
+      → PassedCode o f mask to p (expr_code f Public to a ++ operation_code op to found (expr_code f Public (to + 1) b))
+      (higher (label_of (context_of f.decls) a) (label_of (context_of f.decls) b)) k holds
+
+  operation_passes : (op : Op) (a b : Tree) → ExprPasses o f a → ExprPasses o f b → OperationPasses op a b None
   operation_passes op a b left right mask to p k holds high stands here carries leaves =
       let known = context_of f.decls in
       let first = expr_code f Public to a in
@@ -248,6 +279,66 @@ module _ (o : Parts) (f : Setting) (homes : HasHomes o f) (once : DeclaredOnce f
             ∙ higher_label (label_of known a) (label_of known b);
       }
 
+  -- an operation that steps replace
+  stepped_passes : (op : Op) (a b : Tree) (steps : List Step) → StepsOf op b steps → ExprPasses o f a
+      → OperationPasses op a b (Some steps)
+  stepped_passes op a b steps of left mask to p k holds high stands here carries leaves =
+      let known = context_of f.decls in
+      let first = expr_code f Public to a in
+      let rest = code_of to steps in
+      let replaces = of.replaces in
+      let size : length (first ++ rest) ≡ length first + length rest = length-append first rest in
+      let behind = stands.behind in
+      let mid = p + length first in
+      let whole = p + length (first ++ rest) in
+      let some = expression-longer f a to in
+      let before = expr_notes f mask to p a in
+      let lie_before : LieBetween p mid before = expression-lies f a mask to p in
+      let l = left mask to p k holds (omega arith)
+      (record {
+        code_stands = standing-first first rest stands.code_stands;
+        noted = notes-before o p mid whole before [] lie_before tt stands.noted (omega arith);
+        behind = omega arith;
+      }) here carries leaves in
+      let sized = l.kept.carries.registers in
+      let room : to + 2 < 32 = omega (arith, height-some b) in
+      let secret : ℕ → Bool = λ i. is_secret l.last (numbered to i) in
+      let s = passes-steps o to room steps secret mid l.last replaces.fits sized (λ i low. refl) in
+      let quiet : (r : ℕ) → mid ≤ r → r < mid + length rest → claimed_at o r ≡ None = (λ r above below.
+      stands.noted r (omega arith) (omega arith)
+      ∙ ap (option_map note_known) (no_note-behind p mid r (before ++ [])
+      (lie_both p mid before [] lie_before tt) above)) in
+      let second : Passes o mid l.last (mid + length rest) s.last = passes-goes o mid rest l.last s.last s.goes
+      (standing-rest first rest stands.code_stands) quiet (omega arith) in
+      let same : SameBelow to l.last s.last = record {
+        sized = s.count;
+        count = ap length s.banks;
+        registers = s.below;
+        slots = λ slot apart. ap (λ banks. get_or banks slot None) s.banks;
+      } in
+      record {
+        last = s.last;
+        passes = passes-to o p k (mid + length rest) whole s.last (omega arith)
+            (passes-then o p k mid l.last l.passes (mid + length rest) s.last second);
+        kept = kept-same f mask to holds l.last s.last l.kept same;
+        labelled
+            = s.own 0 (omega arith)
+            ∙ replaces.label secret
+            ∙ l.labelled
+            ∙ ap secret_label (sym (higher_number (label_of known a))
+            ∙ ap (λ (e : Tree). higher (label_of known a) (label_of known e)) (sym of.is));
+      }
+
+  either_passes : (op : Op) (a b : Tree) → ExprPasses o f a → ExprPasses o f b → (found : Option (List Step))
+      → steps_at f op b ≡ found → OperationPasses op a b found
+  either_passes op a b left right None e = operation_passes op a b left right
+  either_passes op a b left right (Some steps) e = stepped_passes op a b steps (steps-of f op b steps e) left
+
+  operation-passed : (op : Op) (a b : Tree) → OperationPasses op a b (steps_at f op b) → ExprPasses o f (Operation op a b)
+  operation-passed op a b passes mask to p k holds high stands here carries leaves =
+      let passed = passes mask to p k holds high stands here carries leaves in
+      record { last = passed.last; passes = passed.passes; kept = passed.kept; labelled = passed.labelled }
+
   -- the code of an expression is passed in public code
   pub expression-passes : (e : Tree) → TypedTree (context_of f.decls) e → HasPublicIndexes f e → ExprPasses o f e
   expression-passes (Number z) typed public = number_passes z
@@ -256,4 +347,6 @@ module _ (o : Parts) (f : Setting) (homes : HasHomes o f) (once : DeclaredOnce f
       let used = typed.0 in
       element_passes x used.0 i used.1 public.0 (expression-passes i typed.1.0 public.1)
   expression-passes (Operation op a b) typed public =
-      operation_passes op a b (expression-passes a typed.0 public.0) (expression-passes b typed.1 public.1)
+      operation-passed op a b
+      (either_passes op a b (expression-passes a typed.0 public.0) (expression-passes b typed.1 public.1)
+      (steps_at f op b) refl)

@@ -1,6 +1,6 @@
 -- A public expression has a tree.
-use Rattle.std.proofs.Common.{◌≡◌, ℕ, ◌+◌, ◌-◌, ◌<◌, ◌/◌, ℤ, pos, Bool, true, false, Option, Some, None, refl, sym, ap, ◌∙◌, subst, arith}
-use Rattle.std.specs.Prelude.{if◌then◌else◌}
+use Rattle.std.proofs.Common.{◌≡◌, ℕ, ◌+◌, ◌-◌, ◌<◌, ◌/◌, ℤ, pos, Bool, true, false, ◌&&◌, ◌==◌, cond, List, [], ◌∷◌, Option, Some, None, refl, sym, ap, ◌∙◌, subst, arith}
+use Rattle.std.specs.Prelude.{if◌then◌else◌, IsTrue}
 use Rattle.gr_word.specs.declared.operations.Op.{Op}
 use Rattle.gr_word.specs.declared.operations.Op.TheVariants.{Add, Remu, And, Shr}
 use Rattle.gr_word.specs.declared.variables.Label.{Label}
@@ -15,8 +15,10 @@ use Rattle.src_tree.specs.Typing.{TypedTree}
 use Rattle.trace_patterns.specs.SymStates.{SymSlot, AnySlot, RamSlot, Entry, Loaded}
 use Rattle.trace_patterns.specs.Single.{applied_trees, word_tree}
 use Rattle.block_cache_gen.specs.Homes.{Home, Setting, home_of, words_a_block, HasHomes}
-use Rattle.block_cache_gen.specs.Codes.{is_masked, fixed_index, fixed_word}
-use Rattle.block_cache_gen.specs.PatternsOf.{word_named_by, word_read, scalar_tree, pinned_slot, placed_tree, element_by, block_named_by, number_tree, reduced_tree, block_tree, block_loaded, element_slot, tree_of_expr}
+use Rattle.block_cache_gen.specs.Codes.{is_masked, fixed_index, fixed_word, steps_at}
+use Rattle.strength_reduction.specs.Steps.{Step, Constant, Compute, left_by, reads_known, replaced}
+use Rattle.block_cache_gen.specs.PatternsOf.{word_named_by, word_read, scalar_tree, pinned_slot, placed_tree, element_by, block_named_by, number_tree, reduced_tree, block_tree, block_loaded, element_slot, steps_tree, operation_tree, tree_of_expr}
+use Rattle.block_cache_gen.proofs.StepsAt.{StepsOf, steps-of}
 use Rattle.block_cache_gen.proofs.HomeFacts.{plain-array}
 use Rattle.block_cache_gen.proofs.ArmInstructions.{IsSeen}
 
@@ -89,6 +91,53 @@ pub public-right : (a b : Label) → higher a b ≡ Public → b ≡ Public
 public-right Public b e = e
 public-right Secret b e = absurd (let g : ◌≡◌ {A = Label} Secret Public = e in cc)
 
+-- registers that are known have trees
+abbrev AllKnown : (ℕ → Bool) → (ℕ → Option Value) → Type 0
+AllKnown known trees = (i : ℕ) → known i ≡ true → IsKnown (trees i)
+
+replaced-known : (known : ℕ → Bool) (trees : ℕ → Option Value) (to : ℕ) (tree : Option Value)
+    → AllKnown known trees → IsKnown tree → AllKnown (replaced known to true) (replaced trees to tree)
+replaced-known known trees to tree all one i = by (i == to)
+  where
+    by : (c : Bool) → cond c true (known i) ≡ true → IsKnown (cond c tree (trees i))
+    by true e = one
+    by false e = all i e
+
+reads-parts : (a b c : Bool) → ((a && b) && c) ≡ true → (a ≡ true) × (b ≡ true) × (c ≡ true)
+reads-parts true true c e = (refl, refl, e)
+reads-parts true false c e = absurd (let f : false ≡ true = e in cc)
+reads-parts false b c e = absurd (let f : false ≡ true = e in cc)
+
+first-known : (known : ℕ → Bool) (to : ℕ) → known 0 ≡ true → replaced known to true 0 ≡ true
+first-known known to e = by (0 == to)
+  where
+    by : (c : Bool) → cond c true (known 0) ≡ true
+    by true = refl
+    by false = e
+
+known-after : (steps : List Step) (known : ℕ → Bool) (trees : ℕ → Option Value) → reads_known known steps ≡ true
+    → known 0 ≡ true → AllKnown known trees
+    → IsKnown (left_by (λ z. Some (Const z)) applied_trees steps trees 0)
+known-after [] known trees reads first all = all 0 first
+known-after (Constant to z ∷ steps) known trees reads first all =
+    known-after steps (replaced known to true) (replaced trees to (Some (Const z))) reads (first-known known to first)
+    (replaced-known known trees to (Some (Const z)) all (const-known z))
+known-after (Compute op to left right ∷ steps) known trees reads first all =
+    let parts = reads-parts (known left) (known right) (reads_known (replaced known to true) steps) reads in
+    known-after steps (replaced known to true) (replaced trees to (applied_trees op (trees left) (trees right)))
+    parts.2 (first-known known to first)
+    (replaced-known known trees to (applied_trees op (trees left) (trees right)) all
+    (applied-known op (trees left) (trees right) (all left parts.0) (all right parts.1)))
+
+-- steps from a known value
+steps-known : (steps : List Step) (value : Option Value) → IsTrue (reads_known (λ i. i == 0) steps) → IsKnown value
+    → IsKnown (steps_tree steps value)
+steps-known steps value reads known =
+    known-after steps (λ i. i == 0) (λ i. if i == 0 then value else None) reads refl (λ i e. at i e)
+  where
+    at : (i : ℕ) → (i == 0) ≡ true → IsKnown (if i == 0 then value else None)
+    at i e = subst (λ (c : Bool). IsKnown (if c then value else None)) (sym e) known
+
 module _ (o : Parts) (f : Setting) (homes : HasHomes o f) where
   scalar-known : (h : Home) → h.bank ≡ 0 → IsKnown (scalar_tree f h)
   scalar-known h at = read-known f h (Some (Const (pos h.word))) at (const-known (pos h.word))
@@ -132,6 +181,14 @@ module _ (o : Parts) (f : Setting) (homes : HasHomes o f) where
       (public-tree i typed.1.0 index)
   public-tree (Operation op a b) typed public =
       let known = context_of f.decls in
-      applied-known op (tree_of_expr f a) (tree_of_expr f b)
-      (public-tree a typed.0 (public-left (label_of known a) (label_of known b) public))
-      (public-tree b typed.1 (public-right (label_of known a) (label_of known b) public))
+      let left = public-tree a typed.0 (public-left (label_of known a) (label_of known b) public) in
+      let right = public-tree b typed.1 (public-right (label_of known a) (label_of known b) public) in
+      by (steps_at f op b) refl left right
+    where
+      by : (found : Option (List Step)) → steps_at f op b ≡ found → IsKnown (tree_of_expr f a)
+          → IsKnown (tree_of_expr f b) → IsKnown (operation_tree op found (tree_of_expr f a) (tree_of_expr f b))
+      by None e left right = applied-known op (tree_of_expr f a) (tree_of_expr f b) left right
+      by (Some steps) e left right =
+          let of = steps-of f op b steps e in
+          let replaces = of.replaces in
+          steps-known steps (tree_of_expr f a) replaces.reads left

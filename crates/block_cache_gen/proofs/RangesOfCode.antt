@@ -1,9 +1,9 @@
 -- The code of expressions, guards and assignments is in its ranges, in all modes.
-use Rattle.std.proofs.Common.{◌≡◌, ℕ, ◌+◌, ◌-◌, ◌/◌, ◌^◌, ◌<◌, ◌≤◌, Bool, true, false, ℤ, pos, List, [], ◌∷◌, ◌++◌, Option, Some, None, arith}
+use Rattle.std.proofs.Common.{◌≡◌, ℕ, ◌+◌, ◌-◌, ◌/◌, ◌^◌, ◌<◌, ◌≤◌, Bool, true, false, ℤ, pos, List, [], ◌∷◌, ◌++◌, Option, Some, None, refl, arith}
 use Rattle.std.specs.Prelude.{All, if◌then◌else◌, FitsSigned}
 use Rattle.std.specs.Int.{w32, w64}
 use Rattle.std.proofs.lemmas.Int.{fits_signed_from_abs}
-use Rattle.std.proofs.lemmas.List.Elements.{All-nil, All-cons}
+use Rattle.std.proofs.lemmas.List.Elements.{All-nil, All-cons, All-head, All-tail}
 use Rattle.std.proofs.Math.Nat.{mod-lt, div-le_self}
 use Rattle.gr_base.specs.Lists.{Within}
 use Rattle.gr_word.specs.Words.{IsWord, unsigned_of}
@@ -24,7 +24,11 @@ use Rattle.block_cache_gen.specs.declared.frames.Mode.{Mode}
 use Rattle.block_cache_gen.specs.declared.frames.Mode.TheVariants.{Public, Real, Mirrored}
 use Rattle.block_cache_gen.specs.Homes.{Pin, pin_at, Home, Setting, home_of}
 use Rattle.block_cache_gen.specs.TreeWords.{HasWords}
-use Rattle.block_cache_gen.specs.Codes.{is_masked, fixed_index, fixed_word, reduced_code, shift_code, fixed_code, located_code, load_code, skips, access_by, placed_code, offset_code, stored_code, access_code, expr_code, guard_code, store_code, set_code}
+use Rattle.block_cache_gen.specs.Codes.{is_masked, fixed_index, fixed_word, reduced_code, shift_code, fixed_code, located_code, load_code, skips, access_by, placed_code, offset_code, stored_code, access_code, expr_code, guard_code, store_code, set_code, operation_code, steps_at}
+use Rattle.strength_reduction.specs.Steps.{Step, Constant, Compute, StepFits, numbered, code_of}
+use Rattle.step_code.proofs.Registers.{numbered-low}
+use Rattle.src_tree.proofs.TreeHeights.{height-some}
+use Rattle.block_cache_gen.proofs.StepsAt.{StepsOf, steps-of}
 
 -- a home in its ranges, if there are this many banks
 pub record HomeFits (banks : ℕ) (h : Home) : Type 0 where
@@ -170,6 +174,30 @@ module _ (banks : ℕ) where
             both (located_code block_log h to fixed index) (load_code (skips mode h) h to)
             (located_by block_log fixed index few fit) (load_by (skips mode h))
 
+  -- steps
+  steps-fit : (to : ℕ) (steps : List Step) → to + 2 < 32 → All StepFits steps → CodeFits banks (code_of to steps)
+  steps-fit to [] room fit = none
+  steps-fit to (Constant rd value ∷ steps) room fit =
+      let first = All-head StepFits (Constant rd value) steps fit in
+      li (numbered to rd) value (code_of to steps) (numbered-low to rd first.0 room) first.1
+      (steps-fit to steps room (All-tail StepFits (Constant rd value) steps fit))
+  steps-fit to (Compute op rd left right ∷ steps) room fit =
+      let first = All-head StepFits (Compute op rd left right) steps fit in
+      alu op (numbered to rd) (numbered to left) (numbered to right) (code_of to steps)
+      (numbered-low to rd first.0 room) (numbered-low to left first.1 room) (numbered-low to right first.2 room)
+      (steps-fit to steps room (All-tail StepFits (Compute op rd left right) steps fit))
+
+  operation-fits : (f : Setting) (op : Op) (to : ℕ) (b : Tree) (right : List Instr) → to + 2 < 32
+      → CodeFits banks right → CodeFits banks (operation_code op to (steps_at f op b) right)
+  operation-fits f op to b right room fit = by (steps_at f op b) refl
+    where
+      by : (found : Option (List Step)) → steps_at f op b ≡ found → CodeFits banks (operation_code op to found right)
+      by None e = both right _ fit (alu op to to (to + 1) [] (omega arith) (omega arith) (omega arith) none)
+      by (Some steps) e =
+          let known = steps-of f op b steps e in
+          let replaces = known.replaces in
+          steps-fit to steps room replaces.fits
+
   -- an expression
   pub expression-fits : (f : Setting) (mode : Mode) → HomesFit banks f → (to : ℕ) (e : Tree)
       → TypedTree (context_of f.decls) e → HasWords e → to + height_of e ≤ 26 → CodeFits banks (expr_code f mode to e)
@@ -189,9 +217,8 @@ module _ (banks : ℕ) where
       (ldw to (home_of f x).slot to [] (omega arith) home.slot (omega arith) none)
   expression-fits f mode homes to (Operation op a b) typed words high =
       both (expr_code f mode to a) _ (expression-fits f mode homes to a typed.0 words.0 (omega arith))
-      (both (expr_code f mode (to + 1) b) _
-      (expression-fits f mode homes (to + 1) b typed.1 words.1 (omega arith))
-      (alu op to to (to + 1) [] (omega arith) (omega arith) (omega arith) none))
+      (operation-fits f op to b (expr_code f mode (to + 1) b) (omega (arith, height-some b))
+      (expression-fits f mode homes (to + 1) b typed.1 words.1 (omega arith)))
 
   -- a guard
   pub guard-fits : (f : Setting) (mode : Mode) → HomesFit banks f → (to : ℕ) (t : Test)

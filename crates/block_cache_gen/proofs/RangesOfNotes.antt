@@ -19,8 +19,10 @@ use Rattle.src_tree.specs.Limits.{tree_weight, test_weight}
 use Rattle.src_tree.specs.Trees.{Tree, Number, Variable, Element, Operation, Test, Statement, SetVariable, SetElement, Choice, Loop}
 use Rattle.block_cache_gen.specs.declared.frames.Mode.TheVariants.{Public}
 use Rattle.block_cache_gen.specs.Homes.{Pin, pin_at, Home, Setting, home_of}
-use Rattle.block_cache_gen.specs.Codes.{is_cached, fixed_index, stored_code, access_code, expr_code, guard_code, set_code}
-use Rattle.block_cache_gen.specs.Notes.{all_marked, unmarked, marked_by, is_used, claimed_where_used, claim_by, slot_claims, note_of, access_mask, loaded_notes, load_notes, index_notes, expr_notes, guard_notes, set_notes}
+use Rattle.block_cache_gen.specs.Codes.{is_cached, fixed_index, stored_code, access_code, operation_code, steps_at, expr_code, guard_code, set_code}
+use Rattle.gr_word.specs.declared.operations.Op.{Op}
+use Rattle.strength_reduction.specs.Steps.{Step, code_of}
+use Rattle.block_cache_gen.specs.Notes.{all_marked, unmarked, marked_by, is_used, claimed_where_used, claim_by, slot_claims, note_of, access_mask, loaded_notes, load_notes, index_notes, operation_notes, expr_notes, guard_notes, set_notes}
 use Rattle.block_cache_gen.proofs.NotesOfCode.{index_length, access-more, expression-longer}
 use Rattle.block_cache_gen.proofs.PublicAccesses.{array_code, array_notes}
 
@@ -98,6 +100,25 @@ access-rises f h mask to p fixed index notes small rise =
     (omega arith) (index_rises f fixed p index notes rise))
     (loaded_rises f h mask to (p + size) (p + size) (p + size + 1) h.resident small (omega arith) (omega arith))
 
+-- the notes of an operation, by those of its sides
+operation-rises : (f : Setting) (op : Op) (to p : ℕ) (first : List Instr) (before : List Note) (second : List Instr)
+    (later : List Note) (found : Option (List Step)) → 1 ≤ length first
+    → NotesRise f (p + 1) (p + length first) before
+    → NotesRise f (p + length first + 1) (p + length first + length second) later
+    → NotesRise f (p + 1) (p + length (first ++ operation_code op to found second))
+    (before ++ operation_notes found later)
+operation-rises f op to p first before second later None some one two =
+    let behind = second ++ Alu op to to (to + 1) ∷ [] in
+    let size : length (first ++ behind) ≡ length first + (length second + 1) = length-append first behind
+    ∙ ap (λ (n : ℕ). length first + n) (length-append second (Alu op to to (to + 1) ∷ [])) in
+    rise-then f (p + 1) (p + length first) (p + length (first ++ behind)) before later (omega arith) (omega arith) one
+    (rise-wider f (p + length first + 1) (p + length first + length second) (p + length first)
+    (p + length (first ++ behind)) later (omega arith) (omega arith) two)
+operation-rises f op to p first before second later (Some steps) some one two =
+    let size = length-append first (code_of to steps) in
+    rise-then f (p + 1) (p + length first) (p + length (first ++ code_of to steps)) before [] (omega arith)
+    (omega arith) one tt
+
 -- the notes of an expression, of a guard, and of an assignment
 pub expression-rises : (f : Setting) (e : Tree) (mask to p : ℕ) → mask < 2 ^ 32
     → NotesRise f (p + 1) (p + length (expr_code f Public to e)) (expr_notes f mask to p e)
@@ -114,19 +135,11 @@ expression-rises f (Element x i) mask to p small =
     (expression-rises f i mask to p small))
 expression-rises f (Operation op a b) mask to p small =
     let first = expr_code f Public to a in
-    let second = expr_code f Public (to + 1) b in
-    let behind = second ++ Alu op to to (to + 1) ∷ [] in
+    let mid = p + length first in
     let mask' = marked_by (label_of (context_of f.decls) a) mask to in
-    let some = expression-longer f a to in
-    let size : length (first ++ behind) ≡ length first + (length second + 1) = length-append first behind
-    ∙ ap (λ (n : ℕ). length first + n) (length-append second (Alu op to to (to + 1) ∷ [])) in
-    rise-then f (p + 1) (p + length first) (p + length (first ++ behind)) (expr_notes f mask to p a)
-    (expr_notes f mask' (to + 1) (p + length first) b) (omega arith) (omega arith)
-    (expression-rises f a mask to p small)
-    (rise-wider f (p + length first + 1) (p + length first + length second) (p + length first)
-    (p + length (first ++ behind)) (expr_notes f mask' (to + 1) (p + length first) b) (omega arith) (omega arith)
-    (expression-rises f b mask' (to + 1) (p + length first)
-    (marked_by-below (label_of (context_of f.decls) a) mask to small)))
+    operation-rises f op to p first (expr_notes f mask to p a) (expr_code f Public (to + 1) b)
+    (expr_notes f mask' (to + 1) mid b) (steps_at f op b) (expression-longer f a to) (expression-rises f a mask to p small)
+    (expression-rises f b mask' (to + 1) mid (marked_by-below (label_of (context_of f.decls) a) mask to small))
 
 all_small : all_marked < 2 ^ 32
 all_small = omega arith
@@ -278,6 +291,10 @@ access-count f h mask to behind fixed notes =
       loaded_count f h mask to behind h.resident,
     )
 
+operation-count : (found : Option (List Step)) (notes : List Note) → length (operation_notes found notes) ≤ length notes
+operation-count None notes = omega arith
+operation-count (Some steps) notes = omega arith
+
 -- an expression has no more notes than it weighs
 pub expression-count : (f : Setting) (e : Tree) (mask to p : ℕ) → length (expr_notes f mask to p e) ≤ tree_weight e
 expression-count f (Number z) mask to p = omega arith
@@ -290,9 +307,11 @@ expression-count f (Element x i) mask to p =
 expression-count f (Operation op a b) mask to p =
     let mid = p + length (expr_code f Public to a) in
     let mask' = marked_by (label_of (context_of f.decls) a) mask to in
-    let size = length-append (expr_notes f mask to p a) (expr_notes f mask' (to + 1) mid b) in
+    let later = expr_notes f mask' (to + 1) mid b in
+    let size = length-append (expr_notes f mask to p a) (operation_notes (steps_at f op b) later) in
     let first = expression-count f a mask to p in
     let second = expression-count f b mask' (to + 1) mid in
+    let fewer = operation-count (steps_at f op b) later in
     omega arith
 
 -- nor has a guard

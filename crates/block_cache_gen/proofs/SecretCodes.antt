@@ -11,7 +11,10 @@ use Rattle.src_tree.specs.Trees.{Tree, Number, Variable, Element, Operation, Tes
 use Rattle.block_cache_gen.specs.declared.frames.Mode.{Mode}
 use Rattle.block_cache_gen.specs.declared.frames.Mode.TheVariants.{Public, Real, Mirrored}
 use Rattle.block_cache_gen.specs.Homes.{Home, Setting, home_of}
-use Rattle.block_cache_gen.specs.Codes.{may_skip_loads, is_cached, is_masked, fixed_index, reduced_code, shift_code, located_code, offset_code, placed_code, stored_code, access_by, load_code, skips, access_code, expr_code, guard_code, store_code, set_code}
+use Rattle.block_cache_gen.specs.Codes.{may_skip_loads, is_cached, is_masked, fixed_index, reduced_code, shift_code, located_code, offset_code, placed_code, stored_code, access_by, load_code, skips, access_code, expr_code, guard_code, store_code, set_code, operation_code, steps_at}
+use Rattle.gr_word.specs.declared.operations.Op.{Op}
+use Rattle.strength_reduction.specs.Steps.{Step}
+use Rattle.block_cache_gen.proofs.StepsAt.{steps-stores}
 use Rattle.block_cache_gen.specs.StoredWords.{is_stw, stored_words, register_aside, registers_aside}
 
 -- an expression's code depends on the mode only in being public or secret
@@ -36,7 +39,7 @@ expr_code-mode f m n to (Element x i) same =
 expr_code-mode f m n to (Operation op a b) same =
     let left = expr_code-mode f m n to a same in
     let right = expr_code-mode f m n (to + 1) b same in
-    λ i. left i ++ (right i ++ Alu op to to (to + 1) ∷ [])
+    λ i. left i ++ operation_code op to (steps_at f op b) (right i)
 
 -- so the codes of an assignment in the two secret modes are the same but for the register of its store
 element_aside : (first second last : List Instr) (one other : List Instr)
@@ -121,6 +124,12 @@ access-stores f mode h to fixed index none = by h.resident
         stored-append (located_code f.profile.block_log h to fixed index) (load_code (skips mode h) h to)
         ∙ omega (arith, located-stores f.profile.block_log h to fixed index none, load-stores (skips mode h) h to)
 
+operation-stores : (op : Op) (to : ℕ) (found : Option (List Step)) (right : List Instr) → stored_words right ≡ 0
+    → stored_words (operation_code op to found right) ≡ 0
+operation-stores op to None right none =
+    stored-append right (Alu op to to (to + 1) ∷ []) ∙ ap (λ (n : ℕ). n + 0) none
+operation-stores op to (Some steps) right none = steps-stores to steps
+
 -- an expression stores no word
 pub expr-stores : (f : Setting) (mode : Mode) (to : ℕ) (e : Tree) → stored_words (expr_code f mode to e) ≡ 0
 expr-stores f mode to (Number z) = refl
@@ -133,10 +142,9 @@ expr-stores f mode to (Element x i) =
     (access-stores f mode h to (fixed_index h i) (expr_code f mode to i) (expr-stores f mode to i))
 expr-stores f mode to (Operation op a b) =
     let right = expr_code f mode (to + 1) b in
-    let last = Alu op to to (to + 1) ∷ [] in
-    stored-append (expr_code f mode to a) (right ++ last)
-    ∙ (λ k. expr-stores f mode to a k + stored-append right last k)
-    ∙ ap (λ (n : ℕ). 0 + (n + 0)) (expr-stores f mode (to + 1) b)
+    stored-append (expr_code f mode to a) (operation_code op to (steps_at f op b) right)
+    ∙ (λ k. expr-stores f mode to a k
+    + operation-stores op to (steps_at f op b) right (expr-stores f mode (to + 1) b) k)
 
 -- the code of a guard stores no word
 pub guard-stores : (f : Setting) (mode : Mode) (to : ℕ) (t : Test) → stored_words (guard_code f mode to t) ≡ 0

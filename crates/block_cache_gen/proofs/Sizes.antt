@@ -11,7 +11,8 @@ use Rattle.block_cache_gen.specs.declared.frames.Mode.{Mode}
 use Rattle.block_cache_gen.specs.declared.frames.Mode.TheVariants.{Public, Real, Mirrored}
 use Rattle.block_cache_gen.specs.Assignments.{IsAssignment}
 use Rattle.block_cache_gen.specs.Homes.{Home, Setting, home_of}
-use Rattle.block_cache_gen.specs.Codes.{is_masked, reduced_code, shift_code, offset_code, placed_code, stored_code, located_code, load_code, skips, access_by, access_code, fixed_index, expr_code, guard_code, store_code, set_code}
+use Rattle.block_cache_gen.specs.Codes.{is_masked, reduced_code, shift_code, offset_code, placed_code, stored_code, located_code, load_code, skips, access_by, access_code, fixed_index, operation_code, steps_at, expr_code, guard_code, store_code, set_code}
+use Rattle.block_cache_gen.proofs.StepsAt.{operation-short}
 
 two_of : (b : Bool) (p q r s : Instr) → length (if b then p ∷ q ∷ [] else r ∷ s ∷ []) ≡ 2
 two_of true p q r s = refl
@@ -60,9 +61,9 @@ access_short block_log mode h to fixed index = by h.resident
         let s = load_short (skips mode h) h to in
         omega arith
 
--- at most 10 instructions a node
+-- at most 12 instructions a node
 pub expr_code_short : (f : Setting) (mode : Mode) (to : ℕ) (e : Tree)
-    → length (expr_code f mode to e) ≤ 10 * tree_weight e
+    → length (expr_code f mode to e) ≤ 12 * tree_weight e
 expr_code_short f mode to (Number z) = omega arith
 expr_code_short f mode to (Variable x) = omega arith
 expr_code_short f mode to (Element x i) =
@@ -74,15 +75,15 @@ expr_code_short f mode to (Element x i) =
     let h = expr_code_short f mode to i in
     omega arith
 expr_code_short f mode to (Operation op a b) =
-    let e = length-append (expr_code f mode to a) (expr_code f mode (to + 1) b ++ Alu op to to (to + 1) ∷ []) in
-    let g = length-append (expr_code f mode (to + 1) b) (Alu op to to (to + 1) ∷ []) in
+    let right = expr_code f mode (to + 1) b in
+    let e = length-append (expr_code f mode to a) (operation_code op to (steps_at f op b) right) in
     let h = expr_code_short f mode to a in
-    let k = expr_code_short f mode (to + 1) b in
+    let k = operation-short f op to b right (expr_code_short f mode (to + 1) b) in
     omega arith
 
--- at most ten instructions a unit of a guard's weight
+-- at most twelve instructions a unit of a guard's weight
 pub guard_code_short : (f : Setting) (mode : Mode) (to : ℕ) (t : Test)
-    → length (guard_code f mode to t) ≤ 10 * test_weight t
+    → length (guard_code f mode to t) ≤ 12 * test_weight t
 guard_code_short f mode to t =
     let e = length-append (expr_code f mode to t.left) (expr_code f mode (to + 1) t.right) in
     let h = expr_code_short f mode to t.left in

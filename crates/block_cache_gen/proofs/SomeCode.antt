@@ -5,7 +5,7 @@ use Rattle.lt_isa.specs.declared.instructions.Instr.TheVariants.{Alu, Ldw}
 use Rattle.src_tree.specs.Trees.{Tree, Number, Variable, Element, Operation, Test}
 use Rattle.block_cache_gen.specs.declared.frames.Mode.{Mode}
 use Rattle.block_cache_gen.specs.Homes.{Setting, home_of}
-use Rattle.block_cache_gen.specs.Codes.{expr_code, guard_code, access_code, fixed_index}
+use Rattle.block_cache_gen.specs.Codes.{expr_code, guard_code, access_code, fixed_index, operation_code, steps_at}
 
 -- an expression has an instruction at least, and so has a guard
 pub expr_code-some : (f : Setting) (m : Mode) (to : ℕ) (e : Tree) → 1 ≤ length (expr_code f m to e)
@@ -21,7 +21,7 @@ expr_code-some f m to (Operation op a b) =
     omega (
       arith,
       expr_code-some f m to a,
-      length-append (expr_code f m to a) (expr_code f m (to + 1) b ++ Alu op to to (to + 1) ∷ []),
+      length-append (expr_code f m to a) (operation_code op to (steps_at f op b) (expr_code f m (to + 1) b)),
     )
 
 -- no guard is made into no code

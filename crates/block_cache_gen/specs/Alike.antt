@@ -3,25 +3,11 @@
 use Rattle.std.specs.Prelude.{◌≡◌, ℕ, ◌+◌, ◌<◌, ◌≤◌, ℤ, Bool, true, false, not, ◌&&◌, ◌||◌, ◌==◌, nat_le, nat_lt, if◌then◌else◌, List, bytes_eq}
 use Rattle.std.specs.Ordering.{int_eq}
 use Rattle.gr_word.specs.declared.operations.Op.{Op}
-use Rattle.gr_word.specs.declared.operations.Op.TheVariants.{Add, Sub, Mul, Div, Rem, Remu, And, Or, Xor, Shl, Shr}
 use Rattle.symbolic_values.specs.Sameness.{same_op}
 use Rattle.src_tree.specs.Trees.{Tree, Number, Variable, Element, Operation, Statement, SetVariable, SetElement, Block, Then}
 use Rattle.block_cache_gen.specs.Homes.{Setting, home_of}
-use Rattle.block_cache_gen.specs.Codes.{is_cached, is_masked}
-
--- a product, a quotient or a remainder, which take more cycles than other operations
-abbrev pub is_product : Op → Bool
-is_product Add = false
-is_product Sub = false
-is_product Mul = true
-is_product Div = true
-is_product Rem = true
-is_product Remu = true
-is_product And = false
-is_product Or = false
-is_product Xor = false
-is_product Shl = false
-is_product Shr = false
+use Rattle.block_cache_gen.specs.Codes.{is_cached, is_masked, may_step}
+pub use Rattle.block_cache_gen.specs.Codes.{is_product}
 
 -- two arrays lie in one oblivious bank
 pub record InOneBank (f : Setting) (x y : List ℕ) : Type 0 where
@@ -37,15 +23,18 @@ pub record AreReducedAlike (f : Setting) (x y : List ℕ) : Type 0 where
 
 -- Two expressions are alike if both are numbers, or scalars; or elements with alike indexes, of one oblivious bank or of
 -- resident arrays whose indexes are reduced alike; or elements of one array of plain or encrypted memory with the same
--- index; or operations, both products or neither, on alike parts.
+-- index; or operations that no steps may replace, both products or neither, on alike parts; or the same operation by the same
+-- number, on an alike left side.
 pub data Alike (f : Setting) : Tree → Tree → Type 0 where
   Numbers : (y z : ℤ) → Alike f (Number y) (Number z)
   Scalars : (x y : List ℕ) → Alike f (Variable x) (Variable y)
   Oblivious : (x y : List ℕ) (i j : Tree) → InOneBank f x y → Alike f i j → Alike f (Element x i) (Element y j)
   Residents : (x y : List ℕ) (i j : Tree) → AreReducedAlike f x y → Alike f i j → Alike f (Element x i) (Element y j)
   Same : (x : List ℕ) (i : Tree) → (home_of f x).bank < 2 → Alike f (Element x i) (Element x i)
-  Operations : (op oq : Op) (a b c d : Tree)
+  Operations : (op oq : Op) (a b c d : Tree) → may_step f op b ≡ false → may_step f oq d ≡ false
       → is_product op ≡ is_product oq → Alike f a c → Alike f b d → Alike f (Operation op a b) (Operation oq c d)
+  ByNumber : (op : Op) (a c : Tree) (z : ℤ)
+      → Alike f a c → Alike f (Operation op a (Number z)) (Operation op c (Number z))
 
 -- Two assignments pair if both are to scalars, of alike expressions; or to elements, of alike expressions: with alike
 -- indexes, of one oblivious bank or of resident arrays whose indexes are reduced alike; or with the same index, of one
@@ -95,6 +84,18 @@ reduced_alike f x y =
     && (same_flag (is_cached (home_of f x)) (is_cached (home_of f y))
     && same_flag (is_masked (home_of f x)) (is_masked (home_of f y))))
 
+-- no steps replace either of two operations
+abbrev pub are_plain : Setting → Op → Tree → Op → Tree → Bool
+are_plain f op b oq d = not (may_step f op b) && not (may_step f oq d)
+
+-- the same operation by the same number
+abbrev pub is_same_number : Tree → Tree → Bool
+is_same_number (Number y) (Number z) = int_eq y z
+is_same_number _ _ = false
+
+abbrev pub by_same_number : Op → Tree → Op → Tree → Bool
+by_same_number op b oq d = same_op op oq && is_same_number b d
+
 abbrev pub is_alike : Setting → Tree → Tree → Bool
 is_alike f (Number y) (Number z) = true
 is_alike f (Variable x) (Variable y) = true
@@ -102,7 +103,8 @@ is_alike f (Element x i) (Element y j) =
     ((in_one_bank f x y || reduced_alike f x y) && is_alike f i j)
     || (nat_lt (home_of f x).bank 2 && (bytes_eq x y && is_same i j))
 is_alike f (Operation op a b) (Operation oq c d) =
-    both_products op oq && (is_alike f a c && is_alike f b d)
+    is_alike f a c
+    && (by_same_number op b oq d || (are_plain f op b oq d && (both_products op oq && is_alike f b d)))
 is_alike f _ _ = false
 
 abbrev pub is_pair : Setting → Statement → Statement → Bool

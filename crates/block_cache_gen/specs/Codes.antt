@@ -4,10 +4,13 @@
 use Rattle.std.specs.Prelude.{ℕ, ◌+◌, ◌-◌, ◌/◌, ◌%◌, ◌^◌, Bool, true, false, ◌&&◌, ◌==◌, nat_lt, if◌then◌else◌, ℤ, pos, List, [], ◌∷◌, ◌++◌, Option, Some, None}
 use Rattle.std.specs.List.{range_with_len, list_any}
 use Rattle.gr_word.specs.Words.{unsigned_of}
-use Rattle.gr_word.specs.declared.operations.Op.TheVariants.{Add, Remu, And, Shr}
+use Rattle.gr_word.specs.declared.operations.Op.{Op}
+use Rattle.gr_word.specs.declared.operations.Op.TheVariants.{Add, Sub, Mul, Div, Rem, Remu, And, Or, Xor, Shl, Shr}
 use Rattle.gr_word.specs.declared.operations.Cmp.TheVariants.{Eq}
 use Rattle.lt_isa.specs.declared.instructions.Instr.{Instr}
 use Rattle.lt_isa.specs.declared.instructions.Instr.TheVariants.{Li, Alu, Ldb, Stb, Idb, Ldw, Stw, Br}
+use Rattle.strength_reduction.specs.Reduced.{steps_by_number}
+use Rattle.strength_reduction.specs.Steps.{Step, code_of}
 use Rattle.src_tree.specs.Trees.{Tree, Number, Variable, Element, Operation, Test, Statement, SetVariable, SetElement, Choice, Loop}
 use Rattle.block_cache_gen.specs.declared.frames.Mode.{Mode}
 use Rattle.block_cache_gen.specs.declared.frames.Mode.TheVariants.{Public, Real, Mirrored}
@@ -108,6 +111,39 @@ abbrev pub stored_code : Bool → ℕ → List Instr
 stored_code true slot = []
 stored_code false slot = Stb slot ∷ []
 
+-- a product, a quotient or a remainder, which take more cycles than other operations
+abbrev pub is_product : Op → Bool
+is_product Add = false
+is_product Sub = false
+is_product Mul = true
+is_product Div = true
+is_product Rem = true
+is_product Remu = true
+is_product And = false
+is_product Or = false
+is_product Xor = false
+is_product Shl = false
+is_product Shr = false
+
+-- whether steps may replace an operation: one of these by the number on its right
+abbrev pub may_step : Setting → Op → Tree → Bool
+may_step f op (Number z) = f.reduces && is_product op
+may_step f op (Variable x) = false
+may_step f op (Element x i) = false
+may_step f op (Operation oq a b) = false
+
+-- the steps that replace it, if there are any
+abbrev pub steps_at : Setting → Op → Tree → Option (List Step)
+steps_at f op (Number z) = if f.reduces && is_product op then steps_by_number op z else None
+steps_at f op (Variable x) = None
+steps_at f op (Element x i) = None
+steps_at f op (Operation oq a b) = None
+
+-- what follows the code of the left side: the steps, or the code of the right side and the operation
+abbrev pub operation_code : Op → ℕ → Option (List Step) → List Instr → List Instr
+operation_code op to None right = right ++ Alu op to to (to + 1) ∷ []
+operation_code op to (Some steps) right = code_of to steps
+
 -- the value of an expression in register `to`
 abbrev pub expr_code : Setting → Mode → ℕ → Tree → List Instr
 expr_code f mode to (Number z) = Li to z ∷ []
@@ -116,7 +152,7 @@ expr_code f mode to (Element x i) =
     access_code f.profile.block_log mode (home_of f x) to (fixed_index (home_of f x) i) (expr_code f mode to i)
     ++ Ldw to (home_of f x).slot to ∷ []
 expr_code f mode to (Operation op a b) =
-    expr_code f mode to a ++ (expr_code f mode (to + 1) b ++ Alu op to to (to + 1) ∷ [])
+    expr_code f mode to a ++ operation_code op to (steps_at f op b) (expr_code f mode (to + 1) b)
 
 -- the two sides of a guard in registers `to` and to + 1
 abbrev pub guard_code : Setting → Mode → ℕ → Test → List Instr

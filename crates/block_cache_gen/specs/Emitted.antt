@@ -1,6 +1,8 @@
 -- For proofs, and for the functions that branch_padding and code_gen build on: what a call appends to the code
 -- and its notes.
-use Rattle.std.specs.Prelude.{◌≡◌, ℕ, ◌+◌, List, [], ◌++◌, length}
+use Rattle.std.specs.Prelude.{◌≡◌, ℕ, ◌+◌, List, [], ◌++◌, length, Option}
+use Rattle.gr_word.specs.declared.operations.Op.{Op}
+use Rattle.strength_reduction.specs.Steps.{Step}
 use Rattle.lt_isa.specs.declared.instructions.Instr.{Instr}
 use Rattle.lt_isa.specs.declared.symbols.Note.{Note}
 use Rattle.src_tree.specs.Trees.{Tree, Test, Statement}
@@ -9,8 +11,8 @@ use Rattle.block_cache_gen.specs.declared.frames.Mode.{Mode}
 use Rattle.block_cache_gen.specs.declared.frames.Mode.TheVariants.{Public, Real, Mirrored}
 pub use Rattle.block_cache_gen.specs.Behind.{CodeGrows}
 use Rattle.block_cache_gen.specs.Homes.{Home, Setting}
-use Rattle.block_cache_gen.specs.Codes.{expr_code, guard_code, set_code, access_code, fixed_index}
-use Rattle.block_cache_gen.specs.Notes.{expr_notes, guard_notes, set_notes, index_notes, load_notes}
+use Rattle.block_cache_gen.specs.Codes.{operation_code, steps_at, expr_code, guard_code, set_code, access_code, fixed_index}
+use Rattle.block_cache_gen.specs.Notes.{operation_notes, expr_notes, guard_notes, set_notes, index_notes, load_notes}
 
 -- code was appended, and notes that go by the place where that code begins
 pub record Appended (before after : CodeBuf) (more : List Instr) (noted : ℕ → List Note) : Type 0 where
@@ -32,6 +34,16 @@ access_notes f h mask to i place =
     index_notes (fixed_index h i) (expr_notes f mask to place i)
     ++ load_notes f h mask to
     (place + length (access_code f.profile.block_log Public h to (fixed_index h i) (expr_code f Public to i)))
+
+-- what is appended for the part of an operation that follows its left side
+abbrev pub OperationBy : Setting → Mode → (mask to : ℕ) → Op → Tree → Option (List Step) → CodeBuf → CodeBuf → Type 0
+OperationBy f mode mask to op right found before after =
+    Appended before after (operation_code op to found (expr_code f mode (to + 1) right))
+    (λ place. notes_in mode (operation_notes found (expr_notes f mask (to + 1) place right)))
+
+abbrev pub EmitsOperation : Setting → Mode → (mask to : ℕ) → Op → Tree → CodeBuf → CodeBuf → Type 0
+EmitsOperation f mode mask to op right before after =
+    OperationBy f mode mask to op right (steps_at f op right) before after
 
 -- what is appended for an expression, an access, a guard and an assignment
 abbrev pub EmitsExpr : Setting → Mode → (mask to : ℕ) → Tree → CodeBuf → CodeBuf → Type 0

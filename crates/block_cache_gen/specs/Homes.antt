@@ -27,13 +27,14 @@ pub record Home : Type 0 where
   pub resident : Bool
 
 -- The declarations with a home for each, in order; the number of blocks of each bank; the pin of each slot, none where
--- it holds other blocks in turn; and the machine's profile.
+-- it holds other blocks in turn; the machine's profile; and whether an operation by a number is replaced by steps.
 pub record Setting : Type 0 where
   pub decls : List Decl
   pub homes : List Home
   pub blocks : List ℕ
   pub pins : List (Option Pin)
   pub profile : Profile
+  pub reduces : Bool
 
 -- the default home, of a name that isn't declared
 abbrev pub no_home : Home

@@ -13,7 +13,8 @@ use Rattle.src_tree.specs.Labels.{label_of}
 use Rattle.src_tree.specs.Trees.{Tree, Number, Variable, Element, Operation, Test, Statement, SetVariable, SetElement, Choice, Loop}
 use Rattle.block_cache_gen.specs.declared.frames.Mode.TheVariants as mode
 use Rattle.block_cache_gen.specs.Homes.{Home, Pin, Setting, pin_at, home_of}
-use Rattle.block_cache_gen.specs.Codes.{is_cached, fixed_index, expr_code, access_code}
+use Rattle.block_cache_gen.specs.Codes.{is_cached, fixed_index, steps_at, expr_code, access_code}
+use Rattle.strength_reduction.specs.Steps.{Step}
 
 -- every register may hold a secret
 abbrev pub all_marked : ℕ
@@ -73,6 +74,11 @@ abbrev pub index_notes : Option ℤ → List Note → List Note
 index_notes (Some z) notes = []
 index_notes None notes = notes
 
+-- the notes of the right side of an operation, none if steps replace the operation
+abbrev pub operation_notes : Option (List Step) → List Note → List Note
+operation_notes None notes = notes
+operation_notes (Some steps) notes = []
+
 -- the notes of an expression whose code stands from a place on
 abbrev pub expr_notes : Setting → (mask to place : ℕ) → Tree → List Note
 expr_notes f mask to place (Number z) = []
@@ -84,9 +90,10 @@ expr_notes f mask to place (Element x i) =
     (expr_code f mode.Public to i)))
 expr_notes f mask to place (Operation op a b) =
     expr_notes f mask to place a
-    ++ expr_notes f (marked_by (label_of (context_of f.decls) a) mask to) (to + 1)
+    ++ operation_notes (steps_at f op b)
+    (expr_notes f (marked_by (label_of (context_of f.decls) a) mask to) (to + 1)
     (place + length (expr_code f mode.Public to a))
-    b
+    b)
 
 -- the notes of a guard
 abbrev pub guard_notes : Setting → (to place : ℕ) → Test → List Note

@@ -2,7 +2,7 @@
 -- secret: what is shown, the tree that is left of a public expression, and what the loads leave in the slots. All of it
 -- is told by the setting and the part alone. (GhostRider, ASPLOS 2015: the trace patterns of the type system of L_T;
 -- which code is made is this project's own choice.)
-use Rattle.std.specs.Prelude.{ℕ, ◌+◌, ◌-◌, ◌/◌, ◌==◌, Bool, true, false, ℤ, pos, if◌then◌else◌, List, [], ◌∷◌, ◌++◌, Option, Some, None}
+use Rattle.std.specs.Prelude.{ℕ, ◌+◌, ◌-◌, ◌/◌, ◌==◌, Bool, true, false, ℤ, pos, if◌then◌else◌, List, [], ◌∷◌, ◌++◌, map, Option, Some, None}
 use Rattle.std.specs.Option.{option_or}
 use Rattle.gr_word.specs.declared.operations.Op.{Op}
 use Rattle.gr_word.specs.declared.operations.Op.TheVariants.{Add, Remu, And, Shr}
@@ -16,7 +16,8 @@ use Rattle.stretches.specs.Shows.{Show, Gap, Seen, pattern_of}
 use Rattle.trace_patterns.specs.SymStates.{Loaded, Entry, SymSlot, AnySlot, RamSlot, EramSlot, OramSlot}
 use Rattle.trace_patterns.specs.Single.{applied_trees, word_tree}
 use Rattle.block_cache_gen.specs.Homes.{Home, Setting, home_of, words_a_block, blocks_set}
-use Rattle.block_cache_gen.specs.Codes.{is_masked, fixed_index, fixed_word}
+use Rattle.block_cache_gen.specs.Codes.{is_masked, fixed_index, fixed_word, steps_at}
+use Rattle.strength_reduction.specs.Steps.{Step, Constant, Compute, left_by}
 
 -- the cycles of an operation, and of a word that is read or written in a slot
 abbrev pub operation_gap : Setting → Op → Show
@@ -165,13 +166,34 @@ abbrev pub stored_by : Bool → SymSlot → List Show
 stored_by true bound = []
 stored_by false bound = store_shows bound
 
+-- the cycles of a step, and the tree that steps leave of the tree in the first of their registers
+abbrev pub step_gap : Setting → Step → Show
+step_gap f (Constant to z) = Gap 1
+step_gap f (Compute op to left right) = operation_gap f op
+
+abbrev pub steps_tree : List Step → Option Value → Option Value
+steps_tree steps value = left_by (λ z. Some (Const z)) applied_trees steps (λ i. if i == 0 then value else None) 0
+
+-- an operation, or the steps that replace it
+abbrev pub operation_tree : Op → Option (List Step) → Option Value → Option Value → Option Value
+operation_tree op None left right = applied_trees op left right
+operation_tree op (Some steps) left right = steps_tree steps left
+
+abbrev pub operation_shows : Setting → Op → Option (List Step) → List Show → List Show
+operation_shows f op None right = right ++ operation_gap f op ∷ []
+operation_shows f op (Some steps) right = map (step_gap f) steps
+
+abbrev pub operation_loads : Option (List Step) → Loads → Loads
+operation_loads None right = right
+operation_loads (Some steps) right = no_loads
+
 -- the tree of an expression, none where a secret stands in it
 abbrev pub tree_of_expr : Setting → Tree → Option Value
 tree_of_expr f (Number z) = Some (Const z)
 tree_of_expr f (Variable x) = scalar_tree f (home_of f x)
 tree_of_expr f (Element x i) =
     element_by (home_of f x).resident f (home_of f x) (fixed_index (home_of f x) i) (tree_of_expr f i)
-tree_of_expr f (Operation op a b) = applied_trees op (tree_of_expr f a) (tree_of_expr f b)
+tree_of_expr f (Operation op a b) = operation_tree op (steps_at f op b) (tree_of_expr f a) (tree_of_expr f b)
 
 -- what its code shows
 abbrev pub shows_of_expr : Setting → Tree → List Show
@@ -180,7 +202,7 @@ shows_of_expr f (Variable x) = Gap 1 ∷ word_gap f ∷ []
 shows_of_expr f (Element x i) =
     access_shows f (home_of f x) (fixed_index (home_of f x) i) (tree_of_expr f i) (shows_of_expr f i) ++ word_gap f ∷ []
 shows_of_expr f (Operation op a b) =
-    shows_of_expr f a ++ (shows_of_expr f b ++ operation_gap f op ∷ [])
+    shows_of_expr f a ++ operation_shows f op (steps_at f op b) (shows_of_expr f b)
 
 -- what its loads leave in each slot
 abbrev pub slots_of_expr : Setting → Tree → Loads
@@ -188,7 +210,8 @@ slots_of_expr f (Number z) = no_loads
 slots_of_expr f (Variable x) = no_loads
 slots_of_expr f (Element x i) =
     access_loads f (home_of f x) (fixed_index (home_of f x) i) (tree_of_expr f i) (slots_of_expr f i)
-slots_of_expr f (Operation op a b) = then_loads (slots_of_expr f a) (slots_of_expr f b)
+slots_of_expr f (Operation op a b) =
+    then_loads (slots_of_expr f a) (operation_loads (steps_at f op b) (slots_of_expr f b))
 
 -- the same of a guard
 abbrev pub shows_of_test : Setting → Test → List Show

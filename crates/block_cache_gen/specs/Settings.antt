@@ -32,14 +32,16 @@ homes_at pins [] slots = []
 homes_at pins (q ∷ places) [] = []
 homes_at pins (q ∷ places) (slot ∷ slots) = home_at pins q slot ∷ homes_at pins places slots
 
--- what the code of a program is made for, by a plan of its memory and on a machine
-abbrev pub setting_for : Source → Plan → Profile → Setting
-setting_for p plan profile = record {
+-- what the code of a program is made for: by a plan of its memory, on a machine, and with or without steps in the place
+-- of operations by numbers
+abbrev pub setting_for : Source → Plan → Profile → Bool → Setting
+setting_for p plan profile reduces = record {
   decls = p.decls;
   homes = homes_at plan.pins plan.places plan.slots;
   blocks = plan.blocks;
   pins = plan.pins;
   profile = profile;
+  reduces = reduces;
 }
 
 -- the plan of a frame
@@ -48,7 +50,7 @@ plan_of f = plan_from f.places.now f.slots.now
 
 -- what the code of a frame is made for
 abbrev pub setting_of : Frame → Setting
-setting_of f = setting_for (source_of f.program.now) (plan_of f) f.profile.now
+setting_of f = setting_for (source_of f.program.now) (plan_of f) f.profile.now f.reduces
 
 -- A program that is well typed and within the limits, with a plan of memory that is sound for it where a block has as
 -- many words as the profile says, and a profile in its ranges.

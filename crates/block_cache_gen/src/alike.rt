@@ -5,36 +5,18 @@ ghost use Rattle.src_tree.specs.Contexts.{context_of};
 ghost use Rattle.src_tree.specs.Trees.{block_of_all, statement_of, expr_tree};
 ghost use Rattle.src_tree.specs.Typing.{TypedBlock, TypedStatement, TypedTree};
 ghost use Rattle.symbolic_values.specs.Sameness.{same_op};
-ghost use Rattle.block_cache_gen.specs.Alike.{same_flag, reduced_alike, both_products, in_one_bank, is_alike, is_pair, is_product, is_same, pair_count};
+ghost use Rattle.block_cache_gen.specs.Alike.{are_plain, by_same_number, is_same_number, same_flag, reduced_alike, both_products, in_one_bank, is_alike, is_pair, is_product, is_same, pair_count};
 ghost use Rattle.block_cache_gen.specs.Codes.{is_cached, is_masked};
 ghost use Rattle.block_cache_gen.specs.Variables.{home_in};
 ghost use Rattle.block_cache_gen.specs.Homes.{home_of};
 
 use crate::accesses::{is_cached, is_masked, is_resident};
 use crate::emitter::Emitter;
+use crate::steps::{is_product, may_step};
 use crate::variables::Variable;
 use gr_word::{Name, Op};
 use lt_isa::{BankKind, bank_kind};
 use src_tree::{Expr, Stmt};
-
-// A product, a quotient or a remainder.
-fn is_product(op: Op) -> bool
-    ensures { result ≡ is_product op }
-{
-    match op {
-        Op::Add => false,
-        Op::Sub => false,
-        Op::Mul => true,
-        Op::Div => true,
-        Op::Rem => true,
-        Op::Remu => true,
-        Op::And => false,
-        Op::Or => false,
-        Op::Xor => false,
-        Op::Shl => false,
-        Op::Shr => false,
-    }
-}
 
 // Whether both of two operations are products, or neither is.
 fn both_products(op: Op, other: Op) -> bool
@@ -154,6 +136,37 @@ fn in_step<'a>(emitter: &Emitter<'a>, x: &'a Name, y: &'a Name) -> bool
     in_one_bank(emitter, x, y) || reduced_alike(emitter, x, y)
 }
 
+// The same number.
+fn is_same_number(e: &Expr, other: &Expr) -> bool
+    ensures { result ≡ is_same_number (expr_tree e.now) (expr_tree other.now) }
+{
+    match e {
+        Expr::Num(value) => match other {
+            Expr::Num(word) => *value == *word,
+            Expr::Var(_) => false,
+            Expr::Item(_, _) => false,
+            Expr::Bin(_, _, _) => false,
+        },
+        Expr::Var(_) => false,
+        Expr::Item(_, _) => false,
+        Expr::Bin(_, _, _) => false,
+    }
+}
+
+// The same operation by the same number.
+fn by_same_number(op: Op, right: &Expr, by: Op, second: &Expr) -> bool
+    ensures { result ≡ by_same_number op (expr_tree right.now) by (expr_tree second.now) }
+{
+    same_op(op, by) && is_same_number(right, second)
+}
+
+// Whether steps may replace neither of two operations.
+fn are_plain<'a>(emitter: &Emitter<'a>, op: Op, right: &'a Expr, by: Op, second: &'a Expr) -> bool
+    ensures { result ≡ are_plain emitter.now op (expr_tree right.now) by (expr_tree second.now) }
+{
+    !may_step(emitter, op, right) && !may_step(emitter, by, second)
+}
+
 // Whether two expressions show the same in secret code.
 fn is_alike<'a>(emitter: &Emitter<'a>, e: &'a Expr, other: &'a Expr) -> bool
     requires first { TypedTree (context_of emitter.now.decls) (expr_tree e.now) }
@@ -188,8 +201,10 @@ fn is_alike<'a>(emitter: &Emitter<'a>, e: &'a Expr, other: &'a Expr) -> bool
             Expr::Var(_) => false,
             Expr::Item(_, _) => false,
             Expr::Bin(by, first, second) => {
-                both_products(*op, *by)
-                    && (is_alike(emitter, left, first) && is_alike(emitter, right, second))
+                is_alike(emitter, left, first)
+                    && (by_same_number(*op, right, *by, second)
+                        || (are_plain(emitter, *op, right, *by, second)
+                            && (both_products(*op, *by) && is_alike(emitter, right, second))))
             }
         },
     }

@@ -21,6 +21,7 @@ use std::marker::Model;
 /// see it as the frame's setting.
 #[derive(Drop)]
 pub struct Emitter<'a> {
+    alloc: Global,
     frame: Frame<'a>,
     variables: Variables<'a>,
     claims: [u8; 8],
@@ -84,6 +85,7 @@ impl<'a> Emitter<'a> {
         )?;
         let claims = claims_in(&f.slots.pins, slots);
         Ok(Emitter {
+            alloc,
             frame: *f,
             variables,
             claims,
@@ -160,6 +162,18 @@ impl<'a> Emitter<'a> {
         ensures most { result ≤ 32 }
     {
         self.frame.profile.taken
+    }
+
+    /// The allocator for short lists of instructions.
+    pub(crate) fn alloc(&self) -> Global {
+        self.alloc
+    }
+
+    /// Whether operations by numbers are replaced by steps.
+    pub(crate) fn reduces(&self) -> bool
+        ensures { result ≡ self.now.reduces }
+    {
+        self.frame.reduces
     }
 
     /// The number of words of a block, as its logarithm.

@@ -5,15 +5,17 @@ ghost use Rattle.src_tree.specs.Limits.{tree_weight};
 ghost use Rattle.src_tree.specs.Trees.{expr_tree};
 ghost use Rattle.src_tree.specs.Typing.{TypedTree};
 ghost use Rattle.lt_isa.specs.Limits.{most_instructions};
-ghost use Rattle.block_cache_gen.specs.Emitted.{EmitsAccess, EmitsExpr, CodeGrows};
+ghost use Rattle.block_cache_gen.specs.Emitted.{EmitsAccess, EmitsExpr, EmitsOperation, CodeGrows};
 ghost use Rattle.block_cache_gen.specs.TreeWords.{HasWords};
 ghost use Rattle.block_cache_gen.specs.Variables.{home_in};
 
 use crate::accesses::{fixed_index, marked_by, put_fixed_access, put_found_access, put_scalar};
 use crate::emitter::{Emitter, label_of};
 use crate::frames::{CodeBuf, Mode};
+use crate::steps::steps_code;
 use crate::variables::Variable;
 use gr_base::Memory;
+use gr_word::Op;
 use lt_isa::Instr;
 use src_tree::Expr;
 
@@ -53,9 +55,36 @@ pub(crate) fn put_expr<'a>(
         Expr::Bin(op, left, right) => {
             put_expr(emitter, out, left, to, mode, mask)?;
             let mask = marked_by(label_of(emitter, left), mask, to);
+            put_operation(emitter, out, *op, right, to, mode, mask)
+        }
+    }
+}
+
+/// Appends what makes of the value in register `to` the result of an operation on it and a right side: the steps that
+/// replace the operation, or the code of the right side and the operation. The only error is want of memory.
+#[cycle(expressions)]
+pub(crate) fn put_operation<'a>(
+    emitter: &Emitter<'a>,
+    out: &mut CodeBuf,
+    op: Op,
+    right: &'a Expr,
+    to: u8,
+    mode: Mode,
+    mask: u32,
+) -> Result<(), Memory>
+    requires typed { TypedTree (context_of emitter.now.decls) (expr_tree right.now) }
+    requires registers { to + (height_of (expr_tree right.now) + 1) ≤ 26 }
+    requires room { length out.old.code.items + 120 * (1 + tree_weight (expr_tree right.now)) ≤ most_instructions }
+    ensures emitted { OnOk result (EmitsOperation emitter.now mode mask to op (expr_tree right.now) out.old out.new) }
+    ensures words { OnOk result (HasWords (expr_tree right.now)) }
+    ensures grows { CodeGrows out.old out.new }
+{
+    match steps_code(emitter, op, right, to)? {
+        Some(code) => out.put(&code),
+        None => {
             put_expr(emitter, out, right, to + 1, mode, mask)?;
             out.put(&[Instr::Alu {
-                op: *op,
+                op,
                 rd: to,
                 ra: to,
                 rb: to + 1,

@@ -22,6 +22,8 @@ pub struct Frame<'a> {
     /// it for these places.
     pub slots: &'a SlotPlan,
     pub profile: &'a Profile,
+    /// Whether operations by numbers are replaced by steps without products, quotients and remainders.
+    pub reduces: bool,
 }
 
 impl<'a> Frame<'a> {

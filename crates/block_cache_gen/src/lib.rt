@@ -18,6 +18,7 @@ pub mod frames;
 mod laws;
 mod pins;
 mod statements;
+mod steps;
 mod variables;
 
 pub use alike::pair_count;

@@ -75,7 +75,7 @@ pub frame-made : (f : Frame) (l : Latencies) (o : Parts) → IsFrame f → Laten
     → BlockHasWords (source_of f.program.now).body
     → o.code ≡ program_code (setting_of f) (padding_of (setting_of f)) (source_of f.program.now).body
     → o.notes ≡ program_notes (setting_of f) (padding_of (setting_of f)) (source_of f.program.now).body
-    → IsMadeOf (source_of f.program.now) (plan_of f) f.profile.now l o
+    → IsMadeOf (source_of f.program.now) (plan_of f) f.profile.now f.reduces l o
 frame-made f l o frame latencies profile banks symbols named words code notes =
     let blocks : map (λ (b : BankSpec). b.blocks) o.banks ≡ f.places.now.blocks.items =
     ap (map (λ (b : BankSpec). b.blocks)) banks ∙ blocks-made l 0 f.places.now.blocks.items in
@@ -110,18 +110,18 @@ plan-standard p w places slots are is pins =
     ∙ ap (plan (places_of p w) (slots_of (places_of p w)) (blocks_of_banks p w)) pins
 
 -- The contract's clauses for the object that a program is compiled to.
-pub record CompilePromises (p : Source) (plan : Plan) (given : Profile) (l : Latencies) (o : Parts) : Type 0 where
+pub record CompilePromises (p : Source) (plan : Plan) (given : Profile) (reduces : Bool) (l : Latencies) (o : Parts) : Type 0 where
   pub accepted : Accepts o
   pub implements : Implements p o
   pub machine : IsFor given l o
   pub size : length o.code ≤ 120 * weight_of p + 64
-  pub stores : stored_words o.code ≡ stores_by p plan given
+  pub stores : stored_words o.code ≡ stores_by p plan given reduces
 
-module _ (p : Source) (plan : Plan) (given : Profile) (l : Latencies) (typed : IsTyped p) (within : IsWithinLimits p)
+module _ (p : Source) (plan : Plan) (given : Profile) (reduces : Bool) (l : Latencies) (typed : IsTyped p) (within : IsWithinLimits p)
     (sound : IsSoundPlan p given.block_log plan) (profile : ProfileFits given) (o : Parts)
-    (made : IsMadeOf p plan given l o) where
+    (made : IsMadeOf p plan given reduces l o) where
   abbrev setting : Setting
-  setting = setting_for p plan given
+  setting = setting_for p plan given reduces
 
   is-setting : IsSettingOf p plan o setting
   is-setting = record { decls = refl; homes = refl; blocks = refl; pins = refl; profile = made.profile }
@@ -149,11 +149,11 @@ module _ (p : Source) (plan : Plan) (given : Profile) (l : Latencies) (typed : I
       let taken = profile.taken in
       omega (arith, ap length made.code, program-short setting p.body taken.1 (λ slot pin pinned. (sound.pins slot pin pinned).few) within.weight)
 
-  made-stores : stored_words o.code ≡ stores_by p plan given
+  made-stores : stored_words o.code ≡ stores_by p plan given reduces
   made-stores = ap stored_words made.code ∙ program-stored setting p.body typed.body
 
   -- all of it holds of what was made
-  pub made-promises : CompilePromises p plan given l o
+  pub made-promises : CompilePromises p plan given reduces l o
   made-promises = record {
     accepted = made-accepted;
     implements = made-implements;

@@ -1,5 +1,5 @@
 -- The inputs and the outputs of an object that has a program's layout are the words of the program's variables.
-use Rattle.std.proofs.Common.{◌≡◌, ℕ, zero, suc, ◌+◌, ◌-◌, ◌*◌, ◌^◌, ◌<◌, ◌≤◌, ℤ, pos, List, [], ◌∷◌, length, map, get_or, All, Some, refl, sym, ap, ◌∙◌, subst, ⊎_elim, arith}
+use Rattle.std.proofs.Common.{◌≡◌, false, ℕ, zero, suc, ◌+◌, ◌-◌, ◌*◌, ◌^◌, ◌<◌, ◌≤◌, ℤ, pos, List, [], ◌∷◌, length, map, get_or, All, Some, refl, sym, ap, ◌∙◌, subst, ⊎_elim, arith}
 use Rattle.std.specs.Prelude.{Contains}
 use Rattle.std.proofs.lemmas.Bool.{cases_eq, cases_lt}
 use Rattle.std.proofs.lemmas.List.{get_or_past}
@@ -63,7 +63,7 @@ fits-words decls store fits k =
     (cases_lt k (length decls))
 
 -- the setting of a program for an object
-pub setting-of : (p : Source) (plan : Plan) (o : Parts) → IsSettingOf p plan o (setting_for p plan o.profile)
+pub setting-of : (p : Source) (plan : Plan) (o : Parts) → IsSettingOf p plan o (setting_for p plan o.profile false)
 setting-of p plan o = record { decls = refl; homes = refl; blocks = refl; pins = refl; profile = refl }
 
 -- lists for symbols that have each its length

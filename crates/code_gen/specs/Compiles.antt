@@ -1,6 +1,6 @@
 -- Properties of a compiled program's object besides its acceptance, its meaning and its layout: its cycles, how long
 -- its code is, and how many stores of a word it has; and why a program isn't compiled. (This project's profile.)
-use Rattle.std.specs.Prelude.{◌≡◌, ℕ, ◌<◌, if◌then◌else◌, length}
+use Rattle.std.specs.Prelude.{◌≡◌, ℕ, ◌<◌, Bool, true, false, if◌then◌else◌, length}
 use Rattle.gr_base.specs.Lists.{Within}
 use Rattle.gr_word.specs.declared.variables.Label.TheVariants.{Public}
 use Rattle.lt_isa.specs.declared.profiles.Profile.{Profile}
@@ -34,17 +34,18 @@ pub record IsFor (given : Profile) (l : Latencies) (o : Parts) : Type 0 where
   pub profile : o.profile ≡ given
   pub latencies : (b : ℕ) → b < length o.banks → latency_of o b ≡ latency_for l b
 
--- the stores of a word that the code of a program has, by a plan of its memory
-abbrev pub stores_by : Source → Plan → Profile → ℕ
-stores_by p plan profile = added_up (stores_of_each (setting_for p plan profile) Public p.body)
+-- the stores of a word that the code of a program has, by a plan of its memory, and with or without steps in the place of
+-- operations by numbers
+abbrev pub stores_by : Source → Plan → Profile → Bool → ℕ
+stores_by p plan profile reduces = added_up (stores_of_each (setting_for p plan profile reduces) Public p.body)
 
 -- the same without --fast
 abbrev pub stores_in : Source → Profile → ℕ
-stores_in p profile = stores_by p (standard_plan p profile.block_log) profile
+stores_in p profile = stores_by p (standard_plan p profile.block_log) profile false
 
 -- and with it, where expressions are made cheaper
 abbrev pub stores_with_residents : Source → Profile → ℕ
-stores_with_residents p profile = stores_by (folded_source p) (resident_plan p profile.block_log) profile
+stores_with_residents p profile = stores_by (folded_source p) (resident_plan p profile.block_log) profile true
 
 -- A program is refused where its variables lack room, as the first of them does. Want of memory says nothing.
 abbrev pub ExplainsRoom : CompileError → Source → ℕ → Type 0

@@ -1,4 +1,4 @@
-ghost use Rattle.std.specs.Prelude.{◌≡◌, ◌+◌, ◌*◌, ◌≤◌, IfOk, IfErr, OnOk, length};
+ghost use Rattle.std.specs.Prelude.{◌≡◌, ◌+◌, ◌*◌, ◌≤◌, true, false, IfOk, IfErr, OnOk, length};
 ghost use Rattle.lt_isa.specs.Ranges.{IsInRange, ProfileFits};
 ghost use Rattle.src_tree.specs.Limits.{IsWithinLimits, weight_of};
 ghost use Rattle.src_tree.specs.Trees.{source_of};
@@ -70,20 +70,22 @@ fn assembled(alloc: Global, f: &Frame<'_>, l: &Latencies, made: CodeBuf) -> Resu
         ≡ program_code (setting_of f.now) (padding_of (setting_of f.now)) (source_of f.now.program.now).body }
     requires notes { made.notes.items
         ≡ program_notes (setting_of f.now) (padding_of (setting_of f.now)) (source_of f.now.program.now).body }
-    ensures { IfOk result (λ o. IsMadeOf (source_of f.now.program.now) (plan_of f.now) f.now.profile.now l.now o) }
+    ensures { IfOk result (λ o. IsMadeOf (source_of f.now.program.now) (plan_of f.now) f.now.profile.now f.now.reduces
+        l.now o) }
 {
     let symbols = symbols(alloc, f.program, f.profile.block_log, f.places)?;
     let banks = bank_specs(alloc, f.places.blocks.as_slice(), l)?;
     Ok(Object::of_parts(*f.profile, banks, symbols, made.notes, made.code))
 }
 
-// The object of a program by a plan of its memory.
+// The object of a program by a plan of its memory, with or without steps in the place of operations by numbers.
 fn planned(
     alloc: Global,
     program: &Program,
     places: &Places,
     slots: &SlotPlan,
     p: &Profile,
+    reduces: bool,
     l: &Latencies,
 ) -> Result<Object, Memory>
     requires typed { IsTyped (source_of program.now) }
@@ -91,13 +93,14 @@ fn planned(
     requires plan { IsSoundPlan (source_of program.now) p.now.block_log (plan_from places.now slots.now) }
     requires profile { ProfileFits p.now }
     requires latencies { LatenciesFit l.now }
-    ensures { IfOk result (λ o. IsMadeOf (source_of program.now) (plan_from places.now slots.now) p.now l.now o) }
+    ensures { IfOk result (λ o. IsMadeOf (source_of program.now) (plan_from places.now slots.now) p.now reduces l.now o) }
 {
     let frame = Frame {
         program,
         places,
         slots,
         profile: p,
+        reduces,
     };
     let emitter = Emitter::new(alloc, &frame)?;
     let made = program_code(alloc, &emitter, program.body.as_slice())?;
@@ -119,11 +122,11 @@ fn planned_folded(
     requires profile { ProfileFits p.now }
     requires latencies { LatenciesFit l.now }
     ensures made { IfOk result (λ o. IsMadeOf (folded_source (source_of program.now)) (plan_from places.now slots.now) p.now
-        l.now o) }
+        true l.now o) }
     ensures numbers { OnOk result (BlockNumbersFit (source_of program.now).body) }
 {
     let program = folded(alloc, program)?;
-    planned(alloc, &program, places, slots, p, l)
+    planned(alloc, &program, places, slots, p, true, l)
 }
 
 // The object of a program whose variables have their places.
@@ -141,10 +144,10 @@ fn compiled(
     requires profile { ProfileFits p.now }
     requires latencies { LatenciesFit l.now }
     ensures { IfOk result (λ o. IsMadeOf (source_of program.now) (standard_plan (source_of program.now) p.now.block_log) p.now
-        l.now o) }
+        false l.now o) }
 {
     let slots = slots(alloc, places)?;
-    planned(alloc, program, places, &slots, p, l)
+    planned(alloc, program, places, &slots, p, false, l)
 }
 
 /// Compiles a program for a machine: the object is accepted, computes what the program means, has its layout, and has

@@ -54,6 +54,7 @@ pub record IsCompiledTo (p : Source) (target : Target) (bytes : List ℕ) : Type
   pub machine : IsFor target.profile usual_latencies o
   pub stores : stored_words o.code
       ≡ stores_by (source_for target.fast p) (plan_for target.fast p target.profile.block_log) target.profile
+      target.fast
 
 -- what lacks room, as it is printed; want of memory isn't a fault
 abbrev pub room_fault : CompileError → Option SourceFault

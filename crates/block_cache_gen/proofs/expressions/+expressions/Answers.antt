@@ -36,8 +36,8 @@ put_access-returns-in_ok-put_expr-in-None-clause-grows t c =
     grows_then c.args.out.now c.put_expr.new.out c.put_found_access.new.out c.put_expr.ensures.grows
     c.put_found_access.ensures.grows
 
-pub put_expr-put_expr-requires-in-Bin : goal.put_expr-put_expr-requires-in-Bin
-put_expr-put_expr-requires-in-Bin t c = (
+pub put_expr-put_operation-requires : goal.put_expr-put_operation-requires
+put_expr-put_operation-requires t c = (
   search rules,
   (
     search rules,
@@ -65,20 +65,19 @@ put_expr-returns-in_ok-put_access-in-Item-clause-emitted t c =
     c.in_ok-put_access-in-Item.ensures.emitted)
     c.put-in-Item.ensures.appended
 
-pub put_expr-returns-in_ok-put_expr-in-Bin-2-clause-emitted :
-    goal.put_expr-returns-in_ok-put_expr-in-Bin-2-clause-emitted
-put_expr-returns-in_ok-put_expr-in-Bin-2-clause-emitted t c =
-    on_ok_weaker c.put-in-Bin.result
+pub put_expr-returns-in_ok-put_expr-in-Bin-clause-emitted :
+    goal.put_expr-returns-in_ok-put_expr-in-Bin-clause-emitted
+put_expr-returns-in_ok-put_expr-in-Bin-clause-emitted t c =
+    on_ok_weaker c.put_operation.result
     (operation_appended c.args.emitter.now c.args.mode c.args.mask c.args.to (expr_tree c.args.e.now) c.in-Bin.op
     (expr_tree c.in-Bin.left.value) (expr_tree c.in-Bin.right.value) (expr_tree c.deref-in-Bin.result.now)
     (expr_tree c.deref-in-Bin-2.result.now)
     (expr_tree c.deref-in-Bin-3.result.now) c.label_of.result c.marked_by-mask.result
-    c.args.out.now c.put_expr.new.out c.put_expr-in-Bin.new.out c.put-in-Bin.new.self (ap expr_tree c.in-Bin.is)
+    c.args.out.now c.put_expr.new.out c.put_operation.new.out (ap expr_tree c.in-Bin.is)
     (ap expr_tree c.deref-in-Bin.ensures) (ap expr_tree c.deref-in-Bin-2.ensures)
     (ap expr_tree c.deref-in-Bin-3.ensures)
-    c.label_of.ensures c.marked_by-mask.ensures c.in_ok-put_expr-in-Bin.ensures.emitted
-    c.in_ok-put_expr-in-Bin-2.ensures.emitted)
-    c.put-in-Bin.ensures.appended
+    c.label_of.ensures c.marked_by-mask.ensures c.in_ok-put_expr-in-Bin.ensures.emitted)
+    c.put_operation.ensures.emitted
 
 pub put_expr-returns-in_ok-put_access-in-Item-clause-grows :
     goal.put_expr-returns-in_ok-put_access-in-Item-clause-grows
@@ -86,15 +85,8 @@ put_expr-returns-in_ok-put_access-in-Item-clause-grows t c =
     grows_then c.args.out.now c.put_access.new.out c.put-in-Item.new.self c.put_access.ensures.grows
     c.put-in-Item.ensures.grows
 
-pub put_expr-returns-in_err-put_expr-in-Bin-2-clause-grows :
-    goal.put_expr-returns-in_err-put_expr-in-Bin-2-clause-grows
-put_expr-returns-in_err-put_expr-in-Bin-2-clause-grows t c =
-    grows_then c.args.out.now c.put_expr.new.out c.put_expr-in-Bin.new.out c.put_expr.ensures.grows
-    c.put_expr-in-Bin.ensures.grows
-
-pub put_expr-returns-in_ok-put_expr-in-Bin-2-clause-grows :
-    goal.put_expr-returns-in_ok-put_expr-in-Bin-2-clause-grows
-put_expr-returns-in_ok-put_expr-in-Bin-2-clause-grows t c =
-    grows_then c.args.out.now c.put_expr-in-Bin.new.out c.put-in-Bin.new.self
-    (grows_then c.args.out.now c.put_expr.new.out c.put_expr-in-Bin.new.out c.put_expr.ensures.grows
-    c.put_expr-in-Bin.ensures.grows) c.put-in-Bin.ensures.grows
+pub put_expr-returns-in_ok-put_expr-in-Bin-clause-grows :
+    goal.put_expr-returns-in_ok-put_expr-in-Bin-clause-grows
+put_expr-returns-in_ok-put_expr-in-Bin-clause-grows t c =
+    grows_then c.args.out.now c.put_expr.new.out c.put_operation.new.out c.put_expr.ensures.grows
+    c.put_operation.ensures.grows

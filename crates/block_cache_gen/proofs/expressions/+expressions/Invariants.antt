@@ -8,3 +8,6 @@ decreases-put_expr l = 2 * tree_weight (expr_tree l.e.now)
 
 abbrev pub decreases-put_access : goal.decreases-put_access
 decreases-put_access l = 2 * tree_weight (expr_tree l.index.now) + 1
+
+abbrev pub decreases-put_operation : goal.decreases-put_operation
+decreases-put_operation l = 2 * tree_weight (expr_tree l.right.now) + 1

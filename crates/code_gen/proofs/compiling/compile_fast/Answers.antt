@@ -1,4 +1,4 @@
-use Rattle.std.proofs.Common.{rules, sym, subst}
+use Rattle.std.proofs.Common.{true, rules, sym, subst}
 use Rattle.src_tree.specs.Limits.{IsWithinLimits}
 use Rattle.src_tree.specs.Trees.{source_of}
 use Rattle.src_tree.specs.Typing.{IsTyped}
@@ -30,16 +30,16 @@ returns-in-Ok-planned_folded c =
     let typed = subst (λ q. IsTyped (source_of q)) (sym p.ensures.program) p.ensures.typed in
     let sound = resident_sound source w limits c.requires.profile.block_log c.in-Ok.ensures.fits in
     let object = c.in-Ok-planned_folded.object in
-    let made = subst (λ plan. IsMadeOf (folded_source source) plan c.args.p.now c.args.l.now object)
+    let made = subst (λ plan. IsMadeOf (folded_source source) plan c.args.p.now true c.args.l.now object)
     c.in-Ok.ensures.plan c.in-Ok-planned_folded.ensures.made in
     let numbers = subst (λ q. BlockNumbersFit (source_of q).body) p.ensures.program
     c.in-Ok-planned_folded.ensures.numbers in
-    let layout = subst (λ q. IsMadeOf (folded_source (source_of q)) (resident_plan (source_of q) w) c.args.p.now c.args.l.now
+    let layout = subst (λ q. IsMadeOf (folded_source (source_of q)) (resident_plan (source_of q) w) c.args.p.now true c.args.l.now
     object) p.ensures.program made in
-    let h = subst (λ q. CompilePromises (folded_source (source_of q)) (resident_plan (source_of q) w) c.args.p.now c.args.l.now
+    let h = subst (λ q. CompilePromises (folded_source (source_of q)) (resident_plan (source_of q) w) c.args.p.now true c.args.l.now
     object)
     p.ensures.program
-    (made-promises (folded_source source) (resident_plan source w) c.args.p.now c.args.l.now
+    (made-promises (folded_source source) (resident_plan source w) c.args.p.now true c.args.l.now
     (folded-source_typed source typed) (folded-within source limits)
     (folded-sound source w (resident_plan source w) sound) c.requires.profile object made) in
     record {

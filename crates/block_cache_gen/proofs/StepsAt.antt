@@ -1,0 +1,62 @@
+-- An operation by a number that steps replace.
+use Rattle.std.proofs.Common.{◌≡◌, ℕ, ◌+◌, ◌*◌, ◌<◌, ◌≤◌, Bool, true, false, ◌&&◌, cond, ℤ, List, [], ◌∷◌, ◌++◌, length, map, Option, Some, None, refl, sym, ap, ◌∙◌, subst, arith, length-append}
+use Rattle.std.specs.Prelude.{All}
+use Rattle.std.proofs.lemmas.List.{length-map}
+use Rattle.std.proofs.lemmas.List.Elements.{All-head, All-tail}
+use Rattle.gr_word.specs.declared.operations.Op.{Op}
+use Rattle.lt_isa.specs.declared.instructions.Instr.{Instr}
+use Rattle.lt_isa.specs.declared.instructions.Instr.TheVariants.{Alu}
+use Rattle.strength_reduction.specs.Reduced.{steps_by_number}
+use Rattle.strength_reduction.specs.Steps.{Step, Constant, Compute, Replaces, code_of, instruction_of}
+use Rattle.strength_reduction.proofs.Replacing.{steps-replace}
+use Rattle.src_tree.specs.Limits.{tree_weight}
+use Rattle.src_tree.specs.Trees.{Tree, Number, Variable, Element, Operation}
+use Rattle.block_cache_gen.specs.Homes.{Setting}
+use Rattle.block_cache_gen.specs.Codes.{is_product, may_step, steps_at, operation_code}
+use Rattle.block_cache_gen.specs.StoredWords.{stored_words}
+
+-- the right side is a number, and the steps do what the operation does
+pub record StepsOf (op : Op) (b : Tree) (steps : List Step) : Type 0 where
+  pub number : ℤ
+  pub is : b ≡ Number number
+  pub replaces : Replaces op number steps
+
+pub steps-of : (f : Setting) (op : Op) (b : Tree) (steps : List Step) → steps_at f op b ≡ Some steps
+    → StepsOf op b steps
+steps-of f op (Number z) steps e = by (f.reduces && is_product op) e
+  where
+    by : (c : Bool) → cond c (steps_by_number op z) None ≡ Some steps → StepsOf op (Number z) steps
+    by true found = record { number = z; is = refl; replaces = steps-replace op z steps found }
+    by false found = absurd (let f : ◌≡◌ {A = Option (List Step)} None (Some steps) = found in cc)
+steps-of f op (Variable x) steps e = absurd (let f : ◌≡◌ {A = Option (List Step)} None (Some steps) = e in cc)
+steps-of f op (Element x i) steps e = absurd (let f : ◌≡◌ {A = Option (List Step)} None (Some steps) = e in cc)
+steps-of f op (Operation oq a b) steps e = absurd (let f : ◌≡◌ {A = Option (List Step)} None (Some steps) = e in cc)
+
+-- no steps replace an operation that they may not replace
+pub not-stepped : (f : Setting) (op : Op) (b : Tree) → may_step f op b ≡ false → steps_at f op b ≡ None
+not-stepped f op (Number z) e = ap (λ (c : Bool). cond c (steps_by_number op z) None) e
+not-stepped f op (Variable x) e = refl
+not-stepped f op (Element x i) e = refl
+not-stepped f op (Operation oq a b) e = refl
+
+-- how long the code is that follows the left side
+pub operation-short : (f : Setting) (op : Op) (to : ℕ) (b : Tree) (right : List Instr)
+    → length right ≤ 12 * tree_weight b
+    → length (operation_code op to (steps_at f op b) right) ≤ 12 * tree_weight b + 12
+operation-short f op to b right short = by (steps_at f op b) refl
+  where
+    by : (found : Option (List Step)) → steps_at f op b ≡ found
+        → length (operation_code op to found right) ≤ 12 * tree_weight b + 12
+    by None e = let l = length-append right (Alu op to to (to + 1) ∷ []) in omega arith
+    by (Some steps) e =
+        let known = steps-of f op b steps e in
+        let few = known.replaces.few in
+        let one = ap tree_weight known.is in
+        let l = length-map steps (instruction_of to) in
+        omega arith
+
+-- steps store no word
+pub steps-stores : (to : ℕ) (steps : List Step) → stored_words (code_of to steps) ≡ 0
+steps-stores to [] = refl
+steps-stores to (Constant rd value ∷ steps) = steps-stores to steps
+steps-stores to (Compute op rd left right ∷ steps) = steps-stores to steps

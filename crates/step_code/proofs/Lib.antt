@@ -1,0 +1,4 @@
+pub mod Registers
+pub mod StepRuns
+pub mod StepPasses
+pub mod StepWalks

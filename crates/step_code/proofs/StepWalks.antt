@@ -1,0 +1,114 @@
+-- The check walks the code of steps in an arm: it shows the steps' cycles, and knows the tree of each of their registers.
+use Rattle.std.proofs.Common.{◌≡◌, ◌≢◌, ℕ, ◌+◌, ◌<◌, ◌≤◌, ℤ, List, [], ◌∷◌, map, length, Option, Some, None, refl, sym, ap, ◌∙◌, arith, length-set, get_or-set_same, get_or-set_other}
+use Rattle.std.specs.Prelude.{All}
+use Rattle.std.proofs.lemmas.List.Elements.{All-head, All-tail}
+use Rattle.gr_word.specs.declared.operations.Op.{Op}
+use Rattle.lt_isa.specs.declared.profiles.Profile.{Profile}
+use Rattle.lt_isa.specs.declared.instructions.Instr.TheVariants.{Li, Alu}
+use Rattle.lt_isa.specs.Object.{Parts}
+use Rattle.lt_isa.specs.Costs.{operation_cost}
+use Rattle.symbolic_values.specs.Trees.{Value, Const}
+use Rattle.trace_patterns.specs.SymStates.{SymState, tree_held, hold_tree}
+use Rattle.trace_patterns.specs.Single.{Goes, applied_trees, single}
+use Rattle.stretches.specs.Shows.{Show, Gap, pattern_of_one}
+use Rattle.stretches.proofs.ArmCode.{Walked, walked-none, walked-on}
+use Rattle.strength_reduction.specs.Steps.{Step, Constant, Compute, StepFits, left_by, replaced, numbered, code_of}
+use Rattle.step_code.proofs.Registers.{numbered-low, numbered-from, set-own}
+
+-- the trees that steps leave in the registers
+abbrev pub trees_after : List Step → (ℕ → Option Value) → ℕ → Option Value
+trees_after steps trees = left_by (λ value. Some (Const value)) applied_trees steps trees
+
+-- what the code of steps shows: the cycles of each
+abbrev pub step_shows : Profile → Step → Show
+step_shows profile (Constant to value) = Gap 1
+step_shows profile (Compute op to left right) = Gap (operation_cost profile op)
+
+abbrev pub steps_show : Profile → List Step → List Show
+steps_show profile steps = map (step_shows profile) steps
+
+pub record Walks (o : Parts) (depth base : ℕ) (steps : List Step) (trees : ℕ → Option Value) (s : SymState) : Type 0 where
+  pub state : SymState
+  pub walked : Walked o depth s (code_of base steps) (steps_show o.profile steps) state
+  pub own : (i : ℕ) → i ≤ 2 → tree_held state (numbered base i) ≡ trees i
+  pub below : (r : ℕ) → r < base → tree_held state r ≡ tree_held s r
+  pub slots : state.slots ≡ s.slots
+  pub registers : length state.registers ≡ 32
+
+module _ (o : Parts) (depth base : ℕ) (room : base + 2 < 32) where
+  single-li : (s : SymState) (rd : ℕ) (value : ℤ)
+      → single o s (Li rd value) ≡ Goes (pattern_of_one (Gap 1)) (hold_tree s rd (Some (Const value)))
+  unfolding single
+  single-li s rd value = refl
+
+  single-alu : (s : SymState) (op : Op) (rd ra rb : ℕ)
+      → single o s (Alu op rd ra rb)
+          ≡ Goes (pattern_of_one (Gap (operation_cost o.profile op)))
+              (hold_tree s rd (applied_trees op (tree_held s ra) (tree_held s rb)))
+  unfolding single
+  single-alu s op rd ra rb = refl
+
+  pub walks-steps : (steps : List Step) (trees : ℕ → Option Value) (s : SymState)
+      → All StepFits steps
+      → length s.registers ≡ 32
+      → ((i : ℕ) → i ≤ 2 → tree_held s (numbered base i) ≡ trees i)
+      → Walks o depth base steps (trees_after steps trees) s
+  walks-steps [] trees s low size held = record {
+    state = s;
+    walked = walked-none o depth s;
+    own = held;
+    below = λ r under. refl;
+    slots = refl;
+    registers = size;
+  }
+  walks-steps (Constant to value ∷ steps) trees s low size held =
+      let first = All-head StepFits (Constant to value) steps low in
+      let rd = numbered base to in
+      let tree : Option Value = Some (Const value) in
+      let next = hold_tree s rd tree in
+      let inside : rd < length s.registers = omega (arith, numbered-low base to first.0 room) in
+      let rest = walks-steps steps (replaced trees to tree) next (All-tail StepFits (Constant to value) steps low)
+      (length-set s.registers rd tree ∙ size)
+      (set-own base to tree (tree_held s) (tree_held next) trees (get_or-set_same s.registers rd tree None inside)
+      (λ r other. get_or-set_other s.registers rd r tree None other) held) in
+      record {
+        state = rest.state;
+        walked
+            = walked-on o depth s (Li rd value) (Gap 1) next (code_of base steps) (steps_show o.profile steps) rest.state
+            (single-li s rd value) rest.walked;
+        own = rest.own;
+        below = λ r under.
+            rest.below r under
+            ∙ get_or-set_other s.registers rd r tree None (λ same. absurd (omega (arith, numbered-from base to)));
+        slots = rest.slots;
+        registers = rest.registers;
+      }
+  walks-steps (Compute op to left right ∷ steps) trees s low size held =
+      let first = All-head StepFits (Compute op to left right) steps low in
+      let rd = numbered base to in
+      let ra = numbered base left in
+      let rb = numbered base right in
+      let tree = applied_trees op (tree_held s ra) (tree_held s rb) in
+      let next = hold_tree s rd tree in
+      let inside : rd < length s.registers = omega (arith, numbered-low base to first.0 room) in
+      let is : tree ≡ applied_trees op (trees left) (trees right) =
+      ap (λ t. applied_trees op t (tree_held s rb)) (held left first.1)
+      ∙ ap (applied_trees op (trees left)) (held right first.2) in
+      let rest = walks-steps steps (replaced trees to (applied_trees op (trees left) (trees right))) next
+      (All-tail StepFits (Compute op to left right) steps low)
+      (length-set s.registers rd tree ∙ size)
+      (set-own base to (applied_trees op (trees left) (trees right)) (tree_held s) (tree_held next) trees
+      (get_or-set_same s.registers rd tree None inside ∙ is)
+      (λ r other. get_or-set_other s.registers rd r tree None other) held) in
+      record {
+        state = rest.state;
+        walked
+            = walked-on o depth s (Alu op rd ra rb) (Gap (operation_cost o.profile op)) next (code_of base steps)
+            (steps_show o.profile steps) rest.state (single-alu s op rd ra rb) rest.walked;
+        own = rest.own;
+        below = λ r under.
+            rest.below r under
+            ∙ get_or-set_other s.registers rd r tree None (λ same. absurd (omega (arith, numbered-from base to)));
+        slots = rest.slots;
+        registers = rest.registers;
+      }

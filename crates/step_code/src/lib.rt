@@ -1,0 +1,5 @@
+//! The code of steps that replace an operation by a number: what a run through it leaves, how the check passes it in
+//! public code, and how the check walks it in an arm.
+//!
+//! Here are only definitions and laws (proofs/).
+#![tactic(auto)]
