@@ -54,7 +54,7 @@ int main(int count, char **words)
     lay_out(&source, asked.block_log, asked.is_fast, &object);
     if (asked.is_fast)
         fold(&source);
-    emit(&source, &object);
+    emit(&source, asked.is_fast, &object);
     size_t byte_count;
     uint8_t *bytes = encode(&object, &byte_count);
     write_file(asked.output, bytes, byte_count);

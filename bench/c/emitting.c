@@ -11,6 +11,7 @@
 
 #include "files.h"
 #include "layout.h"
+#include "reducing.h"
 
 #include <stdlib.h>
 
@@ -22,6 +23,7 @@ enum mode { IN_PUBLIC, WITH_EFFECT, WITHOUT_EFFECT };
 struct emitter {
     const struct source *source;
     struct object *object;
+    bool is_fast;
     size_t code_room, note_room;
     /* What each note claims of the slots. */
     uint8_t claims[SLOTS];
@@ -192,6 +194,21 @@ static void put_access(struct emitter *emitter, const struct variable *array, co
         put_note(emitter, without(without(without(mask, to), to + 1), to + 2));
 }
 
+/* Puts the steps of an operation by a number. Answers whether there are any. */
+static bool put_by_number(struct emitter *emitter, const struct expr *expr, unsigned to, enum mode mode, uint32_t mask)
+{
+    struct instruction steps[MOST_STEPS];
+    if (!emitter->is_fast || expr->right->kind != CONSTANT)
+        return false;
+    const int count = steps_by_number(expr->opcode, expr->right->number, to, steps);
+    if (count == NO_STEPS)
+        return false;
+    put_expr(emitter, expr->left, to, mode, mask);
+    for (int i = 0; i < count; i++)
+        put(emitter, steps[i]);
+    return true;
+}
+
 /* Leaves the value of an expression in a register. The mask says which registers may be secret in its notes. */
 static void put_expr(struct emitter *emitter, const struct expr *expr, unsigned to, enum mode mode, uint32_t mask)
 {
@@ -211,6 +228,8 @@ static void put_expr(struct emitter *emitter, const struct expr *expr, unsigned 
         put_plain(emitter, LDW, to, variable->slot, to);
         break;
     case OPERATION:
+        if (put_by_number(emitter, expr, to, mode, mask))
+            break;
         put_expr(emitter, expr->left, to, mode, mask);
         put_expr(emitter, expr->right, to + 1, mode, mask_behind(expr->left, mask, to));
         put_plain(emitter, expr->opcode, to, to, to + 1);
@@ -262,6 +281,18 @@ static bool is_product(uint8_t opcode)
     return opcode >= MUL && opcode <= REMU;
 }
 
+/* Whether steps may replace an operation. */
+static bool may_step(const struct emitter *emitter, const struct expr *expr)
+{
+    return emitter->is_fast && expr->right->kind == CONSTANT && is_product(expr->opcode);
+}
+
+/* Whether two operations are the same operation by the same number. */
+static bool is_by_same_number(const struct expr *one, const struct expr *other)
+{
+    return one->opcode == other->opcode && one->right->kind == CONSTANT && is_same(one->right, other->right);
+}
+
 static bool is_alike(const struct emitter *emitter, const struct expr *one, const struct expr *other);
 
 /* Whether accesses of two arrays show the same for any indexes that do: of one oblivious bank, or of resident arrays whose
@@ -291,7 +322,11 @@ static bool is_alike(const struct emitter *emitter, const struct expr *one, cons
     switch (one->kind) {
     case ELEMENT: return shows_same(emitter, one->variable, one->left, other->variable, other->left);
     case OPERATION:
-        return is_product(one->opcode) == is_product(other->opcode) && is_alike(emitter, one->left, other->left)
+        if (!is_alike(emitter, one->left, other->left))
+            return false;
+        if (is_by_same_number(one, other))
+            return true;
+        return !may_step(emitter, one) && !may_step(emitter, other) && is_product(one->opcode) == is_product(other->opcode)
                && is_alike(emitter, one->right, other->right);
     default: return true;
     }
@@ -477,9 +512,11 @@ static void put_end(struct emitter *emitter)
     put_plain(emitter, HALT, 0, 0, 0);
 }
 
-void emit(const struct source *source, struct object *object)
+void emit(const struct source *source, bool is_fast, struct object *object)
 {
-    struct emitter emitter = {.source = source, .object = object, .code_room = FIRST_CODE, .note_room = FIRST_NOTES};
+    struct emitter emitter = {
+        .source = source, .object = object, .is_fast = is_fast, .code_room = FIRST_CODE, .note_room = FIRST_NOTES,
+    };
     object->code = room_for(FIRST_CODE, sizeof object->code[0]);
     object->notes = room_for(FIRST_NOTES, sizeof object->notes[0]);
     put_beginning(&emitter);

@@ -4,7 +4,7 @@
 
 #include "source.h"
 
-/* Gives an object the code and the notes of a program whose variables have their places. */
-void emit(const struct source *source, struct object *object);
+/* Gives an object the code and the notes of a program whose variables have their places, as with `--fast` or without it. */
+void emit(const struct source *source, bool is_fast, struct object *object);
 
 #endif

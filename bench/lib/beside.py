@@ -26,7 +26,7 @@ C_PROGRAMS = {
     'run': ['run', 'options'] + MACHINE,
     'asm': ['asm', 'spelling', 'files', 'object'],
     'eval': ['eval', 'options', 'json', 'inputs', 'object'] + SOURCES,
-    'compile': ['compile', 'options', 'layout', 'residents', 'folding', 'emitting', 'object'] + SOURCES,
+    'compile': ['compile', 'options', 'layout', 'residents', 'folding', 'reducing', 'emitting', 'object'] + SOURCES,
     'oram': ['oram', 'recursive_oram', 'path_oram', 'chacha', 'files'],
     'crafted': ['crafted'],
     'measure': ['measure'],

@@ -179,10 +179,10 @@ pub fn compile(alloc: Global, t: &Typed, p: &Profile, l: &Latencies) -> Result<O
 }
 
 /// Compiles a program as [`compile`] does, for `--fast`: arrays stay in the scratchpad for the whole run if there is room
-/// for them, so that an access of them shows nothing on the bus, and expressions are made cheaper
-/// ([`source_folding::folded`]). Each variable is at the place that
-/// [`resident_alloc::resident_plan`] gives it. A program is refused exactly where its variables lack room at these
-/// places, with the first that does.
+/// for them, so that an access of them shows nothing on the bus. Expressions are made cheaper
+/// ([`source_folding::folded`]), and steps replace products, quotients and remainders by numbers
+/// (`strength_reduction`). Each variable is at the place that [`resident_alloc::resident_plan`] gives it. A program is
+/// refused exactly where its variables lack room at these places, with the first that does.
 pub fn compile_fast(
     alloc: Global,
     t: &Typed,

@@ -8,8 +8,8 @@ ghost use Rattle.src_tree.specs.Typing.{IsTyped};
 ghost use Rattle.source_folding.specs.Numbers.{BlockNumbersFit};
 ghost use Rattle.source_folding.specs.Folded.{folded_source};
 
-/// Laws of the program that [`folded`](crate::folded) returns: it means the same on every store of words, it is well typed and within the limits
-/// if the given program is, and its weight isn't greater.
+/// Laws of the program that [`folded`](crate::folded) returns: it means the same on every store of words, it is well
+/// typed and within the limits if the given program is, and its weight isn't greater.
 pub fn folding_laws()
     ensures meaning { (p : Source) (wants : List Want) (store : Store) (turns : ℕ)
         → BlockNumbersFit p.body
