@@ -26,7 +26,7 @@ use Rattle.strength_reduction.specs.Steps.{Step, Constant, Compute, StepFits, re
 use Rattle.strength_reduction.proofs.Replacing.{result-alike}
 use Rattle.step_code.proofs.StepWalks.{steps_show, walks-steps}
 use Rattle.src_tree.proofs.TreeHeights.{height-some}
-use Rattle.block_cache_gen.proofs.StepsAt.{StepsOf, steps-of}
+use Rattle.block_cache_gen.proofs.StepsAt.{steps-of}
 use Rattle.block_cache_gen.specs.Carries.{CarriesInArm}
 use Rattle.block_cache_gen.specs.PublicIndexes.{shows_index, HasPublicIndexes, TestHasPublicIndexes}
 use Rattle.block_cache_gen.specs.PatternsOf.{operation_gap, word_gap, word_read, scalar_tree, reduced_tree, number_tree, shifted_tree, block_tree, reducing, placed_shows, placed_tree, shows_by, loads_by, element_by, found_shows, load_shows, Loads, no_loads, then_loads, one_load, index_loads, element_slot, step_gap, steps_tree, operation_tree, operation_shows, operation_loads, tree_of_expr, shows_of_expr, slots_of_expr, shows_of_test, slots_of_test}

@@ -18,7 +18,7 @@ use Rattle.block_cache_gen.specs.Homes.{Home, Setting, home_of, words_a_block, H
 use Rattle.block_cache_gen.specs.Codes.{is_masked, fixed_index, fixed_word, steps_at}
 use Rattle.strength_reduction.specs.Steps.{Step, Constant, Compute, left_by, reads_known, replaced}
 use Rattle.block_cache_gen.specs.PatternsOf.{word_named_by, word_read, scalar_tree, pinned_slot, placed_tree, element_by, block_named_by, number_tree, reduced_tree, block_tree, block_loaded, element_slot, steps_tree, operation_tree, tree_of_expr}
-use Rattle.block_cache_gen.proofs.StepsAt.{StepsOf, steps-of}
+use Rattle.block_cache_gen.proofs.StepsAt.{steps-of}
 use Rattle.block_cache_gen.proofs.HomeFacts.{plain-array}
 use Rattle.block_cache_gen.proofs.ArmInstructions.{IsSeen}
 

@@ -28,7 +28,7 @@ use Rattle.block_cache_gen.specs.Codes.{is_masked, fixed_index, fixed_word, redu
 use Rattle.strength_reduction.specs.Steps.{Step, Constant, Compute, StepFits, numbered, code_of}
 use Rattle.step_code.proofs.Registers.{numbered-low}
 use Rattle.src_tree.proofs.TreeHeights.{height-some}
-use Rattle.block_cache_gen.proofs.StepsAt.{StepsOf, steps-of}
+use Rattle.block_cache_gen.proofs.StepsAt.{steps-of}
 
 -- a home in its ranges, if there are this many banks
 pub record HomeFits (banks : ℕ) (h : Home) : Type 0 where

@@ -23,8 +23,8 @@ pub record AreReducedAlike (f : Setting) (x y : List ℕ) : Type 0 where
 
 -- Two expressions are alike if both are numbers, or scalars; or elements with alike indexes, of one oblivious bank or of
 -- resident arrays whose indexes are reduced alike; or elements of one array of plain or encrypted memory with the same
--- index; or operations that no steps may replace, both products or neither, on alike parts; or the same operation by the same
--- number, on an alike left side.
+-- index; or operations that no steps may replace, both products or neither, on alike parts; or the same operation by
+-- the same number, on an alike left side.
 pub data Alike (f : Setting) : Tree → Tree → Type 0 where
   Numbers : (y z : ℤ) → Alike f (Number y) (Number z)
   Scalars : (x y : List ℕ) → Alike f (Variable x) (Variable y)

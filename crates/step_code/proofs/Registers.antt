@@ -25,5 +25,5 @@ set-own {A} base to value before after own is others held i low = cases (eqb i t
     cases true e = ap (λ j. after (numbered base j)) (eqb-true i to e) ∙ is
     cases false e =
         others (numbered base i)
-            (λ same. false≢true (sym e ∙ eq-eqb i to (numbered-same base i to same)))
+        (λ same. false≢true (sym e ∙ eq-eqb i to (numbered-same base i to same)))
         ∙ held i low

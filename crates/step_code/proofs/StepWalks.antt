@@ -1,5 +1,5 @@
 -- The check walks the code of steps in an arm: it shows the steps' cycles, and knows the tree of each of their registers.
-use Rattle.std.proofs.Common.{◌≡◌, ◌≢◌, ℕ, ◌+◌, ◌<◌, ◌≤◌, ℤ, List, [], ◌∷◌, map, length, Option, Some, None, refl, sym, ap, ◌∙◌, arith, length-set, get_or-set_same, get_or-set_other}
+use Rattle.std.proofs.Common.{◌≡◌, ℕ, ◌+◌, ◌<◌, ◌≤◌, ℤ, List, [], ◌∷◌, map, length, Option, Some, None, refl, ap, ◌∙◌, arith, length-set, get_or-set_same, get_or-set_other}
 use Rattle.std.specs.Prelude.{All}
 use Rattle.std.proofs.lemmas.List.Elements.{All-head, All-tail}
 use Rattle.gr_word.specs.declared.operations.Op.{Op}
@@ -43,8 +43,8 @@ module _ (o : Parts) (depth base : ℕ) (room : base + 2 < 32) where
 
   single-alu : (s : SymState) (op : Op) (rd ra rb : ℕ)
       → single o s (Alu op rd ra rb)
-          ≡ Goes (pattern_of_one (Gap (operation_cost o.profile op)))
-              (hold_tree s rd (applied_trees op (tree_held s ra) (tree_held s rb)))
+      ≡ Goes (pattern_of_one (Gap (operation_cost o.profile op)))
+      (hold_tree s rd (applied_trees op (tree_held s ra) (tree_held s rb)))
   unfolding single
   single-alu s op rd ra rb = refl
 
