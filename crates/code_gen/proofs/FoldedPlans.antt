@@ -1,6 +1,6 @@
 -- A plan that is sound for a program is sound for the program with cheaper expressions, whose code does what the program
 -- means.
-use Rattle.std.proofs.Common.{◌≡◌, ℕ, ◌+◌, ◌*◌, ◌<◌, ◌≤◌, Bool, true, false, ◌&&◌, ◌||◌, List, length, refl, sym, ap, ◌∙◌, arith}
+use Rattle.std.proofs.Common.{◌≡◌, ℕ, ◌+◌, ◌*◌, ◌≤◌, Bool, true, false, ◌&&◌, ◌||◌, List, length, refl, sym, ap, ◌∙◌, arith}
 use Rattle.std.specs.Prelude.{bytes_eq}
 use Rattle.lt_isa.specs.Object.{Parts}
 use Rattle.gr_word.specs.declared.operations.Op.{Op}
@@ -12,9 +12,9 @@ use Rattle.src_tree.specs.Trees.{Tree, Number, Variable, Element, Operation, Tes
 use Rattle.flow_types.specs.Wants.{declared_wants}
 use Rattle.bank_alloc.specs.Classes.{class_by, class_of}
 use Rattle.bank_alloc.specs.Layout.{IsLaidOut}
-use Rattle.bank_alloc.specs.Indexes.{secret_index_in, secret_index_in_test, secret_index_in_statement, secret_index_in_block, has_secret_index}
+use Rattle.bank_alloc.specs.Indexes.{secret_index_in, secret_index_in_test, secret_index_in_statement, secret_index_in_block}
 use Rattle.scratch_alloc.specs.Plans.{Plan, IsSoundPlan, decl_at}
-use Rattle.source_folding.specs.Folded.{operation, folded, folded_test, folded_statement, folded_block, folded_source}
+use Rattle.source_folding.specs.Folded.{folded, folded_test, folded_statement, folded_block, folded_source}
 use Rattle.source_folding.specs.Numbers.{BlockNumbersFit}
 use Rattle.source_folding.proofs.FoldedTrees.{Made, AsBefore, Computed, Swapped, Shifted, SwappedShift, Masked, is-made, folded-label}
 use Rattle.source_folding.proofs.FoldedPrograms.{folded-means, folded-weighs}

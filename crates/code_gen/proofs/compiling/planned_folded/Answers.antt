@@ -4,7 +4,6 @@ use Rattle.src_tree.specs.Typing.{IsTyped}
 use Rattle.src_tree.specs.Trees.{source_of}
 use Rattle.scratch_alloc.specs.Plans.{IsSoundPlan, plan_from}
 use Rattle.source_folding.proofs.FoldedPrograms.{folded-source_typed, folded-within}
-use Rattle.code_gen.specs.Made.{IsMadeOf}
 use Rattle.code_gen.proofs.FoldedPlans.{folded-sound}
 use Rattle.code_gen.proofs.compiling.planned_folded.Goals as goal
 
