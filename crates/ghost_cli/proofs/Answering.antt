@@ -23,7 +23,7 @@ use Rattle.processor.specs.Watching.{WatcherTold, AnEvent, events_in}
 use Rattle.processor.specs.Ends.{NoHalt}
 use Rattle.ghost_cli.specs.Runs.{run_outputs}
 use Rattle.ghost_cli.specs.Steps.{with_accepted, with_inputs}
-use Rattle.ghost_cli.specs.Options.{texts}
+use Rattle.command_words.specs.Options.{texts}
 use Rattle.ghost_cli.specs.Trace.{trace_work, traces_on, shows_on}
 use Rattle.ghost_cli.specs.Run.{run_work, runs_on, on_halt}
 use Rattle.ghost_cli.specs.Verbs.{work_of}

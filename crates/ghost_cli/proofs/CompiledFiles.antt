@@ -8,9 +8,7 @@ use Rattle.ghost_cli.specs.declared.source_faults.SourceFault.{SourceFault}
 use Rattle.ghost_cli.specs.Texts.{Said}
 use Rattle.ghost_cli.specs.Sources.{SpellsTyped}
 use Rattle.ghost_cli.specs.Compile.{compile_work, compiles_to, on_compiled}
-use Rattle.ghost_cli.specs.Questions.{IsRight, WhichSource, WhichCompiled}
-use Rattle.ghost_cli.specs.declared.replies.Verdict.TheVariants.{BadSource}
-use Rattle.ghost_cli.specs.Steps.{or_ends}
+use Rattle.ghost_cli.specs.Questions.{IsRight, WhichCompiled}
 use Rattle.ghost_cli.specs.Work.{Work, Ending, MayEnd, Holds, said_at, files_at}
 use Rattle.ghost_cli.specs.Outside.{Outside, Explains}
 use Rattle.ghost_cli.specs.Promises.{Answers, NoAnswer, AnswersSo, IsCompiledFile}

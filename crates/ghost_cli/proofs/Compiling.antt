@@ -22,8 +22,8 @@ use Rattle.ghost_cli.specs.Texts.{Said}
 use Rattle.ghost_cli.specs.Questions.{WhichCompiled}
 use Rattle.ghost_cli.specs.Compiled.{HasLayoutFor, HasRoom, IsCompiledTo, LacksRoom, plan_for, source_for, room_fault}
 use Rattle.ghost_cli.specs.Outside.{outside, LeftBy, Explains}
-use Rattle.ghost_cli.specs.Windows.{WindowFits, windowed_profile}
-use Rattle.ghost_cli.specs.declared.windows.Window.{Window}
+use Rattle.command_words.specs.Windows.{WindowFits, windowed_profile}
+use Rattle.command_words.specs.declared.windows.Window.{Window}
 use Rattle.ghost_cli.specs.declared.targets.Target.{Target}
 use Rattle.ghost_cli.specs.Compile.{compile_work, compiles_to, on_compiled}
 use Rattle.ghost_cli.specs.Progress.{HasLeft, EndsWorkWith, SaysSource}

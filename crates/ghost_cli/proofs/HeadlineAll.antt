@@ -1,9 +1,9 @@
 -- All of the headline, of a call of the program.
-use Rattle.std.proofs.Common.{◌≡◌, ◌≢◌, inl, inr, ℕ, List, Option, Some, sym, ap, ◌∙◌, subst}
+use Rattle.std.proofs.Common.{◌≢◌, inl, inr, ℕ, List, Option, Some, sym, ap, ◌∙◌, subst}
 use Rattle.std.specs.FinMap.{get}
 use Rattle.std.proofs.lemmas.Option.{same_Some}
 use Rattle.gr_outside.specs.Shelf.{Files, SameBut}
-use Rattle.ghost_cli.specs.CommandLines.{AreTexts, Text}
+use Rattle.command_words.specs.CommandLines.{AreTexts, Text}
 use Rattle.ghost_cli.specs.Headline.{Headline, NameOutput}
 use Rattle.ghost_cli.specs.HeadlineFollows.{HasHeadline, HeadlineFollows}
 use Rattle.ghost_cli.specs.Outside.{Explains, Outside}

@@ -1,5 +1,5 @@
 -- What the headline says of `bus`.
-use Rattle.std.proofs.Common.{◌≡◌, ◌≢◌, inl, inr, ℕ, ◌+◌, ◌<◌, ◌≤◌, ℤ, Bool, true, false, cond, ltb, List, [], ◌∷◌, ◌++◌, codes, length, Option, Some, None, refl, sym, ap, ◌∙◌, subst, arith, append_assoc, length-append}
+use Rattle.std.proofs.Common.{◌≡◌, ℕ, ◌+◌, ◌≤◌, ℤ, Bool, true, false, cond, ltb, List, [], ◌∷◌, ◌++◌, codes, length, Option, Some, None, refl, sym, ap, ◌∙◌, subst, arith, append_assoc, length-append}
 use Rattle.std.specs.Option.{option_map}
 use Rattle.std.proofs.lemmas.Bool.{ltb-false}
 use Rattle.std.proofs.lemmas.List.{append-nil}
@@ -10,7 +10,6 @@ use Rattle.lt_isa.specs.Oblivious.{IsOblivious}
 use Rattle.lt_isa.specs.Start.{FitsObject, wants_of}
 use Rattle.lt_isa.proofs.Variables.{wants_are_variables}
 use Rattle.run_data.proofs.ReadWords.{inputs_fit}
-use Rattle.bus_arbiter.specs.declared.shares.Share.{Share}
 use Rattle.bus_arbiter.specs.Laws.{AllOblivious}
 use Rattle.bus_arbiter.specs.Refusals.{refusal}
 use Rattle.bus_arbiter.specs.Shares.{IsPlan, share_of}
@@ -18,19 +17,21 @@ use Rattle.bus_arbiter.specs.Transfers.{Transfer}
 use Rattle.bus_arbiter.proofs.JoinedLaws.{agreeing}
 use Rattle.bus_arbiter.proofs.PlannedRuns.{none-overlaps, plan-none, plan-takes}
 use Rattle.ghost_cli.specs.declared.replies.Verdict.TheVariants.{Shared}
-use Rattle.ghost_cli.specs.Bus.{Pair, Read, all_halted, bus_work, in_pairs, none_read, on_plan, one_read, pairs_of, shares_bus, with_cores}
-use Rattle.ghost_cli.specs.CommandLines.{Part, StandTogether, Text}
+use Rattle.command_words.specs.Pairs.{Pair, in_pairs, pairs_of}
+use Rattle.ghost_cli.specs.Verbs.{works}
+use Rattle.ghost_cli.specs.Bus.{Read, all_halted, bus_work, none_read, on_plan, one_read, shares_bus, with_cores}
+use Rattle.command_words.specs.CommandLines.{Part, StandTogether, Text}
 use Rattle.ghost_cli.specs.Headline.{AllHeld, HoldsInputs, HoldsObject, Shares, done_status}
 use Rattle.ghost_cli.specs.Promises.{IsDone}
 use Rattle.ghost_cli.specs.Sharing.{AreRead}
 use Rattle.ghost_cli.specs.Showing.{bus_seen, core_lines, transfer_lines}
-use Rattle.ghost_cli.specs.Steps.{with_accepted, with_inputs}
+use Rattle.ghost_cli.specs.Steps.{with_inputs}
 use Rattle.ghost_cli.specs.Texts.{verdict_status}
-use Rattle.ghost_cli.specs.VerbLines.{Call}
-use Rattle.ghost_cli.specs.declared.verbs.Verb.TheVariants.{Bus}
+use Rattle.command_words.specs.VerbLines.{Call}
+use Rattle.command_words.specs.declared.verbs.Verb.TheVariants.{Bus}
 use Rattle.ghost_cli.specs.Work.{Ending, Holds, IsVerdict, MayEnd, Work, said_at}
 use Rattle.ghost_cli.proofs.BusAgreeing.{joining}
-use Rattle.ghost_cli.proofs.BusWords.{bus-given}
+use Rattle.command_words.proofs.BusWords.{bus-given}
 use Rattle.ghost_cli.proofs.DoneWork.{checked-on, given-on, planned-on}
 use Rattle.ghost_cli.proofs.HeadlineCalls.{Called, asked, done-ending, ended-by}
 use Rattle.ghost_cli.proofs.HeadlineVerbs.{safe-object}
@@ -140,7 +141,7 @@ module _ (words : List Text) (files afterwards : Files) (put : List ℕ) (status
       → pairs_of names ≡ Some (first ∷ pairs) → IsDone status → Shares files (first ∷ pairs) parts put status
   shared names parts first pairs call together pairs-are done =
       let work = asked words files afterwards put status called done (codes "bus") call.more call.are in
-      let given = bus-given call.more names parts first pairs work.0 call.says together pairs-are work.1 in
+      let given = bus-given works call.more names parts first pairs work.0 call.says together pairs-are work.1 in
       let cycles = given.0 in
       let end = ended-by words files afterwards put status called done (codes "bus") call.more call.are work.0
       (bus_work (first ∷ pairs) cycles) work.1 given.4 in

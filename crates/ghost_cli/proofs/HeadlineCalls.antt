@@ -1,15 +1,15 @@
 -- A call that is done: the work that its words ask for, and how that work ended.
-use Rattle.std.proofs.Common.{◌≡◌, ◌≢◌, ◌⊎◌, inl, inr, ℕ, ◌+◌, ◌<◌, ◌≤◌, List, [], ◌∷◌, ◌++◌, Option, Some, None, refl, sym, ap, ◌∙◌, subst, arith}
+use Rattle.std.proofs.Common.{◌≡◌, ◌≢◌, inl, inr, ℕ, ◌<◌, List, ◌∷◌, ◌++◌, Option, Some, None, refl, sym, ap, ◌∙◌, subst, arith}
 use Rattle.std.proofs.lemmas.List.{append_cancel_left}
 use Rattle.std.proofs.lemmas.Option.{same_Some}
 use Rattle.gr_base.specs.Added.{Adds}
 use Rattle.gr_outside.specs.Shelf.{Files}
-use Rattle.ghost_cli.specs.CommandLines.{AreTexts, Text}
+use Rattle.command_words.specs.CommandLines.{AreTexts, Text}
 use Rattle.ghost_cli.specs.HeadlineFollows.{Tells}
 use Rattle.ghost_cli.specs.Outside.{Outside}
 use Rattle.ghost_cli.specs.Promises.{IsAnswered, IsDone, Promises}
-use Rattle.ghost_cli.specs.Verbs.{work_of}
-use Rattle.ghost_cli.specs.WordsAsk.{AskExactly}
+use Rattle.ghost_cli.specs.Verbs.{work_of, works}
+use Rattle.command_words.specs.WordsAsk.{AskExactly}
 use Rattle.ghost_cli.specs.Work.{Ending, Holds, MayEnd, Work, files_at, said_at}
 use Rattle.ghost_cli.proofs.OneAnswers.{answer-of}
 use Rattle.ghost_cli.proofs.Promised.{answers-of, no-work}
@@ -38,7 +38,7 @@ module _ (words : List Text) (files afterwards : Files) (put : List ℕ) (status
     (called : Called words files afterwards put status) where
   -- words that say so ask for the work
   pub asked-by : (verb : Text) (more : List Text) → words ≡ verb ∷ more → (Asks : List Text → Work → Type 0)
-      → AskExactly verb Asks → (work : Work) → Asks more work → work_of words ≡ Some work
+      → AskExactly works verb Asks → (work : Work) → Asks more work → work_of words ≡ Some work
   asked-by verb more are Asks exactly work asks =
       ap work_of are ∙ (exactly more work (subst AreTexts are called.texts).1).1 asks
 

@@ -1,5 +1,5 @@
 -- Which file the work of a verb may write.
-use Rattle.std.proofs.Common.{◌≡◌, ◌≢◌, ◌⊎◌, inl, inr, ℕ, ◌+◌, ℤ, Bool, true, false, cond, List, [], ◌∷◌, ◌++◌, codes, map, Option, Some, None, Result, Ok, Err, refl, sym, ap, ◌∙◌, subst, ⊎_elim}
+use Rattle.std.proofs.Common.{◌≡◌, ◌≢◌, ◌⊎◌, inl, inr, ℕ, ◌+◌, ℤ, Bool, true, false, cond, List, [], ◌∷◌, ◌++◌, codes, Option, Some, None, Result, Ok, Err, refl, sym, ap, ◌∙◌, subst, ⊎_elim}
 use Rattle.std.specs.FinMap.{get, remove, get-remove}
 use Rattle.std.specs.Option.{option_map}
 use Rattle.std.specs.Ordering.{nat_cmp, eq_by_cmp}
@@ -21,27 +21,28 @@ use Rattle.note_infer.specs.declared.faults.InferError.{InferError}
 use Rattle.ghost_cli.specs.declared.source_faults.SourceFault.{SourceFault}
 use Rattle.ghost_cli.specs.declared.replies.Verdict.{Verdict}
 use Rattle.ghost_cli.specs.Assemble.{assemble_work}
-use Rattle.ghost_cli.specs.Bus.{Pair, Read, bus_work, none_read, on_plan, one_read, shares_bus, with_cores, with_halts}
+use Rattle.command_words.specs.Pairs.{Pair}
+use Rattle.ghost_cli.specs.Bus.{Read, bus_work, none_read, on_plan, one_read, shares_bus, with_cores, with_halts}
 use Rattle.ghost_cli.specs.Check.{check_work}
-use Rattle.ghost_cli.specs.CommandLines.{AreTexts, IsAmong, Part, Says, Text}
-use Rattle.ghost_cli.specs.Compile.{compile_work, compiles_to, on_compiled}
+use Rattle.command_words.specs.CommandLines.{AreTexts, IsAmong, Part, Says, Text}
+use Rattle.ghost_cli.specs.Compile.{compile_work, on_compiled}
 use Rattle.ghost_cli.specs.Disassemble.{disassemble_work}
-use Rattle.ghost_cli.specs.Evaluate.{evaluate_work, evaluates_on, on_left}
+use Rattle.ghost_cli.specs.Evaluate.{evaluate_work, on_left}
 use Rattle.ghost_cli.specs.Histogram.{Made}
-use Rattle.ghost_cli.specs.Infer.{infer_work, infers_to, on_inferred}
+use Rattle.ghost_cli.specs.Infer.{infer_work, on_inferred}
 use Rattle.ghost_cli.specs.Questions.{Answer, Question}
-use Rattle.ghost_cli.specs.Run.{on_halt, run_work, runs_on}
-use Rattle.ghost_cli.specs.Sample.{on_sampled, sample_work, samples_on}
-use Rattle.ghost_cli.specs.Steps.{on_judged, or_ends, with_accepted, with_assembly, with_inputs, with_object, with_source, with_variables}
-use Rattle.ghost_cli.specs.Trace.{shows_on, trace_work, traces_on}
-use Rattle.ghost_cli.specs.VerbLines.{WritesFile, flags_of, name_of, options_of}
-use Rattle.ghost_cli.specs.Verbs.{work_of}
-use Rattle.ghost_cli.specs.declared.verbs.Verb.{Verb}
-use Rattle.ghost_cli.specs.declared.verbs.Verb.TheVariants.{Assemble, Compile, Disassemble, Evaluate, Infer, Run, Sample}
-use Rattle.ghost_cli.specs.WordsAsk.{AskExactly, verb_names}
+use Rattle.ghost_cli.specs.Run.{on_halt, run_work}
+use Rattle.ghost_cli.specs.Sample.{on_sampled, sample_work}
+use Rattle.ghost_cli.specs.Steps.{on_judged, or_ends, with_accepted, with_assembly, with_object, with_source, with_variables}
+use Rattle.ghost_cli.specs.Trace.{shows_on, trace_work}
+use Rattle.command_words.specs.VerbLines.{WritesFile, flags_of, name_of, options_of}
+use Rattle.ghost_cli.specs.Verbs.{work_of, works}
+use Rattle.command_words.specs.declared.verbs.Verb.{Verb}
+use Rattle.command_words.specs.declared.verbs.Verb.TheVariants.{Assemble, Compile, Disassemble, Evaluate, Infer, Run, Sample}
+use Rattle.command_words.specs.WordsAsk.{verb_names}
 use Rattle.ghost_cli.specs.Work.{Asks, Ends, MayWrite, Reads, Work, Writes, WritesIt, WritesLater, WritesThen}
 use Rattle.ghost_cli.specs.Headline.{NameOutput}
-use Rattle.ghost_cli.proofs.VerbWords.{words-ask}
+use Rattle.command_words.proofs.VerbWords.{words-ask}
 
 -- ---- the files after a write
 
@@ -233,58 +234,58 @@ module _ (more : List Text) (texts : AreTexts more) (work : Work) (name : Text) 
 
   of-check : OfVerb (codes "check")
   of-check asked =
-      let a = (words-ask.check more work texts).0 asked in
+      let a = ((words-ask works).check more work texts).0 asked in
       absurd (by-only Never (check_work a.name) a.is (check-only Never a.name))
 
   of-trace : OfVerb (codes "trace")
   of-trace asked =
-      let a = (words-ask.trace more work texts).0 asked in
+      let a = ((words-ask works).trace more work texts).0 asked in
       absurd (by-only Never _ a.is (trace-only Never a.object a.input a.cycles a.seed _ _))
 
   of-run : OfVerb (codes "run")
   of-run asked =
-      let a = (words-ask.run more work texts).0 asked in
+      let a = ((words-ask works).run more work texts).0 asked in
       names-output Run tt more (a.object ∷ a.input ∷ []) a.output name a.parts a.says
       (by-only (Out a.output) _ a.is (run-only (Out a.output) a.output refl a.object a.input a.cycles))
 
   of-assemble : OfVerb (codes "asm")
   of-assemble asked =
-      let a = (words-ask.assemble more work texts).0 asked in
+      let a = ((words-ask works).assemble more work texts).0 asked in
       names-output Assemble tt more (a.first ∷ []) a.second name a.parts a.says
       (by-only (Out a.second) _ a.is (assemble-only (Out a.second) a.second refl a.first))
 
   of-disassemble : OfVerb (codes "dis")
   of-disassemble asked =
-      let a = (words-ask.disassemble more work texts).0 asked in
+      let a = ((words-ask works).disassemble more work texts).0 asked in
       names-output Disassemble tt more (a.first ∷ []) a.second name a.parts a.says
       (by-only (Out a.second) _ a.is (disassemble-only (Out a.second) a.second refl a.first))
 
   of-evaluate : OfVerb (codes "eval")
   of-evaluate asked =
-      let a = (words-ask.evaluate more work texts).0 asked in
+      let a = ((words-ask works).evaluate more work texts).0 asked in
       names-output Evaluate tt more (a.source ∷ a.input ∷ []) a.output name a.parts a.says
       (by-only (Out a.output) _ a.is (evaluate-only (Out a.output) a.output refl a.source a.input a.turns _))
 
   of-compile : OfVerb (codes "compile")
   of-compile asked =
-      let a = (words-ask.compile more work texts).0 asked in
+      let a = ((words-ask works).compile more work texts).0 asked in
       names-output Compile tt more (a.source ∷ []) a.output name a.parts a.says
       (by-only (Out a.output) _ a.is (compile-only (Out a.output) a.output refl a.source _ _))
 
   of-sample : OfVerb (codes "sample")
   of-sample asked =
-      let a = (words-ask.sample more work texts).0 asked in
+      let a = ((words-ask works).sample more work texts).0 asked in
       names-output Sample tt more (a.number ∷ []) a.output name a.parts a.says
       (by-only (Out a.output) _ a.is (sample-only (Out a.output) a.output refl _ a.items))
 
   of-bus : OfVerb (codes "bus")
   of-bus asked =
-      let a = (words-ask.bus more work texts).0 asked in
+      let a = ((words-ask works).bus more work texts).0 asked in
       absurd (by-only Never _ a.is (bus-only Never (a.first ∷ a.more) a.cycles))
 
   of-infer : OfVerb (codes "infer")
   of-infer asked =
-      let a = (words-ask.infer more work texts).0 asked in
+      let a = ((words-ask works).infer more work texts).0 asked in
       names-output Infer tt more (a.first ∷ []) a.second name a.parts a.says
       (by-only (Out a.second) _ a.is (infer-only (Out a.second) a.second refl a.first))
 
@@ -307,7 +308,7 @@ module _ (more : List Text) (texts : AreTexts more) (work : Work) (name : Text) 
   of-verb : (verb : Text) → OfVerb verb
   of-verb verb asked =
       ⊎_elim (λ known. of-known verb known asked)
-      (λ unknown. absurd (none-asked (sym (words-ask.no_verb verb more unknown) ∙ asked)))
+      (λ unknown. absurd (none-asked (sym ((words-ask works).no_verb verb more unknown) ∙ asked)))
       (among verb_names verb)
     where
       none-asked : None ≡ Some work → ⊥
@@ -317,7 +318,7 @@ module _ (more : List Text) (texts : AreTexts more) (work : Work) (name : Text) 
 pub words-name : (words : List Text) → AreTexts words → (work : Work) (name : Text) → work_of words ≡ Some work
     → MayWrite work name → NameOutput words name
 words-name [] texts work name asked may =
-    absurd (let f : ◌≡◌ {A = Option Work} None (Some work) = sym words-ask.no_words ∙ asked in cc)
+    absurd (let f : ◌≡◌ {A = Option Work} None (Some work) = sym (words-ask works).no_words ∙ asked in cc)
 words-name (verb ∷ more) texts work name asked may = of-verb more texts.1 work name may verb asked
 
 -- a file that is another one afterwards is the one that may be

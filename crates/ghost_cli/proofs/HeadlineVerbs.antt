@@ -1,5 +1,5 @@
 -- What the headline says of each verb but `bus`.
-use Rattle.std.proofs.Common.{◌≡◌, ◌≢◌, inl, inr, ℕ, ℤ, Bool, true, false, List, [], ◌∷◌, codes, Option, Some, None, is_some, Result, Ok, Err, refl, sym, ap, ◌∙◌, subst, true≢false}
+use Rattle.std.proofs.Common.{◌≡◌, inl, ℕ, ℤ, Bool, true, false, List, [], ◌∷◌, codes, Option, Some, None, is_some, refl, sym, ap, ◌∙◌, subst, true≢false}
 use Rattle.std.specs.Option.{option_map}
 use Rattle.std.specs.FinMap.{get}
 use Rattle.std.proofs.lemmas.Option.{same_Some}
@@ -9,26 +9,23 @@ use Rattle.lt_isa.specs.Oblivious.{IsOblivious}
 use Rattle.lt_isa.specs.Start.{trace, wants_of}
 use Rattle.ghost_cli.specs.declared.targets.Target.{Target}
 use Rattle.flow_types.specs.Wants.{declared_wants}
-use Rattle.object_file.specs.Spelling.{spelling}
 use Rattle.run_data.specs.OutputText.{output_of}
-use Rattle.run_data.specs.TraceText.{trace_text_of}
 use Rattle.src_procs.specs.Inlined.{added, inlined_body}
-use Rattle.src_tree.specs.Meaning.{Store, meaning}
+use Rattle.src_tree.specs.Meaning.{Store}
 use Rattle.src_tree.specs.Trees.{Source}
 use Rattle.ghost_cli.specs.declared.replies.Verdict.TheVariants.{Accepted, Spent, Traced}
-use Rattle.ghost_cli.specs.declared.verbs.Verb.TheVariants.{Check, Compile, Evaluate, Infer, Run, Trace}
+use Rattle.command_words.specs.declared.verbs.Verb.TheVariants.{Check, Compile, Evaluate, Infer, Run, Trace}
 use Rattle.ghost_cli.specs.declared.replies.Done.{Done}
 use Rattle.ghost_cli.specs.declared.replies.Done.TheVariants.{Evaluated, Halted}
 use Rattle.ghost_cli.specs.Calls.{MeansItsCalls}
 use Rattle.ghost_cli.specs.Check.{check_work}
-use Rattle.ghost_cli.specs.CommandLines.{Part, Text, has_flag, value_in}
+use Rattle.command_words.specs.CommandLines.{Part, Text, has_flag, value_in}
 use Rattle.ghost_cli.specs.Compile.{target_for}
 use Rattle.ghost_cli.specs.Compiled.{IsCompiledTo}
 use Rattle.ghost_cli.specs.Evaluate.{evaluate_work, evaluates_on, on_left}
-use Rattle.ghost_cli.specs.Headline.{Compiles, Evaluates, HasRun, HoldsInputs, HoldsObject, HoldsOblivious, Infers, IsObjectOf, Runs, SpellsForCalls, SpellsProgram, Traces, done_status, with_output}
+use Rattle.ghost_cli.specs.Headline.{Compiles, Evaluates, HasRun, HoldsInputs, HoldsObject, HoldsOblivious, Infers, IsObjectOf, Runs, SpellsProgram, Traces, done_status, with_output}
 use Rattle.ghost_cli.specs.Infer.{infer_work}
-use Rattle.ghost_cli.specs.Objects.{SpellsObject}
-use Rattle.ghost_cli.specs.Options.{number_given}
+use Rattle.command_words.specs.Options.{number_given}
 use Rattle.ghost_cli.specs.Promises.{IsDone, IsSafe}
 use Rattle.ghost_cli.specs.Questions.{WhenItHalts}
 use Rattle.ghost_cli.specs.Run.{on_halt, run_work}
@@ -38,8 +35,8 @@ use Rattle.ghost_cli.specs.Sources.{Spells, SpellsTyped}
 use Rattle.ghost_cli.specs.Steps.{with_accepted, with_inputs, with_variables}
 use Rattle.ghost_cli.specs.Texts.{verdict_status}
 use Rattle.ghost_cli.specs.Trace.{shows_on, trace_work}
-use Rattle.ghost_cli.specs.VerbLines.{Call}
-use Rattle.ghost_cli.specs.Verbs.{work_of}
+use Rattle.command_words.specs.VerbLines.{Call}
+use Rattle.ghost_cli.specs.Verbs.{work_of, works}
 use Rattle.ghost_cli.specs.Work.{Asks, Ending, Ends, Holds, IsVerdict, MayEnd, Work, Writes, files_at, said_at}
 use Rattle.ghost_cli.proofs.Behind.{behind-it}
 use Rattle.ghost_cli.proofs.Calls.{means-its-calls}
@@ -49,7 +46,7 @@ use Rattle.ghost_cli.proofs.CompiledTexts.{compiled-texts}
 use Rattle.ghost_cli.proofs.DoneWork.{checked-on, given-on, programmed-on}
 use Rattle.ghost_cli.proofs.HeadlineCalls.{Called, asked, asked-by, done-ending, ended, ended-by}
 use Rattle.ghost_cli.proofs.Inferring.{inferred-of, written-there}
-use Rattle.ghost_cli.proofs.VerbWords.{compile-given, evaluate-given, run-given, trace-given, words-ask}
+use Rattle.command_words.proofs.VerbWords.{compile-given, evaluate-given, run-given, trace-given, words-ask}
 use Rattle.ghost_cli.proofs.Watches.{text-alone}
 
 -- ---- objects
@@ -222,7 +219,7 @@ module _ (words : List Text) (files afterwards : Files) (put : List ℕ) (status
       → status ≡ 0 → HoldsOblivious files object
   checked object parts call zero =
       let end = ended words files afterwards put status called (inl zero) (check_work object)
-      (asked-by words files afterwards put status called (codes "check") call.more call.are _ words-ask.check
+      (asked-by words files afterwards put status called (codes "check") call.more call.are _ (words-ask works).check
       (check_work object) (record { name = object; parts = parts; says = call.says; is = refl })) in
       safe-holds files object
       (checked-on files end.ending (done-ending words files afterwards put status called (inl zero) _ end) object
@@ -235,7 +232,7 @@ module _ (words : List Text) (files afterwards : Files) (put : List ℕ) (status
       let paths = has_flag (codes "paths") parts in
       let recursive = has_flag (codes "recursive") parts in
       let work = asked words files afterwards put status called done (codes "trace") call.more call.are in
-      let given = trace-given call.more object input parts work.0 call.says work.1 in
+      let given = trace-given works call.more object input parts work.0 call.says work.1 in
       let cycles = given.0 in
       let end = ended-by words files afterwards put status called done (codes "trace") call.more call.are work.0
       (trace_work object input cycles given.1 paths recursive) work.1 given.4 in
@@ -257,7 +254,7 @@ module _ (words : List Text) (files afterwards : Files) (put : List ℕ) (status
       → IsDone status → Runs files afterwards object input output parts status
   run object input output parts call done =
       let work = asked words files afterwards put status called done (codes "run") call.more call.are in
-      let given = run-given call.more object input output parts work.0 call.says work.1 in
+      let given = run-given works call.more object input output parts work.0 call.says work.1 in
       let cycles = given.0 in
       let end = ended-by words files afterwards put status called done (codes "run") call.more call.are work.0
       (run_work object input output cycles) work.1 given.4 in
@@ -278,7 +275,7 @@ module _ (words : List Text) (files afterwards : Files) (put : List ℕ) (status
   evaluated source input output parts call done =
       let procs = has_flag (codes "procs") parts in
       let work = asked words files afterwards put status called done (codes "eval") call.more call.are in
-      let given = evaluate-given call.more source input output parts work.0 call.says work.1 in
+      let given = evaluate-given works call.more source input output parts work.0 call.says work.1 in
       let turns = given.0 in
       let end = ended-by words files afterwards put status called done (codes "eval") call.more call.are work.0
       (evaluate_work source input output turns procs) work.1 given.2 in
@@ -311,7 +308,7 @@ module _ (words : List Text) (files afterwards : Files) (put : List ℕ) (status
   compiled source output parts call zero =
       let procs = has_flag (codes "procs") parts in
       let work = asked words files afterwards put status called (inl zero) (codes "compile") call.more call.are in
-      let given = compile-given call.more source output parts work.0 call.says work.1 in
+      let given = compile-given works call.more source output parts work.0 call.says work.1 in
       let target = target_for given.0 given.1 (has_flag (codes "fast") parts) in
       let found = compiled-of called.promises.explained source output target procs
       (ap work_of call.are ∙ work.1 ∙ ap Some given.4) zero files called.tells.told in
@@ -330,7 +327,7 @@ module _ (words : List Text) (files afterwards : Files) (put : List ℕ) (status
       → status ≡ 0 → Infers files afterwards object output
   inferred object output parts call zero =
       let found = inferred-of called.promises.explained object output
-      (asked-by words files afterwards put status called (codes "infer") call.more call.are _ words-ask.infer
+      (asked-by words files afterwards put status called (codes "infer") call.more call.are _ (words-ask works).infer
       (infer_work object output)
       (record { first = object; second = output; parts = parts; says = call.says; is = refl })) zero files called.tells.told
       in

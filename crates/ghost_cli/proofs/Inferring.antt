@@ -9,7 +9,6 @@ use Rattle.lt_isa.specs.Object.{Parts}
 use Rattle.lt_checker.proofs.Soundness.{accepted_is_oblivious}
 use Rattle.path_oram.proofs.AlikeLeaves.{leaves_alike}
 use Rattle.object_file.specs.Spelling.{spelling}
-use Rattle.object_file.specs.declared.errors.DecodeError.{DecodeError}
 use Rattle.note_infer.specs.declared.faults.InferError.{InferError}
 use Rattle.ghost_cli.specs.declared.replies.Done.TheVariants.{Inferred}
 use Rattle.ghost_cli.specs.declared.replies.Reply.{Reply}
@@ -17,9 +16,7 @@ use Rattle.ghost_cli.specs.Texts.{Said}
 use Rattle.ghost_cli.specs.Inferred.{GetsNotes}
 use Rattle.ghost_cli.specs.Infer.{infer_work, infers_to, on_inferred}
 use Rattle.ghost_cli.specs.Objects.{SpellsObject}
-use Rattle.ghost_cli.specs.Questions.{IsRight, WhichObject, WhatIsInferred}
-use Rattle.ghost_cli.specs.declared.replies.Verdict.TheVariants.{Malformed}
-use Rattle.ghost_cli.specs.Steps.{or_ends}
+use Rattle.ghost_cli.specs.Questions.{IsRight, WhatIsInferred}
 use Rattle.ghost_cli.specs.Work.{Work, Ending, IsWritten, MayEnd, Holds, said_at, files_at}
 use Rattle.ghost_cli.specs.Outside.{Outside, outside, LeftBy, Explains}
 use Rattle.ghost_cli.specs.Promises.{Answers, NoAnswer, AnswersSo, IsInferredFile, IsSafe}

@@ -14,7 +14,6 @@ pub mod LevelLines
 pub mod Shown
 pub mod ShownInTrees
 pub mod LinesAlone
-pub mod Wording
 pub mod Evaluating
 pub mod Compiling
 mod OnTarget
@@ -42,25 +41,6 @@ pub mod BusAgreeing
 pub mod OneAnswers
 pub mod OneSourceFault
 pub mod OneRoom
-pub mod WordLooks
-pub mod WordWalks
-pub mod WordsRead
-pub mod WordsRefused
-pub mod WordsTaken
-pub mod WordsUsed
-pub mod WordsFound
-pub mod WordCommands
-pub mod WordsAsked
-pub mod BusWalks
-pub mod BusRead
-pub mod BusRefused
-pub mod BusUsed
-pub mod BusTogether
-pub mod BusTaken
-pub mod BusWords
-pub mod VerbRows
-pub mod VerbCommands
-pub mod VerbWords
 pub mod SourceAnswers
 pub mod SomeAnswers
 pub mod DoneWork

@@ -13,7 +13,8 @@ use Rattle.bus_arbiter.specs.Shares.{IsPlan, PlanRefuses, PlanTakes, share_of}
 use Rattle.bus_arbiter.proofs.Refusals.{refuses, takes}
 use Rattle.bus_arbiter.proofs.ShareRanges.{share-fits}
 use Rattle.ghost_cli.specs.declared.replies.Verdict.TheVariants.{OffBus}
-use Rattle.ghost_cli.specs.Bus.{Pair, Read, bus_said, none_read, on_plan, one_read, with_core, with_cores}
+use Rattle.command_words.specs.Pairs.{Pair}
+use Rattle.ghost_cli.specs.Bus.{Read, bus_said, none_read, on_plan, one_read, with_core, with_cores}
 use Rattle.ghost_cli.specs.Progress.{HasLeft, Stops}
 use Rattle.ghost_cli.specs.Sharing.{AreRead}
 use Rattle.ghost_cli.specs.Showing.{nothing_seen}

@@ -1,5 +1,5 @@
 -- Why a call over bytes found nothing: from what ends the work of a verb.
-use Rattle.std.proofs.Common.{◌≡◌, ◌⊎◌, inl, inr, ℕ, ℤ, Bool, List, [], Option, Some, None, Result, Ok, Err, refl, sym, ap, ◌∙◌, subst}
+use Rattle.std.proofs.Common.{◌≡◌, inl, inr, ℕ, ℤ, Bool, List, [], Option, Some, None, Result, Ok, Err, sym, ap, ◌∙◌}
 use Rattle.lt_isa.specs.Object.{Parts}
 use Rattle.lt_isa.specs.Start.{wants_of}
 use Rattle.ghost_cli.specs.declared.targets.Target.{Target}
@@ -16,10 +16,10 @@ use Rattle.ghost_cli.specs.Objects.{SpellsObject}
 use Rattle.ghost_cli.specs.Progress.{EndsWorkWith}
 use Rattle.ghost_cli.specs.Pure.{NoInputs, NoObject, NoProgram, NoRoom, NoRoomLeft, NoRoomOnMachine, NoRoomToRun, NotAccepted, NotChecked, NotCompiled, NotRun}
 use Rattle.ghost_cli.specs.Questions.{IsRight, WhetherAccepted, WhichCompiled, WhichInputs, WhichObject, WhichSource}
-use Rattle.ghost_cli.specs.Showing.{Seen, nothing_seen}
+use Rattle.ghost_cli.specs.Showing.{nothing_seen}
 use Rattle.ghost_cli.specs.Sources.{SpellsTyped}
 use Rattle.ghost_cli.specs.Steps.{on_judged, or_ends}
-use Rattle.ghost_cli.specs.Texts.{Said, comes_to, no_memory}
+use Rattle.ghost_cli.specs.Texts.{Said, comes_to}
 use Rattle.ghost_cli.specs.Work.{Ends, Work, Writes}
 
 -- a work that isn't a verdict, and the verdict of one that is

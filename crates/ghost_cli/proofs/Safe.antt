@@ -9,7 +9,8 @@ use Rattle.ghost_cli.specs.Steps.{with_accepted, with_inputs}
 use Rattle.bus_arbiter.specs.Refusals.{refusal}
 use Rattle.bus_arbiter.specs.Shares.{share_of}
 use Rattle.bus_arbiter.proofs.TransferLists.{in-cases, in-none}
-use Rattle.ghost_cli.specs.Bus.{Pair, Read, bus_work, none_read, on_plan, one_read, shares_bus, with_cores}
+use Rattle.command_words.specs.Pairs.{Pair}
+use Rattle.ghost_cli.specs.Bus.{Read, bus_work, none_read, on_plan, one_read, shares_bus, with_cores}
 use Rattle.ghost_cli.specs.Outside.{Outside, Explains}
 use Rattle.ghost_cli.specs.Promises.{Answers, NoAnswer, AnswersSo, CallLaws, IsDone, IsSafe, PromisesFollow}
 use Rattle.ghost_cli.proofs.DoneWork.{checked-on, given-on, planned-on}

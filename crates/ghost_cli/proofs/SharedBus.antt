@@ -22,7 +22,8 @@ use Rattle.path_oram.specs.Orams.{Oram}
 use Rattle.rand_chacha.specs.ChaCha.{ChaCha}
 use Rattle.ghost_cli.specs.declared.replies.Verdict.TheVariants.{Shared}
 use Rattle.ghost_cli.specs.Beginning.{BankBegins, HasBegun}
-use Rattle.ghost_cli.specs.Bus.{Pair, Read, all_halted, bus_work, shares_bus, with_halts}
+use Rattle.command_words.specs.Pairs.{Pair}
+use Rattle.ghost_cli.specs.Bus.{Read, all_halted, bus_work, shares_bus, with_halts}
 use Rattle.ghost_cli.specs.Outside.{Explains, outside}
 use Rattle.ghost_cli.specs.Progress.{HasLeft}
 use Rattle.ghost_cli.specs.Questions.{WhatIsJoined, WhenItHalts}

@@ -1,13 +1,9 @@
 -- The verb `dis OBJ OUT`.
-use Rattle.std.specs.Prelude.{ℕ, List, codes}
+use Rattle.std.specs.Prelude.{ℕ, List}
 use Rattle.lt_assembler.specs.Canonical.{canonical}
 use Rattle.ghost_cli.specs.declared.replies.Done.TheVariants.{Disassembled}
 use Rattle.ghost_cli.specs.Work.{Work, Writes}
 use Rattle.ghost_cli.specs.Steps.{with_object}
-use Rattle.ghost_cli.specs.VerbRows.{VerbRow, row_of_two}
 
 abbrev pub disassemble_work : List ℕ → List ℕ → Work
 disassemble_work object output = with_object object (λ o. Writes output (canonical o) Disassembled)
-
-abbrev pub disassemble_row : VerbRow
-disassemble_row = row_of_two (codes "dis") (codes "OBJ") (codes "OUT") disassemble_work

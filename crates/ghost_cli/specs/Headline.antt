@@ -26,20 +26,21 @@ use Rattle.src_procs.specs.Trees.{File}
 use Rattle.src_tree.specs.Meaning.{Store, meaning}
 use Rattle.src_tree.specs.Trees.{Source}
 use Rattle.src_tree.specs.declared.trees.Decl.{Decl}
-use Rattle.ghost_cli.specs.Bus.{Pair, all_halted, pairs_of}
+use Rattle.command_words.specs.Pairs.{Pair, pairs_of}
+use Rattle.ghost_cli.specs.Bus.{all_halted}
 use Rattle.ghost_cli.specs.Calls.{MeansCalls}
-use Rattle.ghost_cli.specs.CommandLines.{Part, StandTogether, Text, has_flag, value_in}
+use Rattle.command_words.specs.CommandLines.{Part, StandTogether, Text, has_flag, value_in}
 use Rattle.ghost_cli.specs.CompiledRuns.{RunsAsMeant}
 use Rattle.ghost_cli.specs.CompiledTexts.{TextsAsMeant}
 use Rattle.ghost_cli.specs.Objects.{SpellsObject}
-use Rattle.ghost_cli.specs.Options.{number_given}
+use Rattle.command_words.specs.Options.{number_given}
 use Rattle.ghost_cli.specs.Promises.{IsDone}
 use Rattle.ghost_cli.specs.Runs.{HaltOf, run_outputs}
 use Rattle.ghost_cli.specs.Sharing.{AreHalts}
 use Rattle.ghost_cli.specs.Showing.{core_lines, transfer_lines}
-use Rattle.ghost_cli.specs.VerbLines.{Call, WritesFile}
-use Rattle.ghost_cli.specs.declared.verbs.Verb.{Verb}
-use Rattle.ghost_cli.specs.declared.verbs.Verb.TheVariants.{Bus, Check, Compile, Evaluate, Infer, Run, Trace}
+use Rattle.command_words.specs.VerbLines.{Call, WritesFile}
+use Rattle.command_words.specs.declared.verbs.Verb.{Verb}
+use Rattle.command_words.specs.declared.verbs.Verb.TheVariants.{Bus, Check, Compile, Evaluate, Infer, Run, Trace}
 
 -- ---- what files hold
 

@@ -2,7 +2,7 @@
 -- promises.
 use Rattle.std.specs.Prelude.{◌≡◌, ℕ, List, ◌++◌, Some}
 use Rattle.gr_outside.specs.Shelf.{Files}
-use Rattle.ghost_cli.specs.CommandLines.{AreTexts, Text}
+use Rattle.command_words.specs.CommandLines.{AreTexts, Text}
 use Rattle.ghost_cli.specs.Headline.{Headline}
 use Rattle.ghost_cli.specs.Outside.{Outside}
 use Rattle.ghost_cli.specs.Promises.{Promises}

@@ -1,5 +1,5 @@
 -- The verb `infer OBJ OUT`.
-use Rattle.std.specs.Prelude.{ℕ, List, length, codes, Result, Ok, Err}
+use Rattle.std.specs.Prelude.{ℕ, List, length, Result, Ok, Err}
 use Rattle.lt_isa.specs.Object.{Parts}
 use Rattle.object_file.specs.Spelling.{spelling}
 use Rattle.note_infer.specs.declared.faults.InferError.{InferError}
@@ -9,7 +9,6 @@ use Rattle.ghost_cli.specs.Questions.{WhatIsInferred}
 use Rattle.ghost_cli.specs.Showing.{nothing_seen}
 use Rattle.ghost_cli.specs.Work.{Work, Ends, Writes, Asks}
 use Rattle.ghost_cli.specs.Steps.{with_object}
-use Rattle.ghost_cli.specs.VerbRows.{VerbRow, row_of_two}
 
 -- the object with its least notes is written, where it gets them
 abbrev pub on_inferred : List ℕ → Result Parts InferError → Work
@@ -21,6 +20,3 @@ infers_to output o = Asks (WhatIsInferred o) (on_inferred output)
 
 abbrev pub infer_work : List ℕ → List ℕ → Work
 infer_work object output = with_object object (infers_to output)
-
-abbrev pub infer_row : VerbRow
-infer_row = row_of_two (codes "infer") (codes "OBJ") (codes "OUT") infer_work

@@ -19,7 +19,8 @@ use Rattle.src_procs.specs.Trees.{File}
 use Rattle.src_tree.specs.Trees.{Source}
 use Rattle.ghost_cli.specs.declared.source_faults.SourceFault.{SourceFault}
 use Rattle.ghost_cli.specs.Assemble.{assemble_work}
-use Rattle.ghost_cli.specs.Bus.{Pair, bus_work}
+use Rattle.command_words.specs.Pairs.{Pair}
+use Rattle.ghost_cli.specs.Bus.{bus_work}
 use Rattle.ghost_cli.specs.Check.{check_work}
 use Rattle.ghost_cli.specs.Compile.{compile_work}
 use Rattle.ghost_cli.specs.Disassemble.{disassemble_work}

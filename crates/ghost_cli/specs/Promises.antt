@@ -14,7 +14,8 @@ use Rattle.src_tree.specs.Trees.{Source}
 use Rattle.ghost_cli.specs.Texts.{Said, usage, unread, unwritten, no_memory}
 use Rattle.ghost_cli.specs.Objects.{SpellsObject}
 use Rattle.ghost_cli.specs.Sources.{SpellsTyped}
-use Rattle.ghost_cli.specs.Bus.{Pair, bus_work}
+use Rattle.command_words.specs.Pairs.{Pair}
+use Rattle.ghost_cli.specs.Bus.{bus_work}
 use Rattle.ghost_cli.specs.Calls.{MeansItsCalls}
 use Rattle.ghost_cli.specs.Compile.{compile_work}
 use Rattle.ghost_cli.specs.Compiled.{IsCompiledTo}

@@ -1,28 +1,20 @@
 ghost use Rattle.std.specs.Prelude.{◌≡◌, IfErr, IfOk, OnErr, Some};
 ghost use Rattle.clap.specs.Words.{found_of, rows_of};
-ghost use Rattle.ghost_cli.specs.Assemble.{assemble_row, assemble_work};
+ghost use Rattle.command_words.specs.Asks.{assemble_asks};
+ghost use Rattle.ghost_cli.specs.Assemble.{assemble_work};
 ghost use Rattle.ghost_cli.specs.Outside.{Explains, outside};
 ghost use Rattle.ghost_cli.specs.Progress.{LeavesToSay};
 ghost use Rattle.ghost_cli.specs.Texts.{said};
 
-use crate::options::{TwoNames, two_names, value};
 use crate::reading::find_assembly;
 use crate::replies::{Done, Reply};
-use crate::verbs::{Argument, VerbWords};
+use crate::two_names::{TwoNames, two_names};
 use crate::writing::write_and_say;
 use clap::ArgMatches;
+use command_words::options::value;
 use gr_outside::{Shelf, Sink};
 use object_file::encode;
 use std::alloc::Global;
-
-/// The words that the verb takes.
-pub const WORDS: VerbWords<'static> = VerbWords {
-    name: "asm",
-    place: Argument::Word,
-    places: &["TEXT", "OUT"],
-    options: &[],
-    flags: &[],
-};
 
 /// The verb `asm TEXT OUT`: writes the object file of an assembly text. `Err` if nothing was printed yet: the reply to
 /// print.
@@ -33,9 +25,10 @@ pub fn assemble<'a, F: Shelf, O: Sink>(
     out: &mut O,
 ) -> Result<u8, Reply<'a>>
     ensures done { IfOk result (λ status. Explains (outside (F.seen shelf.old) (O.seen out.old))
-        (outside (F.seen shelf.new) (O.seen out.new)) status (assemble_row.asks (rows_of (found_of matches.now)))) }
+        (outside (F.seen shelf.new) (O.seen out.new)) status
+        (assemble_asks assemble_work (rows_of (found_of matches.now)))) }
     ensures stopped { IfErr result (λ reply. LeavesToSay (F.seen shelf.old) (F.seen shelf.new)
-        (assemble_row.asks (rows_of (found_of matches.now))) (said reply)) }
+        (assemble_asks assemble_work (rows_of (found_of matches.now))) (said reply)) }
     ensures unput { OnErr result (O.seen out.new ≡ O.seen out.old) }
 {
     let Some(asked) = two_names(value(matches, "TEXT"), value(matches, "OUT")) else {

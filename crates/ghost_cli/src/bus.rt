@@ -5,8 +5,10 @@ ghost use Rattle.bus_arbiter.specs.Cores.{traces_to};
 ghost use Rattle.bus_arbiter.specs.Laws.{AllFit, traces_on};
 ghost use Rattle.bus_arbiter.specs.Shares.{share_of};
 ghost use Rattle.bus_arbiter.specs.Turns.{AllLeft};
-ghost use Rattle.ghost_cli.specs.Bus.{Read, bus_named, bus_named_on, bus_row, bus_said, bus_work, none_read, pairs_of, with_core, with_cores};
-ghost use Rattle.ghost_cli.specs.Options.{texts};
+ghost use Rattle.command_words.specs.Asks.{bus_asks, bus_named, bus_named_on};
+ghost use Rattle.command_words.specs.Pairs.{pairs_of};
+ghost use Rattle.ghost_cli.specs.Bus.{Read, bus_said, bus_work, none_read, with_core, with_cores};
+ghost use Rattle.command_words.specs.Options.{texts};
 ghost use Rattle.ghost_cli.specs.Outside.{Explains, outside};
 ghost use Rattle.ghost_cli.specs.Progress.{HasLeft, LeavesToSay, Stops};
 ghost use Rattle.ghost_cli.specs.Sharing.{AllBegin, AreRead, PutsShared};
@@ -15,27 +17,17 @@ ghost use Rattle.ghost_cli.specs.Work.{Work};
 
 use crate::bus_run::put_bus;
 use crate::oblivious::{SeededOram, load_seeded};
-use crate::options::{number_given, seed_given, value, values};
 use crate::reading::{find_accepted, find_inputs};
 use crate::replies::{Reply, Verdict};
-use crate::verbs::{Argument, VerbWords};
 use bus_arbiter::{Bus, BusError, Plan};
 use clap::ArgMatches;
+use command_words::options::{number_given, seed_given, value, values};
 use gr_base::Memory;
 use gr_outside::{Shelf, Sink};
 use gr_word::Inputs;
 use lt_checker::Accepted;
 use std::alloc::Global;
 use std::marker::Model;
-
-/// The words that the verb takes.
-pub const WORDS: VerbWords<'static> = VerbWords {
-    name: "bus",
-    place: Argument::Words,
-    places: &["NAMES"],
-    options: &["cycles", "seed"],
-    flags: &[],
-};
 
 /// A pair of names, of an object file and of an input file.
 #[derive(Drop)]
@@ -45,7 +37,7 @@ pub struct NamePair<'a> {
 }
 
 impl<'a> Model for NamePair<'a> {
-    ghost use Rattle.ghost_cli.specs.Bus.{Pair};
+    ghost use Rattle.command_words.specs.Pairs.{Pair};
 
     ghost Value = { Pair };
 
@@ -70,9 +62,9 @@ pub fn bus<'a, F: Shelf, O: Sink>(
     out: &mut O,
 ) -> Result<u8, Reply<'a>>
     ensures done { IfOk result (λ status. Explains (outside (F.seen shelf.old) (O.seen out.old))
-        (outside (F.seen shelf.new) (O.seen out.new)) status (bus_row.asks (rows_of (found_of matches.now)))) }
+        (outside (F.seen shelf.new) (O.seen out.new)) status (bus_asks bus_work (rows_of (found_of matches.now)))) }
     ensures stopped { IfErr result (λ reply. LeavesToSay (F.seen shelf.old) (F.seen shelf.new)
-        (bus_row.asks (rows_of (found_of matches.now))) (said reply)) }
+        (bus_asks bus_work (rows_of (found_of matches.now))) (said reply)) }
     ensures unput { OnErr result (O.seen out.new ≡ O.seen out.old) }
 {
     let Some(asked) = words_in(
@@ -94,7 +86,7 @@ fn words_in<'a>(
     seed: Option<&'a str>,
 ) -> Result<Option<BusWords<'a>>, Memory>
     ensures works { IfOk result (λ asked. option_map (λ a. bus_work a.pairs.items a.cycles) asked
-        ≡ bus_named (option_map (λ list. texts list.now) names.entry)
+        ≡ bus_named bus_work (option_map (λ list. texts list.now) names.entry)
         (option_map (λ t. t.now) cycles.entry) (option_map (λ t. t.now) seed.entry)) }
     ensures some_cycle { IfOk result (λ asked. IfSome asked (λ a. 1 ≤ a.cycles)) }
     ensures most { IfOk result (λ asked. IfSome asked (λ a. length a.pairs.items ≤ 8)) }
@@ -115,7 +107,8 @@ fn numbered<'a>(
 ) -> Option<BusWords<'a>>
     requires { length pairs.items ≤ 8 }
     ensures works { option_map (λ a. bus_work a.pairs.items a.cycles) result
-        ≡ bus_named_on pairs.entry.items (option_map (λ t. t.now) cycles.entry) (option_map (λ t. t.now) seed.entry) }
+        ≡ bus_named_on bus_work pairs.entry.items (option_map (λ t. t.now) cycles.entry)
+        (option_map (λ t. t.now) seed.entry) }
     ensures some_cycle { IfSome result (λ a. 1 ≤ a.cycles) }
     ensures most { IfSome result (λ a. length a.pairs.items ≤ 8) }
 {

@@ -1,27 +1,18 @@
 ghost use Rattle.std.specs.Prelude.{◌≡◌, IfErr, IfOk, OnErr};
 ghost use Rattle.clap.specs.Words.{found_of, rows_of};
-ghost use Rattle.ghost_cli.specs.Check.{check_row};
+ghost use Rattle.command_words.specs.Asks.{check_asks};
+ghost use Rattle.ghost_cli.specs.Check.{check_work};
 ghost use Rattle.ghost_cli.specs.Outside.{Explains, outside};
 ghost use Rattle.ghost_cli.specs.Progress.{LeavesToSay};
 ghost use Rattle.ghost_cli.specs.Texts.{said};
 
-use crate::options::value;
 use crate::putting::say;
 use crate::reading::find_accepted;
 use crate::replies::{Reply, Verdict};
-use crate::verbs::{Argument, VerbWords};
 use clap::ArgMatches;
+use command_words::options::value;
 use gr_outside::{Shelf, Sink};
 use std::alloc::Global;
-
-/// The words that the verb takes.
-pub const WORDS: VerbWords<'static> = VerbWords {
-    name: "check",
-    place: Argument::Word,
-    places: &["OBJ"],
-    options: &[],
-    flags: &[],
-};
 
 /// The verb `check OBJ`: prints whether the object of a file is accepted. `Err` if nothing was printed yet: the reply
 /// to print.
@@ -32,9 +23,9 @@ pub fn check<'a, F: Shelf, O: Sink>(
     out: &mut O,
 ) -> Result<u8, Reply<'a>>
     ensures done { IfOk result (λ status. Explains (outside (F.seen shelf.old) (O.seen out.old))
-        (outside (F.seen shelf.new) (O.seen out.new)) status (check_row.asks (rows_of (found_of matches.now)))) }
+        (outside (F.seen shelf.new) (O.seen out.new)) status (check_asks check_work (rows_of (found_of matches.now)))) }
     ensures stopped { IfErr result (λ reply. LeavesToSay (F.seen shelf.old) (F.seen shelf.new)
-        (check_row.asks (rows_of (found_of matches.now))) (said reply)) }
+        (check_asks check_work (rows_of (found_of matches.now))) (said reply)) }
     ensures unput { OnErr result (O.seen out.new ≡ O.seen out.old) }
 {
     let Some(object) = value(matches, "OBJ") else {

@@ -4,37 +4,28 @@ ghost use Rattle.lt_isa.specs.Ranges.{IsInRange, ProfileFits};
 ghost use Rattle.object_file.specs.Spelling.{spelling};
 ghost use Rattle.src_tree.specs.Trees.{source_of};
 ghost use Rattle.clap.specs.Words.{found_of, rows_of};
-ghost use Rattle.ghost_cli.specs.Compile.{compile_named, compile_row, compile_work, on_compiled};
+ghost use Rattle.command_words.specs.Asks.{compile_asks, compile_named};
+ghost use Rattle.ghost_cli.specs.Compile.{compile_on, compile_work, on_compiled};
 ghost use Rattle.ghost_cli.specs.Compiled.{IsCompiledTo, LacksRoom, room_fault};
 ghost use Rattle.ghost_cli.specs.Outside.{Explains, outside};
 ghost use Rattle.ghost_cli.specs.Progress.{EndsWorkWith, LeavesToSay, SaysSource};
 ghost use Rattle.ghost_cli.specs.Questions.{WhichCompiled};
 ghost use Rattle.ghost_cli.specs.Texts.{said};
 
-use crate::options::{block_log_given, flag_given, value};
 use crate::replies::{Done, Reply, Verdict};
 use crate::source_faults::room_fault;
 use crate::sources::find_source;
 use crate::targets::Target;
-use crate::verbs::{Argument, VerbWords};
-use crate::windows::{window_given, windowed};
 use crate::writing::write_and_say;
 use clap::ArgMatches;
 use code_gen::CompileError;
+use command_words::options::{block_log_given, flag_given, value};
+use command_words::windows::{window_given, windowed};
 use flow_types::Typed;
 use gr_outside::{Shelf, Sink};
 use lt_isa::{Latencies, Object};
 use object_file::encode;
 use std::alloc::Global;
-
-/// The words that the verb takes.
-pub const WORDS: VerbWords<'static> = VerbWords {
-    name: "compile",
-    place: Argument::Word,
-    places: &["SRC", "OUT"],
-    options: &["block-log", "window"],
-    flags: &["procs", "fast"],
-};
 
 /// The names of the file that is read and of the one that is written, what is compiled for, and whether the file is read
 /// with procedures.
@@ -55,9 +46,10 @@ pub fn compile<'a, F: Shelf, O: Sink>(
     out: &mut O,
 ) -> Result<u8, Reply<'a>>
     ensures done { IfOk result (λ status. Explains (outside (F.seen shelf.old) (O.seen out.old))
-        (outside (F.seen shelf.new) (O.seen out.new)) status (compile_row.asks (rows_of (found_of matches.now)))) }
+        (outside (F.seen shelf.new) (O.seen out.new)) status
+        (compile_asks compile_on (rows_of (found_of matches.now)))) }
     ensures stopped { IfErr result (λ reply. LeavesToSay (F.seen shelf.old) (F.seen shelf.new)
-        (compile_row.asks (rows_of (found_of matches.now))) (said reply)) }
+        (compile_asks compile_on (rows_of (found_of matches.now))) (said reply)) }
     ensures unput { OnErr result (O.seen out.new ≡ O.seen out.old) }
 {
     let Some(asked) = words_in(
@@ -82,7 +74,7 @@ fn words_in<'a>(
     procs: Option<&'a str>,
 ) -> Option<CompileWords<'a>>
     ensures asked { option_map (λ a. compile_work a.source.now a.output.now a.target a.procs) result
-        ≡ compile_named (option_map (λ t. t.now) source.entry) (option_map (λ t. t.now) output.entry)
+        ≡ compile_named compile_on (option_map (λ t. t.now) source.entry) (option_map (λ t. t.now) output.entry)
         (option_map (λ t. t.now) block_log.entry) (option_map (λ t. t.now) window.entry)
         (option_map (λ t. t.now) fast.entry) (option_map (λ t. t.now) procs.entry) }
     ensures within { IfSome result (λ a. ProfileFits a.target.profile) }

@@ -1,28 +1,20 @@
 ghost use Rattle.std.specs.Prelude.{◌≡◌, IfErr, IfOk, OnErr, Some};
 ghost use Rattle.clap.specs.Words.{found_of, rows_of};
-ghost use Rattle.ghost_cli.specs.Disassemble.{disassemble_row, disassemble_work};
+ghost use Rattle.command_words.specs.Asks.{disassemble_asks};
+ghost use Rattle.ghost_cli.specs.Disassemble.{disassemble_work};
 ghost use Rattle.ghost_cli.specs.Outside.{Explains, outside};
 ghost use Rattle.ghost_cli.specs.Progress.{LeavesToSay};
 ghost use Rattle.ghost_cli.specs.Texts.{said};
 
-use crate::options::{TwoNames, two_names, value};
 use crate::reading::find_object;
 use crate::replies::{Done, Reply};
-use crate::verbs::{Argument, VerbWords};
+use crate::two_names::{TwoNames, two_names};
 use crate::writing::write_and_say;
 use clap::ArgMatches;
+use command_words::options::value;
 use gr_outside::{Shelf, Sink};
 use lt_assembler::disassemble as text_of;
 use std::alloc::Global;
-
-/// The words that the verb takes.
-pub const WORDS: VerbWords<'static> = VerbWords {
-    name: "dis",
-    place: Argument::Word,
-    places: &["OBJ", "OUT"],
-    options: &[],
-    flags: &[],
-};
 
 /// The verb `dis OBJ OUT`: writes the assembly text of a file's object. `Err` if nothing was printed yet: the reply to
 /// print.
@@ -33,9 +25,10 @@ pub fn disassemble<'a, F: Shelf, O: Sink>(
     out: &mut O,
 ) -> Result<u8, Reply<'a>>
     ensures done { IfOk result (λ status. Explains (outside (F.seen shelf.old) (O.seen out.old))
-        (outside (F.seen shelf.new) (O.seen out.new)) status (disassemble_row.asks (rows_of (found_of matches.now)))) }
+        (outside (F.seen shelf.new) (O.seen out.new)) status
+        (disassemble_asks disassemble_work (rows_of (found_of matches.now)))) }
     ensures stopped { IfErr result (λ reply. LeavesToSay (F.seen shelf.old) (F.seen shelf.new)
-        (disassemble_row.asks (rows_of (found_of matches.now))) (said reply)) }
+        (disassemble_asks disassemble_work (rows_of (found_of matches.now))) (said reply)) }
     ensures unput { OnErr result (O.seen out.new ≡ O.seen out.old) }
 {
     let Some(asked) = two_names(value(matches, "OBJ"), value(matches, "OUT")) else {

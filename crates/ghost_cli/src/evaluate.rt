@@ -4,19 +4,19 @@ ghost use Rattle.gr_word.specs.Fitting.{FitsWants};
 ghost use Rattle.src_tree.specs.Trees.{source_of};
 ghost use Rattle.flow_types.specs.Wants.{declared_wants};
 ghost use Rattle.clap.specs.Words.{found_of, rows_of};
-ghost use Rattle.ghost_cli.specs.Evaluate.{evaluate_named, evaluate_row, evaluate_work};
+ghost use Rattle.command_words.specs.Asks.{evaluate_asks, evaluate_named};
+ghost use Rattle.ghost_cli.specs.Evaluate.{evaluate_work};
 ghost use Rattle.ghost_cli.specs.Evaluated.{LeavesText};
 ghost use Rattle.ghost_cli.specs.Outside.{Explains, outside};
 ghost use Rattle.ghost_cli.specs.Progress.{LeavesToSay};
 ghost use Rattle.ghost_cli.specs.Texts.{said};
 
-use crate::options::{flag_given, number_given, value};
 use crate::reading::find_variables;
 use crate::replies::{Done, Reply, Verdict};
 use crate::sources::find_source;
-use crate::verbs::{Argument, VerbWords};
 use crate::writing::write_and_say;
 use clap::ArgMatches;
+use command_words::options::{flag_given, number_given, value};
 use flow_types::Typed;
 use gr_base::Memory;
 use gr_outside::{Shelf, Sink};
@@ -24,15 +24,6 @@ use gr_word::{Inputs, Want};
 use run_data::output_text;
 use source_meaning::{Outcome, eval};
 use std::alloc::Global;
-
-/// The words that the verb takes.
-pub const WORDS: VerbWords<'static> = VerbWords {
-    name: "eval",
-    place: Argument::Word,
-    places: &["SRC", "INPUT", "OUT"],
-    options: &["turns"],
-    flags: &["procs"],
-};
 
 /// The names of the files of an evaluation, its number of turns, and whether the program is read with procedures.
 #[derive(Clone, Copy)]
@@ -53,9 +44,10 @@ pub fn evaluate<'a, F: Shelf, O: Sink>(
     out: &mut O,
 ) -> Result<u8, Reply<'a>>
     ensures done { IfOk result (λ status. Explains (outside (F.seen shelf.old) (O.seen out.old))
-        (outside (F.seen shelf.new) (O.seen out.new)) status (evaluate_row.asks (rows_of (found_of matches.now)))) }
+        (outside (F.seen shelf.new) (O.seen out.new)) status
+        (evaluate_asks evaluate_work (rows_of (found_of matches.now)))) }
     ensures stopped { IfErr result (λ reply. LeavesToSay (F.seen shelf.old) (F.seen shelf.new)
-        (evaluate_row.asks (rows_of (found_of matches.now))) (said reply)) }
+        (evaluate_asks evaluate_work (rows_of (found_of matches.now))) (said reply)) }
     ensures unput { OnErr result (O.seen out.new ≡ O.seen out.old) }
 {
     let Some(asked) = words_in(
@@ -78,7 +70,7 @@ fn words_in<'a>(
     procs: Option<&'a str>,
 ) -> Option<EvaluateWords<'a>>
     ensures { option_map (λ a. evaluate_work a.source.now a.input.now a.output.now a.turns a.procs) result
-        ≡ evaluate_named (option_map (λ t. t.now) source.entry) (option_map (λ t. t.now) input.entry)
+        ≡ evaluate_named evaluate_work (option_map (λ t. t.now) source.entry) (option_map (λ t. t.now) input.entry)
         (option_map (λ t. t.now) output.entry)
         (option_map (λ t. t.now) turns.entry) (option_map (λ t. t.now) procs.entry) }
 {

@@ -2,32 +2,24 @@ ghost use Rattle.std.specs.Prelude.{◌≡◌, IfErr, IfOk, List, OnErr, Some, �
 ghost use Rattle.clap.specs.Words.{found_of, rows_of};
 ghost use Rattle.lt_isa.specs.Ranges.{IsInRange};
 ghost use Rattle.note_infer.specs.Inferred.{IsInferred};
-ghost use Rattle.ghost_cli.specs.Infer.{infer_row, infer_work, on_inferred};
+ghost use Rattle.command_words.specs.Asks.{infer_asks};
+ghost use Rattle.ghost_cli.specs.Infer.{infer_work, on_inferred};
 ghost use Rattle.ghost_cli.specs.Outside.{Explains, outside};
 ghost use Rattle.ghost_cli.specs.Progress.{EndsWorkWith, LeavesToSay, SaysNotes};
 ghost use Rattle.ghost_cli.specs.Questions.{WhatIsInferred};
 ghost use Rattle.ghost_cli.specs.Texts.{said};
 
-use crate::options::{TwoNames, two_names, value};
 use crate::reading::find_object;
 use crate::replies::{Done, Reply, Verdict};
-use crate::verbs::{Argument, VerbWords};
+use crate::two_names::{TwoNames, two_names};
 use crate::writing::write_and_say;
 use clap::ArgMatches;
+use command_words::options::value;
 use gr_outside::{Shelf, Sink};
 use lt_isa::Object;
 use note_infer::InferError;
 use object_file::encode;
 use std::alloc::Global;
-
-/// The words that the verb takes.
-pub const WORDS: VerbWords<'static> = VerbWords {
-    name: "infer",
-    place: Argument::Word,
-    places: &["OBJ", "OUT"],
-    options: &[],
-    flags: &[],
-};
 
 /// The verb `infer OBJ OUT`: writes the object file of an object with its least notes instead of its own. `Err` if
 /// nothing was printed yet: the reply to print.
@@ -38,9 +30,9 @@ pub fn infer<'a, F: Shelf, O: Sink>(
     out: &mut O,
 ) -> Result<u8, Reply<'a>>
     ensures done { IfOk result (λ status. Explains (outside (F.seen shelf.old) (O.seen out.old))
-        (outside (F.seen shelf.new) (O.seen out.new)) status (infer_row.asks (rows_of (found_of matches.now)))) }
+        (outside (F.seen shelf.new) (O.seen out.new)) status (infer_asks infer_work (rows_of (found_of matches.now)))) }
     ensures stopped { IfErr result (λ reply. LeavesToSay (F.seen shelf.old) (F.seen shelf.new)
-        (infer_row.asks (rows_of (found_of matches.now))) (said reply)) }
+        (infer_asks infer_work (rows_of (found_of matches.now))) (said reply)) }
     ensures unput { OnErr result (O.seen out.new ≡ O.seen out.old) }
 {
     let Some(asked) = two_names(value(matches, "OBJ"), value(matches, "OUT")) else {

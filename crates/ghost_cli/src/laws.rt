@@ -8,7 +8,8 @@ ghost use Rattle.ghost_cli.specs.OneAnswer.{OneAnswer, OneSource, SomeAnswer, Tr
 ghost use Rattle.ghost_cli.specs.Promises.{PromisesFollow};
 ghost use Rattle.ghost_cli.specs.Runs.{TracesAgree, TextsAgree};
 ghost use Rattle.ghost_cli.specs.Showing.{IsTraceText};
-ghost use Rattle.ghost_cli.specs.WordsAsk.{WordsAsk};
+ghost use Rattle.command_words.specs.WordsAsk.{WordsAsk};
+ghost use Rattle.ghost_cli.specs.Verbs.{works};
 
 /// Does nothing; its clauses are laws: if two runs of one oblivious object have inputs that agree on public values,
 /// then at every number of cycles their traces are equal, and so are the texts that `trace` prints.
@@ -88,7 +89,7 @@ pub fn promises_follow()
 /// once, with values in their ranges. An option's value follows `=` or is the next word, and after `--` all words are
 /// names. No words, and words whose first isn't a verb, request none.
 pub fn words_ask()
-    ensures { WordsAsk }
+    ensures { WordsAsk works }
 {}
 
 /// Does nothing; its clause is a law: if the shelf reports its files and the sink its bytes, the headline follows from

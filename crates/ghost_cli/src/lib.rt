@@ -4,11 +4,10 @@
 //! sink and returns the exit status. Its contract states the outcome and its cause.
 //!
 //! The work of a verb is a tree of steps: read a file, ask a question about what was read, write a file, end. What
-//! every call promises is proved once, for all trees. To add a verb, write its row and its tree in a file of its own in
-//! `specs/`, its words and its work in a file of its own in `src/`, and in `proofs/` a proof that the work is that of
-//! the tree. Then add it to the tables in `specs/Verbs.antt`, `src/verbs.rt` and `src/top.rt`, and to
-//! `proofs/VerbRows.antt`. A new question is added to `specs/Questions.antt`, a new line to `src/replies.rt` with
-//! `specs/Texts.antt`. No other verb's files change.
+//! every call promises is proved once, for all trees. To add a verb, add its words to the crate `command_words`, write
+//! its tree in a file of its own in `specs/`, its work in a file of its own in `src/`, and in `proofs/` a proof that the
+//! work is that of the tree. Then add it to the tables in `specs/Verbs.antt` and `src/top.rt`. A new question is added
+//! to `specs/Questions.antt`, a new line to `src/replies.rt` with `specs/Texts.antt`. No other verb's files change.
 //!
 //! A verb's function returns the status if it printed its own text. If nothing was printed yet, its `Err` is the reply
 //! to print, also for want of memory: so a step passes its errors on by `?`, and they are printed in one place.
@@ -29,7 +28,6 @@ pub mod laws;
 mod levels;
 mod name_text;
 pub mod oblivious;
-pub mod options;
 pub mod pure;
 pub mod putting;
 pub mod reading;
@@ -42,8 +40,7 @@ pub mod targets;
 pub mod top;
 pub mod trace;
 pub mod trace_watch;
-pub mod verbs;
-pub mod windows;
+pub mod two_names;
 mod writing;
 
 pub use bus_lines::BusLines;

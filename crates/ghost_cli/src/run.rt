@@ -8,16 +8,16 @@ ghost use Rattle.clap.specs.Words.{found_of, rows_of};
 ghost use Rattle.ghost_cli.specs.Outside.{Explains, outside};
 ghost use Rattle.ghost_cli.specs.Progress.{LeavesToSay};
 ghost use Rattle.ghost_cli.specs.Ran.{RanTo};
-ghost use Rattle.ghost_cli.specs.Run.{run_named, run_row, run_work};
+ghost use Rattle.command_words.specs.Asks.{run_asks, run_named};
+ghost use Rattle.ghost_cli.specs.Run.{run_work};
 ghost use Rattle.ghost_cli.specs.Texts.{said};
 
 use crate::oblivious::{Seeded, SeededOram, SeededRecursive, load_seeded};
-use crate::options::{flag_given, number_given, seed_given, value};
 use crate::reading::{find_accepted, find_inputs};
 use crate::replies::{Done, Reply, Verdict};
-use crate::verbs::{Argument, VerbWords};
 use crate::writing::write_and_say;
 use clap::ArgMatches;
+use command_words::options::{flag_given, number_given, seed_given, value};
 use gr_base::Memory;
 use gr_outside::{Shelf, Sink};
 use gr_word::Inputs;
@@ -25,15 +25,6 @@ use lt_checker::Accepted;
 use processor::{Bank, End, Machine, NoWatch};
 use run_data::output_text;
 use std::alloc::Global;
-
-/// The words that the verb takes.
-pub const WORDS: VerbWords<'static> = VerbWords {
-    name: "run",
-    place: Argument::Word,
-    places: &["OBJ", "INPUT", "OUT"],
-    options: &["cycles", "seed"],
-    flags: &["recursive"],
-};
 
 /// The names of the files of a run, its number of cycles, the seed of its random words, and whether its banks are
 /// recursive.
@@ -56,9 +47,9 @@ pub fn run<'a, F: Shelf, O: Sink>(
     out: &mut O,
 ) -> Result<u8, Reply<'a>>
     ensures done { IfOk result (λ status. Explains (outside (F.seen shelf.old) (O.seen out.old))
-        (outside (F.seen shelf.new) (O.seen out.new)) status (run_row.asks (rows_of (found_of matches.now)))) }
+        (outside (F.seen shelf.new) (O.seen out.new)) status (run_asks run_work (rows_of (found_of matches.now)))) }
     ensures stopped { IfErr result (λ reply. LeavesToSay (F.seen shelf.old) (F.seen shelf.new)
-        (run_row.asks (rows_of (found_of matches.now))) (said reply)) }
+        (run_asks run_work (rows_of (found_of matches.now))) (said reply)) }
     ensures unput { OnErr result (O.seen out.new ≡ O.seen out.old) }
 {
     let Some(asked) = words_in(
@@ -83,7 +74,7 @@ fn words_in<'a>(
     recursive: Option<&'a str>,
 ) -> Option<RunWords<'a>>
     ensures works { option_map (λ a. run_work a.object.now a.input.now a.output.now a.cycles) result
-        ≡ run_named (option_map (λ t. t.now) object.entry) (option_map (λ t. t.now) input.entry)
+        ≡ run_named run_work (option_map (λ t. t.now) object.entry) (option_map (λ t. t.now) input.entry)
         (option_map (λ t. t.now) output.entry)
         (option_map (λ t. t.now) cycles.entry) (option_map (λ t. t.now) seed.entry) }
     ensures some_cycle { IfSome result (λ a. 1 ≤ a.cycles) }

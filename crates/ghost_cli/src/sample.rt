@@ -8,7 +8,8 @@ ghost use Rattle.clap.specs.Words.{found_of, rows_of};
 ghost use Rattle.ghost_cli.specs.Histogram.{sample_cycles, sample_store, sum_left};
 ghost use Rattle.ghost_cli.specs.Outside.{Explains, outside};
 ghost use Rattle.ghost_cli.specs.Progress.{LeavesToSay};
-ghost use Rattle.ghost_cli.specs.Sample.{sample_named, sample_row, sample_work};
+ghost use Rattle.command_words.specs.Asks.{sample_asks, sample_named};
+ghost use Rattle.ghost_cli.specs.Sample.{sample_work};
 ghost use Rattle.ghost_cli.specs.Sampled.{SampleCameTo, SampleIsReady, RanCounted};
 ghost use Rattle.ghost_cli.specs.SampleTree.{sample_program};
 ghost use Rattle.ghost_cli.specs.Texts.{no_memory, said};
@@ -19,14 +20,13 @@ use crate::histogram::{
     SAMPLE_BLOCK_LOG, SAMPLE_CYCLES, sample_inputs, sample_program, sum_of_counts,
 };
 use crate::oblivious::{SeededOram, load_seeded};
-use crate::options::{flag_given, items_given, seed_given, value};
 use crate::reading::checked;
 use crate::replies::{Done, Figures, Reply, Verdict};
 use crate::targets::Target;
-use crate::verbs::{Argument, VerbWords};
-use crate::windows::{ALWAYS_OPEN, windowed};
 use crate::writing::write_and_say;
 use clap::ArgMatches;
+use command_words::options::{flag_given, items_given, seed_given, value};
+use command_words::windows::{ALWAYS_OPEN, windowed};
 use flow_types::Typed;
 use gr_base::Memory;
 use gr_outside::{Shelf, Sink};
@@ -35,15 +35,6 @@ use object_file::encode;
 use processor::End;
 use source_meaning::{Outcome, eval};
 use std::alloc::Global;
-
-/// The words that the verb takes.
-pub const WORDS: VerbWords<'static> = VerbWords {
-    name: "sample",
-    place: Argument::Word,
-    places: &["N", "OUT"],
-    options: &["seed"],
-    flags: &["fast"],
-};
 
 /// The number of items of a sample, the name of the file that is written, the seed of the run's random words, and whether
 /// arrays that fit stay in the scratchpad.
@@ -65,9 +56,10 @@ pub fn sample<'a, F: Shelf, O: Sink>(
     out: &mut O,
 ) -> Result<u8, Reply<'a>>
     ensures done { IfOk result (λ status. Explains (outside (F.seen shelf.old) (O.seen out.old))
-        (outside (F.seen shelf.new) (O.seen out.new)) status (sample_row.asks (rows_of (found_of matches.now)))) }
+        (outside (F.seen shelf.new) (O.seen out.new)) status
+        (sample_asks sample_work (rows_of (found_of matches.now)))) }
     ensures stopped { IfErr result (λ reply. LeavesToSay (F.seen shelf.old) (F.seen shelf.new)
-        (sample_row.asks (rows_of (found_of matches.now))) (said reply)) }
+        (sample_asks sample_work (rows_of (found_of matches.now))) (said reply)) }
     ensures unput { OnErr result (O.seen out.new ≡ O.seen out.old) }
 {
     let Some(asked) = words_in(
@@ -88,7 +80,7 @@ fn words_in<'a>(
     fast: Option<&'a str>,
 ) -> Option<SampleWords<'a>>
     ensures asked { option_map (λ a. sample_work a.fast a.items a.output.now) result
-        ≡ sample_named (option_map (λ t. t.now) items.entry) (option_map (λ t. t.now) output.entry)
+        ≡ sample_named sample_work (option_map (λ t. t.now) items.entry) (option_map (λ t. t.now) output.entry)
         (option_map (λ t. t.now) seed.entry) (option_map (λ t. t.now) fast.entry) }
     ensures within { IfSome result (λ a. Within 1 65536 a.items) }
 {

@@ -1,12 +1,13 @@
 ghost use Rattle.std.specs.Prelude.{◌≡◌, IfErr, IfOk, OnErr};
-ghost use Rattle.ghost_cli.specs.CommandLines.{AreTexts};
+ghost use Rattle.command_words.specs.CommandLines.{AreTexts};
 ghost use Rattle.ghost_cli.specs.HeadlineFollows.{HasHeadline};
-ghost use Rattle.ghost_cli.specs.Options.{texts};
+ghost use Rattle.command_words.specs.Options.{texts};
 ghost use Rattle.ghost_cli.specs.Outside.{Explains, outside};
 ghost use Rattle.ghost_cli.specs.Progress.{LeavesToSay};
 ghost use Rattle.ghost_cli.specs.Promises.{Promises};
 ghost use Rattle.ghost_cli.specs.Texts.{said};
-ghost use Rattle.ghost_cli.specs.Verbs.{asked_of, row_of, work_of};
+ghost use Rattle.command_words.specs.Verbs.{asked_of, asks_of};
+ghost use Rattle.ghost_cli.specs.Verbs.{work_of, works};
 ghost use Rattle.clap.specs.Words.{found_of, rows_of};
 
 use crate::assemble::assemble;
@@ -21,8 +22,8 @@ use crate::replies::Reply;
 use crate::run::run;
 use crate::sample::sample;
 use crate::trace::trace;
-use crate::verbs::{Verb, matches_of, verb_named};
 use clap::ArgMatches;
+use command_words::verbs::{Verb, matches_of, verb_named};
 use gr_outside::{Shelf, Sink};
 use std::alloc::Global;
 
@@ -106,9 +107,9 @@ fn perform<'a, F: Shelf, O: Sink>(
     out: &mut O,
 ) -> Result<u8, Reply<'a>>
     ensures done { IfOk result (λ status. Explains (outside (F.seen shelf.old) (O.seen out.old))
-        (outside (F.seen shelf.new) (O.seen out.new)) status (asked_of name.now (texts words.now))) }
+        (outside (F.seen shelf.new) (O.seen out.new)) status (asked_of works name.now (texts words.now))) }
     ensures stopped { IfErr result (λ reply. LeavesToSay (F.seen shelf.old) (F.seen shelf.new)
-        (asked_of name.now (texts words.now)) (said reply)) }
+        (asked_of works name.now (texts words.now)) (said reply)) }
     ensures unput { OnErr result (O.seen out.new ≡ O.seen out.old) }
 {
     let Some(verb) = verb_named(name) else {
@@ -130,9 +131,9 @@ fn work<'a, F: Shelf, O: Sink>(
     out: &mut O,
 ) -> Result<u8, Reply<'a>>
     ensures done { IfOk result (λ status. Explains (outside (F.seen shelf.old) (O.seen out.old))
-        (outside (F.seen shelf.new) (O.seen out.new)) status ((row_of verb).asks (rows_of (found_of matches.now)))) }
+        (outside (F.seen shelf.new) (O.seen out.new)) status (asks_of works verb (rows_of (found_of matches.now)))) }
     ensures stopped { IfErr result (λ reply. LeavesToSay (F.seen shelf.old) (F.seen shelf.new)
-        ((row_of verb).asks (rows_of (found_of matches.now))) (said reply)) }
+        (asks_of works verb (rows_of (found_of matches.now))) (said reply)) }
     ensures unput { OnErr result (O.seen out.new ≡ O.seen out.old) }
 {
     match verb {

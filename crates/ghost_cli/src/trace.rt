@@ -5,7 +5,8 @@ ghost use Rattle.banks.specs.Accesses.{accesses_from};
 ghost use Rattle.ghost_cli.specs.Outside.{Explains, outside};
 ghost use Rattle.ghost_cli.specs.Progress.{LeavesToSay};
 ghost use Rattle.ghost_cli.specs.Texts.{comes_to, said};
-ghost use Rattle.ghost_cli.specs.Trace.{trace_named, trace_row, trace_work};
+ghost use Rattle.command_words.specs.Asks.{trace_asks, trace_named};
+ghost use Rattle.ghost_cli.specs.Trace.{trace_work};
 ghost use Rattle.ghost_cli.specs.Levels.{AreBehind, MayRun, PutsLast};
 ghost use Rattle.ghost_cli.specs.Watched.{HoldsLines, PutsShown, PutsTrace, kept};
 ghost use Rattle.ghost_cli.specs.TracedInTrees.{TracedInTrees};
@@ -20,28 +21,18 @@ ghost use Rattle.ghost_cli.specs.declared.replies.Verdict.TheVariants.{Traced};
 
 use crate::levels::put_levels;
 use crate::oblivious::{SeededOram, SeededRecursive, load_seeded};
-use crate::options::{flag_given, number_given, seed_given, value};
 use crate::putting::{NOT_PUT, line_of, put_text};
 use crate::reading::{find_accepted, find_inputs};
 use crate::replies::{Reply, Verdict};
 use crate::trace_watch::TraceWatch;
-use crate::verbs::{Argument, VerbWords};
 use clap::ArgMatches;
+use command_words::options::{flag_given, number_given, seed_given, value};
 use gr_base::Memory;
 use gr_outside::{Shelf, Sink};
 use gr_word::Inputs;
 use lt_checker::Accepted;
 use processor::{Bank, End, Machine};
 use std::alloc::Global;
-
-/// The words that the verb takes.
-pub const WORDS: VerbWords<'static> = VerbWords {
-    name: "trace",
-    place: Argument::Word,
-    places: &["OBJ", "INPUT"],
-    options: &["cycles", "seed"],
-    flags: &["paths", "recursive"],
-};
 
 /// The names of the files of a trace, its number of cycles, the seed of its random words, whether paths are printed,
 /// and whether its banks are recursive.
@@ -64,9 +55,9 @@ pub fn trace<'a, F: Shelf, O: Sink>(
     out: &mut O,
 ) -> Result<u8, Reply<'a>>
     ensures done { IfOk result (λ status. Explains (outside (F.seen shelf.old) (O.seen out.old))
-        (outside (F.seen shelf.new) (O.seen out.new)) status (trace_row.asks (rows_of (found_of matches.now)))) }
+        (outside (F.seen shelf.new) (O.seen out.new)) status (trace_asks trace_work (rows_of (found_of matches.now)))) }
     ensures stopped { IfErr result (λ reply. LeavesToSay (F.seen shelf.old) (F.seen shelf.new)
-        (trace_row.asks (rows_of (found_of matches.now))) (said reply)) }
+        (trace_asks trace_work (rows_of (found_of matches.now))) (said reply)) }
     ensures unput { OnErr result (O.seen out.new ≡ O.seen out.old) }
 {
     let Some(asked) = words_in(
@@ -91,7 +82,7 @@ fn words_in<'a>(
     recursive: Option<&'a str>,
 ) -> Option<TraceWords<'a>>
     ensures works { option_map (λ a. trace_work a.object.now a.input.now a.cycles a.seed a.paths a.recursive) result
-        ≡ trace_named (option_map (λ t. t.now) object.entry) (option_map (λ t. t.now) input.entry)
+        ≡ trace_named trace_work (option_map (λ t. t.now) object.entry) (option_map (λ t. t.now) input.entry)
         (option_map (λ t. t.now) cycles.entry)
         (option_map (λ t. t.now) seed.entry) (option_map (λ t. t.now) paths.entry)
         (option_map (λ t. t.now) recursive.entry) }

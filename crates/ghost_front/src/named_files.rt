@@ -3,8 +3,8 @@
 use crate::streams::DASH;
 use crate::tools::Tool;
 use clap::ArgMatches;
+use command_words::verbs::{matches_of, verb_named};
 use explain_words::Kind;
-use ghost_cli::verbs::{matches_of, verb_named};
 use ghost_tools::words::{self, COUNT, DIFF, LAYOUT, TEST};
 use gr_base::Memory;
 use std::alloc::Global;

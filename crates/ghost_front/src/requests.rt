@@ -1,7 +1,7 @@
 //! What the words of a call ask the front itself.
 
 ghost use Rattle.std.specs.Prelude.{◌≡◌, ◌∷◌, is_some};
-ghost use Rattle.ghost_cli.specs.Options.{texts};
+ghost use Rattle.command_words.specs.Options.{texts};
 ghost use Rattle.ghost_front.specs.Requests.{asks_front, asks_help, is_about, is_help_option};
 
 use crate::verb_table::{VerbHelp, verb_help};

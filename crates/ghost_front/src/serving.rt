@@ -1,7 +1,7 @@
 //! A call of a verb of `ghost_cli`, with the standard streams as files.
 
 ghost use Rattle.std.specs.Prelude.{◌≡◌, ◌⊎◌, option_copied};
-ghost use Rattle.ghost_cli.specs.Options.{texts};
+ghost use Rattle.command_words.specs.Options.{texts};
 ghost use Rattle.ghost_cli.specs.Outside.{outside};
 ghost use Rattle.ghost_cli.specs.Promises.{Promises};
 ghost use Rattle.ghost_cli.specs.Verbs.{work_of};

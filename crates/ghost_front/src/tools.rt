@@ -1,7 +1,7 @@
 //! The verbs that the front does itself, with `-` as standard input.
 
 ghost use Rattle.std.specs.Prelude.{◌≡◌, is_some};
-ghost use Rattle.ghost_cli.specs.Options.{texts};
+ghost use Rattle.command_words.specs.Options.{texts};
 ghost use Rattle.ghost_cli.specs.Verbs.{work_of};
 ghost use Rattle.ghost_front.specs.Requests.{asks_tool, is_tool};
 ghost use Rattle.ghost_front.specs.Served.{KeepsOthers};

@@ -1,7 +1,7 @@
 //! The call of the front program.
 
 ghost use Rattle.std.specs.Prelude.{◌≡◌, ◌⊎◌, false};
-ghost use Rattle.ghost_cli.specs.Options.{texts};
+ghost use Rattle.command_words.specs.Options.{texts};
 ghost use Rattle.ghost_cli.specs.Verbs.{work_of};
 ghost use Rattle.ghost_front.specs.Requests.{asks_front, asks_tool};
 ghost use Rattle.ghost_front.specs.Served.{KeepsOthers, Serves, around};

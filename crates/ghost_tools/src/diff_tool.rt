@@ -9,7 +9,7 @@ use crate::reports::{Report, end_status, print};
 use crate::runs::{RunWords, compare_runs, run_in};
 use crate::words::{DIFF, matches_of};
 use clap::ArgMatches;
-use ghost_cli::options::value;
+use command_words::options::value;
 use ghost_cli::reading::{find_accepted, find_inputs};
 use ghost_cli::replies::Reply;
 use gr_base::Memory;

@@ -12,9 +12,9 @@ ghost use Rattle.ghost_tools.specs.Runs.{LeavesWords};
 
 use crate::comparing::{Comparison, compare};
 use clap::ArgMatches;
+use command_words::options::{flag_given, number_given, seed_given, value};
 use flow_types::Typed;
 use ghost_cli::oblivious::{Seeded, SeededOram, SeededRecursive, load_seeded};
-use ghost_cli::options::{flag_given, number_given, seed_given, value};
 use gr_base::Memory;
 use gr_word::Inputs;
 use lt_checker::Accepted;

@@ -7,8 +7,8 @@ use crate::sources::{SourceWords, accepted_of, read_file, read_source, source_in
 use crate::suites::{Subject, Tried, try_cases};
 use crate::words::{TEST, matches_of};
 use clap::ArgMatches;
+use command_words::options::{number_given, value};
 use ghost_cli::compile::object_of;
-use ghost_cli::options::{number_given, value};
 use ghost_cli::replies::{InputFault, Reply, Verdict};
 use gr_base::Memory;
 use gr_outside::{Shelf, Sink};

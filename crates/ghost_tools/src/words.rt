@@ -1,6 +1,6 @@
 use clap::error::ErrorKind;
 use clap::{ArgMatches, Command};
-use ghost_cli::verbs::{Argument, VerbWords, with_all};
+use command_words::verbs::{Argument, VerbWords, with_all};
 use gr_base::Memory;
 use std::alloc::Global;
 

@@ -1,6 +1,6 @@
 use Rattle.std.proofs.Common.{◌∙◌}
 use Rattle.ghost_cli.specs.Assemble.{assemble_work}
-use Rattle.ghost_cli.specs.Options.{two_named}
+use Rattle.command_words.specs.Options.{two_named}
 use Rattle.ghost_cli.proofs.Answering.{asked-done, asked-left, unasked}
 use Rattle.ghost_cli.proofs.assemble.assemble.Goals as goal
 

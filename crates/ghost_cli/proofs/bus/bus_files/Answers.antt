@@ -1,5 +1,6 @@
 use Rattle.std.proofs.Common.{List, refl, subst}
-use Rattle.ghost_cli.specs.Bus.{Pair, bus_work, shares_bus}
+use Rattle.command_words.specs.Pairs.{Pair}
+use Rattle.ghost_cli.specs.Bus.{bus_work, shares_bus}
 use Rattle.ghost_cli.specs.Progress.{HasLeft, Stops, WorkStops}
 use Rattle.ghost_cli.specs.Texts.{said}
 use Rattle.ghost_cli.proofs.Answering.{passed-on}

@@ -1,7 +1,7 @@
 use Rattle.std.proofs.Common.{◌≡◌, ◌+◌, ◌*◌, ◌++◌, ◌≤◌, length}
 use Rattle.std.specs.Option.{option_map}
-use Rattle.ghost_cli.specs.Bus.{in_pairs}
-use Rattle.ghost_cli.specs.Options.{texts}
+use Rattle.command_words.specs.Pairs.{in_pairs}
+use Rattle.command_words.specs.Options.{texts}
 use Rattle.ghost_cli.proofs.bus.pairs_in.Given as goal
 
 abbrev pub invariant-pairing : goal.invariant-pairing

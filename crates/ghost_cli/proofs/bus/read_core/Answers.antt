@@ -5,7 +5,8 @@ use Rattle.bus_arbiter.specs.Refusals.{refusal}
 use Rattle.bus_arbiter.specs.Shares.{share_of}
 use Rattle.bus_arbiter.specs.declared.errors.BusError.TheVariants as bus
 use Rattle.bus_arbiter.specs.declared.shares.Share.{Share}
-use Rattle.ghost_cli.specs.Bus.{Pair, Read, bus_said, on_plan, one_read, with_core}
+use Rattle.command_words.specs.Pairs.{Pair}
+use Rattle.ghost_cli.specs.Bus.{Read, bus_said, on_plan, one_read, with_core}
 use Rattle.ghost_cli.specs.Progress.{HasLeft, Stops}
 use Rattle.ghost_cli.specs.Sharing.{AreRead}
 use Rattle.ghost_cli.specs.Steps.{with_inputs}

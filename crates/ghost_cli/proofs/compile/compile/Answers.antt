@@ -1,5 +1,6 @@
 use Rattle.std.proofs.Common.{◌∙◌}
-use Rattle.ghost_cli.specs.Compile.{compile_named}
+use Rattle.command_words.specs.Asks.{compile_named}
+use Rattle.ghost_cli.specs.Compile.{compile_on}
 use Rattle.ghost_cli.proofs.Answering.{asked-done, asked-left, unasked}
 use Rattle.ghost_cli.proofs.compile.compile.Goals as goal
 
@@ -7,14 +8,14 @@ pub returns-in_default-clause-stopped : goal.returns-in_default-clause-stopped
 returns-in_default-clause-stopped g c =
     unasked _ _ _ (g.F.Shelf.seen c.args.shelf.now) c.in_default.is
     (c.words_in.ensures.asked
-    ∙ (λ k. compile_named (c.value.ensures k) (c.value-2.ensures k) (c.value-3.ensures k)
+    ∙ (λ k. compile_named compile_on (c.value.ensures k) (c.value-2.ensures k) (c.value-3.ensures k)
     (c.value-4.ensures k) (c.value-5.ensures k) (c.value-6.ensures k)))
 
 pub returns-clause-done : goal.returns-clause-done
 returns-clause-done g c =
     asked-done _ _ _ _ _ _ c.compile_file.result c.in-Some.is
     (c.words_in.ensures.asked
-    ∙ (λ k. compile_named (c.value.ensures k) (c.value-2.ensures k) (c.value-3.ensures k)
+    ∙ (λ k. compile_named compile_on (c.value.ensures k) (c.value-2.ensures k) (c.value-3.ensures k)
     (c.value-4.ensures k) (c.value-5.ensures k) (c.value-6.ensures k)))
     c.compile_file.ensures.done
 
@@ -22,6 +23,6 @@ pub returns-clause-stopped : goal.returns-clause-stopped
 returns-clause-stopped g c =
     asked-left _ _ _ _ _ _ c.compile_file.result c.in-Some.is
     (c.words_in.ensures.asked
-    ∙ (λ k. compile_named (c.value.ensures k) (c.value-2.ensures k) (c.value-3.ensures k)
+    ∙ (λ k. compile_named compile_on (c.value.ensures k) (c.value-2.ensures k) (c.value-3.ensures k)
     (c.value-4.ensures k) (c.value-5.ensures k) (c.value-6.ensures k)))
     c.compile_file.ensures.stopped

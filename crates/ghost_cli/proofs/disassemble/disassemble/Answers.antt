@@ -1,6 +1,6 @@
 use Rattle.std.proofs.Common.{◌∙◌}
 use Rattle.ghost_cli.specs.Disassemble.{disassemble_work}
-use Rattle.ghost_cli.specs.Options.{two_named}
+use Rattle.command_words.specs.Options.{two_named}
 use Rattle.ghost_cli.proofs.Answering.{asked-done, asked-left, unasked}
 use Rattle.ghost_cli.proofs.disassemble.disassemble.Goals as goal
 

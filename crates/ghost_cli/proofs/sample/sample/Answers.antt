@@ -1,5 +1,6 @@
 use Rattle.std.proofs.Common.{◌∙◌}
-use Rattle.ghost_cli.specs.Sample.{sample_named}
+use Rattle.command_words.specs.Asks.{sample_named}
+use Rattle.ghost_cli.specs.Sample.{sample_work}
 use Rattle.ghost_cli.proofs.Answering.{asked-done, asked-left, unasked}
 use Rattle.ghost_cli.proofs.sample.sample.Goals as goal
 
@@ -7,18 +8,18 @@ pub returns-in_default-clause-stopped : goal.returns-in_default-clause-stopped
 returns-in_default-clause-stopped g c =
     unasked _ _ _ (g.F.Shelf.seen c.args.shelf.now) c.in_default.is
     (c.words_in.ensures.asked
-    ∙ (λ k. sample_named (c.value.ensures k) (c.value-2.ensures k) (c.value-3.ensures k) (c.value-4.ensures k)))
+    ∙ (λ k. sample_named sample_work (c.value.ensures k) (c.value-2.ensures k) (c.value-3.ensures k) (c.value-4.ensures k)))
 
 pub returns-clause-done : goal.returns-clause-done
 returns-clause-done g c =
     asked-done _ _ _ _ _ _ c.sample_file.result c.in-Some.is
     (c.words_in.ensures.asked
-    ∙ (λ k. sample_named (c.value.ensures k) (c.value-2.ensures k) (c.value-3.ensures k) (c.value-4.ensures k)))
+    ∙ (λ k. sample_named sample_work (c.value.ensures k) (c.value-2.ensures k) (c.value-3.ensures k) (c.value-4.ensures k)))
     c.sample_file.ensures.done
 
 pub returns-clause-stopped : goal.returns-clause-stopped
 returns-clause-stopped g c =
     asked-left _ _ _ _ _ _ c.sample_file.result c.in-Some.is
     (c.words_in.ensures.asked
-    ∙ (λ k. sample_named (c.value.ensures k) (c.value-2.ensures k) (c.value-3.ensures k) (c.value-4.ensures k)))
+    ∙ (λ k. sample_named sample_work (c.value.ensures k) (c.value-2.ensures k) (c.value-3.ensures k) (c.value-4.ensures k)))
     c.sample_file.ensures.stopped

@@ -1,6 +1,6 @@
 use Rattle.std.proofs.Common.{drop}
-use Rattle.ghost_cli.specs.CommandLines.{AreTexts}
-use Rattle.ghost_cli.specs.Options.{texts}
+use Rattle.command_words.specs.CommandLines.{AreTexts}
+use Rattle.command_words.specs.Options.{texts}
 use Rattle.ghost_cli.proofs.top.look_at.Given as goal
 
 abbrev pub invariant-looking : goal.invariant-looking

@@ -2,38 +2,40 @@ use Rattle.std.proofs.Common.{ap, refl, sym, ◌∙◌}
 use Rattle.std.specs.Prelude.{option_and_then}
 use Rattle.clap.specs.Words.{found_of, rows_of}
 use Rattle.clap.specs.declared.parser.matches.ArgMatches.{ArgMatches}
-use Rattle.ghost_cli.specs.Options.{texts}
+use Rattle.command_words.specs.Options.{texts}
 use Rattle.ghost_cli.specs.Progress.{NothingAsked}
-use Rattle.ghost_cli.specs.Verbs.{asked_for, row_of}
-use Rattle.ghost_cli.specs.declared.verbs.Verb.{Verb}
+use Rattle.command_words.specs.Verbs.{asked_for, asks_of}
+use Rattle.command_words.specs.declared.verbs.Verb.{Verb}
+use Rattle.ghost_cli.specs.Verbs.{works}
+use Rattle.command_words.proofs.Wording.{verb-found}
 use Rattle.ghost_cli.proofs.Answering.{told-done, told-left}
 use Rattle.ghost_cli.proofs.top.perform.Goals as goal
 
 pub returns-in_default-clause-stopped : goal.returns-in_default-clause-stopped
 returns-in_default-clause-stopped g c =
     NothingAsked
-    (ap (option_and_then (λ (verb : Verb). asked_for verb (texts c.args.words.now)))
+    (ap (option_and_then (λ (verb : Verb). asked_for works verb (texts c.args.words.now)))
     (sym c.verb_named.ensures ∙ c.in_default.is)) refl refl
 
 pub returns-in_default-2-clause-stopped : goal.returns-in_default-2-clause-stopped
 returns-in_default-2-clause-stopped g c =
     NothingAsked
-    (ap (option_and_then (λ (verb : Verb). asked_for verb (texts c.args.words.now)))
+    (ap (option_and_then (λ (verb : Verb). asked_for works verb (texts c.args.words.now)))
     (sym c.verb_named.ensures ∙ c.in-Some.is)
-    ∙ (sym c.in_ok-matches.ensures
-    ∙ ap (option_and_then (λ (m : ArgMatches). (row_of c.in-Some.verb).asks (rows_of (found_of m))))
+    ∙ (sym (verb-found works c.in-Some.verb (texts c.args.words.now) _ c.in_ok-matches.ensures)
+    ∙ ap (option_and_then (λ (m : ArgMatches). asks_of works c.in-Some.verb (rows_of (found_of m))))
     c.in_default-2.is)) refl refl
 
 pub returns-clause-done : goal.returns-clause-done
 returns-clause-done g c =
-    told-done (λ verb. asked_for verb (texts c.args.words.now)) c.verb_named.result c.in-Some.verb _ _ _ c.work.result
-    c.in-Some.is (ap (option_and_then (λ verb. asked_for verb (texts c.args.words.now))) c.verb_named.ensures)
-    (told-done (λ m. (row_of c.in-Some.verb).asks (rows_of (found_of m))) _ _ _ _ _ c.work.result c.in-Some-2.is
-    c.in_ok-matches.ensures c.work.ensures.done)
+    told-done (λ verb. asked_for works verb (texts c.args.words.now)) c.verb_named.result c.in-Some.verb _ _ _ c.work.result
+    c.in-Some.is (ap (option_and_then (λ verb. asked_for works verb (texts c.args.words.now))) c.verb_named.ensures)
+    (told-done (λ m. asks_of works c.in-Some.verb (rows_of (found_of m))) _ _ _ _ _ c.work.result c.in-Some-2.is
+    (verb-found works c.in-Some.verb (texts c.args.words.now) _ c.in_ok-matches.ensures) c.work.ensures.done)
 
 pub returns-clause-stopped : goal.returns-clause-stopped
 returns-clause-stopped g c =
-    told-left (λ verb. asked_for verb (texts c.args.words.now)) c.verb_named.result c.in-Some.verb _ _ _ c.work.result
-    c.in-Some.is (ap (option_and_then (λ verb. asked_for verb (texts c.args.words.now))) c.verb_named.ensures)
-    (told-left (λ m. (row_of c.in-Some.verb).asks (rows_of (found_of m))) _ _ _ _ _ c.work.result c.in-Some-2.is
-    c.in_ok-matches.ensures c.work.ensures.stopped)
+    told-left (λ verb. asked_for works verb (texts c.args.words.now)) c.verb_named.result c.in-Some.verb _ _ _ c.work.result
+    c.in-Some.is (ap (option_and_then (λ verb. asked_for works verb (texts c.args.words.now))) c.verb_named.ensures)
+    (told-left (λ m. asks_of works c.in-Some.verb (rows_of (found_of m))) _ _ _ _ _ c.work.result c.in-Some-2.is
+    (verb-found works c.in-Some.verb (texts c.args.words.now) _ c.in_ok-matches.ensures) c.work.ensures.stopped)

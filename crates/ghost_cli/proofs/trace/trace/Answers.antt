@@ -1,5 +1,6 @@
 use Rattle.std.proofs.Common.{◌∙◌}
-use Rattle.ghost_cli.specs.Trace.{trace_named}
+use Rattle.command_words.specs.Asks.{trace_named}
+use Rattle.ghost_cli.specs.Trace.{trace_work}
 use Rattle.ghost_cli.proofs.Answering.{asked-done, asked-left, unasked}
 use Rattle.ghost_cli.proofs.trace.trace.Goals as goal
 
@@ -7,14 +8,14 @@ pub returns-in_default-clause-stopped : goal.returns-in_default-clause-stopped
 returns-in_default-clause-stopped g c =
     unasked _ _ _ (g.F.Shelf.seen c.args.shelf.now) c.in_default.is
     (c.words_in.ensures.works
-    ∙ (λ k. trace_named (c.value.ensures k) (c.value-2.ensures k) (c.value-3.ensures k)
+    ∙ (λ k. trace_named trace_work (c.value.ensures k) (c.value-2.ensures k) (c.value-3.ensures k)
     (c.value-4.ensures k) (c.value-5.ensures k) (c.value-6.ensures k)))
 
 pub returns-clause-done : goal.returns-clause-done
 returns-clause-done g c =
     asked-done _ _ _ _ _ _ c.trace_files.result c.in-Some.is
     (c.words_in.ensures.works
-    ∙ (λ k. trace_named (c.value.ensures k) (c.value-2.ensures k) (c.value-3.ensures k)
+    ∙ (λ k. trace_named trace_work (c.value.ensures k) (c.value-2.ensures k) (c.value-3.ensures k)
     (c.value-4.ensures k) (c.value-5.ensures k) (c.value-6.ensures k)))
     c.trace_files.ensures.done
 
@@ -22,6 +23,6 @@ pub returns-clause-stopped : goal.returns-clause-stopped
 returns-clause-stopped g c =
     asked-left _ _ _ _ _ _ c.trace_files.result c.in-Some.is
     (c.words_in.ensures.works
-    ∙ (λ k. trace_named (c.value.ensures k) (c.value-2.ensures k) (c.value-3.ensures k)
+    ∙ (λ k. trace_named trace_work (c.value.ensures k) (c.value-2.ensures k) (c.value-3.ensures k)
     (c.value-4.ensures k) (c.value-5.ensures k) (c.value-6.ensures k)))
     c.trace_files.ensures.stopped

@@ -1,5 +1,5 @@
 use Rattle.std.proofs.Common.{◌≡◌, drop}
-use Rattle.ghost_cli.specs.Options.{texts}
+use Rattle.command_words.specs.Options.{texts}
 use Rattle.ghost_front.specs.Requests.{asks_help}
 use Rattle.ghost_front.proofs.requests.asks_help.Given as goal
 

@@ -1,5 +1,5 @@
 use Rattle.std.proofs.Common.{true≢false, is_some, sym, ap, ◌∙◌}
-use Rattle.ghost_cli.specs.Options.{texts}
+use Rattle.command_words.specs.Options.{texts}
 use Rattle.ghost_cli.specs.Verbs.{work_of}
 use Rattle.ghost_front.specs.Served.{around}
 use Rattle.ghost_front.proofs.CallEnds.{serves_keep}

@@ -1,0 +1,9 @@
+pub mod CommandLines
+pub mod Options
+pub mod Windows
+pub mod VerbRows
+pub mod VerbLines
+pub mod Pairs
+pub mod Asks
+pub mod Verbs
+pub mod WordsAsk

@@ -1,8 +1,0 @@
-use Rattle.std.proofs.Common.{true≢false, sym, ◌∙◌}
-use Rattle.ghost_cli.proofs.Wording.{refused-wrong}
-use Rattle.ghost_cli.proofs.options.matches_in.Goals as goal
-
-pub returns-else-wants_memory : goal.returns-else-wants_memory
-returns-else-wants_memory c =
-    refused-wrong _ c.in-Err.error (c.in-Err.ensures.kinds c.requires.free)
-    (λ e. absurd (true≢false (sym (c.wants_memory.ensures.1 e) ∙ c.if-wants_memory.false)))
