@@ -18,19 +18,19 @@ module _ {B : Type 0} (between : List (Core B)) (core at n : ℕ) (early : at �
       → Contains (shows_to k d n) t → at ≤ t.stamp → n ≤ t.stamp
   none-else k d other here t found late = absurd (alone k d other here (shown-live k d n t found).0)
 
-  pub alone-on : (after : List (Core B)) (adds : List Transfer → Type 0) → Turned between after core n adds
-      → GoOn between after at n n adds
-  alone-on after adds turned first told so_far = record {
+  pub alone-on : (after : List (Core B)) (heard : List Transfer → Type 0) → Turned between after core n heard
+      → GoOn between after at n n heard
+  alone-on after heard turned first told so_far = record {
     more = shows_to core turned.was n;
     joined =
         joins-on first between after told at n n n core stand so_far turned.was turned.now turned.there turned.put
         turned.left (omega arith) (λ t found below. below) early none-else (λ t found late. late);
-    tells = turned.told;
+    hears = turned.told;
   }
 
-  pub alone-fails : (is_told tells_now : List Transfer → Type 0) (torn : Transfer → Type 0)
-      → (c : Core B) × (slice_get between core ≡ Some c) × FailedAt is_told tells_now torn (shows_to core c n)
-      → FailOn between at n is_told tells_now torn
-  alone-fails is_told tells_now torn failed first told so_far =
-      slot-failed between at n n n core stand failed.0 failed.1 (omega arith) (omega arith) none-else is_told tells_now
+  pub alone-fails : {W : Type 0} (hears : W → List Transfer → W → Type 0) (was is : W) (torn : Transfer → Type 0)
+      → (c : Core B) × (slice_get between core ≡ Some c) × FailedAt hears was is torn (shows_to core c n)
+      → FailOn between at n hears was is torn
+  alone-fails hears was is torn failed first told so_far =
+      slot-failed between at n n n core stand failed.0 failed.1 (omega arith) (omega arith) none-else hears was is
       torn failed.2 first told so_far

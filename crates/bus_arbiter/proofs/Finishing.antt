@@ -1,41 +1,36 @@
 -- Cores that show nothing more are run up to a cycle, in sequence.
 use Rattle.std.proofs.Common.{◌≡◌, ℕ, ◌+◌, ◌<◌, ◌≤◌, List, [], ◌∷◌, ◌++◌, length, Some, refl, sym, ap, ◌∙◌, subst, ⊎_elim, arith}
 use Rattle.std.specs.Prelude.{slice_get}
-use Rattle.std.proofs.lemmas.List.{append-nil}
 use Rattle.std.proofs.lemmas.Option.{same_Some, slice_get_within}
 use Rattle.std.proofs.lemmas.Bool.{cases_eq}
 use Rattle.bus_arbiter.specs.Cores.{Core, LeftAt, shows_to}
 use Rattle.bus_arbiter.specs.Rounds.{Quiet}
-use Rattle.bus_arbiter.specs.Telling.{FailedAt, TellsOn}
+use Rattle.bus_arbiter.specs.Telling.{FailedAt}
 use Rattle.bus_arbiter.specs.Transfers.{Transfer}
 use Rattle.bus_arbiter.specs.Turns.{AllLeft, Turned}
-use Rattle.bus_arbiter.proofs.Plays.{get-set_other, get-set_same, length-put, tells-then}
+use Rattle.bus_arbiter.proofs.Plays.{get-set_other, get-set_same, length-put}
 
 -- the first i cores have run up to cycle n, the others not yet
-pub record FinishedSoFar {B : Type 0} (before now : List (Core B)) (n i : ℕ) (was is_told : List Transfer
-    → Type 0) : Type 0 where
+pub record FinishedSoFar {B : Type 0} (before now : List (Core B)) (n i : ℕ) : Type 0 where
   pub count : length now ≡ length before
   pub done : (k : ℕ) (c d : Core B) → k < i → slice_get before k ≡ Some c → slice_get now k ≡ Some d → LeftAt c n d
   pub rest : (k : ℕ) → i ≤ k → slice_get now k ≡ slice_get before k
-  pub tells : TellsOn was is_told []
 
-pub finish-first : {B : Type 0} (cores : List (Core B)) (n : ℕ) (tells : List Transfer → Type 0)
-    → FinishedSoFar cores cores n 0 tells tells
-finish-first cores n tells = record {
+pub finish-first : {B : Type 0} (cores : List (Core B)) (n : ℕ) → FinishedSoFar cores cores n 0
+finish-first cores n = record {
   count = refl;
   done = λ k c d less there here. absurd (omega (arith, less));
   rest = λ k past. refl;
-  tells = λ l holds. subst tells (sym (append-nil l)) holds;
 }
 
-module _ {B : Type 0} (before between after : List (Core B)) (n i : ℕ) (was is_told tells_now : List Transfer → Type 0)
-    (quiet : Quiet before n) (so_far : FinishedSoFar before between n i was is_told) where
+module _ {B : Type 0} (before between after : List (Core B)) (n i : ℕ) (quiet : Quiet before n)
+    (so_far : FinishedSoFar before between n i) where
   nothing-left : (c : Core B) → slice_get between i ≡ Some c → shows_to i c n ≡ []
   nothing-left c there = quiet i c (sym (so_far.rest i (omega arith)) ∙ there)
 
-  pub finish-next : Turned between after i n (TellsOn is_told tells_now)
-      → FinishedSoFar before after n (i + 1) was tells_now
-  finish-next turned =
+  pub finish-next : (heard : List Transfer → Type 0) → Turned between after i n heard
+      → FinishedSoFar before after n (i + 1)
+  finish-next heard turned =
       let within = slice_get_within between i turned.was turned.there in
       record {
         count = ap length turned.put ∙ length-put between i turned.now ∙ so_far.count;
@@ -58,14 +53,14 @@ module _ {B : Type 0} (before between after : List (Core B)) (n i : ℕ) (was is
         rest = λ k past.
             ap (λ l. slice_get l k) turned.put
             ∙ get-set_other between i k turned.now (λ is. omega (arith, past, is)) ∙ so_far.rest k (omega (arith, past));
-        tells =
-            tells-then was is_told tells_now [] [] so_far.tells
-            (subst (TellsOn is_told tells_now) (nothing-left turned.was turned.there) turned.told);
       }
 
-  pub finish-never : (torn : Transfer → Type 0)
-      → (c : Core B) × (slice_get between i ≡ Some c) × FailedAt is_told tells_now torn (shows_to i c n) → ⊥
-  finish-never torn failed =
+  pub finish-heard : (heard : List Transfer → Type 0) → Turned between after i n heard → heard []
+  finish-heard heard turned = subst heard (nothing-left turned.was turned.there) turned.told
+
+  pub finish-never : {W : Type 0} (hears : W → List Transfer → W → Type 0) (was is : W) (torn : Transfer → Type 0)
+      → (c : Core B) × (slice_get between i ≡ Some c) × FailedAt hears was is torn (shows_to i c n) → ⊥
+  finish-never hears was is torn failed =
       let nothing = sym failed.2.front ∙ nothing-left failed.0 failed.1 in
       let counted = ap length nothing in
       none failed.2.told failed.2.next failed.2.rest nothing
@@ -74,9 +69,9 @@ module _ {B : Type 0} (before between after : List (Core B)) (n i : ℕ) (was is
       none [] x r is = omega (arith, ap length is)
       none (y ∷ l) x r is = omega (arith, ap length is)
 
-pub finish-all : {B : Type 0} (before now : List (Core B)) (n i : ℕ) (was is_told : List Transfer → Type 0)
-    → length before ≤ i → FinishedSoFar before now n i was is_told → AllLeft before n now
-finish-all before now n i was is_told past so_far = record {
+pub finish-all : {B : Type 0} (before now : List (Core B)) (n i : ℕ) → length before ≤ i
+    → FinishedSoFar before now n i → AllLeft before n now
+finish-all before now n i past so_far = record {
   count = so_far.count;
   each = λ k c d there here.
       so_far.done k c d (omega (arith, past, slice_get_within before k c there)) there here;

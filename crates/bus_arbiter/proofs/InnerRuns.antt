@@ -9,8 +9,8 @@ use Rattle.processor.specs.Ends.{Broke}
 use Rattle.processor.specs.ObliviousBanks.{paths_shown}
 use Rattle.processor.specs.Watching.{WatcherTold, run_shown}
 use Rattle.processor.proofs.TellingPaths.{events_in-with_paths}
-use Rattle.bus_arbiter.specs.Inner.{HearsMoves, moves_of, torn_by}
-use Rattle.bus_arbiter.specs.Telling.{FailedAt, TellsOn}
+use Rattle.bus_arbiter.specs.Inner.{moves_of, torn_by}
+use Rattle.bus_arbiter.specs.Telling.{FailedAt}
 use Rattle.bus_arbiter.specs.Transfers.{Transfer, transfers_of}
 use Rattle.bus_arbiter.proofs.InnerTold.{fails-at}
 
@@ -20,18 +20,19 @@ module _ {B : Type 0} (shows : B → List ℕ → List Leaves) (o : Parts) (s : 
       ap (transfers_of core)
       (events_in-with_paths (trace_from o s n) (paths_shown shows orams (accesses_from o s n)))
 
-  pub run-told : (before now : List Transfer → Type 0) → HearsMoves core before (run_shown shows o s orams n) now
-      → TellsOn before now (transfers_of core (trace_from o s n))
-  run-told before now heard = subst (TellsOn before now) shown-moves heard
+  pub run-heard : (heard : List Transfer → Type 0) → heard (moves_of core (run_shown shows o s orams n))
+      → heard (transfers_of core (trace_from o s n))
+  run-heard heard hears = subst heard shown-moves hears
 
-  -- the watcher that heard a prefix is given by its core and by what it reports
-  pub run-failed : {W : Type 0} (hears : W → List WatcherTold → W → Type 0) (was is : W)
-      (before now : List Transfer → Type 0) (torn : Transfer → Type 0) (torn_now : WatcherTold → Type 0)
-      → ((told : List WatcherTold) → hears was told is → HearsMoves core before told now)
+  -- the watcher that heard a prefix is given by its core and by the watcher of the bus
+  pub run-failed : {V W : Type 0} (hears_inner : V → List WatcherTold → V → Type 0) (inner_was inner_is : V)
+      (hears : W → List Transfer → W → Type 0) (was is : W) (torn : Transfer → Type 0)
+      (torn_now : WatcherTold → Type 0)
+      → ((told : List WatcherTold) → hears_inner inner_was told inner_is → hears was (moves_of core told) is)
       → ((next : WatcherTold) → torn_now next → torn_by torn core next)
-      → Broke hears was is torn_now (run_shown shows o s orams n)
-      → FailedAt before now torn (transfers_of core (trace_from o s n))
-  run-failed hears was is before now torn torn_now heard tears broke =
-      subst (FailedAt before now torn) shown-moves
-      (fails-at before now torn core (run_shown shows o s orams n) broke.told broke.next broke.rest broke.front
+      → Broke hears_inner inner_was inner_is torn_now (run_shown shows o s orams n)
+      → FailedAt hears was is torn (transfers_of core (trace_from o s n))
+  run-failed hears_inner inner_was inner_is hears was is torn torn_now heard tears broke =
+      subst (FailedAt hears was is torn) shown-moves
+      (fails-at hears was is torn core (run_shown shows o s orams n) broke.told broke.next broke.rest broke.front
       (heard broke.told broke.heard) (tears broke.next broke.at))

@@ -4,28 +4,27 @@ use Rattle.lt_isa.specs.Machine.{Observed, RamRead, RamWrite, EncRead, EncWrite,
 use Rattle.lt_isa.specs.Trace.{seen_at}
 use Rattle.processor.specs.Keeping.{events_in-append}
 use Rattle.processor.specs.Watching.{WatcherTold, AnEvent, APath, events_in}
-use Rattle.bus_arbiter.specs.Inner.{HearsMoves, moves-none, moves_of, torn_at, torn_by}
-use Rattle.bus_arbiter.specs.Telling.{FailedAt, TellsOn}
+use Rattle.bus_arbiter.specs.Inner.{moves_of, torn_at, torn_by}
+use Rattle.bus_arbiter.specs.Telling.{FailedAt}
 use Rattle.bus_arbiter.specs.Transfers.{Transfer, moved_by, transfer_of, transfers_of}
 use Rattle.bus_arbiter.proofs.TransferLists.{transfers_of-append}
 
 -- ---- one call
 
--- a transfer was reported
-pub event-heard : (before now : List Transfer → Type 0) (core at : ℕ) (event seen : Observed) → seen ≡ event
-    → transfer_of core at event ≡ moved_by core at event ∷ [] → TellsOn before now (moved_by core at seen ∷ [])
-    → HearsMoves core before (AnEvent (seen_at at seen) ∷ []) now
-event-heard before now core at event seen is one tells =
-    subst (TellsOn before now)
+-- a transfer was heard
+pub event-heard : (heard : List Transfer → Type 0) (core at : ℕ) (event seen : Observed) → seen ≡ event
+    → transfer_of core at event ≡ moved_by core at event ∷ [] → heard (moved_by core at seen ∷ [])
+    → heard (moves_of core (AnEvent (seen_at at seen) ∷ []))
+event-heard heard core at event seen is one hears =
+    subst heard
     (sym (ap (λ e. transfer_of core at e ++ []) is ∙ ap (λ l. l ++ []) one
     ∙ ap (λ e. moved_by core at e ∷ []) (sym is)))
-    tells
+    hears
 
--- a halt is reported, which isn't a transfer
-pub halt-heard : (tells : List Transfer → Type 0) (core at : ℕ) (seen : Observed) → seen ≡ Halted
-    → HearsMoves core tells (AnEvent (seen_at at seen) ∷ []) tells
-halt-heard tells core at seen is =
-    subst (TellsOn tells tells) (sym (ap (λ e. transfer_of core at e ++ []) is)) (moves-none tells core)
+-- a halt was heard, which isn't a transfer
+pub halt-heard : (heard : List Transfer → Type 0) (core at : ℕ) (seen : Observed) → seen ≡ Halted → heard []
+    → heard (moves_of core (AnEvent (seen_at at seen) ∷ []))
+halt-heard heard core at seen is none = subst heard (sym (ap (λ e. transfer_of core at e ++ []) is)) none
 
 -- ---- a whole run
 
@@ -40,11 +39,12 @@ front-torn torn core at (Oram bank) is = (refl, is)
 front-torn torn core at Halted is = absurd is
 
 -- a watcher that failed at something failed at a transfer
-pub fails-at : (before now : List Transfer → Type 0) (torn : Transfer → Type 0) (core : ℕ)
-    (shown told : List WatcherTold) (next : WatcherTold) (rest : List WatcherTold) → shown ≡ told ++ next ∷ rest
-    → HearsMoves core before told now → torn_by torn core next → FailedAt before now torn (moves_of core shown)
-fails-at before now torn core shown told (APath stamp bank leaves) rest front heard at = absurd at
-fails-at before now torn core shown told (AnEvent e) rest front heard at =
+pub fails-at : {W : Type 0} (hears : W → List Transfer → W → Type 0) (before now : W) (torn : Transfer → Type 0)
+    (core : ℕ) (shown told : List WatcherTold) (next : WatcherTold) (rest : List WatcherTold)
+    → shown ≡ told ++ next ∷ rest → hears before (moves_of core told) now → torn_by torn core next
+    → FailedAt hears before now torn (moves_of core shown)
+fails-at hears before now torn core shown told (APath stamp bank leaves) rest front heard at = absurd at
+fails-at hears before now torn core shown told (AnEvent e) rest front heard at =
     let found = front-torn torn core e.stamp e.event at in
     record {
       told = moves_of core told;
@@ -55,6 +55,6 @@ fails-at before now torn core shown told (AnEvent e) rest front heard at =
           ∙ ap (transfers_of core) (events_in-append told (AnEvent e ∷ rest))
           ∙ transfers_of-append core (events_in told) (e ∷ events_in rest)
           ∙ ap (λ l. moves_of core told ++ (l ++ moves_of core rest)) found.0;
-      tells = heard;
+      heard = heard;
       at = found.1;
     }

@@ -136,10 +136,10 @@ skips-on before after i at start to n stay none all le early first told so_far =
     early)
     (stay first told at so_far)
 
-pub joined-stays : {B : Type 0} (first mid now : List (Core B)) (at to n : ℕ) (adds : List Transfer → Type 0)
-    → JoinedOn first mid [] at n adds → StayUntil mid now at to n → JoinedOn first now [] to n adds
-joined-stays first mid now at to n adds on stay =
-    record { more = on.more; joined = stay first on.more on.joined; tells = on.tells }
+pub joined-stays : {B : Type 0} (first mid now : List (Core B)) (at to n : ℕ) (heard : List Transfer → Type 0)
+    → JoinedOn first mid [] at n heard → StayUntil mid now at to n → JoinedOn first now [] to n heard
+joined-stays first mid now at to n heard on stay =
+    record { more = on.more; joined = stay first on.more on.joined; hears = on.hears }
 
 -- ---- where the next period begins
 

@@ -8,7 +8,7 @@ use Rattle.lt_isa.specs.Ranges.{IsInRange}
 use Rattle.lt_isa.specs.Shape.{IsShaped}
 use Rattle.bus_arbiter.specs.declared.turns.Turn.{Turn}
 use Rattle.bus_arbiter.specs.Cores.{Core, LeftAt, OnItsWay, shown_if, shows_to, trace_to}
-use Rattle.bus_arbiter.specs.Telling.{FailedAt, TellsOn}
+use Rattle.bus_arbiter.specs.Telling.{FailedAt, HearsThen}
 use Rattle.bus_arbiter.specs.Transfers.{Transfer, of_core, transfers_of}
 use Rattle.bus_arbiter.specs.Turns.{AllOnTheirWay, Played, PlayFailed, TurnStopped, Turned, until}
 use Rattle.std.proofs.lemmas.List.Elements.{Contains-append_left}
@@ -145,47 +145,42 @@ module _ {B : Type 0} (before between after : List (Core B)) (to : ℕ → ℕ) 
 -- ---- a whole play
 
 -- some turns were taken; those that are left lead to where all turns lead
-pub record PlayedSoFar {B : Type 0} (before now : List (Core B)) (all left : List Turn) (was is_told : List Transfer
+pub record PlayedSoFar {B : Type 0} (before now : List (Core B)) (all left : List Turn) (heard : List Transfer
     → Type 0) : Type 0 where
   pub to : ℕ → ℕ
   pub told : List Transfer
   pub played : Played before now to told
-  pub tells : TellsOn was is_told told
+  pub hears : heard told
   pub rest : (k : ℕ) → max (to k) (until left k) ≡ until all k
 
-pub plays-first : {B : Type 0} (cores : List (Core B)) (turns : List Turn) (tells : List Transfer → Type 0)
-    → PlayedSoFar cores cores turns turns tells tells
-plays-first cores turns tells = record {
+pub plays-first : {B : Type 0} (cores : List (Core B)) (turns : List Turn) (heard : List Transfer → Type 0)
+    → heard [] → PlayedSoFar cores cores turns turns heard
+plays-first cores turns heard none = record {
   to = λ k. 0;
   told = [];
   played = not-played cores;
-  tells = λ ts holds. subst tells (sym (append-nil ts)) holds;
+  hears = none;
   rest = λ k. omega arith;
 }
-
-pub tells-then : (one two three : List Transfer → Type 0) (ts us : List Transfer) → TellsOn one two ts
-    → TellsOn two three us → TellsOn one three (ts ++ us)
-tells-then one two three ts us first second l holds =
-    subst three (append_assoc l ts us) (second (l ++ ts) (first l holds))
 
 max-there : (a m b : ℕ) → max (max a m) b ≡ max a (max m b)
 max-there a m b = omega arith
 
 -- one turn more
 pub plays-next : {B : Type 0} (before between after : List (Core B)) (all left : List Turn) (turn : Turn)
-    (was is_told tells_now : List Transfer → Type 0)
+    {W : Type 0} (hears : W → List Transfer → W → Type 0) (was is later : W) → HearsThen hears was is later
     → ((k : ℕ) (c : Core B) → slice_get before k ≡ Some c
     → IsInRange c.machine.object × IsShaped c.machine.object c.machine.state)
-    → PlayedSoFar before between all (turn ∷ left) was is_told
-    → Turned between after turn.core turn.to (TellsOn is_told tells_now)
-    → PlayedSoFar before after all left was tells_now
-plays-next {B = B} before between after all left turn was is_told tells_now stand so_far turned = record {
+    → PlayedSoFar before between all (turn ∷ left) (λ l. hears was l is)
+    → Turned between after turn.core turn.to (λ l. hears is l later)
+    → PlayedSoFar before after all left (λ l. hears was l later)
+plays-next {B = B} before between after all left turn hears was is later chain stand so_far turned = record {
   to = further so_far.to turn.core turn.to;
   told = so_far.told ++ shows_to turn.core turned.was turn.to;
   played =
       played-on before between after so_far.to so_far.told turn.core turn.to stand so_far.played
       turned.was turned.now turned.there turned.put turned.left;
-  tells = tells-then was is_told tells_now so_far.told (shows_to turn.core turned.was turn.to) so_far.tells turned.told;
+  hears = chain so_far.told (shows_to turn.core turned.was turn.to) so_far.hears turned.told;
   rest = λ k. sooner k (cases_eq k turn.core);
 }
   where
@@ -204,10 +199,9 @@ plays-next {B = B} before between after all left turn was is_told tells_now stan
         ∙ so_far.rest k
 
 -- no turn is left
-pub plays-all : {B : Type 0} (before now : List (Core B)) (all : List Turn) (was is_told : List Transfer → Type 0)
-    → PlayedSoFar before now all [] was is_told
-    → (told : List Transfer) × Played before now (until all) told × TellsOn was is_told told
-plays-all before now all was is_told done = (
+pub plays-all : {B : Type 0} (before now : List (Core B)) (all : List Turn) (heard : List Transfer → Type 0)
+    → PlayedSoFar before now all [] heard → (told : List Transfer) × Played before now (until all) told × heard told
+plays-all before now all heard done = (
   done.told,
   record {
     count = done.played.count;
@@ -215,7 +209,7 @@ plays-all before now all was is_told done = (
     left = λ k c d there here. subst (λ n. LeftAt c n d) (same k) (done.played.left k c d there here);
     others = done.played.others;
   },
-  done.tells,
+  done.hears,
 )
   where
     same : (k : ℕ) → done.to k ≡ until all k
@@ -238,16 +232,17 @@ shows-front k c m n le range shaped = by c.halted
 
 -- the watcher fails in a turn
 pub plays-fail : {B : Type 0} (before between : List (Core B)) (all left : List Turn) (turn : Turn)
-    (was is_told tells_now : List Transfer → Type 0) (torn : Transfer → Type 0)
+    {W : Type 0} (hears : W → List Transfer → W → Type 0) (was is later : W) → HearsThen hears was is later
+    → (torn : Transfer → Type 0)
     → ((k : ℕ) (c : Core B) → slice_get before k ≡ Some c
     → IsInRange c.machine.object × IsShaped c.machine.object c.machine.state)
-    → PlayedSoFar before between all (turn ∷ left) was is_told
+    → PlayedSoFar before between all (turn ∷ left) (λ l. hears was l is)
     → (stopped : Core B) → slice_get between turn.core ≡ Some stopped
-    → FailedAt is_told tells_now torn (shows_to turn.core stopped turn.to)
-    → PlayFailed was tells_now torn before (until all)
-plays-fail {B = B} before between all left turn was is_told tells_now torn stand so_far stopped there failed = record {
+    → FailedAt hears is later torn (shows_to turn.core stopped turn.to)
+    → PlayFailed hears was later torn before (until all)
+plays-fail {B = B} before between all left turn hears was is later chain torn stand so_far stopped there failed = record {
   told = so_far.told ++ failed.told;
-  tells = tells-then was is_told tells_now so_far.told failed.told so_far.tells failed.tells;
+  heard = chain so_far.told failed.told so_far.hears failed.heard;
   fronts = λ k c first. fronts k c first (cases_eq k turn.core);
   core = turn.core;
   stopped = get_or before turn.core stopped;
@@ -340,12 +335,12 @@ plays-fail {B = B} before between all left turn was is_told tells_now torn stand
 
 -- the watcher fails in a turn, and each core is on its way
 pub plays-stop : {B : Type 0} (before between after : List (Core B)) (all left : List Turn) (turn : Turn)
-    (was is_told : List Transfer → Type 0)
+    (heard : List Transfer → Type 0)
     → ((k : ℕ) (c : Core B) → slice_get before k ≡ Some c
     → IsInRange c.machine.object × IsShaped c.machine.object c.machine.state)
-    → PlayedSoFar before between all (turn ∷ left) was is_told → TurnStopped between after turn.core turn.to
+    → PlayedSoFar before between all (turn ∷ left) heard → TurnStopped between after turn.core turn.to
     → AllOnTheirWay before (until all) after
-plays-stop {B = B} before between after all left turn was is_told stand so_far stopped = record {
+plays-stop {B = B} before between after all left turn heard stand so_far stopped = record {
   count = ap length stopped.put ∙ length-put between turn.core stopped.now ∙ so_far.played.count;
   each = λ k c d first here.
       ⊎_elim
@@ -392,43 +387,45 @@ next-left xs i d within =
     drop-at xs i d within ∙ ap (λ j. get_or xs i d ∷ drop j xs) one
 
 pub plays-next_at : {B : Type 0} (before between after : List (Core B)) (turns : List Turn) (i : ℕ) (d : Turn)
-    (was is_told tells_now : List Transfer → Type 0)
+    {W : Type 0} (hears : W → List Transfer → W → Type 0) (was is later : W) → HearsThen hears was is later
     → ((k : ℕ) (c : Core B) → slice_get before k ≡ Some c
     → IsInRange c.machine.object × IsShaped c.machine.object c.machine.state) → i < length turns
-    → PlayedSoFar before between turns (drop i turns) was is_told
-    → Turned between after (get_or turns i d).core (get_or turns i d).to (TellsOn is_told tells_now)
-    → PlayedSoFar before after turns (drop (i + 1) turns) was tells_now
-plays-next_at before between after turns i d was is_told tells_now stand within so_far turned =
-    plays-next before between after turns (drop (i + 1) turns) (get_or turns i d) was is_told tells_now stand
-    (subst (λ left. PlayedSoFar before between turns left was is_told) (next-left turns i d within) so_far) turned
+    → PlayedSoFar before between turns (drop i turns) (λ l. hears was l is)
+    → Turned between after (get_or turns i d).core (get_or turns i d).to (λ l. hears is l later)
+    → PlayedSoFar before after turns (drop (i + 1) turns) (λ l. hears was l later)
+plays-next_at before between after turns i d hears was is later chain stand within so_far turned =
+    plays-next before between after turns (drop (i + 1) turns) (get_or turns i d) hears was is later chain stand
+    (subst (λ left. PlayedSoFar before between turns left (λ l. hears was l is)) (next-left turns i d within) so_far)
+    turned
 
 pub plays-fail_at : {B : Type 0} (before between : List (Core B)) (turns : List Turn) (i : ℕ) (d : Turn)
-    (was is_told tells_now : List Transfer → Type 0) (torn : Transfer → Type 0)
+    {W : Type 0} (hears : W → List Transfer → W → Type 0) (was is later : W) → HearsThen hears was is later
+    → (torn : Transfer → Type 0)
     → ((k : ℕ) (c : Core B) → slice_get before k ≡ Some c
     → IsInRange c.machine.object × IsShaped c.machine.object c.machine.state) → i < length turns
-    → PlayedSoFar before between turns (drop i turns) was is_told
+    → PlayedSoFar before between turns (drop i turns) (λ l. hears was l is)
     → (c : Core B) × (slice_get between (get_or turns i d).core ≡ Some c)
-    × FailedAt is_told tells_now torn (shows_to (get_or turns i d).core c (get_or turns i d).to)
-    → PlayFailed was tells_now torn before (until turns)
-plays-fail_at before between turns i d was is_told tells_now torn stand within so_far failed =
-    plays-fail before between turns (drop (i + 1) turns) (get_or turns i d) was is_told tells_now torn stand
-    (subst (λ left. PlayedSoFar before between turns left was is_told) (next-left turns i d within) so_far)
+    × FailedAt hears is later torn (shows_to (get_or turns i d).core c (get_or turns i d).to)
+    → PlayFailed hears was later torn before (until turns)
+plays-fail_at before between turns i d hears was is later chain torn stand within so_far failed =
+    plays-fail before between turns (drop (i + 1) turns) (get_or turns i d) hears was is later chain torn stand
+    (subst (λ left. PlayedSoFar before between turns left (λ l. hears was l is)) (next-left turns i d within) so_far)
     failed.0 failed.1 failed.2
 
 pub plays-stop_at : {B : Type 0} (before between after : List (Core B)) (turns : List Turn) (i : ℕ) (d : Turn)
-    (was is_told : List Transfer → Type 0)
+    (heard : List Transfer → Type 0)
     → ((k : ℕ) (c : Core B) → slice_get before k ≡ Some c
     → IsInRange c.machine.object × IsShaped c.machine.object c.machine.state) → i < length turns
-    → PlayedSoFar before between turns (drop i turns) was is_told
+    → PlayedSoFar before between turns (drop i turns) heard
     → TurnStopped between after (get_or turns i d).core (get_or turns i d).to
     → AllOnTheirWay before (until turns) after
-plays-stop_at before between after turns i d was is_told stand within so_far stopped =
-    plays-stop before between after turns (drop (i + 1) turns) (get_or turns i d) was is_told stand
-    (subst (λ left. PlayedSoFar before between turns left was is_told) (next-left turns i d within) so_far) stopped
+plays-stop_at before between after turns i d heard stand within so_far stopped =
+    plays-stop before between after turns (drop (i + 1) turns) (get_or turns i d) heard stand
+    (subst (λ left. PlayedSoFar before between turns left heard) (next-left turns i d within) so_far) stopped
 
 pub plays-all_at : {B : Type 0} (before now : List (Core B)) (turns : List Turn) (i : ℕ) → length turns ≤ i
-    → (was is_told : List Transfer → Type 0) → PlayedSoFar before now turns (drop i turns) was is_told
-    → (told : List Transfer) × Played before now (until turns) told × TellsOn was is_told told
-plays-all_at before now turns i past was is_told so_far =
-    plays-all before now turns was is_told
-    (subst (λ left. PlayedSoFar before now turns left was is_told) (drop_all i turns past) so_far)
+    → (heard : List Transfer → Type 0) → PlayedSoFar before now turns (drop i turns) heard
+    → (told : List Transfer) × Played before now (until turns) told × heard told
+plays-all_at before now turns i past heard so_far =
+    plays-all before now turns heard
+    (subst (λ left. PlayedSoFar before now turns left heard) (drop_all i turns past) so_far)

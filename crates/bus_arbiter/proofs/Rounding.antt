@@ -13,14 +13,14 @@ use Rattle.bus_arbiter.specs.declared.shares.Share.{Share}
 use Rattle.bus_arbiter.specs.Cores.{AllStand, Core, LeftAt, LeftIf, NoneHalted, RanTo, shows_to, trace_to, traces_to, shown_if}
 use Rattle.bus_arbiter.specs.Rounds.{AllHalted, Between, FailOn, GoOn, IsLive, IsNext, JoinFailed, JoinedOn, JoinedSoFar, NoneNext, Quiet}
 use Rattle.bus_arbiter.specs.Shares.{IsPlan, share_at}
-use Rattle.bus_arbiter.specs.Telling.{FailedAt, TellsOn}
+use Rattle.bus_arbiter.specs.Telling.{FailedAt, HearsThen}
 use Rattle.bus_arbiter.specs.Transfers.{IsJoined, Rise, Transfer, of_core, transfers_of}
 use Rattle.bus_arbiter.specs.Turns.{AllLeft, Turned}
 use Rattle.bus_arbiter.proofs.BusSteps.{all-stood}
 use Rattle.bus_arbiter.proofs.CoreTransfers.{moves-below, run-moves, run-rises}
 use Rattle.bus_arbiter.proofs.Joining.{core-of, in-traces, joined-all, joins-first, joins-later, joins-on, of-traces, shown-live}
 use Rattle.bus_arbiter.proofs.TransferLists.{in-here, in-none, of_core-has, of_core-in, rise-append, rise-begins, rise-between, rise-front}
-use Rattle.bus_arbiter.proofs.Plays.{get-set_other, get-set_same, shows-front, tells-then}
+use Rattle.bus_arbiter.proofs.Plays.{get-set_other, get-set_same, shows-front}
 use Rattle.bus_arbiter.proofs.Windows.{between-next, closed-till, in-period}
 
 -- a core that has run stays in range and shaped
@@ -43,9 +43,9 @@ left-stands {B = B} c d m range shaped left = by c.halted refl
         )
 
 -- a core that hasn't halted where one was run hadn't halted before
-live-before : {B : Type 0} (between after : List (Core B)) (core m : ℕ) (adds : List Transfer → Type 0)
-    → Turned between after core m adds → (j : ℕ) → IsLive after j → IsLive between j
-live-before {B = B} between after core m adds turned j live =
+live-before : {B : Type 0} (between after : List (Core B)) (core m : ℕ) (heard : List Transfer → Type 0)
+    → Turned between after core m heard → (j : ℕ) → IsLive after j → IsLive between j
+live-before {B = B} between after core m heard turned j live =
     ⊎_elim
     (λ (is : j ≡ core).
     subst (IsLive between) (sym is)
@@ -131,9 +131,9 @@ module _ {B : Type 0} (plan : List Share) (fits : IsPlan plan) (between : List (
 
       module _ (m : ℕ) (m-is : m ≡ min (base + (share_at plan core).closes) n) where
         -- the slot was gone through
-        pub slot-on : (after : List (Core B)) (adds : List Transfer → Type 0) → Turned between after core m adds
-            → GoOn between after (base + from) (base + (share_at plan core).closes) n adds
-        slot-on after adds turned first told so_far =
+        pub slot-on : (after : List (Core B)) (heard : List Transfer → Type 0) → Turned between after core m heard
+            → GoOn between after (base + from) (base + (share_at plan core).closes) n heard
+        slot-on after heard turned first told so_far =
             let own = stood core turned.was turned.there in
             let now = left-stands turned.was turned.now m own.0 own.1 turned.left in
             record {
@@ -147,43 +147,45 @@ module _ {B : Type 0} (plan : List Share) (fits : IsPlan plan) (between : List (
                   let below =
                   moves-below turned.now.machine.object now.0 turned.now.machine.state n now.1 core t live.1 in
                   omega (arith, m-is, late, below));
-              tells = turned.told;
+              hears = turned.told;
             }
 
 -- ---- one slot after the other
 
 -- nothing was gone through yet
-pub goes-first : {B : Type 0} (cores : List (Core B)) (at n : ℕ) (tells : List Transfer → Type 0)
-    → GoOn cores cores at at n (TellsOn tells tells)
-goes-first cores at n tells first told so_far = record {
+pub goes-first : {B : Type 0} (cores : List (Core B)) (at n : ℕ) (heard : List Transfer → Type 0) → heard []
+    → GoOn cores cores at at n heard
+goes-first cores at n heard none first told so_far = record {
   more = [];
   joined = subst (λ l. JoinedSoFar first cores l at n) (sym (append-nil told)) so_far;
-  tells = λ l holds. subst tells (sym (append-nil l)) holds;
+  hears = none;
 }
 
-pub goes-then : {B : Type 0} (one two three : List (Core B)) (at mid to n : ℕ)
-    (was is_told tells_now : List Transfer → Type 0) → GoOn one two at mid n (TellsOn was is_told)
-    → GoOn two three mid to n (TellsOn is_told tells_now) → GoOn one three at to n (TellsOn was tells_now)
-goes-then one two three at mid to n was is_told tells_now before after first told so_far =
+pub goes-then : {B W : Type 0} (one two three : List (Core B)) (at mid to n : ℕ)
+    (hears : W → List Transfer → W → Type 0) (was is later : W) → HearsThen hears was is later
+    → GoOn one two at mid n (λ l. hears was l is) → GoOn two three mid to n (λ l. hears is l later)
+    → GoOn one three at to n (λ l. hears was l later)
+goes-then one two three at mid to n hears was is later chain before after first told so_far =
     let half = before first told so_far in
     let whole = after first (told ++ half.more) half.joined in
     record {
       more = half.more ++ whole.more;
       joined =
           subst (λ l. JoinedSoFar first three l to n) (append_assoc told half.more whole.more) whole.joined;
-      tells = tells-then was is_told tells_now half.more whole.more half.tells whole.tells;
+      hears = chain half.more whole.more half.hears whole.hears;
     }
 
-pub fails-then : {B : Type 0} (one two : List (Core B)) (at mid n : ℕ) (was is_told tells_now : List Transfer → Type 0)
-    (torn : Transfer → Type 0) → GoOn one two at mid n (TellsOn was is_told)
-    → FailOn two mid n is_told tells_now torn → FailOn one at n was tells_now torn
-fails-then one two at mid n was is_told tells_now torn before after first told so_far =
+pub fails-then : {B W : Type 0} (one two : List (Core B)) (at mid n : ℕ) (hears : W → List Transfer → W → Type 0)
+    (was is later : W) → HearsThen hears was is later → (torn : Transfer → Type 0)
+    → GoOn one two at mid n (λ l. hears was l is) → FailOn two mid n hears is later torn
+    → FailOn one at n hears was later torn
+fails-then one two at mid n hears was is later chain torn before after first told so_far =
     let half = before first told so_far in
     let failed = after first (told ++ half.more) half.joined in
     record {
       more = half.more ++ failed.more;
       next = failed.next;
-      tells = tells-then was is_told tells_now half.more failed.more half.tells failed.tells;
+      heard = chain half.more failed.more half.hears failed.heard;
       at = failed.at;
       front = λ live joined is.
           let found = failed.front live joined is in
@@ -191,15 +193,15 @@ fails-then one two at mid n was is_told tells_now torn before after first told s
     }
 
 -- nothing starts until a later cycle
-pub goes-later : {B : Type 0} (one two : List (Core B)) (at mid to n : ℕ) (adds : List Transfer → Type 0) → mid ≤ to
+pub goes-later : {B : Type 0} (one two : List (Core B)) (at mid to n : ℕ) (heard : List Transfer → Type 0) → mid ≤ to
     → ((k : ℕ) (d : Core B) → slice_get two k ≡ Some d → (t : Transfer) → Contains (shows_to k d n) t
-    → mid ≤ t.stamp → to ≤ t.stamp) → GoOn one two at mid n adds → GoOn one two at to n adds
-goes-later one two at mid to n adds le none before first told so_far =
+    → mid ≤ t.stamp → to ≤ t.stamp) → GoOn one two at mid n heard → GoOn one two at to n heard
+goes-later one two at mid to n heard le none before first told so_far =
     let half = before first told so_far in
     record {
       more = half.more;
       joined = joins-later first two (told ++ half.more) mid to n le none half.joined;
-      tells = half.tells;
+      hears = half.hears;
     }
 
 -- past the last cycle, or where all have halted, no core shows anything more
@@ -226,14 +228,14 @@ quiet-halted now n halted k d here = by d.halted refl
 
 -- ---- the watcher fails in a slot
 
-module _ {B : Type 0} (between : List (Core B)) (at to m n core : ℕ)
+module _ {B W : Type 0} (between : List (Core B)) (at to m n core : ℕ)
     (stand : (k : ℕ) (c : Core B) → slice_get between k ≡ Some c
     → IsInRange c.machine.object × IsShaped c.machine.object c.machine.state)
     (c : Core B) (there : slice_get between core ≡ Some c) (m_by : m ≤ n) (m_to : m ≤ to)
     (closed : (k : ℕ) (d : Core B) → k ≢ core → slice_get between k ≡ Some d → (t : Transfer)
     → Contains (shows_to k d n) t → at ≤ t.stamp → to ≤ t.stamp)
-    (is_told tells_now : List Transfer → Type 0) (torn : Transfer → Type 0)
-    (failed : FailedAt is_told tells_now torn (shows_to core c m)) (first : List (Core B)) (told : List Transfer)
+    (hears : W → List Transfer → W → Type 0) (was is_now : W) (torn : Transfer → Type 0)
+    (failed : FailedAt hears was is_now torn (shows_to core c m)) (first : List (Core B)) (told : List Transfer)
     (so_far : JoinedSoFar first between told at n) where
   -- what the core shows up to the slot's end, and after it
   behind : (rest : List Transfer) × (shows_to core c n ≡ shows_to core c m ++ rest)
@@ -369,11 +371,11 @@ module _ {B : Type 0} (between : List (Core B)) (at to m n core : ℕ)
               ∙ append_assoc (told ++ failed.told) (failed.next ∷ []) found.0,
         )
 
-  pub slot-failed : JoinFailed first told n is_told tells_now torn
+  pub slot-failed : JoinFailed first told n hears was is_now torn
   slot-failed = record {
     more = failed.told;
     next = failed.next;
-    tells = failed.tells;
+    heard = failed.heard;
     at = failed.at;
     front = is-front;
   }
@@ -400,19 +402,20 @@ module _ {B : Type 0} (plan inside : List Share) (same : inside ≡ plan) (fits 
     m-same : m ≡ min (base + (share_at plan core).closes) n
     m-same = m-is ∙ ap (λ x. min (base + x) n) (wide-is ∙ sym closes-same)
 
-    pub round-slot : (after : List (Core B)) (adds : List Transfer → Type 0) → Turned between after core m adds
-        → GoOn between after (base + from) (base + closes) n adds
-    round-slot after adds turned =
-        subst (λ x. GoOn between after (base + from) (base + x) n adds) closes-same
-        (slot-on plan plan-fits between stand periods.0 base n periods.1 from apart core next-is m m-same after adds turned)
+    pub round-slot : (after : List (Core B)) (heard : List Transfer → Type 0) → Turned between after core m heard
+        → GoOn between after (base + from) (base + closes) n heard
+    round-slot after heard turned =
+        subst (λ x. GoOn between after (base + from) (base + x) n heard) closes-same
+        (slot-on plan plan-fits between stand periods.0 base n periods.1 from apart core next-is m m-same after heard
+        turned)
 
-    pub round-between : (after : List (Core B)) (adds : List Transfer → Type 0) → Turned between after core m adds
+    pub round-between : (after : List (Core B)) (heard : List Transfer → Type 0) → Turned between after core m heard
         → Between plan after closes
-    round-between after adds turned j live opens =
+    round-between after heard turned j live opens =
         let mid : Between plan between closes =
         subst (Between plan between) closes-same
         (between-next plan plan-fits between from core stand.count apart next-is) in
-        mid j (live-before between after core m adds turned j live) opens
+        mid j (live-before between after core m heard turned j live) opens
 
     pub round-within : closes ≤ (share_at plan 0).period
     round-within =
@@ -423,20 +426,20 @@ module _ {B : Type 0} (plan inside : List Share) (same : inside ≡ plan) (fits 
     round-rises =
         let own = plan-fits.fits core in-plan in omega (arith, next-is.opens, own.window, closes-same)
 
-    pub round-fails : (is_told tells_now : List Transfer → Type 0) (torn : Transfer → Type 0)
-        → (c : Core B) × (slice_get between core ≡ Some c) × FailedAt is_told tells_now torn (shows_to core c m)
-        → FailOn between (base + from) n is_told tells_now torn
-    round-fails is_told tells_now torn failed first told so_far =
+    pub round-fails : {W : Type 0} (hears : W → List Transfer → W → Type 0) (was is : W) (torn : Transfer → Type 0)
+        → (c : Core B) × (slice_get between core ≡ Some c) × FailedAt hears was is torn (shows_to core c m)
+        → FailOn between (base + from) n hears was is torn
+    round-fails hears was is torn failed first told so_far =
         slot-failed between (base + from) (base + (share_at plan core).closes) m n core
         (all-stood plan between between stand refl) failed.0 failed.1 (omega (arith, m-same)) (omega (arith, m-same))
         (closed plan plan-fits between stand periods.0 base n periods.1 from apart core next-is)
-        is_told tells_now torn failed.2 first told so_far
+        hears was is torn failed.2 first told so_far
 
   pub round-ends : NoneNext inside between from → from ≤ (share_at plan 0).period → (one : List (Core B)) (at : ℕ)
-      → (adds : List Transfer → Type 0) → GoOn one between at (base + from) n adds
-      → GoOn one between at (base + (share_at plan 0).period) n adds
-  round-ends none within one at adds before =
-      goes-later one between at (base + from) (base + (share_at plan 0).period) n adds (omega (arith, within))
+      → (heard : List Transfer → Type 0) → GoOn one between at (base + from) n heard
+      → GoOn one between at (base + (share_at plan 0).period) n heard
+  round-ends none within one at heard before =
+      goes-later one between at (base + from) (base + (share_at plan 0).period) n heard (omega (arith, within))
       (none-starts plan plan-fits between stand periods.0 base n periods.1 from apart
       (subst (λ l. NoneNext l between from) same none)) before
 
@@ -451,64 +454,60 @@ all-left before between after told at n so_far left = record {
       (so_far.onward k c d.0 there d.1).left e (left.each k d.0 e d.1 last);
 }
 
-pub all-joined : {B : Type 0} (before now : List (Core B)) (at n : ℕ) (was is_told tells_now : List Transfer → Type 0)
-    → NoneHalted before → JoinedOn before now [] at n (TellsOn was is_told) → Quiet now n
-    → TellsOn is_told tells_now []
-    → (joined : List Transfer) × IsJoined (traces_to before n) joined × TellsOn was tells_now joined
-all-joined before now at n was is_told tells_now live on quiet last = (
+pub all-joined : {B W : Type 0} (before now : List (Core B)) (at n : ℕ) (hears : W → List Transfer → W → Type 0)
+    (was is later : W) → HearsThen hears was is later → NoneHalted before
+    → JoinedOn before now [] at n (λ l. hears was l is) → Quiet now n → hears is [] later
+    → (joined : List Transfer) × IsJoined (traces_to before n) joined × hears was joined later
+all-joined before now at n hears was is later chain live on quiet last = (
   on.more,
   joined-all before now on.more at n live on.joined quiet
       (λ k c there. core-of now k (omega (arith, slice_get_within before k c there, on.joined.count))),
-  subst (TellsOn was tells_now) (append-nil on.more)
-      (tells-then was is_told tells_now on.more [] on.tells last),
+  subst (λ l. hears was l later) (append-nil on.more) (chain on.more [] on.hears last),
 )
 
-pub join-failed : {B : Type 0} (before : List (Core B)) (n : ℕ) (was is_told : List Transfer → Type 0)
-    (torn : Transfer → Type 0) → NoneHalted before → JoinFailed before [] n was is_told torn
-    → (joined : List Transfer) → IsJoined (traces_to before n) joined → FailedAt was is_told torn joined
-join-failed before n was is_told torn live failed joined is =
+pub join-failed : {B W : Type 0} (before : List (Core B)) (n : ℕ) (hears : W → List Transfer → W → Type 0)
+    (was is_now : W) (torn : Transfer → Type 0) → NoneHalted before → JoinFailed before [] n hears was is_now torn
+    → (joined : List Transfer) → IsJoined (traces_to before n) joined → FailedAt hears was is_now torn joined
+join-failed before n hears was is_now torn live failed joined is =
     let found = failed.front live joined is in
     record {
       told = failed.more;
       next = failed.next;
       rest = found.0;
       front = found.1;
-      tells = failed.tells;
+      heard = failed.heard;
       at = failed.at;
     }
 
 -- nothing was reported yet, and more is reported
-pub joined-first : {B : Type 0} (cores : List (Core B)) (n : ℕ) (tells : List Transfer → Type 0)
+pub joined-first : {B : Type 0} (cores : List (Core B)) (n : ℕ) (heard : List Transfer → Type 0) → heard []
     → ((k : ℕ) (c : Core B) → slice_get cores k ≡ Some c
     → IsInRange c.machine.object × IsShaped c.machine.object c.machine.state)
-    → JoinedOn cores cores [] 0 n (TellsOn tells tells)
-joined-first cores n tells stand = record {
-  more = [];
-  joined = joins-first cores n stand;
-  tells = λ l holds. subst tells (sym (append-nil l)) holds;
-}
+    → JoinedOn cores cores [] 0 n heard
+joined-first cores n heard none stand = record { more = []; joined = joins-first cores n stand; hears = none }
 
-pub joined-then : {B : Type 0} (first mid now : List (Core B)) (at to n : ℕ)
-    (was is_told tells_now : List Transfer → Type 0) → JoinedOn first mid [] at n (TellsOn was is_told)
-    → GoOn mid now at to n (TellsOn is_told tells_now) → JoinedOn first now [] to n (TellsOn was tells_now)
-joined-then first mid now at to n was is_told tells_now on next =
+pub joined-then : {B W : Type 0} (first mid now : List (Core B)) (at to n : ℕ)
+    (hears : W → List Transfer → W → Type 0) (was is later : W) → HearsThen hears was is later
+    → JoinedOn first mid [] at n (λ l. hears was l is) → GoOn mid now at to n (λ l. hears is l later)
+    → JoinedOn first now [] to n (λ l. hears was l later)
+joined-then first mid now at to n hears was is later chain on next =
     let more = next first on.more on.joined in
     record {
       more = on.more ++ more.more;
       joined = more.joined;
-      tells = tells-then was is_told tells_now on.more more.more on.tells more.tells;
+      hears = chain on.more more.more on.hears more.hears;
     }
 
-pub joined-fails : {B : Type 0} (first mid : List (Core B)) (at n : ℕ)
-    (was is_told tells_now : List Transfer → Type 0) (torn : Transfer → Type 0)
-    → JoinedOn first mid [] at n (TellsOn was is_told)
-    → FailOn mid at n is_told tells_now torn → JoinFailed first [] n was tells_now torn
-joined-fails first mid at n was is_told tells_now torn on fails =
+pub joined-fails : {B W : Type 0} (first mid : List (Core B)) (at n : ℕ) (hears : W → List Transfer → W → Type 0)
+    (was is later : W) → HearsThen hears was is later → (torn : Transfer → Type 0)
+    → JoinedOn first mid [] at n (λ l. hears was l is) → FailOn mid at n hears is later torn
+    → JoinFailed first [] n hears was later torn
+joined-fails first mid at n hears was is later chain torn on fails =
     let failed = fails first on.more on.joined in
     record {
       more = on.more ++ failed.more;
       next = failed.next;
-      tells = tells-then was is_told tells_now on.more failed.more on.tells failed.tells;
+      heard = chain on.more failed.more on.hears failed.heard;
       at = failed.at;
       front = failed.front;
     }

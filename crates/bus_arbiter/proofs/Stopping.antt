@@ -39,12 +39,12 @@ turn-stops {B = B} between after at n core m le stopped first told so_far = reco
         (both-way c stopped.was stopped.now on.reached m n on.in_range on.shaped on.within le on.ran stopped.way)
 
 -- after some slots, and after some periods
-pub stops-then : {B : Type 0} (one two three : List (Core B)) (at mid n : ℕ) (adds : List Transfer → Type 0)
-    → GoOn one two at mid n adds → StopOn two three mid n → StopOn one three at n
-stops-then one two three at mid n adds before after first told so_far =
+pub stops-then : {B : Type 0} (one two three : List (Core B)) (at mid n : ℕ) (heard : List Transfer → Type 0)
+    → GoOn one two at mid n heard → StopOn two three mid n → StopOn one three at n
+stops-then one two three at mid n heard before after first told so_far =
     let half = before first told so_far in
     after first (told ++ half.more) half.joined
 
-pub joined-stops : {B : Type 0} (first mid after : List (Core B)) (at n : ℕ) (adds : List Transfer → Type 0)
-    → JoinedOn first mid [] at n adds → StopOn mid after at n → AllOnTheirWay first (λ k. n) after
-joined-stops first mid after at n adds on stops = stops first on.more on.joined
+pub joined-stops : {B : Type 0} (first mid after : List (Core B)) (at n : ℕ) (heard : List Transfer → Type 0)
+    → JoinedOn first mid [] at n heard → StopOn mid after at n → AllOnTheirWay first (λ k. n) after
+joined-stops first mid after at n heard on stops = stops first on.more on.joined

@@ -2,7 +2,6 @@
 use Rattle.std.specs.Prelude.{◌≡◌, ℕ, ◌≤◌, ◌==◌, if◌then◌else◌, max, List, [], ◌∷◌, ◌++◌, length, Some, slice_get, slice_set}
 use Rattle.bus_arbiter.specs.declared.turns.Turn.{Turn}
 use Rattle.bus_arbiter.specs.Cores.{Core, LeftAt, OnItsWay, shows_to}
-use Rattle.bus_arbiter.specs.Telling.{TellsOn}
 use Rattle.bus_arbiter.specs.Transfers.{Transfer, of_core}
 
 -- the greatest cycle that core k's turns go to, or 0
@@ -18,21 +17,21 @@ pub record Played {B : Type 0} (before after : List (Core B)) (to : ℕ → ℕ)
   pub others : (k : ℕ) → length before ≤ k → of_core k told ≡ []
 
 -- One core was run up to a cycle.
-pub record Turned {B : Type 0} (before after : List (Core B)) (core to : ℕ) (tells : List Transfer
+pub record Turned {B : Type 0} (before after : List (Core B)) (core to : ℕ) (heard : List Transfer
     → Type 0) : Type 0 where
   pub was : Core B
   pub now : Core B
   pub there : slice_get before core ≡ Some was
   pub put : after ≡ slice_set before core now
   pub left : LeftAt was to now
-  pub told : tells (shows_to core was to)
+  pub told : heard (shows_to core was to)
 
--- A watcher failed while cores were run, each up to its own cycle: it received a prefix of what each shows, and failed
--- at the next transfer of some core.
-pub record PlayFailed {B : Type 0} (was is_told : List Transfer → Type 0) (torn : Transfer
+-- A watcher failed while cores were run, each up to its own cycle: it heard a prefix of what each shows, and failed at
+-- the next transfer of some core.
+pub record PlayFailed {B W : Type 0} (hears : W → List Transfer → W → Type 0) (was is : W) (torn : Transfer
     → Type 0) (before : List (Core B)) (to : ℕ → ℕ) : Type 0 where
   pub told : List Transfer
-  pub tells : TellsOn was is_told told
+  pub heard : hears was told is
   pub fronts : (k : ℕ) (c : Core B) → slice_get before k ≡ Some c
       → (rest : List Transfer) × (shows_to k c (to k) ≡ of_core k told ++ rest)
   pub core : ℕ

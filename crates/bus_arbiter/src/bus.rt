@@ -4,7 +4,7 @@ ghost use Rattle.lt_isa.specs.Outputs.{outputs};
 ghost use Rattle.bus_arbiter.specs.Cores.{AllStand, Core, NoneHalted, shows_to};
 ghost use Rattle.bus_arbiter.specs.Rounds.{CorePaused};
 ghost use Rattle.bus_arbiter.specs.Shares.{IsPlan, share_at, share_of};
-ghost use Rattle.bus_arbiter.specs.Telling.{FailedAt, TellsOn};
+ghost use Rattle.bus_arbiter.specs.Telling.{FailedAt};
 ghost use Rattle.bus_arbiter.specs.Transfers.{Transfer};
 ghost use Rattle.bus_arbiter.specs.Turns.{AllOnTheirWay, Played, PlayFailed, TurnStopped, Turned, until};
 
@@ -141,9 +141,10 @@ impl<'a, B: Bank + Drop> Bus<'a, B> {
         ensures sound { self.new.sound ≡ is_ok result }
         ensures played { OnOk result ((told : List Transfer)
             × Played self.old.cores self.new.cores (until turns.now) told
-            × TellsOn (W.tells watch.old) (W.tells watch.new) told) }
+            × W.hears watch.old told watch.new) }
+        ensures told_before { W.tells watch.new → W.tells watch.old }
         ensures broke { OnErr result
-            (PlayFailed (W.tells watch.old) (W.tells watch.new) (W.torn watch.new) self.old.cores (until turns.now)) }
+            (PlayFailed W.hears watch.old watch.new (W.torn watch.new) self.old.cores (until turns.now)) }
         ensures stopped { OnErr result (AllOnTheirWay self.old.cores (until turns.now) self.new.cores) }
         ensures failed { OnErr result (Rose (W.faults watch.old) (W.faults watch.new)) }
         ensures whole { W.whole watch.new ≡ is_ok result }
@@ -178,10 +179,11 @@ impl<'a, B: Bank + Drop> Bus<'a, B> {
         ensures sound { self.new.sound ≡ is_ok result }
         ensures stand { AllStand self.new.plan self.new.cores }
         ensures turned { OnOk result
-            (Turned self.old.cores self.new.cores core to (TellsOn (W.tells watch.old) (W.tells watch.new))) }
+            (Turned self.old.cores self.new.cores core to (λ told. W.hears watch.old told watch.new)) }
+        ensures told_before { W.tells watch.new → W.tells watch.old }
         ensures broke { OnErr result ((c : Core B)
             × (slice_get self.old.cores core ≡ Some c)
-            × FailedAt (W.tells watch.old) (W.tells watch.new) (W.torn watch.new) (shows_to core c to)) }
+            × FailedAt W.hears watch.old watch.new (W.torn watch.new) (shows_to core c to)) }
         ensures stopped { OnErr result (TurnStopped self.old.cores self.new.cores core to) }
         ensures failed { OnErr result (Rose (W.faults watch.old) (W.faults watch.new)) }
         ensures whole { W.whole watch.new ≡ is_ok result }

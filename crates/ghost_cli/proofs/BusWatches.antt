@@ -5,12 +5,12 @@ use Rattle.std.proofs.lemmas.Grind.{flat_map-append}
 use Rattle.std.specs.Prelude.{codes, decimal}
 use Rattle.gr_base.specs.Added.{Adds, AddsLess}
 use Rattle.lt_isa.specs.Machine.{Observed}
+use Rattle.processor.specs.Watching.{TellsMore}
 use Rattle.run_data.specs.TraceText.{event_line, event_text}
-use Rattle.bus_arbiter.specs.Telling.{FailedAt, TellsOn}
 use Rattle.bus_arbiter.specs.Transfers.{Transfer}
 use Rattle.ghost_cli.specs.Showing.{halt_text, transfer_line, transfer_lines}
 use Rattle.ghost_cli.specs.Watched.{Grows, HoldsLines, HoldsTransfers, TearsTransfer}
-use Rattle.ghost_cli.proofs.PutLines.{cut_at_next, line_held, lines_put, part_held, torn_line}
+use Rattle.ghost_cli.proofs.PutLines.{cut_at_next, line_held, part_held, torn_line}
 
 -- ---- no line is empty
 
@@ -38,14 +38,14 @@ lines-more told t = flat_map-append transfer_line told (t ∷ [])
 
 pub transfer_told : (before now : Option (List ℕ)) (start stop mark : ℕ) (t : Transfer)
     → Adds before now (transfer_line t)
-    → TellsOn (HoldsTransfers before start stop true) (HoldsTransfers now start mark true) (t ∷ [])
+    → TellsMore (HoldsTransfers before start stop true) (HoldsTransfers now start mark true) (t ∷ [])
 transfer_told before now start stop mark t added told lines =
     subst (HoldsLines now start mark true) (sym (lines-more told t))
     (line_held before now start stop mark (transfer_line t) added (transfer_lines told) lines)
 
 pub transfer_kept : (before now : Option (List ℕ)) (start stop mark : ℕ) (line : List ℕ)
     → AddsLess before now line → IfSome before (λ bytes. mark ≡ length bytes)
-    → TellsOn (HoldsTransfers before start stop true) (HoldsTransfers now start mark false) []
+    → TellsMore (HoldsTransfers before start stop true) (HoldsTransfers now start mark false) []
 transfer_kept before now start stop mark line less marked told lines =
     subst (λ l. HoldsLines now start mark false (transfer_lines l)) (sym (append-nil told))
     (part_held before now start stop mark line less marked (transfer_lines told) lines)
@@ -60,24 +60,16 @@ transfer_torn None None mark t less marked = tt
 
 -- ---- a whole run
 
-pub transfers_put : (before now : Option (List ℕ)) (start stop stop' : ℕ) (joined : List Transfer)
+pub transfers_cut : (before now : Option (List ℕ)) (start stop stop' : ℕ) (joined told : List Transfer)
+    (next : Transfer) (rest : List Transfer) → joined ≡ told ++ next ∷ rest
     → HoldsLines before start stop true [] → Grows before now
-    → TellsOn (HoldsTransfers before start stop true) (HoldsTransfers now start stop' true) joined
-    → Adds before now (transfer_lines joined)
-transfers_put before now start stop stop' joined made grew tells =
-    lines_put before now start stop stop' (transfer_lines joined) made grew (tells [] made)
-
-pub transfers_cut : (before now : Option (List ℕ)) (start stop stop' : ℕ) (joined : List Transfer)
-    → HoldsLines before start stop true [] → Grows before now
-    → FailedAt (HoldsTransfers before start stop true) (HoldsTransfers now start stop' false) (TearsTransfer now stop')
-    joined
-    → AddsLess before now (transfer_lines joined)
-transfers_cut (Some b) (Some n) start stop stop' joined made grew failed =
+    → TellsMore (HoldsTransfers before start stop true) (HoldsTransfers now start stop' false) told
+    → TearsTransfer now stop' next → AddsLess before now (transfer_lines joined)
+transfers_cut (Some b) (Some n) start stop stop' joined told next rest front made grew heard torn =
     subst (AddsLess (Some b) (Some n))
-    (sym (ap transfer_lines failed.front
-    ∙ flat_map-append transfer_line failed.told (failed.next ∷ failed.rest)))
-    (cut_at_next b n start stop stop' (transfer_lines failed.told) (transfer_line failed.next)
-    (transfer_lines failed.rest) (transfer-some failed.next) made grew.0 grew.1 (failed.tells [] made) failed.at)
-transfers_cut (Some b) None start stop stop' joined made grew failed = tt
-transfers_cut None (Some n) start stop stop' joined made grew failed = absurd grew
-transfers_cut None None start stop stop' joined made grew failed = tt
+    (sym (ap transfer_lines front ∙ flat_map-append transfer_line told (next ∷ rest)))
+    (cut_at_next b n start stop stop' (transfer_lines told) (transfer_line next) (transfer_lines rest)
+    (transfer-some next) made grew.0 grew.1 (heard [] made) torn)
+transfers_cut (Some b) None start stop stop' joined told next rest front made grew heard torn = tt
+transfers_cut None (Some n) start stop stop' joined told next rest front made grew heard torn = absurd grew
+transfers_cut None None start stop stop' joined told next rest front made grew heard torn = tt

@@ -7,6 +7,8 @@ ghost use Rattle.run_data.specs.TraceText.{event_line};
 ghost use Rattle.ghost_cli.specs.Growing.{Grows-itself, Grows-through};
 ghost use Rattle.ghost_cli.specs.Showing.{core_line, halt_text, transfer_line};
 ghost use Rattle.ghost_cli.specs.Watched.{Grows, HoldsLines, HoldsTransfers, TearsTransfer};
+ghost use Rattle.processor.specs.Keeping.{tells-none, tells-then};
+ghost use Rattle.processor.specs.Watching.{TellsMore};
 
 use bus_arbiter::BusWatch;
 use gr_outside::{Sink, SinkFailed};
@@ -47,7 +49,11 @@ impl<'a, O: Sink> BusLines<'a, O> {
 }
 
 impl<'a, O: Sink> BusWatch for BusLines<'a, O> {
-    ghost tells = { λ w told. HoldsTransfers (O.seen w.out.now).held w.start w.stop w.whole told };
+    ghost hears = { λ w told v. TellsMore
+        (HoldsTransfers (O.seen w.out.now).held w.start w.stop w.whole)
+        (HoldsTransfers (O.seen v.out.now).held v.start v.stop v.whole) told };
+
+    ghost tells = { λ w. ⊥ };
 
     ghost faults = { λ w. (O.seen w.out.now).faults };
 
@@ -69,6 +75,15 @@ impl<'a, O: Sink> BusWatch for BusLines<'a, O> {
             }
         }
     }
+
+    ghost hears_none = { λ w whole. tells-none (HoldsTransfers (O.seen w.out.now).held w.start w.stop w.whole) };
+
+    ghost hears_then = { λ first second third told more one two. tells-then
+        (HoldsTransfers (O.seen first.out.now).held first.start first.stop first.whole)
+        (HoldsTransfers (O.seen second.out.now).held second.start second.stop second.whole)
+        (HoldsTransfers (O.seen third.out.now).held third.start third.stop third.whole) told more one two };
+
+    ghost transfers_once = { λ before now told other tells one two. absurd tells };
 
     ghost same_itself = { λ w. (refl, refl, Grows-itself (O.seen w.out.now).held, λ whole. (whole, refl)) };
 

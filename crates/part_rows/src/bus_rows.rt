@@ -28,7 +28,9 @@ fn block_read(event: &Event) -> Option<u32> {
 }
 
 impl BusWatch for Marks {
-    ghost tells = { λ watcher told. ⊥ };
+    ghost hears = { λ before told now. Unit {0} };
+
+    ghost tells = { λ watcher. ⊥ };
 
     ghost faults = { λ watcher. watcher.faults };
 
@@ -50,6 +52,12 @@ impl BusWatch for Marks {
         self.faults = self.faults.saturating_add(1);
         Err(WatchFailed)
     }
+
+    ghost hears_none = { λ watcher whole. tt };
+
+    ghost hears_then = { λ first second third told more one two. tt };
+
+    ghost transfers_once = { λ before now told other tells one two. absurd tells };
 
     ghost same_itself = { λ watcher. tt };
 

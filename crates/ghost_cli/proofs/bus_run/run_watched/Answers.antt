@@ -31,6 +31,7 @@ returns-in-Err-clause-put g c =
     let worked : IsJoined traces (joined_of traces) =
     cores-joined c.args.bus.now.plan c.args.bus.now.cores c.entered.ensures.plan c.requires.all c.entered.ensures.stand
     c.args.cycles in
+    let broke = e.broke (joined_of traces) worked in
     record {
       joined = joined_of traces;
       joins = worked;
@@ -38,7 +39,8 @@ returns-in-Err-clause-put g c =
         e.failed,
         transfers_cut (g.O.Sink.seen c.args.watch.now.out.now).held (g.O.Sink.seen c.run.new.watch.out.now).held
             c.args.watch.now.start c.args.watch.now.stop c.run.new.watch.stop (joined_of traces)
+            broke.told broke.next broke.rest broke.front
             (rw c.requires.whole at c.requires.nothing) e.same.2
-            (rw (← e.same.1, e.whole, c.requires.whole) at e.broke (joined_of traces) worked),
+            (rw (← e.same.1, e.whole, c.requires.whole) at broke.heard) broke.at,
       );
     }

@@ -1,13 +1,13 @@
-use Rattle.std.proofs.Common.{◌∙◌, arith}
-use Rattle.bus_arbiter.proofs.Finishing.{finish-all, finish-never, finish-next}
+use Rattle.std.proofs.Common.{◌∙◌, [], arith}
+use Rattle.bus_arbiter.proofs.Finishing.{finish-all, finish-heard, finish-never, finish-next}
 use Rattle.bus_arbiter.proofs.bus.Bus.finish.Goals as goal
 
 pub returns-in-Err-clause-never : goal.returns-in-Err-clause-never
 returns-in-Err-clause-never g c =
     absurd
     (finish-never c.args.self.now.cores c.finishing.self.cores c.finishing.self.cores c.args.cycles c.finishing.core
-    (g.W.BusWatch.tells c.args.watch.now) (g.W.BusWatch.tells c.finishing.watch) (g.W.BusWatch.tells c.turn.new.watch)
-    c.requires.quiet c.finishing.invariant.finished (g.W.BusWatch.torn c.turn.new.watch) c.in-Err.ensures.broke)
+    c.requires.quiet c.finishing.invariant.finished g.W.BusWatch.hears c.finishing.watch c.turn.new.watch
+    (g.W.BusWatch.torn c.turn.new.watch) c.in-Err.ensures.broke)
 
 pub finishing-preserved : goal.finishing-preserved
 finishing-preserved g c = record {
@@ -17,8 +17,14 @@ finishing-preserved g c = record {
   whole = c.in-Ok.ensures.whole;
   finished =
       finish-next c.args.self.now.cores c.finishing.self.cores c.turn.new.self.cores c.args.cycles c.finishing.core
-      (g.W.BusWatch.tells c.args.watch.now) (g.W.BusWatch.tells c.finishing.watch)
-      (g.W.BusWatch.tells c.turn.new.watch) c.requires.quiet c.finishing.invariant.finished c.in-Ok.ensures.turned;
+      c.requires.quiet c.finishing.invariant.finished _ c.in-Ok.ensures.turned;
+  heard =
+      g.met.W.BusWatch.hears_then c.args.watch.now c.finishing.watch c.turn.new.watch [] []
+      c.finishing.invariant.heard
+      (finish-heard c.args.self.now.cores c.finishing.self.cores c.turn.new.self.cores c.args.cycles c.finishing.core
+      c.requires.quiet c.finishing.invariant.finished
+      (λ told. g.W.BusWatch.hears c.finishing.watch told c.turn.new.watch) c.in-Ok.ensures.turned);
+  told_before = λ tells. c.finishing.invariant.told_before (c.in-Ok.ensures.told_before tells);
   count = omega (arith, c.finishing.invariant.count, c.in-Ok.ensures.count);
   count_stays = λ full. c.in-Ok.ensures.count_stays (c.finishing.invariant.count_stays full);
   same = g.met.W.BusWatch.same_through c.args.watch.now c.finishing.watch c.turn.new.watch
@@ -28,5 +34,4 @@ finishing-preserved g c = record {
 pub returns-clause-left : goal.returns-clause-left
 returns-clause-left g c =
     finish-all c.args.self.now.cores c.finishing.self.cores c.args.cycles c.finishing.core
-    (g.W.BusWatch.tells c.args.watch.now) (g.W.BusWatch.tells c.finishing.watch)
     (omega (arith, c.finishing-test.false, c.entered-core-end.ensures)) c.finishing.invariant.finished

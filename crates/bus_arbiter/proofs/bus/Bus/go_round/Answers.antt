@@ -32,12 +32,14 @@ slots-preserved g c =
           c.closes-closes.result c.from.result c.earlier-to.result c.closes-closes.ensures c.from.ensures c.earlier-to.ensures;
       on =
           goes-then c.args.self.now.cores cores c.turn.new.self.cores c.args.base (c.args.base + c.slots.from)
-          (c.args.base + c.closes-closes.result) c.args.cycles (g.W.BusWatch.tells c.args.watch.now)
-          (g.W.BusWatch.tells c.slots.watch) (g.W.BusWatch.tells c.turn.new.watch) c.slots.invariant.on
+          (c.args.base + c.closes-closes.result) c.args.cycles g.W.BusWatch.hears c.args.watch.now c.slots.watch
+          c.turn.new.watch (g.met.W.BusWatch.hears_then c.args.watch.now c.slots.watch c.turn.new.watch)
+          c.slots.invariant.on
           (round-slot plan c.slots.self.plan same c.next.ensures.plan cores stand c.args.base c.args.cycles
           c.requires.whole_periods c.slots.from c.slots.invariant.between c.in-Some.core c.in-Some.ensures.next
           c.closes-closes.result c.from.result c.earlier-to.result c.closes-closes.ensures c.from.ensures c.earlier-to.ensures
           c.turn.new.self.cores _ c.in-Ok.ensures.turned);
+      told_before = λ tells. c.slots.invariant.told_before (c.in-Ok.ensures.told_before tells);
       count = omega (arith, c.slots.invariant.count, c.in-Ok.ensures.count);
       count_stays = λ full. c.in-Ok.ensures.count_stays (c.slots.invariant.count_stays full);
       same = g.met.W.BusWatch.same_through c.args.watch.now c.slots.watch c.turn.new.watch
@@ -51,13 +53,13 @@ returns-in-Err-clause-broke g c =
     let cores = c.slots.self.cores in
     let stand = subst (λ l. AllStand l cores) c.slots.invariant.plan c.slots.invariant.stand in
     fails-then c.args.self.now.cores cores c.args.base (c.args.base + c.slots.from) c.args.cycles
-    (g.W.BusWatch.tells c.args.watch.now) (g.W.BusWatch.tells c.slots.watch) (g.W.BusWatch.tells c.turn.new.watch)
+    g.W.BusWatch.hears c.args.watch.now c.slots.watch c.turn.new.watch
+    (g.met.W.BusWatch.hears_then c.args.watch.now c.slots.watch c.turn.new.watch)
     (g.W.BusWatch.torn c.turn.new.watch) c.slots.invariant.on
     (round-fails plan c.slots.self.plan same c.next.ensures.plan cores stand c.args.base c.args.cycles
     c.requires.whole_periods c.slots.from c.slots.invariant.between c.in-Some.core c.in-Some.ensures.next
     c.closes-closes.result c.from.result c.earlier-to.result c.closes-closes.ensures c.from.ensures c.earlier-to.ensures
-    (g.W.BusWatch.tells c.slots.watch) (g.W.BusWatch.tells c.turn.new.watch) (g.W.BusWatch.torn c.turn.new.watch)
-    c.in-Err.ensures.broke)
+    g.W.BusWatch.hears c.slots.watch c.turn.new.watch (g.W.BusWatch.torn c.turn.new.watch) c.in-Err.ensures.broke)
 
 pub returns-clause-on : goal.returns-clause-on
 returns-clause-on g c =

@@ -4,7 +4,6 @@ use Rattle.bus_arbiter.specs.declared.shares.Share.{Share}
 use Rattle.bus_arbiter.specs.Cores.{AllStand, Shared}
 use Rattle.bus_arbiter.specs.Rounds.{JoinedOn}
 use Rattle.bus_arbiter.specs.Shares.{share_at}
-use Rattle.bus_arbiter.specs.Telling.{TellsOn}
 use Rattle.bus_arbiter.proofs.Alone.{alone-fails, alone-on}
 use Rattle.bus_arbiter.proofs.BusSteps.{all-stood}
 use Rattle.bus_arbiter.proofs.Pausing.{joined-stays}
@@ -29,9 +28,12 @@ periods-init g c = record {
   near = omega arith;
   whole_periods = (0, omega arith);
   joined =
-      joined-first c.args.self.now.cores c.args.cycles (g.W.BusWatch.tells c.args.watch.now)
+      joined-first c.args.self.now.cores c.args.cycles
+      (λ told. g.W.BusWatch.hears c.args.watch.now told c.args.watch.now)
+      (g.met.W.BusWatch.hears_none c.args.watch.now c.requires.whole)
       (all-stood c.args.self.now.plan c.args.self.now.cores c.args.self.now.cores
       (subst (λ (b : Shared g.row.B.Denot). AllStand b.plan b.cores) c.self.view_is c.self.invariant.stand) refl);
+  told_before = λ tells. tells;
   count = omega arith;
   count_stays = λ full. full;
   same = g.met.W.BusWatch.same_itself c.args.watch.now;
@@ -51,10 +53,11 @@ periods-preserved g c =
     let same = c.periods.invariant.period some ∙ ap (λ l. (share_at l 0).period) (sym c.periods.invariant.plan) in
     let round =
     subst (λ x. JoinedOn c.args.self.now.cores c.go_round.new.self.cores [] (c.periods.base + x) c.args.cycles
-    (TellsOn (g.W.BusWatch.tells c.args.watch.now) (g.W.BusWatch.tells c.go_round.new.watch))) (sym same)
+    (λ told. g.W.BusWatch.hears c.args.watch.now told c.go_round.new.watch)) (sym same)
     (joined-then c.args.self.now.cores c.periods.self.cores c.go_round.new.self.cores c.periods.base _
-    c.args.cycles (g.W.BusWatch.tells c.args.watch.now) (g.W.BusWatch.tells c.periods.watch)
-    (g.W.BusWatch.tells c.go_round.new.watch) c.periods.invariant.joined c.in-Ok-go_round.ensures.on) in
+    c.args.cycles g.W.BusWatch.hears c.args.watch.now c.periods.watch c.go_round.new.watch
+    (g.met.W.BusWatch.hears_then c.args.watch.now c.periods.watch c.go_round.new.watch) c.periods.invariant.joined
+    c.in-Ok-go_round.ensures.on) in
     record {
       plan = c.skip-base.ensures.plan ∙ c.in-Ok-go_round.ensures.plan ∙ c.periods.invariant.plan;
       sound = c.skip-base.ensures.sound;
@@ -77,8 +80,8 @@ periods-preserved g c =
       joined =
           joined-stays c.args.self.now.cores c.go_round.new.self.cores c.skip-base.new.self.cores
           (c.periods.base + c.from-period.result) c.skip-base.result c.args.cycles
-          (TellsOn (g.W.BusWatch.tells c.args.watch.now) (g.W.BusWatch.tells c.go_round.new.watch)) round
-          c.skip-base.ensures.stay;
+          (λ told. g.W.BusWatch.hears c.args.watch.now told c.go_round.new.watch) round c.skip-base.ensures.stay;
+      told_before = λ tells. c.periods.invariant.told_before (c.in-Ok-go_round.ensures.told_before tells);
       count = omega (arith, c.periods.invariant.count, c.in-Ok-go_round.ensures.count);
       count_stays = λ full. c.in-Ok-go_round.ensures.count_stays (c.periods.invariant.count_stays full);
       same = g.met.W.BusWatch.same_through c.args.watch.now c.periods.watch c.go_round.new.watch
@@ -91,12 +94,12 @@ returns-in-Ok-clause-joined g c =
     all-stood c.periods.self.plan c.periods.self.cores c.periods.self.cores c.periods.invariant.stand refl in (
       c.args.cycles,
       joined-then c.args.self.now.cores c.periods.self.cores c.turn.new.self.cores c.periods.base c.args.cycles
-          c.args.cycles (g.W.BusWatch.tells c.args.watch.now) (g.W.BusWatch.tells c.periods.watch)
-          (g.W.BusWatch.tells c.turn.new.watch) c.periods.invariant.joined
+          c.args.cycles g.W.BusWatch.hears c.args.watch.now c.periods.watch c.turn.new.watch
+          (g.met.W.BusWatch.hears_then c.args.watch.now c.periods.watch c.turn.new.watch) c.periods.invariant.joined
           (alone-on c.periods.self.cores c.in-Some.core c.periods.base c.args.cycles
           (omega (arith, c.periods-test.true, c.from.ensures)) (c.is_alone.ensures c.if-is_alone.true) stand
           c.turn.new.self.cores
-          (TellsOn (g.W.BusWatch.tells c.periods.watch) (g.W.BusWatch.tells c.turn.new.watch)) c.in-Ok.ensures.turned),
+          (λ told. g.W.BusWatch.hears c.periods.watch told c.turn.new.watch) c.in-Ok.ensures.turned),
     )
 
 pub returns-in-Ok-clause-quiet : goal.returns-in-Ok-clause-quiet
@@ -112,19 +115,19 @@ returns-in-Err-clause-broke g c =
     let stand =
     all-stood c.periods.self.plan c.periods.self.cores c.periods.self.cores c.periods.invariant.stand refl in
     joined-fails c.args.self.now.cores c.periods.self.cores c.periods.base c.args.cycles
-    (g.W.BusWatch.tells c.args.watch.now) (g.W.BusWatch.tells c.periods.watch)
-    (g.W.BusWatch.tells c.turn.new.watch) (g.W.BusWatch.torn c.turn.new.watch) c.periods.invariant.joined
+    g.W.BusWatch.hears c.args.watch.now c.periods.watch c.turn.new.watch
+    (g.met.W.BusWatch.hears_then c.args.watch.now c.periods.watch c.turn.new.watch)
+    (g.W.BusWatch.torn c.turn.new.watch) c.periods.invariant.joined
     (alone-fails c.periods.self.cores c.in-Some.core c.periods.base c.args.cycles
     (omega (arith, c.periods-test.true, c.from.ensures)) (c.is_alone.ensures c.if-is_alone.true) stand
-    (g.W.BusWatch.tells c.periods.watch) (g.W.BusWatch.tells c.turn.new.watch) (g.W.BusWatch.torn c.turn.new.watch)
-    c.in-Err.ensures.broke)
+    g.W.BusWatch.hears c.periods.watch c.turn.new.watch (g.W.BusWatch.torn c.turn.new.watch) c.in-Err.ensures.broke)
 
 pub returns-in-Err-go_round-clause-broke : goal.returns-in-Err-go_round-clause-broke
 returns-in-Err-go_round-clause-broke g c =
     joined-fails c.args.self.now.cores c.periods.self.cores c.periods.base c.args.cycles
-    (g.W.BusWatch.tells c.args.watch.now) (g.W.BusWatch.tells c.periods.watch)
-    (g.W.BusWatch.tells c.go_round.new.watch) (g.W.BusWatch.torn c.go_round.new.watch)
-    c.periods.invariant.joined c.in-Err-go_round.ensures.broke
+    g.W.BusWatch.hears c.args.watch.now c.periods.watch c.go_round.new.watch
+    (g.met.W.BusWatch.hears_then c.args.watch.now c.periods.watch c.go_round.new.watch)
+    (g.W.BusWatch.torn c.go_round.new.watch) c.periods.invariant.joined c.in-Err-go_round.ensures.broke
 
 pub returns-clause-quiet : goal.returns-clause-quiet
 returns-clause-quiet g c =

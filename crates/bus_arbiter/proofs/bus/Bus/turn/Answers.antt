@@ -45,7 +45,7 @@ returns-in-Ok-clause-turned g c =
           c.index_mut-seat.ensures.value c.requires.exists;
       put = ap (λ l. slice_set l c.args.core c.run.new.self) same;
       left = c.in-Ok.ensures.left;
-      told = c.in-Ok.ensures.told;
+      told = c.in-Ok.ensures.heard;
     }
 
 pub returns-in-Err-clause-broke : goal.returns-in-Err-clause-broke
