@@ -18,6 +18,7 @@ SHAPES = {
     'lists within lists': filled('[', '[' * 120 + ']' * 120 + ',', '0]'),
     'objects of one member': filled('[', '{"":0},', '0]'),
     'objects of one member in a member': filled('{"q":[', '{"":0},', '0]}'),
+    'objects of one member for an array': filled('{"a":[', '{"":0},', '0]}'),
     'numbers': filled('{"q":[', '0,', '0]}'),
     'numbers of one name': filled('{', '"q":[0,0,0,0],', '"q":0}'),
     'names of numbers': names('0'),

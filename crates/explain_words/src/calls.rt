@@ -6,13 +6,16 @@ ghost use Rattle.explain_words.specs.Plain.{IsPlain};
 
 use crate::assembly::explain_assembly;
 use crate::buses::{Core, explain_bus};
+use crate::duplicates::warn_of_inputs;
 use crate::inputs::{explain_inputs, variables_of_object, variables_of_source};
 use crate::looks::put_other_kind;
 use crate::objects::{explain_file, object_in};
 use crate::refusals::{explain_inference, explain_refusal};
 use crate::sources::{Room, explain_source};
 use crate::texts::is_word_of;
+use crate::tokens::{Tokens, tokens_of};
 use crate::usage::{Sorted, explain_usage};
+use crate::warnings::warn_of_source;
 use crate::words::Words;
 use gr_base::Memory;
 use gr_word::Want;
@@ -106,9 +109,20 @@ impl<'a, 'b> Call<'a, 'b> {
             8 => matches!(kind, Kind::Source),
             12 => matches!(kind, Kind::Assembly),
             9 | 11 => true,
+            0 => self.is_warned(kind),
             _ => false,
         };
         if is_read { Some(kind) } else { None }
+    }
+
+    // Whether a file of a call that did its work may have warnings.
+    fn is_warned(&self, kind: Kind) -> bool {
+        match kind {
+            Kind::Source => is_word_of("compile eval", self.verb().as_bytes()),
+            Kind::Inputs => is_word_of("eval run trace", self.verb().as_bytes()),
+            Kind::Object => false,
+            Kind::Assembly => false,
+        }
     }
 
     fn verb(&self) -> &str {
@@ -119,7 +133,7 @@ impl<'a, 'b> Call<'a, 'b> {
     }
 
     fn has_procs(&self) -> bool {
-        self.sorted.has("--procs")
+        self.sorted.has("--procs") || self.verb() == "expand"
     }
 
     // Whether the program has to have room.
@@ -133,8 +147,9 @@ impl<'a, 'b> Call<'a, 'b> {
         })
     }
 
-    /// What the fault means, by the files that were read again: nothing where nothing can be said. The text is ASCII, and
-    /// nothing in it acts on a terminal.
+    /// What the fault means, by the files that were read again: nothing where nothing can be said. If the call did its work,
+    /// these are warnings of what its source and its inputs may not mean. The text is ASCII, and nothing in it acts on a
+    /// terminal.
     pub fn explained(&self, alloc: Global, files: &[File<'_>]) -> Result<Vec<u8>, Memory>
         ensures plain { IfOk result (λ text. All IsPlain text.items) }
     {
@@ -143,8 +158,21 @@ impl<'a, 'b> Call<'a, 'b> {
         out.finish(alloc)
     }
 
+    /// The explanation or the warnings as lines of JSON, as [`Words::report`] says. A fault has one line, also if nothing
+    /// can be said about it.
+    pub fn reported(&self, alloc: Global, files: &[File<'_>]) -> Result<Vec<u8>, Memory>
+        ensures plain { IfOk result (λ text. All IsPlain text.items) }
+    {
+        let mut out = Words::new(alloc);
+        self.explain(alloc, files, &mut out);
+        out.report(alloc, self.status)
+    }
+
     fn explain(&self, alloc: Global, files: &[File<'_>], out: &mut Words) {
         match self.status {
+            0 => for file in files {
+                warn_of(alloc, file, out);
+            },
             2 => explain_usage(self.usage, self.words, &self.sorted, out),
             9 => self.explain_pairs(alloc, files, out),
             10 => out.line(if self.verb() == "eval" {
@@ -210,6 +238,24 @@ impl<'a, 'b> Call<'a, 'b> {
             Kind::Source => variables_of_source(alloc, file.bytes, self.has_procs()),
             _ => None,
         }
+    }
+}
+
+// Warns of what a file of a call that did its work may not mean.
+fn warn_of(alloc: Global, file: &File<'_>, out: &mut Words) {
+    let name = file.name;
+    let text = file.bytes;
+    match file.kind {
+        Kind::Inputs => warn_of_inputs(alloc, name, text, out),
+        Kind::Source => match tokens_of(alloc, text) {
+            Ok(all) => {
+                let all = all.as_slice();
+                warn_of_source(alloc, Tokens { name, text, all }, out)
+            }
+            Err(_) => out.starve(),
+        },
+        Kind::Object => {}
+        Kind::Assembly => {}
     }
 }
 

@@ -4,12 +4,12 @@ ghost use Rattle.std.specs.Prelude.{IfSome};
 ghost use Rattle.gr_word.specs.Fitting.{AreVariables};
 
 use crate::calls::Kind;
-use crate::json_faults::{JsonFault, json_fault};
+use crate::json_faults::{JsonFault, json_fault, unread_at};
 use crate::looks::put_other_kind;
-use crate::members::{item_at, member_at};
+use crate::members::{Described, ValueKind, described_member, item_at, member_at};
 use crate::nearest::Nearest;
 use crate::objects::object_in;
-use crate::texts::{Source, line_start, spot_at};
+use crate::texts::{Source, spot_at};
 use crate::tokens::SOURCE_BYTES;
 use crate::words::Words;
 use flow_types::type_program;
@@ -17,7 +17,6 @@ use gr_base::Memory;
 use gr_word::{Shape, Want};
 use procs_parser::parse_procs;
 use run_data::{INPUT_BYTES, InputError, NameText, read_inputs};
-use serde_json::Value;
 use src_lexer::{Token, lex};
 use src_parser::parse;
 use src_procs::inline;
@@ -140,17 +139,14 @@ impl Given<'_> {
         }
     }
 
-    // A text whose fault is only known to the reader of JSON, as a number that is too big.
+    // A text whose fault is only known to the reader of inputs, as a number that is too big.
     fn put_unread(&self, alloc: Global, out: &mut Words) {
-        let text = self.source.text;
-        let at = match Value::from_slice(alloc, text) {
-            Ok(_) => 0,
-            Err(error) => {
-                line_start(text, error.line()).saturating_add(error.column().saturating_sub(1))
-            }
-        };
-        self.source
-            .put(at, "the text is no JSON value up to here", JSON_FORM, out)
+        match unread_at(alloc, self.source.text) {
+            Ok(at) => self
+                .source
+                .put(at, "the text is no JSON value up to here", JSON_FORM, out),
+            Err(_) => out.starve(),
+        }
     }
 
     fn unknown(&self, alloc: Global, name: &str, out: &mut Words) {
@@ -171,15 +167,14 @@ impl Given<'_> {
 
     // A member whose value isn't what its variable wants.
     fn misfit(&self, alloc: Global, name: &str, out: &mut Words) {
-        match Value::from_slice(alloc, self.source.text) {
-            Ok(whole) => if let Some(value) = whole.get(name) {
-                self.unfitting(name, value, out);
-            },
+        match described_member(alloc, self.source.text, name) {
+            Ok(Some(value)) => self.unfitting(name, value, out),
+            Ok(None) => {}
             Err(_) => out.starve(),
         }
     }
 
-    fn unfitting(&self, name: &str, value: &Value, out: &mut Words) {
+    fn unfitting(&self, name: &str, value: Described, out: &mut Words) {
         for want in self.wants {
             if want.name.bytes() == name.as_bytes() {
                 return self.put_misfit(want, name, value, out);
@@ -187,22 +182,22 @@ impl Given<'_> {
         }
     }
 
-    fn put_misfit(&self, want: &Want, name: &str, value: &Value, out: &mut Words) {
+    fn put_misfit(&self, want: &Want, name: &str, value: Described, out: &mut Words) {
         let text = self.source.text;
         let member = self.member(name);
-        let faulty = faulty_item(want, value);
-        let (at, shown) = match faulty {
-            Some(number) => (
-                item_at(text, member, number).unwrap_or(member),
-                value.get(number).unwrap_or(value),
+        let unfit = unfit_item(want, value);
+        let (at, shown) = match unfit {
+            Some((number, kind)) => (
+                item_at(text, member, number as usize).unwrap_or(member),
+                kind,
             ),
-            None => (member, value),
+            None => (member, value.kind),
         };
         let spot = spot_at(text, at);
         out.put_place(self.source.name, spot);
         out.name(name);
-        match faulty {
-            Some(number) => out.fill("[{}] wants an integer", &[number as u64]),
+        match unfit {
+            Some((number, _)) => out.fill("[{}] wants an integer", &[number]),
             None => put_want(want, out),
         }
         out.say(", and this is ");
@@ -226,12 +221,15 @@ fn nearest_variable<'a>(
 }
 
 // The number of the item that isn't a word, in a list of the right length.
-fn faulty_item(want: &Want, value: &Value) -> Option<usize> {
-    let items = value.as_array()?;
-    if want.shape == Shape::Scalar || items.len() != want.length as usize {
-        return None;
+fn unfit_item(want: &Want, value: Described) -> Option<(u64, ValueKind)> {
+    match want.shape {
+        Shape::Scalar => None,
+        Shape::Array => if value.kind == ValueKind::List(u64::from(want.length)) {
+            value.unfit
+        } else {
+            None
+        },
     }
-    items.iter().position(|item| !item.is_i64())
 }
 
 fn put_want(want: &Want, out: &mut Words) {
@@ -241,17 +239,14 @@ fn put_want(want: &Want, out: &mut Words) {
     }
 }
 
-fn put_kind(value: &Value, out: &mut Words) {
-    match value {
-        Value::Null => out.say("null"),
-        Value::Bool(_) => out.say("true or false"),
-        Value::Number(number) => out.say(if number.is_i64() {
-            "a number"
-        } else {
-            "a number that is no integer of 64 bits with a sign"
-        }),
-        Value::String(_) => out.say("a text"),
-        Value::Array(items) => out.fill("a list of {}", &[items.len() as u64]),
-        Value::Object(_) => out.say("an object"),
+fn put_kind(kind: ValueKind, out: &mut Words) {
+    match kind {
+        ValueKind::Null => out.say("null"),
+        ValueKind::Truth => out.say("true or false"),
+        ValueKind::Word => out.say("a number"),
+        ValueKind::Number => out.say("a number that is no integer of 64 bits with a sign"),
+        ValueKind::Text => out.say("a text"),
+        ValueKind::List(count) => out.fill("a list of {}", &[count]),
+        ValueKind::Object => out.say("an object"),
     }
 }

@@ -2,6 +2,8 @@
 
 use crate::texts::{is_word_of, length_up_to, piece};
 use gr_base::Memory;
+use json::{Reader, Scratch, Token};
+use run_data::number_given;
 use std::alloc::Global;
 
 /// Why a text isn't a JSON value from a byte on; and the bracket or quotation mark that is still open, if one matters.
@@ -14,6 +16,9 @@ pub(crate) struct JsonFault {
 
 /// The most brackets that are read while they are open.
 const MOST_OPEN: usize = 128;
+
+/// The most of them that the reader of inputs allows.
+const MOST_OPEN_READ: usize = 127;
 
 /// What may come next in a text.
 #[derive(Clone, Copy)]
@@ -56,6 +61,46 @@ pub(crate) fn json_fault(alloc: Global, text: &[u8]) -> Result<Option<JsonFault>
         }
     }
     Ok(None)
+}
+
+/// The byte at which the reader of inputs rejects a text in which no other fault is found: an escape that means
+/// nothing, a number that is too large, a byte that isn't UTF-8 or a bracket that opens too deep.
+pub(crate) fn unread_at(alloc: Global, text: &[u8]) -> Result<usize, Memory> {
+    let text = match str::from_utf8(text) {
+        Ok(text) => text,
+        Err(error) => return Ok(error.valid_up_to()),
+    };
+    let mut scratch = Scratch::new(alloc);
+    let mut reader = Reader::new(text, &mut scratch)?;
+    let mut depth = 0usize;
+    for _ in 0..text.len() {
+        let at = reader.offset();
+        let Some(token) = reader.next() else {
+            break;
+        };
+        depth = depth_after(depth, token);
+        if depth > MOST_OPEN_READ || !is_read(token) {
+            return Ok(at);
+        }
+    }
+    Ok(0)
+}
+
+// How many brackets are open after a token.
+fn depth_after(depth: usize, token: Token<'_>) -> usize {
+    match token {
+        Token::BeginObject | Token::BeginArray => depth.saturating_add(1),
+        Token::EndObject | Token::EndArray => depth.saturating_sub(1),
+        _ => depth,
+    }
+}
+
+fn is_read(token: Token<'_>) -> bool {
+    match token {
+        Token::Number(text) => number_given(text).is_some(),
+        Token::Bad => false,
+        _ => true,
+    }
 }
 
 // Whether a word is a number, true, false or null.

@@ -94,6 +94,11 @@ pub(crate) fn line_of(text: &[u8], spot: Spot) -> &[u8] {
     piece(text, spot.start, spot.end.saturating_sub(spot.start))
 }
 
+// The column of a place, from 1.
+fn column_of(spot: Spot) -> u64 {
+    spot.at.saturating_sub(spot.start).saturating_add(1) as u64
+}
+
 // A line without the carriage return at its end.
 fn without_return(line: &[u8]) -> &[u8] {
     match line {
@@ -105,16 +110,27 @@ fn without_return(line: &[u8]) -> &[u8] {
 impl Words {
     /// Adds the file's name, the line and the column of a place, both from 1.
     pub(crate) fn put_place(&mut self, name: &str, spot: Spot) {
+        self.put_place_before(name, spot, "");
+    }
+
+    /// Adds the place of a warning.
+    pub(crate) fn put_warning(&mut self, name: &str, spot: Spot) {
+        self.put_place_before(name, spot, "warning: ");
+    }
+
+    fn put_place_before(&mut self, name: &str, spot: Spot, what: &str) {
+        let start = self.count();
         self.name(name);
         self.say(":");
         self.put_numbers(spot);
         self.say(": ");
+        self.say(what);
+        self.mark(name, start, spot.line as u64, column_of(spot));
     }
 
     /// Adds the line and the column of a place, both from 1.
     pub(crate) fn put_numbers(&mut self, spot: Spot) {
-        let column = spot.at.saturating_sub(spot.start).saturating_add(1);
-        self.fill("{}:{}", &[spot.line as u64, column as u64]);
+        self.fill("{}:{}", &[spot.line as u64, column_of(spot)]);
     }
 
     /// Adds the line of a place, cut to the part around it, and a caret below the place.
@@ -122,13 +138,16 @@ impl Words {
         let before = spot.at.saturating_sub(spot.start).min(SHOWN_BEFORE);
         let behind = spot.end.saturating_sub(spot.at).min(SHOWN_BEHIND);
         let start = spot.at.saturating_sub(before);
-        self.say("\n    ");
+        self.say("\n");
+        let first = self.count();
+        self.say("    ");
         self.quote(without_return(piece(text, start, before.saturating_add(behind))));
         self.say("\n    ");
         for _ in 0..before {
             self.say(" ");
         }
         self.say("^\n");
+        self.mark_excerpt(first);
     }
 }
 

@@ -1,6 +1,7 @@
 ghost use Rattle.std.specs.Prelude.{IfOk, All};
 ghost use Rattle.explain_words.specs.Plain.{IsPlain};
 
+use crate::texts::piece;
 use gr_base::Memory;
 use itoa::Buffer;
 use std::alloc::Global;
@@ -9,7 +10,30 @@ use std::alloc::Global;
 #[derive(Drop)]
 pub struct Words {
     text: Vec<u8>,
+    /// The names of the places, one after another.
+    names: Vec<u8>,
+    places: Vec<Marked>,
+    excerpts: Vec<Excerpt>,
     lacks_memory: bool,
+}
+
+/// A place that a text names: where the text about it starts, where its reason starts, and the number of bytes of `names`
+/// up to the file's name and up to the end of that name.
+#[derive(Clone, Copy)]
+pub(crate) struct Marked {
+    pub start: usize,
+    pub reason: usize,
+    pub name_start: usize,
+    pub name_end: usize,
+    pub line: u64,
+    pub column: u64,
+}
+
+/// The part of a text that shows a line of a file.
+#[derive(Clone, Copy)]
+struct Excerpt {
+    start: usize,
+    end: usize,
 }
 
 // What is shown of a byte.
@@ -34,8 +58,64 @@ impl Words {
     pub fn new(alloc: Global) -> Words {
         Words {
             text: Vec::new(alloc),
+            names: Vec::new(alloc),
+            places: Vec::new(alloc),
+            excerpts: Vec::new(alloc),
             lacks_memory: false,
         }
+    }
+
+    /// The number of bytes so far.
+    pub(crate) fn count(&self) -> usize {
+        self.text.len()
+    }
+
+    /// The places that the text names, in order.
+    pub(crate) fn places(&self) -> &[Marked] {
+        self.places.as_slice()
+    }
+
+    /// The bytes of the name of a place's file.
+    pub(crate) fn name_of(&self, place: Marked) -> &[u8] {
+        let length = place.name_end.saturating_sub(place.name_start);
+        piece(self.names.as_slice(), place.name_start, length)
+    }
+
+    /// Marks a place whose text starts at a byte. The reason comes next.
+    pub(crate) fn mark(&mut self, name: &str, start: usize, line: u64, column: u64) {
+        let name_start = self.names.len();
+        if self.names.extend_from_slice(name.as_bytes()).is_err() {
+            self.lacks_memory = true;
+        }
+        let place = Marked {
+            start,
+            reason: self.text.len(),
+            name_start,
+            name_end: self.names.len(),
+            line,
+            column,
+        };
+        if self.places.push(place).is_err() {
+            self.lacks_memory = true;
+        }
+    }
+
+    /// Marks the text from a byte on as a line of a file.
+    pub(crate) fn mark_excerpt(&mut self, start: usize) {
+        let end = self.text.len();
+        if self.excerpts.push(Excerpt { start, end }).is_err() {
+            self.lacks_memory = true;
+        }
+    }
+
+    /// Whether a byte of the text shows a line of a file.
+    pub(crate) fn is_excerpt(&self, at: usize) -> bool {
+        for excerpt in &self.excerpts {
+            if excerpt.start <= at && at < excerpt.end {
+                return true;
+            }
+        }
+        false
     }
 
     /// Whether nothing was written so far.
@@ -104,8 +184,8 @@ impl Words {
         }
     }
 
-    // Adds a number in hexadecimal, with at least `digits` digits, between two texts.
-    fn escape(&mut self, before: &str, number: u32, digits: u32, after: &str) {
+    /// Adds a number in hexadecimal, with at least `digits` digits, between two texts.
+    pub(crate) fn escape(&mut self, before: &str, number: u32, digits: u32, after: &str) {
         self.say(before);
         for place in 0..8u32 {
             let shift = 4 * (7 - place);
