@@ -157,6 +157,7 @@ FAULTS = [
     ('compile', 'flow.gr', 'public int n;\nsecret int s;\n  n = s;\n', 3, 3),
     ('compile', 'token.gr', 'public int n;\n// a.gr:7:7: none\nn = ; // b.gr:8:8: none\n', 3, 5),
     ('asm', 'line.asm', f'{HEAD}\tnop\n\tother r1\n', 5, 2),
+    ('compile', 'warned.gr', 'public int n;\nsecret int other;\nn = 1;\n', 2, 12),
 ]
 
 
@@ -173,6 +174,8 @@ def matcher():
         places = [':'.join(match[pattern[key]] for key in ('file', 'line', 'column')) for match in matches]
         place = f'{name}:{line}:{column}'
         says(places == [place], f'the problem matcher finds {place}, and no other', places)
+        severities = [match[pattern['severity']] for match in matches]
+        says(severities == ['warning' if name == 'warned.gr' else None], f'and how severe {place} is', severities)
 
 
 # ---- Vim

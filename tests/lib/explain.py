@@ -1,4 +1,5 @@
 """The work of tests/explain. Words: the program, the root, how many damaged files of each kind, and the seed."""
+import json
 import os
 import random
 import re
@@ -27,6 +28,36 @@ def called(words, folder):
     ran = subprocess.run([PROGRAM, *words], cwd=folder, stdin=subprocess.DEVNULL, stdout=subprocess.PIPE,
                          stderr=subprocess.PIPE, timeout=SECONDS)
     return ran.returncode, ran.stdout, ran.stderr
+
+
+# ---- lines of JSON
+
+MEMBERS = ['status', 'file', 'line', 'column', 'reason', 'hint']
+
+
+def rows_of(words):
+    """The objects of the lines of JSON that standard error got."""
+    rows = [json.loads(line) for line in words.decode('ascii').split('\n')[:-1]]
+    for row in rows:
+        if list(row) != MEMBERS or (row['file'] is None) != (row['line'] is None) or row['reason'] == '':
+            raise Failed(f'{row}')
+    return rows
+
+
+def shown(row):
+    """The first line of the words of which a line of JSON was made."""
+    place = '' if row['file'] is None else f"{row['file']}:{row['line']}:{row['column']}: "
+    return place + ('warning: ' if row['status'] == 0 else '') + row['reason']
+
+
+def agree(status, words, lines):
+    """Whether lines of JSON say what the words say."""
+    rows, first = rows_of(lines), words.decode('ascii').splitlines()
+    if any(row['status'] != status for row in rows):
+        return False
+    if status == 0:
+        return [shown(row) for row in rows] == [line for line in first if ': warning: ' in line]
+    return len(rows) == 1 and (rows[0]['reason'] is None or shown(rows[0]) == first[0])
 
 
 # ---- cases
@@ -84,6 +115,10 @@ def play(lines, folder):
         elif verb == 'has':
             if rest.encode() not in words:
                 raise Failed(f'{rest!r} is not in {words.decode("latin-1")!r}')
+        elif verb == 'lines':
+            rows = rows_of(words)
+            if len(rows) != int(rest):
+                raise Failed(f'{len(rows)} lines: {words!r}')
         elif verb == 'none':
             if words:
                 raise Failed(f'something is said: {words!r}')
@@ -135,6 +170,14 @@ CALLS = {
 }
 
 
+MORE = re.compile(rb'and [0-9]+ more warnings')
+
+
+def are_said(status, words):
+    """Whether a call that ended so may have these words: a fault has some, and otherwise they are warnings."""
+    return bool(words) if status else all(b': warning: ' in line or MORE.fullmatch(line) for line in words.splitlines())
+
+
 def attempt(named):
     kind, number = named
     chance = random.Random(f'{SEED} {kind} {number}')
@@ -145,11 +188,13 @@ def attempt(named):
     for call in CALLS[kind]:
         try:
             status, line, words = called(call, folder)
-        except subprocess.TimeoutExpired as why:
+            *same, lines = called(['--json', *call], folder)
+            agrees = same == [status, line] and agree(status, words, lines)
+        except (subprocess.TimeoutExpired, Failed, ValueError) as why:
             wrong.append(f'{call}: {why}')
             continue
-        if (status == 0) == bool(words) or not lies_within(words, data):
-            wrong.append(f'{call}: {line[-80:]!r}: {words[:200]!r}')
+        if not are_said(status, words) or not lies_within(words, data) or not agrees:
+            wrong.append(f'{call}: {line[-80:]!r}: {words[:200]!r}: {lines[:200]!r}')
     if wrong:
         descriptor, kept = tempfile.mkstemp(prefix='explain-')
         with os.fdopen(descriptor, 'wb') as file:
@@ -184,6 +229,20 @@ SHELL = [  # a title, a line of the shell, its status, standard output, and what
     ('no verb', './gr frob', 2, b'fault 2 usage\n', b'frob is not a verb'),
     ('no words', './gr', 2, b'fault 2 usage\n', b'no verb is given'),
     ('a success', './gr check examples/first.obj', 0, b'accepted\n', None),
+    ('a fault as JSON', './gr --json compile bad.gr out', 8, b'fault 8 source undeclared 0\n',
+     b'{"status":8,"file":"bad.gr","line":2,"column":5,"reason":"y is not declared"'),
+    ('a missing file as JSON', './gr --json check none.obj', 3, b'fault 3 read none.obj\n',
+     b'{"status":3,"file":null,"line":null,"column":null,"reason":"none.obj: No such file or directory'),
+    ('no verb as JSON', './gr --json frob', 2, b'fault 2 usage\n', b'"reason":"frob is not a verb'),
+    ('a success as JSON', './gr --json check examples/first.obj', 0, b'accepted\n', None),
+    ('traces that differ, as JSON', "echo '{\"n\":1}' >a && echo '{\"n\":2}' >b && ./gr --json diff examples/sum.obj a b >h", 1, b'',
+     b'{"status":1,"file":null,"line":null,"column":null,"reason":null,"hint":null}\n'),
+    ('a name with other letters, as JSON', "cp bad.gr $'\u00e9\"\\\U0001f600' && ./gr --json compile $'\u00e9\"\\\U0001f600' out", 8,
+     None, b'"file":"\\u00e9\\"\\\\\\ud83d\\ude00","line":2'),
+    ('--quiet', './gr --quiet compile bad.gr out', 8, b'fault 8 source undeclared 0\n', None),
+    ('--quiet after the verb', './gr compile --quiet bad.gr out', 2, b'fault 2 usage\n', b'--quiet'),
+    ('--quiet without a verb', './gr --quiet', 2, b'fault 2 usage\n', None),
+    ('help after --json', './gr --json help >h; head -n 1 h', 0, b'ghostrider check OBJ\n', None),
     ('spent', './gr run examples/sum.obj good.json out --cycles 5', 10, b'fault 10 spent 5\n', b'--cycles'),
     ('a missing file', './gr check none.obj', 3, b'fault 3 read none.obj\n', b'No such file or directory'),
     ('a missing second file', './gr trace examples/sum.obj none.json', 3, b'fault 3 read none.json\n', b'none.json'),

@@ -1,6 +1,15 @@
 -- The calls that the front program handles itself: for help, for the version and for its path, and its own verbs.
-use Rattle.std.specs.Prelude.{ℕ, Bool, false, not, ◌&&◌, ◌||◌, List, [], ◌∷◌, codes}
+use Rattle.std.specs.Prelude.{ℕ, Bool, false, not, ◌&&◌, ◌||◌, List, [], ◌∷◌, if◌then◌else◌, codes}
 use Rattle.std.specs.Str.{bytes_eq}
+
+-- `--quiet` turns explanations and warnings off; `--json` prints them as lines of JSON
+abbrev pub is_manner : List ℕ → Bool
+is_manner word = bytes_eq word (codes "--quiet") || bytes_eq word (codes "--json")
+
+-- the words of a call, without `--quiet` or `--json` before them
+abbrev pub asked : List (List ℕ) → List (List ℕ)
+asked [] = []
+asked (word ∷ words) = if is_manner word then words else word ∷ words
 
 abbrev pub is_help_option : List ℕ → Bool
 is_help_option word = bytes_eq word (codes "--help") || bytes_eq word (codes "-h")
@@ -28,6 +37,7 @@ is_tool word =
     || bytes_eq word (codes "count")
     || bytes_eq word (codes "layout")
     || bytes_eq word (codes "test")
+    || bytes_eq word (codes "expand")
 
 -- the words of a call of one of these
 abbrev pub asks_tool : List (List ℕ) → Bool

@@ -1,6 +1,7 @@
-//! Explains on standard error why a call failed, from the bytes that the call read.
+//! Explains on standard error why a call failed, and prints warnings if it didn't, from the bytes that the call read.
 
 use crate::outside::Reasons;
+use crate::requests::Manner;
 use crate::serving::{Ended, Stop};
 use crate::streams::{DASH, ReadFile, StreamShelf};
 use crate::verb_table::verb_help;
@@ -18,20 +19,68 @@ const NOT_WRITTEN: u8 = 4;
 /// What an explanation calls the file `-`.
 const STREAM_NAME: &str = "standard input";
 
-/// Prints why the call of these words ended with a status that isn't 0. A failure to print is ignored. If memory runs
-/// out, nothing is printed.
+/// How the end of a call is explained: in words or as a line of JSON, with the call's status.
+#[derive(Clone, Copy)]
+struct Telling {
+    is_json: bool,
+    status: u8,
+}
+
+impl Telling {
+    // The text of some words.
+    fn text(self, alloc: Global, words: &Words) -> Result<Vec<u8>, Memory> {
+        if self.is_json {
+            words.report(alloc, self.status)
+        } else {
+            words.finish(alloc)
+        }
+    }
+
+    // Nothing is known but the status.
+    fn nothing(self, alloc: Global) -> Result<Vec<u8>, Memory> {
+        self.text(alloc, &Words::new(alloc))
+    }
+
+    // The line `ghostrider: ` with a name from outside between two texts.
+    fn sentence(
+        self,
+        alloc: Global,
+        before: &str,
+        name: &str,
+        after: &str,
+    ) -> Result<Vec<u8>, Memory> {
+        let mut out = Words::new(alloc);
+        if !self.is_json {
+            out.say("ghostrider: ");
+        }
+        out.say(before);
+        out.name(name);
+        out.line(after);
+        self.text(alloc, &out)
+    }
+}
+
+/// Prints why the call of these words ended with a status that isn't 0, and warnings if it ended with 0. A failure to
+/// print is ignored. If memory runs out, nothing is printed.
 pub(crate) fn explain<F: Shelf + Reasons + Drop, O: Sink + Reasons, E: Sink>(
     alloc: Global,
+    manner: Manner,
     words: &[&str],
     ended: Ended<'_>,
     shelf: &StreamShelf<F>,
     out: &O,
     errors: &mut E,
 ) {
-    if ended.status == 0 {
-        return;
-    }
-    if let Ok(text) = explanation(alloc, words, ended, shelf, out) {
+    let is_json = match manner {
+        Manner::Quiet => return,
+        Manner::Words => false,
+        Manner::Json => true,
+    };
+    let status = ended.status;
+    let telling = Telling { is_json, status };
+    if let Ok(text) = explanation(alloc, telling, words, ended, shelf, out)
+        && !text.is_empty()
+    {
         put_text(text.as_slice(), errors);
     }
 }
@@ -42,93 +91,80 @@ fn put_text<E: Sink>(text: &[u8], errors: &mut E) {
     }
 }
 
-// The line `ghostrider: ` with a name from outside between two texts.
-fn sentence(alloc: Global, before: &str, name: &str, after: &str) -> Result<Vec<u8>, Memory> {
-    let mut out = Words::new(alloc);
-    out.say("ghostrider: ");
-    out.say(before);
-    out.name(name);
-    out.line(after);
-    out.finish(alloc)
-}
-
 fn explanation<F: Shelf + Reasons + Drop, O: Sink + Reasons>(
     alloc: Global,
+    telling: Telling,
     words: &[&str],
     ended: Ended<'_>,
     shelf: &StreamShelf<F>,
     out: &O,
 ) -> Result<Vec<u8>, Memory> {
     if let Some(stop) = ended.stop {
-        return explain_stop(alloc, stop);
+        return explain_stop(alloc, telling, stop);
     }
     match ended.status {
-        NOT_READ => read_reason(alloc, shelf),
+        NOT_READ => read_reason(alloc, telling, shelf),
         NOT_WRITTEN => match out.reason(alloc) {
-            Some(reason) => sentence(alloc, "standard output: ", reason.as_str(), ""),
-            None => files_reason(alloc, shelf.files()),
+            Some(reason) => telling.sentence(alloc, "standard output: ", reason.as_str(), ""),
+            None => files_reason(alloc, telling, shelf.files()),
         },
-        status => fault_text(alloc, status, words, shelf.read_files()),
+        _ => fault_text(alloc, telling, words, shelf.read_files()),
     }
 }
 
 // Why the front ended the call itself.
-fn explain_stop(alloc: Global, stop: Stop<'_>) -> Result<Vec<u8>, Memory> {
-    match stop {
-        Stop::NoMemory => Ok(Vec::new(alloc)),
-        Stop::ReadsTwice => sentence(alloc, "standard input can be read as only one file", "", ""),
-        Stop::ReadsOutput(name) => {
-            sentence(
-                alloc,
-                "OUT is the same file as ",
-                name,
-                ", which is read; choose another OUT",
-            )
-        }
-        Stop::NoVerb(word) => {
-            sentence(
-                alloc,
-                "",
-                word,
-                " is not a verb; `ghostrider help` lists the verbs",
-            )
-        }
-        Stop::TooMany(word) => sentence(alloc, "unexpected word ", word, ""),
-        Stop::NoPath => sentence(alloc, "the path of this program isn't known", "", ""),
-    }
+fn explain_stop(alloc: Global, telling: Telling, stop: Stop<'_>) -> Result<Vec<u8>, Memory> {
+    let (before, name, after) = match stop {
+        Stop::NoMemory => return telling.nothing(alloc),
+        Stop::ReadsTwice => ("standard input can be read as only one file", "", ""),
+        Stop::ReadsOutput(name) => (
+            "OUT is the same file as ",
+            name,
+            ", which is read; choose another OUT",
+        ),
+        Stop::NoVerb(word) => (
+            "",
+            word,
+            " is not a verb; `ghostrider help` lists the verbs",
+        ),
+        Stop::TooMany(word) => ("unexpected word ", word, ""),
+        Stop::NoPath => ("the path of this program isn't known", "", ""),
+    };
+    telling.sentence(alloc, before, name, after)
 }
 
 // Why a file couldn't be read.
 fn read_reason<F: Shelf + Reasons + Drop>(
     alloc: Global,
+    telling: Telling,
     shelf: &StreamShelf<F>,
 ) -> Result<Vec<u8>, Memory> {
     match shelf.input_error() {
         Some(error) => match format!(in alloc; "{error}") {
-            Ok(reason) => sentence(alloc, "standard input: ", reason.as_str(), ""),
+            Ok(reason) => telling.sentence(alloc, "standard input: ", reason.as_str(), ""),
             Err(_) => Err(Memory),
         },
-        None => files_reason(alloc, shelf.files()),
+        None => files_reason(alloc, telling, shelf.files()),
     }
 }
 
 // The system's reason for the last call on files that failed, and nothing if it isn't known.
-fn files_reason<F: Reasons>(alloc: Global, files: &F) -> Result<Vec<u8>, Memory> {
+fn files_reason<F: Reasons>(alloc: Global, telling: Telling, files: &F) -> Result<Vec<u8>, Memory> {
     match files.reason(alloc) {
-        Some(reason) => sentence(alloc, "", reason.as_str(), ""),
-        None => Ok(Vec::new(alloc)),
+        Some(reason) => telling.sentence(alloc, "", reason.as_str(), ""),
+        None => telling.nothing(alloc),
     }
 }
 
-// What the fault of a call means, by the files that it read.
+// What the fault of a call means, by the files that it read, or its warnings.
 fn fault_text(
     alloc: Global,
-    status: u8,
+    telling: Telling,
     words: &[&str],
     read: &[ReadFile],
 ) -> Result<Vec<u8>, Memory> {
     let named = names_of(alloc, words)?;
-    let call = Call::new(alloc, status, usage_of(words), &named)?;
+    let call = Call::new(alloc, telling.status, usage_of(words), &named)?;
     let mut files = Vec::new(alloc);
     for (place, name) in call.placed().iter().enumerate() {
         if let Some(kind) = call.kind_at(place) {
@@ -141,7 +177,11 @@ fn fault_text(
             }
         }
     }
-    call.explained(alloc, &files)
+    if telling.is_json {
+        call.reported(alloc, &files)
+    } else {
+        call.explained(alloc, &files)
+    }
 }
 
 // The words of a call, with the name of the stream in the place of `-`.

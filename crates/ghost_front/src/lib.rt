@@ -2,6 +2,7 @@
 #![tactic(auto)]
 
 mod answering;
+mod expanding;
 mod explaining;
 mod help;
 mod named_files;

@@ -1,5 +1,6 @@
 //! Which words of a call name files: those that are read, and the one that is written.
 
+use crate::expanding::EXPAND;
 use crate::streams::DASH;
 use crate::tools::Tool;
 use clap::ArgMatches;
@@ -71,6 +72,7 @@ impl<'a> NamedFiles<'a> {
         let row = match tool {
             Tool::Diff => DIFF,
             Tool::Count => COUNT,
+            Tool::Expand => EXPAND,
             Tool::Layout => LAYOUT,
             Tool::Test => TEST,
         };

@@ -2,7 +2,7 @@
 
 ghost use Rattle.std.specs.Prelude.{◌≡◌, ◌∷◌, is_some};
 ghost use Rattle.command_words.specs.Options.{texts};
-ghost use Rattle.ghost_front.specs.Requests.{asks_front, asks_help, is_about, is_help_option};
+ghost use Rattle.ghost_front.specs.Requests.{asked, asks_front, asks_help, is_about, is_help_option, is_manner};
 
 use crate::verb_table::{VerbHelp, verb_help};
 
@@ -23,6 +23,53 @@ pub(crate) enum Request<'a> {
     Which,
     /// To print that a word is one too many.
     TooMany(&'a str),
+}
+
+/// How faults and warnings are printed to standard error.
+#[derive(Clone, Copy)]
+pub(crate) enum Manner {
+    /// They aren't printed.
+    Quiet,
+    /// In words, for people.
+    Words,
+    /// As lines of JSON, for scripts and editors.
+    Json,
+}
+
+/// How faults and warnings are printed if the words of a call are these, and if the program `explains` at all.
+pub(crate) fn manner_in(explains: bool, words: &[&str]) -> Manner {
+    if !explains {
+        return Manner::Quiet;
+    }
+    match words.first() {
+        Some(word) => if *word == "--quiet" {
+            Manner::Quiet
+        } else if *word == "--json" {
+            Manner::Json
+        } else {
+            Manner::Words
+        },
+        None => Manner::Words,
+    }
+}
+
+fn is_manner(word: &str) -> bool
+    ensures { result ≡ is_manner word.now }
+{
+    word == "--quiet" || word == "--json"
+}
+
+/// The words of a call, without `--quiet` or `--json` before them.
+pub(crate) fn asked_words<'a, 'b>(words: &'b [&'a str]) -> &'b [&'a str]
+    ensures { texts result.now ≡ asked (texts words.now) }
+{
+    if words.len() == 0 {
+        return words;
+    }
+    if is_manner(words[0]) {
+        return &words[1..];
+    }
+    words
 }
 
 /// The request, if the words have one: `help`, `--version`, `--which` and their short forms, or `--help` or `-h` anywhere

@@ -86,7 +86,9 @@ impl<F: Shelf + Drop> StreamShelf<F> {
     }
 
     /// The shelf of all other files.
-    pub fn files(&self) -> &F {
+    pub fn files(&self) -> &F
+        ensures { (F.seen result.now).files ≡ self.now.files }
+    {
         &self.files
     }
 

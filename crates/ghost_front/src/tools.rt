@@ -7,6 +7,7 @@ ghost use Rattle.ghost_front.specs.Requests.{asks_tool, is_tool};
 ghost use Rattle.ghost_front.specs.Served.{KeepsOthers};
 ghost use Rattle.ghost_front.specs.Streams.{told};
 
+use crate::expanding::expand;
 use crate::named_files::NamedFiles;
 use crate::serving::{Ended, Stop, refused, starved, take_input};
 use crate::streams::StreamShelf;
@@ -24,6 +25,8 @@ pub(crate) enum Tool {
     Count,
     /// Prints where the compiler stores variables.
     Layout,
+    /// Prints a program without its calls.
+    Expand,
     /// Tries a program on cases.
     Test,
 }
@@ -52,6 +55,9 @@ fn tool_named(word: &str) -> Option<Tool>
     }
     if word == "test" {
         return Some(Tool::Test);
+    }
+    if word == "expand" {
+        return Some(Tool::Expand);
     }
     None
 }
@@ -96,6 +102,7 @@ fn run_tool<F: Shelf + Drop, O: Sink>(
         Tool::Diff => diff(alloc, words, shelf, out),
         Tool::Count => count(alloc, words, shelf, out),
         Tool::Layout => layout(alloc, words, shelf, out),
+        Tool::Expand => expand(alloc, words, shelf, out),
         Tool::Test => test(alloc, words, shelf, out),
     }
 }

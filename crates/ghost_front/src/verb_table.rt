@@ -10,7 +10,7 @@ pub struct VerbHelp {
 }
 
 /// The verbs, in the order in which `help` lists them.
-pub(crate) const VERBS: [VerbHelp; 14] = [
+pub(crate) const VERBS: [VerbHelp; 15] = [
     VerbHelp {
         usage: "check OBJ",
         text: "    Checks an object file and prints whether it is accepted.\n",
@@ -83,11 +83,17 @@ pub(crate) const VERBS: [VerbHelp; 14] = [
             expected. It prints each case whose run leaves other outputs, or differs from the evaluation,\n    \
             or shows another trace than a case with the same public inputs.\n",
     },
+    VerbHelp {
+        usage: "expand SRC",
+        text: "    Prints a program with procedures as a program without calls.\n",
+    },
 ];
 
 /// What holds for all verbs: numbers, standard streams and exit statuses.
 pub(crate) const NOTES: &str =
-    "N is the number of cycles of a run, or of iterations of all loops of an evaluation, from 1 to\n\
+    "Explanations of faults, and warnings, go to standard error. Before the verb, --quiet turns them off,\n\
+    and --json prints each as a line of JSON.\n\
+    N is the number of cycles of a run, or of iterations of all loops of an evaluation, from 1 to\n\
     4294967295; the default is 1000000000. S is the seed of the random words of oblivious banks, from 0\n\
     to 18446744073709551615; the default is 0. W is from 3 to 9; the default is 9. A file to read may be\n\
     `-`, standard input; if OUT is `-`, the file goes to standard output, and the verb's line to standard\n\

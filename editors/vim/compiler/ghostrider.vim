@@ -4,5 +4,5 @@ if exists('current_compiler')
 endif
 let current_compiler = 'ghostrider'
 CompilerSet makeprg=ghostrider\ compile\ %:S\ %:r:S.obj
-" an explanation begins with FILE:LINE:COLUMN; the line of the file that it quotes, indented, is left out
-CompilerSet errorformat=%-G\ \ \ \ %.%#,%f:%l:%c:\ %m,%f:%l:%c\\,\ %m
+" an explanation or a warning begins with FILE:LINE:COLUMN; the line of the file that it quotes, indented, is left out
+CompilerSet errorformat=%-G\ \ \ \ %.%#,%f:%l:%c:\ %tarning:\ %m,%f:%l:%c:\ %m,%f:%l:%c\\,\ %m

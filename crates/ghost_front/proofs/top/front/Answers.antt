@@ -1,13 +1,20 @@
-use Rattle.command_words.specs.Options.{texts}
+use Rattle.std.proofs.Common.{◌≡◌, false, List, ℕ, subst}
 use Rattle.ghost_cli.specs.Verbs.{work_of}
-use Rattle.ghost_front.specs.Served.{around}
-use Rattle.ghost_front.proofs.CallEnds.{said_later}
+use Rattle.ghost_front.specs.Requests.{asks_front, asks_tool}
+use Rattle.ghost_front.specs.Served.{KeepsOthers, Serves, around}
 use Rattle.ghost_front.proofs.top.front.Goals as goal
 
-pub returns-then-program-clause-served : goal.returns-then-program-clause-served
-returns-then-program-clause-served g c front tool =
-    said_later (work_of (texts c.args.words.now))
+pub returns-clause-served : goal.returns-clause-served
+returns-clause-served g c =
+    subst
+    (λ (ws : List (List ℕ)). asks_front ws ≡ false → asks_tool ws ≡ false
+    → Serves (work_of ws)
     (around c.args.shelf.now (g.O.Sink.seen c.args.out.now) (g.E.Sink.seen c.args.errors.now))
-    c.end_call-ended.new.shelf (g.O.Sink.seen c.end_call-ended.new.out)
-    (g.E.Sink.seen c.end_call-ended.new.errors) (g.E.Sink.seen c.explain.new.errors) c.end_call-ended.result.status
-    (c.end_call-ended.ensures.served front tool)
+    (around c.serve_words.new.shelf (g.O.Sink.seen c.serve_words.new.out) (g.E.Sink.seen c.serve_words.new.errors))
+    c.serve_words.result)
+    c.asked_words-asked.ensures c.serve_words.ensures.served
+
+pub returns-clause-others : goal.returns-clause-others
+returns-clause-others g c =
+    subst (λ (ws : List (List ℕ)). KeepsOthers (work_of ws) c.args.shelf.now.files c.serve_words.new.shelf.files)
+    c.asked_words-asked.ensures c.serve_words.ensures.others
