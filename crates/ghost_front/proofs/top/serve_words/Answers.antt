@@ -1,4 +1,4 @@
-use Rattle.ghost_cli.specs.Options.{texts}
+use Rattle.command_words.specs.Options.{texts}
 use Rattle.ghost_cli.specs.Verbs.{work_of}
 use Rattle.ghost_front.specs.Served.{around}
 use Rattle.ghost_front.proofs.CallEnds.{said_later}
