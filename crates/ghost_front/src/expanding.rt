@@ -6,7 +6,7 @@ use crate::printing::{DONE, status_after};
 use explain_words::without_calls;
 use command_words::options::value;
 use ghost_cli::putting::say;
-use call_replies::replies::Reply;
+use ghost_cli::replies::Reply;
 use ghost_cli::sources::find_source;
 use command_words::verbs::{Argument, VerbWords};
 use ghost_tools::words::matches_of;
