@@ -110,15 +110,16 @@ plan-standard p w places slots are is pins =
     ∙ ap (plan (places_of p w) (slots_of (places_of p w)) (blocks_of_banks p w)) pins
 
 -- The contract's clauses for the object that a program is compiled to.
-pub record CompilePromises (p : Source) (plan : Plan) (given : Profile) (reduces : Bool) (l : Latencies) (o : Parts) : Type 0 where
+pub record CompilePromises (p : Source) (plan : Plan) (given : Profile) (reduces : Bool) (l : Latencies) (o : Parts)
+    : Type 0 where
   pub accepted : Accepts o
   pub implements : Implements p o
   pub machine : IsFor given l o
   pub size : length o.code ≤ 120 * weight_of p + 64
   pub stores : stored_words o.code ≡ stores_by p plan given reduces
 
-module _ (p : Source) (plan : Plan) (given : Profile) (reduces : Bool) (l : Latencies) (typed : IsTyped p) (within : IsWithinLimits p)
-    (sound : IsSoundPlan p given.block_log plan) (profile : ProfileFits given) (o : Parts)
+module _ (p : Source) (plan : Plan) (given : Profile) (reduces : Bool) (l : Latencies) (typed : IsTyped p)
+    (within : IsWithinLimits p) (sound : IsSoundPlan p given.block_log plan) (profile : ProfileFits given) (o : Parts)
     (made : IsMadeOf p plan given reduces l o) where
   abbrev setting : Setting
   setting = setting_for p plan given reduces

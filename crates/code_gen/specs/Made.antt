@@ -24,13 +24,16 @@ banks_from l bank (n ∷ ns) = record { blocks = n; latency = latency_for l bank
 
 -- the object has a program's variables at the places of a plan, the program's code and notes with or without steps, and
 -- this profile and these latencies
-pub record IsMadeOf (p : Source) (plan : Plan) (given : Profile) (reduces : Bool) (l : Latencies) (o : Parts) : Type 0 where
+pub record IsMadeOf (p : Source) (plan : Plan) (given : Profile) (reduces : Bool) (l : Latencies) (o : Parts)
+    : Type 0 where
   pub in_range : IsInRange o
   pub profile : o.profile ≡ given
   pub layout : IsLaidOut p given.block_log plan.places plan.blocks o
   pub banks : o.banks ≡ banks_from l 0 plan.blocks
-  pub code : o.code ≡ program_code (setting_for p plan given reduces) (padding_of (setting_for p plan given reduces)) p.body
-  pub notes : o.notes ≡ program_notes (setting_for p plan given reduces) (padding_of (setting_for p plan given reduces)) p.body
+  pub code : o.code
+      ≡ program_code (setting_for p plan given reduces) (padding_of (setting_for p plan given reduces)) p.body
+  pub notes : o.notes
+      ≡ program_notes (setting_for p plan given reduces) (padding_of (setting_for p plan given reduces)) p.body
 
 -- the error of a lack of room
 abbrev pub error_of : PlaceError → CompileError

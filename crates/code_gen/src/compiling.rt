@@ -143,8 +143,8 @@ fn compiled(
     requires places { IsPlacesOf (source_of program.now) p.now.block_log places.now }
     requires profile { ProfileFits p.now }
     requires latencies { LatenciesFit l.now }
-    ensures { IfOk result (λ o. IsMadeOf (source_of program.now) (standard_plan (source_of program.now) p.now.block_log) p.now
-        false l.now o) }
+    ensures { IfOk result (λ o. IsMadeOf (source_of program.now) (standard_plan (source_of program.now)
+        p.now.block_log) p.now false l.now o) }
 {
     let slots = slots(alloc, places)?;
     planned(alloc, program, places, &slots, p, false, l)

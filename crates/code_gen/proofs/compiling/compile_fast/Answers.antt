@@ -34,10 +34,10 @@ returns-in-Ok-planned_folded c =
     c.in-Ok.ensures.plan c.in-Ok-planned_folded.ensures.made in
     let numbers = subst (λ q. BlockNumbersFit (source_of q).body) p.ensures.program
     c.in-Ok-planned_folded.ensures.numbers in
-    let layout = subst (λ q. IsMadeOf (folded_source (source_of q)) (resident_plan (source_of q) w) c.args.p.now true c.args.l.now
-    object) p.ensures.program made in
-    let h = subst (λ q. CompilePromises (folded_source (source_of q)) (resident_plan (source_of q) w) c.args.p.now true c.args.l.now
-    object)
+    let layout = subst (λ q. IsMadeOf (folded_source (source_of q)) (resident_plan (source_of q) w) c.args.p.now true
+    c.args.l.now object) p.ensures.program made in
+    let h = subst (λ q. CompilePromises (folded_source (source_of q)) (resident_plan (source_of q) w) c.args.p.now true
+    c.args.l.now object)
     p.ensures.program
     (made-promises (folded_source source) (resident_plan source w) c.args.p.now true c.args.l.now
     (folded-source_typed source typed) (folded-within source limits)
