@@ -3,9 +3,13 @@
 ghost use Rattle.std.specs.Prelude.{IfOk, All};
 ghost use Rattle.explain_words.specs.Plain.{IsPlain};
 
+use crate::texts::piece;
 use crate::words::{Marked, Words};
 use gr_base::Memory;
 use std::alloc::Global;
+
+/// How a text begins that is about no file.
+const PROGRAM: &[u8] = b"ghostrider: ";
 
 impl Words {
     /// The text as lines of JSON. Each line is an object with the members `status`, `file`, `line`, `column`, `reason` and
@@ -49,7 +53,12 @@ impl Words {
                     from = place.reason;
                 }
             }
-            None => out.say(",\"file\":null,\"line\":null,\"column\":null"),
+            None => {
+                out.say(",\"file\":null,\"line\":null,\"column\":null");
+                if piece(text, 0, PROGRAM.len()) == PROGRAM {
+                    from = PROGRAM.len();
+                }
+            }
         }
         self.put_reason(text, from, text.len(), out);
     }

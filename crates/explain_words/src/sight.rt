@@ -197,9 +197,11 @@ impl<'a> Sight<'a> {
 
     /// Adds the place of a token, and through which calls it is reached.
     pub(crate) fn put_place(&self, depth: usize, at: usize, out: &mut Words) {
+        let start = out.count();
+        let spot = spot_at(self.tokens.text, self.tokens.start(at));
         out.name(self.tokens.name);
         out.say(":");
-        self.tokens.put_where(at, out);
+        out.put_numbers(spot);
         for back in 0..depth {
             let inner = depth.saturating_sub(back);
             if back < CALLS_SHOWN || inner == 1 {
@@ -209,6 +211,7 @@ impl<'a> Sight<'a> {
             }
         }
         out.say(": ");
+        out.mark_spot(self.tokens.name, start, spot);
     }
 
     // Adds the procedure at a depth, and where it is called.

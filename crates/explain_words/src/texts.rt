@@ -125,6 +125,11 @@ impl Words {
         self.put_numbers(spot);
         self.say(": ");
         self.say(what);
+        self.mark_spot(name, start, spot);
+    }
+
+    /// Marks a place whose text starts at a byte. The reason comes next.
+    pub(crate) fn mark_spot(&mut self, name: &str, start: usize, spot: Spot) {
         self.mark(name, start, spot.line as u64, column_of(spot));
     }
 
