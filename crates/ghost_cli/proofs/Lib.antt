@@ -42,6 +42,10 @@ pub mod OneAnswers
 pub mod OneSourceFault
 pub mod OneRoom
 pub mod SourceAnswers
+pub mod LexedTexts
+pub mod ParsedTokens
+pub mod ToldFaults
+pub mod SomeSources
 pub mod SomeAnswers
 pub mod DoneWork
 pub mod HeadlineCalls

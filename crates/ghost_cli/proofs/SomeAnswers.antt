@@ -15,6 +15,9 @@ use Rattle.lt_isa.specs.Trace.{HaltsAt, Stamped, seen_at}
 use Rattle.lt_isa.proofs.Variables.{wants_are_variables}
 use Rattle.trace_patterns.specs.Accepts.{Accepts, FirstRefusal}
 use Rattle.trace_patterns.specs.declared.reasons.Reason.{Reason}
+use Rattle.flow_types.specs.Wants.{declared_wants}
+use Rattle.src_tree.specs.Meaning.{meaning}
+use Rattle.src_tree.specs.Trees.{Source}
 use Rattle.lt_checker.proofs.AcceptanceLaws.{accepted-or-refused}
 use Rattle.lt_assembler.specs.Assembled.{assembled}
 use Rattle.lt_assembler.specs.Canonical.{canonical}
@@ -47,26 +50,30 @@ use Rattle.ghost_cli.specs.declared.replies.InputFault.{InputFault}
 use Rattle.ghost_cli.specs.declared.replies.InputFault.TheVariants as fault
 use Rattle.ghost_cli.specs.declared.replies.Verdict.{Verdict}
 use Rattle.ghost_cli.specs.declared.replies.Verdict.TheVariants as verdict
+use Rattle.ghost_cli.specs.declared.source_faults.SourceFault.{SourceFault}
 use Rattle.ghost_cli.specs.Assemble.{assemble_work}
 use Rattle.command_words.specs.Pairs.{Pair}
 use Rattle.ghost_cli.specs.Bus.{Read, bus_work, none_read, on_plan, one_read, shares_bus, with_cores, with_halts}
 use Rattle.ghost_cli.specs.Check.{check_work}
 use Rattle.ghost_cli.specs.Disassemble.{disassemble_work}
+use Rattle.ghost_cli.specs.Evaluate.{evaluate_work, evaluates_on, on_left}
 use Rattle.ghost_cli.specs.Infer.{infer_work, infers_to, on_inferred}
 use Rattle.ghost_cli.specs.NameText.{name_text}
 use Rattle.ghost_cli.specs.Objects.{object_limit}
 use Rattle.ghost_cli.specs.OneAnswer.{AreBytes, HasSomeAnswer, SomeAnswer}
 use Rattle.ghost_cli.specs.Promises.{AnswersSo}
-use Rattle.ghost_cli.specs.Questions.{Answer, AreInputs, IsRight, Question, WhatIsInferred, WhatIsJoined, WhenItHalts, WhetherAccepted, WhichAssembly, WhichInputs, WhichObject}
+use Rattle.ghost_cli.specs.Questions.{Answer, AreInputs, IsRight, Question, WhatIsInferred, WhatIsJoined, WhatIsLeft, WhenItHalts, WhetherAccepted, WhichAssembly, WhichInputs, WhichObject, WhichSource}
 use Rattle.ghost_cli.specs.Run.{on_halt, run_work, runs_on}
 use Rattle.ghost_cli.specs.Runs.{HaltOf}
 use Rattle.ghost_cli.specs.Sharing.{AreRead}
 use Rattle.ghost_cli.specs.Showing.{Seen, events_alone, nothing_seen}
-use Rattle.ghost_cli.specs.Steps.{input_limit, on_judged, or_ends, text_limit, with_accepted, with_assembly, with_inputs, with_object}
+use Rattle.ghost_cli.specs.Sources.{SpellsTyped, source_limit}
+use Rattle.ghost_cli.specs.Steps.{input_limit, on_judged, or_ends, text_limit, with_accepted, with_assembly, with_inputs, with_object, with_source, with_variables}
 use Rattle.ghost_cli.specs.Trace.{shows_on, trace_work, traces_on}
 use Rattle.ghost_cli.specs.Work as work
 use Rattle.ghost_cli.specs.Work.{Asks, Ended, Ending, Ends, Found, Holds, IsTooLong, IsUnread, IsVerdict, IsWritten, MayEnd, Missing, Reads, TooLong, Work, Writes, Wrote, files_at, said_at}
 use Rattle.ghost_cli.proofs.Pairing.{none-read, one-read}
+use Rattle.ghost_cli.proofs.SomeSources.{source-some}
 
 -- ---- inputs: that memory ran out is no fault of a text
 
@@ -258,19 +265,39 @@ module _ (files : Files) (are : AreBytes files) where
           asks-some (WhichAssembly text) (or_ends verdict.BadAssembly next) (Err e) (first_fault text e is)
           (ends-some nothing_seen (verdict.BadAssembly e))
 
+  variables-some : (wants : List Want) (name : List ℕ) (next : List (List ℤ) → Work)
+      → ((json : List ℕ) (d : List (List ℤ)) → AreInputs wants json (Ok d) → HasEnd (next d))
+      → HasEnd (with_variables wants name next)
+  variables-some wants name next some =
+      reads-some name input_limit _ (λ json gives. let a = inputs-some wants json in by json a.0 a.1)
+    where
+      by : (json : List ℕ) (a : Result (List (List ℤ)) InputFault) → AreInputs wants json a
+          → HasEnd (Asks (WhichInputs wants json) (or_ends verdict.BadInput next))
+      by json (Ok d) right =
+          asks-some (WhichInputs wants json) (or_ends verdict.BadInput next) (Ok d) right (some json d right)
+      by json (Err f) right =
+          asks-some (WhichInputs wants json) (or_ends verdict.BadInput next) (Err f) right
+          (ends-some nothing_seen (verdict.BadInput f))
+
   given-some : (o : Parts) → IsInRange o → (name : List ℕ) (next : List (List ℤ) → Work)
       → ((d : List (List ℤ)) → FitsObject o d → HasEnd (next d)) → HasEnd (with_inputs o name next)
   given-some o range name next some =
-      reads-some name input_limit _ (λ json gives. let a = inputs-some (wants_of o) json in by json a.0 a.1)
+      variables-some (wants_of o) name next
+      (λ json d right. some d (inputs_fit (wants_of o) json d (wants_are_variables o range) right))
+
+  sources-some : (procs : Bool) (name : List ℕ) (next : Source → Work)
+      → ((text : List ℕ) (p : Source) → SpellsTyped procs text p → HasEnd (next p))
+      → HasEnd (with_source procs name next)
+  sources-some procs name next some =
+      reads-some name source_limit _ (λ text gives. let a = source-some procs text in by text a.0 a.1)
     where
-      by : (json : List ℕ) (a : Result (List (List ℤ)) InputFault) → AreInputs (wants_of o) json a
-          → HasEnd (Asks (WhichInputs (wants_of o) json) (or_ends verdict.BadInput next))
-      by json (Ok d) right =
-          asks-some (WhichInputs (wants_of o) json) (or_ends verdict.BadInput next) (Ok d) right
-          (some d (inputs_fit (wants_of o) json d (wants_are_variables o range) right))
-      by json (Err f) right =
-          asks-some (WhichInputs (wants_of o) json) (or_ends verdict.BadInput next) (Err f) right
-          (ends-some nothing_seen (verdict.BadInput f))
+      by : (text : List ℕ) (a : Result Source SourceFault) → IsRight (WhichSource procs text) a
+          → HasEnd (Asks (WhichSource procs text) (or_ends verdict.BadSource next))
+      by text (Ok p) right =
+          asks-some (WhichSource procs text) (or_ends verdict.BadSource next) (Ok p) right (some text p right)
+      by text (Err shown) right =
+          asks-some (WhichSource procs text) (or_ends verdict.BadSource next) (Err shown) right
+          (ends-some nothing_seen (verdict.BadSource shown))
 
   halts-some : (o : Parts) (d : List (List ℤ)) (cycles : ℕ) (next : Option ℕ → Work)
       → ((halt : Option ℕ) → HasEnd (next halt)) → HasEnd (Asks (WhenItHalts o d cycles) next)
@@ -347,6 +374,17 @@ module _ (files : Files) (are : AreBytes files) where
   disassemble-some : (object output : List ℕ) → HasEnd (disassemble_work object output)
   disassemble-some object output = object-some object _ (λ o range. writes-some output (canonical o) made.Disassembled)
 
+  evaluate-some : (source input output : List ℕ) (turns : ℕ) (procs : Bool)
+      → HasEnd (evaluate_work source input output turns procs)
+  evaluate-some source input output turns procs =
+      sources-some procs source _ (λ text p typed. variables-some (declared_wants p.decls) input
+      (evaluates_on output turns p) (λ json d right.
+      asks-some (WhatIsLeft p d turns) (on_left p output turns) (meaning p d turns) refl (by p (meaning p d turns))))
+    where
+      by : (p : Source) (left : Option (List (List ℤ))) → HasEnd (on_left p output turns left)
+      by p (Some left) = writes-some output _ made.Evaluated
+      by p None = ends-some nothing_seen (verdict.Spent turns)
+
   infer-some : (object output : List ℕ) → HasEnd (infer_work object output)
   infer-some object output = object-some object (infers_to output) (λ o range. by o (answered o range))
     where
@@ -373,4 +411,6 @@ some-answers = record {
   disassemble = λ object output. some-answer _ (λ files are. disassemble-some files are object output);
   bus = λ pairs cycles few. some-answer _ (λ files are. bus-some files are pairs cycles few);
   infer = λ object output. some-answer _ (λ files are. infer-some files are object output);
+  evaluate = λ source input output turns procs.
+      some-answer _ (λ files are. evaluate-some files are source input output turns procs);
 }

@@ -99,6 +99,8 @@ pub record SomeAnswer : Type 0 where
   pub disassemble : (object output : List ℕ) → HasSomeAnswer (disassemble_work object output)
   pub bus : (pairs : List Pair) (cycles : ℕ) → length pairs ≤ 8 → HasSomeAnswer (bus_work pairs cycles)
   pub infer : (object output : List ℕ) → HasSomeAnswer (infer_work object output)
+  pub evaluate : (source input output : List ℕ) (turns : ℕ) (procs : Bool)
+      → HasSomeAnswer (evaluate_work source input output turns procs)
 
 -- Files hold an accepted object under a name, and inputs of it under another. Neither file is too long.
 pub record HoldRun (files : Files) (object input : List ℕ) (o : Parts) (inputs : List (List ℤ)) : Type 0 where
