@@ -53,4 +53,5 @@ pub mod HeadlineVerbs
 pub mod HeadlineBuses
 pub mod HeadlineOutputs
 pub mod HeadlineAll
+pub mod TraceTexts
 pub mod PureCalls

@@ -21,6 +21,7 @@ use Rattle.ghost_cli.specs.Questions.{AreInputs}
 use Rattle.ghost_cli.specs.Ran.{RanTo}
 use Rattle.ghost_cli.specs.Sources.{IsFirstSourceFault, SpellsTyped}
 use Rattle.ghost_cli.specs.Texts.{Said, comes_to, no_memory}
+use Rattle.ghost_cli.specs.TracedText.{IsTextOfTrace}
 
 -- Why bytes give no accepted object: memory ran out; or they don't encode an object, and this is their first fault; or
 -- the check rejects their object, and this is its first refusal.
@@ -56,3 +57,12 @@ pub record RunsTo (object input : List ℕ) (cycles : ℕ) (ran : Ran) : Type 0 
   pub inputs : List (List ℤ)
   pub given : inputs_of (wants_of o) (json_of input) ≡ Ok inputs
   pub ends : RanTo o inputs cycles ran
+
+-- the bytes give an oblivious object and its inputs, and this is the text of the run's trace
+pub record TracesTo (object input : List ℕ) (cycles : ℕ) (text : List ℕ) : Type 0 where
+  pub o : Parts
+  pub spells : SpellsObject object o
+  pub oblivious : IsOblivious o
+  pub inputs : List (List ℤ)
+  pub given : inputs_of (wants_of o) (json_of input) ≡ Ok inputs
+  pub traced : IsTextOfTrace o inputs cycles text

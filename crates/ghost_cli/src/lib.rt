@@ -37,6 +37,7 @@ pub mod sample;
 pub mod source_faults;
 pub mod sources;
 pub mod targets;
+pub mod text_sink;
 pub mod top;
 pub mod trace;
 pub mod trace_watch;
@@ -49,6 +50,6 @@ pub use laws::{
     one_answer, one_source, promises_follow, some_answer, trace_agrees, trace_alone, traces_agree,
     words_ask,
 };
-pub use pure::{checked_bytes, compiled_bytes, run_bytes};
+pub use pure::{checked_bytes, compiled_bytes, run_bytes, trace_bytes};
 pub use top::ghostrider;
 pub use trace_watch::TraceWatch;

@@ -5,7 +5,7 @@ ghost use Rattle.lt_isa.specs.Start.{FitsObject, wants_of};
 ghost use Rattle.ghost_cli.specs.Headline.{IsObjectOf};
 ghost use Rattle.ghost_cli.specs.Objects.{SpellsObject, object_limit};
 ghost use Rattle.ghost_cli.specs.Progress.{EndsWorkWith};
-ghost use Rattle.ghost_cli.specs.Pure.{NotChecked, NotCompiled, NotRun, RunsTo};
+ghost use Rattle.ghost_cli.specs.Pure.{NotChecked, NotCompiled, NotRun, RunsTo, TracesTo};
 ghost use Rattle.ghost_cli.specs.Questions.{AreInputs, WhichInputs};
 ghost use Rattle.ghost_cli.specs.Sources.{source_limit};
 ghost use Rattle.ghost_cli.specs.Steps.{input_limit, or_ends};
@@ -20,6 +20,7 @@ use crate::replies::Reply;
 use crate::run::{Ran, run_to_end};
 use crate::sources::source_in;
 use crate::targets::Target;
+use crate::trace::trace_text;
 use gr_word::Inputs;
 use lt_checker::Accepted;
 use std::alloc::Global;
@@ -78,6 +79,29 @@ pub fn run_bytes<'a>(
     let accepted = checked_bytes(alloc, object)?;
     let inputs = given_inputs(alloc, &accepted, input)?;
     Ok(run_to_end::<SeededOram>(alloc, &accepted, &inputs, cycles, 0)?)
+}
+
+/// The text of the trace of the accepted object that the first bytes encode, on the inputs that the second give as JSON,
+/// for at most that many cycles: `trace` without `--paths` over bytes. The last line says whether the run halted. The
+/// object has at most 33,554,432 bytes, the input 67,108,864.
+///
+/// `Err` if there isn't an accepted object, if the input gives it no inputs, or if memory runs out: the reply says
+/// which, as the program would print it.
+pub fn trace_bytes<'a>(
+    alloc: Global,
+    object: &[u8],
+    input: &[u8],
+    cycles: u32,
+) -> Result<Vec<u8>, Reply<'a>>
+    requires object { length object.now ≤ object_limit }
+    requires input { length input.now ≤ input_limit }
+    requires some_cycle { 1 ≤ cycles }
+    ensures traced { IfOk result (λ text. TracesTo object.now input.now cycles text.items) }
+    ensures refused { IfErr result (λ reply. NotRun object.now input.now (said reply)) }
+{
+    let accepted = checked_bytes(alloc, object)?;
+    let inputs = given_inputs(alloc, &accepted, input)?;
+    Ok(trace_text(alloc, &accepted, &inputs, cycles)?)
 }
 
 /// The inputs of an object that these bytes give.

@@ -10,6 +10,7 @@ ghost use Rattle.ghost_cli.specs.Trace.{trace_work};
 ghost use Rattle.ghost_cli.specs.Levels.{AreBehind, MayRun, PutsLast};
 ghost use Rattle.ghost_cli.specs.Watched.{HoldsLines, PutsShown, PutsTrace, kept};
 ghost use Rattle.ghost_cli.specs.TracedInTrees.{TracedInTrees};
+ghost use Rattle.ghost_cli.specs.TracedText.{IsTextOfTrace};
 ghost use Rattle.lt_isa.specs.Ranges.{IsInRange};
 ghost use Rattle.lt_isa.specs.Start.{FitsObject};
 ghost use Rattle.lt_isa.specs.Trace.{trace_from};
@@ -24,6 +25,7 @@ use crate::oblivious::{SeededOram, SeededRecursive, load_seeded};
 use crate::putting::{NOT_PUT, line_of, put_text};
 use crate::reading::{find_accepted, find_inputs};
 use crate::replies::{Reply, Verdict};
+use crate::text_sink::TextSink;
 use crate::trace_watch::TraceWatch;
 use clap::ArgMatches;
 use command_words::options::{flag_given, number_given, seed_given, value};
@@ -192,32 +194,70 @@ fn trace_in_trees<O: Sink>(
     ensures unput { OnErr result (O.seen out.new ≡ O.seen out.old) }
 {
     let mut machine = load_seeded::<SeededRecursive>(alloc, accepted, inputs, asked.seed, 0)?;
-    Ok(put_lines(&mut machine, asked, halted, spent, out))
+    Ok(put_lines(
+        &mut machine,
+        asked.cycles,
+        asked.paths,
+        halted,
+        spent,
+        out,
+    ))
 }
 
 /// Puts the lines of a run, and the last line, which were made before: nothing here wants memory.
 fn put_lines<B: Bank + Drop, O: Sink>(
     machine: &mut Machine<'_, B>,
-    asked: TraceWords<'_>,
+    cycles: u32,
+    paths: bool,
     halted: &[u8],
     spent: &[u8],
     out: &mut O,
 ) -> u8
     requires live { IsTrue machine.old.live }
-    requires some_cycle { 1 ≤ asked.cycles }
+    requires some_cycle { 1 ≤ cycles }
     requires halted_line { halted.now ≡ (comes_to (Traced true)).text }
     requires spent_line { spent.now ≡ (comes_to (Traced false)).text }
     ensures { PutsTrace (O.seen out.old) (O.seen out.new)
-        (trace_from machine.old.object machine.old.state asked.entry.cycles)
-        (kept asked.entry.paths
-        (run_shown B.shows machine.old.object machine.old.state machine.old.orams asked.entry.cycles))
+        (trace_from machine.old.object machine.old.state cycles)
+        (kept paths
+        (run_shown B.shows machine.old.object machine.old.state machine.old.orams cycles))
         (λ levels. levels ≡ []) result }
 {
-    match put_shown(machine, asked.cycles, asked.paths, out) {
+    match put_shown(machine, cycles, paths, out) {
         Some(End::Halted(_)) => put_text(out, 0, halted),
         Some(End::Spent) => put_text(out, 10, spent),
         None => NOT_PUT,
     }
+}
+
+/// The text of the trace of an accepted object on inputs that fit it. Fails only for want of memory.
+pub(crate) fn trace_text(
+    alloc: Global,
+    accepted: &Accepted,
+    inputs: &Inputs,
+    cycles: u32,
+) -> Result<Vec<u8>, Memory>
+    requires in_range { IsInRange accepted.now }
+    requires fits { FitsObject accepted.now inputs.now }
+    requires some_cycle { 1 ≤ cycles }
+    ensures { IfOk result (λ text. IsTextOfTrace accepted.now inputs.now cycles text.items) }
+{
+    let halted = line_of(alloc, &Reply::Comes(Verdict::Traced(true)))?;
+    let spent = line_of(alloc, &Reply::Comes(Verdict::Traced(false)))?;
+    let mut machine = load_seeded::<SeededOram>(alloc, accepted, inputs, 0, 0)?;
+    let mut out = TextSink::new(alloc);
+    let status = put_lines(
+        &mut machine,
+        cycles,
+        false,
+        halted.as_bytes(),
+        spent.as_bytes(),
+        &mut out,
+    );
+    if status == NOT_PUT {
+        return Err(Memory);
+    }
+    Ok(out.into_bytes())
 }
 
 /// Prints a last line and, with paths, the levels of the blocks of this many banks after it.

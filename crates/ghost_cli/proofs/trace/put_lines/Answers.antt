@@ -10,8 +10,8 @@ pub returns-in-Some-Halted : goal.returns-in-Some-Halted
 returns-in-Some-Halted g c =
     let m = c.args.machine.now in
     let put = subst (λ (e : End). PutsShown (g.O.Sink.seen c.args.out.now) (g.O.Sink.seen c.put_shown.new.out)
-    (trace_from m.object m.state c.args.asked.cycles)
-    (kept c.args.asked.paths (run_shown g.B.Bank.shows m.object m.state m.orams c.args.asked.cycles)) (Some e))
+    (trace_from m.object m.state c.args.cycles)
+    (kept c.args.paths (run_shown g.B.Bank.shows m.object m.state m.orams c.args.cycles)) (Some e))
     c.in-Some-Halted.field-0-is c.in-Some-Halted.ensures.put in
     ended (g.O.Sink.seen c.args.out.now) (g.O.Sink.seen c.put_shown.new.out) (g.O.Sink.seen c.put_text.new.out) _ _
     (Some c.in-Some-Halted.field-0-0) put.0.0 put.1 put.2 0 c.put_text.result c.args.halted.now c.requires.halted_line
@@ -21,8 +21,8 @@ pub returns-in-Some-Spent : goal.returns-in-Some-Spent
 returns-in-Some-Spent g c =
     let m = c.args.machine.now in
     let put = subst (λ (e : End). PutsShown (g.O.Sink.seen c.args.out.now) (g.O.Sink.seen c.put_shown.new.out)
-    (trace_from m.object m.state c.args.asked.cycles)
-    (kept c.args.asked.paths (run_shown g.B.Bank.shows m.object m.state m.orams c.args.asked.cycles)) (Some e))
+    (trace_from m.object m.state c.args.cycles)
+    (kept c.args.paths (run_shown g.B.Bank.shows m.object m.state m.orams c.args.cycles)) (Some e))
     c.in-Some-Spent.field-0-is c.in-Some-Spent.ensures.put in
     ended (g.O.Sink.seen c.args.out.now) (g.O.Sink.seen c.put_shown.new.out)
     (g.O.Sink.seen c.put_text-in-Some-Spent.new.out) _ _ None put.0 put.1 put.2 10 c.put_text-in-Some-Spent.result

@@ -1,0 +1,43 @@
+-- The text of a trace in a sink that holds nothing else.
+use Rattle.std.proofs.Common.{◌≡◌, ◌≢◌, ℕ, ℤ, false, List, [], Option, Some, None, is_some, inl, inr, ap, sym, ◌∙◌, subst}
+use Rattle.std.proofs.lemmas.Option.{same_Some}
+use Rattle.std.specs.Prelude.{map}
+use Rattle.gr_base.specs.Added.{Adds}
+use Rattle.gr_outside.specs.Sink.{SinkSeen}
+use Rattle.lt_isa.specs.Object.{Parts}
+use Rattle.lt_isa.specs.Start.{trace}
+use Rattle.run_data.specs.TraceText.{trace_text_of}
+use Rattle.processor.specs.Watching.{AnEvent, WatcherTold, events_in}
+use Rattle.ghost_cli.specs.declared.replies.Verdict.TheVariants.{Traced}
+use Rattle.ghost_cli.specs.Outside.{PutsSaid}
+use Rattle.ghost_cli.specs.Showing.{Seen, events_alone, run_seen}
+use Rattle.ghost_cli.specs.TracedText.{IsTextOfTrace}
+use Rattle.ghost_cli.specs.Watched.{PutsTrace, kept}
+use Rattle.ghost_cli.specs.Work.{IsVerdict, said_at}
+use Rattle.ghost_cli.proofs.Watches.{kept-events, text-alone}
+
+added-only : (held : Option (List ℕ)) (bytes text : List ℕ) → held ≡ Some bytes → Adds (Some []) held text → bytes ≡ text
+added-only (Some other) bytes text is adds = sym (same_Some other bytes is) ∙ adds
+added-only None bytes text is adds = absurd cc
+
+pub traced-text : (before after : SinkSeen) (o : Parts) (inputs : List (List ℤ)) (cycles : ℕ) (told : List WatcherTold)
+    (status : ℕ) → before.held ≡ Some [] → events_in told ≡ trace o inputs cycles
+    → PutsTrace before after (trace o inputs cycles) (kept false told) (λ levels. levels ≡ []) status → status ≢ 4
+    → (bytes : List ℕ) → after.held ≡ Some bytes → IsTextOfTrace o inputs cycles bytes
+traced-text before after o inputs cycles told status empty events put whole bytes held =
+    record { halt = put.halt; ends = put.is; is = by put.put }
+  where
+    alone : run_seen (kept false told) put.levels ≡ events_alone (trace o inputs cycles)
+    alone =
+        ap (λ l. run_seen (kept false told) l) put.are
+        ∙ ap (λ l. run_seen l []) (kept-events told ∙ ap (map AnEvent) events)
+
+    by : PutsSaid before after
+        (said_at (IsVerdict (run_seen (kept false told) put.levels) (Traced (is_some put.halt)))) status
+        → bytes ≡ trace_text_of (trace o inputs cycles) (is_some put.halt)
+    by (inl done) =
+        added-only after.held bytes _ held (subst (λ h. Adds h after.held
+        (said_at (IsVerdict (run_seen (kept false told) put.levels) (Traced (is_some put.halt)))).text) empty done.1)
+        ∙ ap (λ (seen : Seen). (said_at (IsVerdict seen (Traced (is_some put.halt)))).text) alone
+        ∙ text-alone (trace o inputs cycles) (is_some put.halt)
+    by (inr cut) = absurd (whole cut.0)
