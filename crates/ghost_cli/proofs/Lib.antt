@@ -46,6 +46,7 @@ pub mod LexedTexts
 pub mod ParsedTokens
 pub mod ToldFaults
 pub mod SomeSources
+pub mod SomeRooms
 pub mod SomeAnswers
 pub mod DoneWork
 pub mod HeadlineCalls

@@ -73,6 +73,7 @@ use Rattle.ghost_cli.specs.Trace.{shows_on, trace_work, traces_on}
 use Rattle.ghost_cli.specs.Work as work
 use Rattle.ghost_cli.specs.Work.{Asks, Ended, Ending, Ends, Found, Holds, IsTooLong, IsUnread, IsVerdict, IsWritten, MayEnd, Missing, Reads, TooLong, Work, Writes, Wrote, files_at, said_at}
 use Rattle.ghost_cli.proofs.Pairing.{none-read, one-read}
+use Rattle.ghost_cli.proofs.SomeRooms.{room-some}
 use Rattle.ghost_cli.proofs.SomeSources.{source-some}
 
 -- ---- inputs: that memory ran out is no fault of a text
@@ -413,4 +414,6 @@ some-answers = record {
   infer = λ object output. some-answer _ (λ files are. infer-some files are object output);
   evaluate = λ source input output turns procs.
       some-answer _ (λ files are. evaluate-some files are source input output turns procs);
+  source = λ procs text. source-some procs text;
+  room = λ p target. room-some p target;
 }

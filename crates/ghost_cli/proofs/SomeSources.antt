@@ -28,7 +28,7 @@ use Rattle.flow_types.proofs.Judged.{explained}
 use Rattle.ghost_cli.specs.declared.source_faults.SourceFault.{SourceFault}
 use Rattle.ghost_cli.specs.declared.source_faults.SourceFault.TheVariants as fault
 use Rattle.ghost_cli.specs.Questions.{IsRight, WhichSource}
-use Rattle.ghost_cli.specs.Sources.{Spells, IsFirstSourceFault, NoFile, InCalls, InPieces, InTokens, InProgram, piece_fault, program_fault, shown_call_fault}
+use Rattle.ghost_cli.specs.Sources.{Spells, NoFile, InCalls, InPieces, InTokens, InProgram, piece_fault, program_fault, shown_call_fault}
 use Rattle.ghost_cli.proofs.LexedTexts.{IsTold as IsToldPiece, Reading, Reads, Fails, reading}
 use Rattle.ghost_cli.proofs.ParsedTokens.{Outcome, IsSentence, IsStray, IsDeeper, IsCut, outcome}
 use Rattle.ghost_cli.proofs.ToldFaults.{IsTold, IsToldCall, type-told, inline-told}

@@ -1,5 +1,5 @@
 -- No first fault of a program or of a file's calls is want of memory.
-use Rattle.std.proofs.Common.{◌≡◌, ℕ, ◌+◌, Bool, true, false, not, ◌&&◌, ◌||◌, List, [], ◌∷◌, ◌++◌, map, length, pos, reverse, Option, Some, None, is_some, Result, Ok, Err, subst}
+use Rattle.std.proofs.Common.{◌≡◌, ℕ, ◌+◌, Bool, true, false, not, ◌||◌, List, [], ◌∷◌, length, pos, reverse, Option, Some, None, is_some, Result, Ok, Err, subst}
 use Rattle.std.specs.Prelude.{nat_lt, ◌==◌}
 use Rattle.std.specs.Option.{option_or}
 use Rattle.gr_base.specs.Results.{◌>>=◌}
@@ -18,9 +18,9 @@ use Rattle.src_tree.specs.declared.faults.TypeError.TheVariants as program
 use Rattle.src_tree.specs.declared.faults.Which.TheVariants.{Height}
 use Rattle.src_procs.specs.CallMeaning.{Names}
 use Rattle.src_procs.specs.Inlined.{inlined_file}
-use Rattle.src_procs.specs.InlineFaults.{Called, arguments_fault, body_fault, call_fault, calls_fault, calls_walked, calls_walked_all, fault_met, fault_where, file_walked, inline_fault, is_bare, knows_block, lacks_name, max_statements, next_call, none_named, numbered, numbered_all, own_names, procedure_named, procedures_fault, procedures_walked}
+use Rattle.src_procs.specs.InlineFaults.{Called, body_fault, call_fault, calls_fault, calls_walked, calls_walked_all, fault_met, fault_where, file_walked, inline_fault, knows_block, lacks_name, max_statements, next_call, none_named, numbered, numbered_all, own_names, procedure_named, procedures_fault, procedures_walked}
 use Rattle.src_procs.specs.Sizes.{statements_in}
-use Rattle.src_procs.specs.Trees.{Statement, SetVariable, SetElement, Choice, Loop, Call, Block, Nothing, Then, Parameter, Procedure, File}
+use Rattle.src_procs.specs.Trees.{Statement, SetVariable, SetElement, Choice, Loop, Call, Block, Nothing, Then, Procedure, File}
 use Rattle.src_procs.specs.declared.errors.InlineError.{InlineError}
 use Rattle.src_procs.specs.declared.errors.InlineError.TheVariants as calls
 

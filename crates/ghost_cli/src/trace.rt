@@ -194,14 +194,7 @@ fn trace_in_trees<O: Sink>(
     ensures unput { OnErr result (O.seen out.new ≡ O.seen out.old) }
 {
     let mut machine = load_seeded::<SeededRecursive>(alloc, accepted, inputs, asked.seed, 0)?;
-    Ok(put_lines(
-        &mut machine,
-        asked.cycles,
-        asked.paths,
-        halted,
-        spent,
-        out,
-    ))
+    Ok(put_lines(&mut machine, asked.cycles, asked.paths, halted, spent, out))
 }
 
 /// Puts the lines of a run, and the last line, which were made before: nothing here wants memory.
