@@ -47,6 +47,12 @@ pub mod ParsedTokens
 pub mod ToldFaults
 pub mod SomeSources
 pub mod SomeRooms
+pub mod SortedLists
+pub mod PlannedHomes
+pub mod FittingTokens
+pub mod FittingPrograms
+pub mod FittingFiles
+pub mod SomeObjects
 pub mod SomeAnswers
 pub mod DoneWork
 pub mod HeadlineCalls

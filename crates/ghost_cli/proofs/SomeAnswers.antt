@@ -9,7 +9,7 @@ use Rattle.gr_outside.specs.Shelf.{Files}
 use Rattle.gr_word.specs.declared.variables.Want.{Want}
 use Rattle.lt_isa.specs.Machine.{Observed, RamRead, RamWrite, EncRead, EncWrite, Oram, Halted}
 use Rattle.lt_isa.specs.Object.{Parts}
-use Rattle.lt_isa.specs.Ranges.{IsInRange}
+use Rattle.lt_isa.specs.Ranges.{IsInRange, ProfileFits}
 use Rattle.lt_isa.specs.Start.{FitsObject, trace, wants_of}
 use Rattle.lt_isa.specs.Trace.{HaltsAt, Stamped, seen_at}
 use Rattle.lt_isa.proofs.Variables.{wants_are_variables}
@@ -51,10 +51,12 @@ use Rattle.ghost_cli.specs.declared.replies.InputFault.TheVariants as fault
 use Rattle.ghost_cli.specs.declared.replies.Verdict.{Verdict}
 use Rattle.ghost_cli.specs.declared.replies.Verdict.TheVariants as verdict
 use Rattle.ghost_cli.specs.declared.source_faults.SourceFault.{SourceFault}
+use Rattle.ghost_cli.specs.declared.targets.Target.{Target}
 use Rattle.ghost_cli.specs.Assemble.{assemble_work}
 use Rattle.command_words.specs.Pairs.{Pair}
 use Rattle.ghost_cli.specs.Bus.{Read, bus_work, none_read, on_plan, one_read, shares_bus, with_cores, with_halts}
 use Rattle.ghost_cli.specs.Check.{check_work}
+use Rattle.ghost_cli.specs.Compile.{compile_work, on_compiled}
 use Rattle.ghost_cli.specs.Disassemble.{disassemble_work}
 use Rattle.ghost_cli.specs.Evaluate.{evaluate_work, evaluates_on, on_left}
 use Rattle.ghost_cli.specs.Infer.{infer_work, infers_to, on_inferred}
@@ -62,7 +64,7 @@ use Rattle.ghost_cli.specs.NameText.{name_text}
 use Rattle.ghost_cli.specs.Objects.{object_limit}
 use Rattle.ghost_cli.specs.OneAnswer.{AreBytes, HasSomeAnswer, SomeAnswer}
 use Rattle.ghost_cli.specs.Promises.{AnswersSo}
-use Rattle.ghost_cli.specs.Questions.{Answer, AreInputs, IsRight, Question, WhatIsInferred, WhatIsJoined, WhatIsLeft, WhenItHalts, WhetherAccepted, WhichAssembly, WhichInputs, WhichObject, WhichSource}
+use Rattle.ghost_cli.specs.Questions.{Answer, AreInputs, IsRight, Question, WhatIsInferred, WhatIsJoined, WhatIsLeft, WhenItHalts, WhetherAccepted, WhichAssembly, WhichCompiled, WhichInputs, WhichObject, WhichSource}
 use Rattle.ghost_cli.specs.Run.{on_halt, run_work, runs_on}
 use Rattle.ghost_cli.specs.Runs.{HaltOf}
 use Rattle.ghost_cli.specs.Sharing.{AreRead}
@@ -73,7 +75,7 @@ use Rattle.ghost_cli.specs.Trace.{shows_on, trace_work, traces_on}
 use Rattle.ghost_cli.specs.Work as work
 use Rattle.ghost_cli.specs.Work.{Asks, Ended, Ending, Ends, Found, Holds, IsTooLong, IsUnread, IsVerdict, IsWritten, MayEnd, Missing, Reads, TooLong, Work, Writes, Wrote, files_at, said_at}
 use Rattle.ghost_cli.proofs.Pairing.{none-read, one-read}
-use Rattle.ghost_cli.proofs.SomeRooms.{room-some}
+use Rattle.ghost_cli.proofs.SomeObjects.{compiled-some, program-fits}
 use Rattle.ghost_cli.proofs.SomeSources.{source-some}
 
 -- ---- inputs: that memory ran out is no fault of a text
@@ -386,6 +388,17 @@ module _ (files : Files) (are : AreBytes files) where
       by p (Some left) = writes-some output _ made.Evaluated
       by p None = ends-some nothing_seen (verdict.Spent turns)
 
+  compile-some : (source output : List ℕ) (target : Target) (procs : Bool) → ProfileFits target.profile
+      → HasEnd (compile_work source output target procs)
+  compile-some source output target procs profile =
+      sources-some procs source _ (λ text p typed.
+      let a = compiled-some p target profile typed.typed typed.within (program-fits procs text p typed.spells) in
+      asks-some (WhichCompiled p target) (on_compiled output) a.0 a.1 (by a.0))
+    where
+      by : (a : Result (List ℕ) SourceFault) → HasEnd (on_compiled output a)
+      by (Ok bytes) = writes-some output bytes made.Compiled
+      by (Err shown) = ends-some nothing_seen (verdict.BadSource shown)
+
   infer-some : (object output : List ℕ) → HasEnd (infer_work object output)
   infer-some object output = object-some object (infers_to output) (λ o range. by o (answered o range))
     where
@@ -414,6 +427,7 @@ some-answers = record {
   infer = λ object output. some-answer _ (λ files are. infer-some files are object output);
   evaluate = λ source input output turns procs.
       some-answer _ (λ files are. evaluate-some files are source input output turns procs);
+  compile = λ source output target procs profile.
+      some-answer _ (λ files are. compile-some files are source output target procs profile);
   source = λ procs text. source-some procs text;
-  room = λ p target. room-some p target;
 }

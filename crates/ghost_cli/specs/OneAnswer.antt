@@ -1,11 +1,12 @@
 -- If the contents of files and the requested work are known, there is at most one answer: one status, one text, and one
 -- map of files. (This project's profile.) Two things are left open: the object that `compile` and `sample` make, and the
 -- levels of blocks with `--paths`.
-use Rattle.std.specs.Prelude.{◌≡◌, ◌≢◌, ◌⊎◌, ℕ, ◌<◌, ◌≤◌, ℤ, Bool, false, List, length, All, Some, None, Result, Ok, Err}
+use Rattle.std.specs.Prelude.{◌≡◌, ◌≢◌, ℕ, ◌<◌, ◌≤◌, ℤ, Bool, false, List, length, All, Some, None, Result, Ok}
 use Rattle.std.specs.FinMap.{get}
 use Rattle.gr_outside.specs.Shelf.{Files, SameBut}
 use Rattle.ghost_cli.specs.declared.targets.Target.{Target}
 use Rattle.lt_isa.specs.Object.{Parts}
+use Rattle.lt_isa.specs.Ranges.{ProfileFits}
 use Rattle.lt_isa.specs.Start.{Agree, wants_of}
 use Rattle.trace_patterns.specs.Accepts.{Accepts}
 use Rattle.src_lexer.specs.declared.tokens.Token.{Token}
@@ -23,13 +24,12 @@ use Rattle.command_words.specs.Pairs.{Pair}
 use Rattle.ghost_cli.specs.Bus.{bus_work}
 use Rattle.ghost_cli.specs.Check.{check_work}
 use Rattle.ghost_cli.specs.Compile.{compile_work}
-use Rattle.ghost_cli.specs.Compiled.{HasRoom}
 use Rattle.ghost_cli.specs.Disassemble.{disassemble_work}
 use Rattle.ghost_cli.specs.Evaluate.{evaluate_work}
 use Rattle.ghost_cli.specs.Infer.{infer_work}
 use Rattle.ghost_cli.specs.Objects.{SpellsObject, object_limit}
 use Rattle.ghost_cli.specs.Promises.{Answers, IsDone}
-use Rattle.ghost_cli.specs.Questions.{AreInputs, IsRight, WhichCompiled, WhichSource}
+use Rattle.ghost_cli.specs.Questions.{AreInputs, IsRight, WhichSource}
 use Rattle.ghost_cli.specs.Run.{run_work}
 use Rattle.ghost_cli.specs.Steps.{input_limit}
 use Rattle.ghost_cli.specs.Texts.{Said, usage}
@@ -90,8 +90,7 @@ abbrev pub HasSomeAnswer : Work → Type 0
 HasSomeAnswer work =
     (files : Files) → AreBytes files → (said : Said) × (left : Files) × Answers files (Some work) said left
 
--- The work of these verbs has an answer. A source text is a program or has a first fault, and a program has room on a
--- machine or one of its variables lacks it first.
+-- The work of these verbs has an answer, and a source text is a program or has a first fault.
 pub record SomeAnswer : Type 0 where
   pub check : (object : List ℕ) → HasSomeAnswer (check_work object)
   pub trace : (object input : List ℕ) (cycles seed : ℕ) (recursive : Bool)
@@ -103,11 +102,10 @@ pub record SomeAnswer : Type 0 where
   pub infer : (object output : List ℕ) → HasSomeAnswer (infer_work object output)
   pub evaluate : (source input output : List ℕ) (turns : ℕ) (procs : Bool)
       → HasSomeAnswer (evaluate_work source input output turns procs)
+  pub compile : (source output : List ℕ) (target : Target) (procs : Bool) → ProfileFits target.profile
+      → HasSomeAnswer (compile_work source output target procs)
   pub source : (procs : Bool) (text : List ℕ)
       → (a : Result Source SourceFault) × IsRight (WhichSource procs text) a
-  pub room : (p : Source) (target : Target)
-      → HasRoom target.fast p target.profile.block_log
-      ⊎ ((shown : SourceFault) × IsRight (WhichCompiled p target) (Err shown))
 
 -- Files hold an accepted object under a name, and inputs of it under another. Neither file is too long.
 pub record HoldRun (files : Files) (object input : List ℕ) (o : Parts) (inputs : List (List ℤ)) : Type 0 where

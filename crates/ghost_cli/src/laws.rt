@@ -66,10 +66,9 @@ pub fn one_source()
     ensures { OneSource }
 {}
 
-/// Does nothing; its clause is a law: for files of bytes the work of `check`, `run`, `asm`, `dis`, `infer`, `eval`, of
-/// `bus` on up to eight pairs, and of `trace` without `--paths`, has an answer. Each source text, with procedures or
-/// without, is a program or has a first fault. Each program has room on a machine, or a first lack of room. So `compile`
-/// has an answer too, unless there is room: that a program with room has an object isn't stated.
+/// Does nothing; its clause is a law: for files of bytes the work of `check`, `run`, `asm`, `dis`, `infer`, `eval`,
+/// `compile`, of `bus` on up to eight pairs, and of `trace` without `--paths`, has an answer. Each source text, with
+/// procedures or without, is a program or has a first fault.
 pub fn some_answer()
     ensures { SomeAnswer }
 {}
