@@ -8,12 +8,12 @@ use Rattle.lt_isa.specs.Start.{trace}
 use Rattle.gr_outside.specs.Shelf.{ShelfSeen}
 use Rattle.gr_outside.specs.Sink.{SinkSeen}
 use Rattle.lt_isa.specs.Trace.{HaltsAt}
-use Rattle.ghost_cli.specs.declared.replies.Verdict.{Verdict}
-use Rattle.ghost_cli.specs.declared.replies.Verdict.TheVariants.{Traced, Spent}
-use Rattle.ghost_cli.specs.declared.replies.Reply.{Reply}
-use Rattle.ghost_cli.specs.declared.replies.Done.{Done}
-use Rattle.ghost_cli.specs.declared.replies.Done.TheVariants.{Halted}
-use Rattle.ghost_cli.specs.Texts.{Said, usage, no_memory, comes_to, said}
+use Rattle.call_replies.specs.declared.replies.Verdict.{Verdict}
+use Rattle.call_replies.specs.declared.replies.Verdict.TheVariants.{Traced, Spent}
+use Rattle.call_replies.specs.declared.replies.Reply.{Reply}
+use Rattle.call_replies.specs.declared.replies.Done.{Done}
+use Rattle.call_replies.specs.declared.replies.Done.TheVariants.{Halted}
+use Rattle.call_replies.specs.Texts.{Said, usage, no_memory, comes_to, said}
 use Rattle.ghost_cli.specs.Work.{Work, Ends, Writes, IsVerdict, IsWritten, Ended, Wrote, said_at}
 use Rattle.ghost_cli.specs.Outside.{Outside, outside, PutsSaid, LeftBy, Judged, Explains, NoWork, NoRoom, Worked}
 use Rattle.ghost_cli.specs.Questions.{IsRight, WhatIsShown, WhenItHalts}

@@ -12,7 +12,7 @@ use Rattle.lt_isa.proofs.Starts.{IsShaped-start}
 use Rattle.bus_arbiter.specs.Laws.{AllFit, traces_on}
 use Rattle.bus_arbiter.specs.Transfers.{IsJoined, Transfer}
 use Rattle.bus_arbiter.proofs.JoinedLaws.{agreeing, one-list}
-use Rattle.ghost_cli.specs.declared.replies.Verdict.TheVariants.{Shared}
+use Rattle.call_replies.specs.declared.replies.Verdict.TheVariants.{Shared}
 use Rattle.ghost_cli.specs.Bus.{all_halted, with_halts}
 use Rattle.ghost_cli.specs.Questions.{WhatIsJoined}
 use Rattle.ghost_cli.specs.BusAgrees.{BusAgrees}

@@ -4,8 +4,8 @@ use Rattle.std.specs.FinMap.{get}
 use Rattle.gr_outside.specs.Shelf.{Files}
 use Rattle.ghost_cli.specs.declared.targets.Target.{Target}
 use Rattle.src_tree.specs.Trees.{Source}
-use Rattle.ghost_cli.specs.declared.source_faults.SourceFault.{SourceFault}
-use Rattle.ghost_cli.specs.Texts.{Said}
+use Rattle.call_replies.specs.declared.source_faults.SourceFault.{SourceFault}
+use Rattle.call_replies.specs.Texts.{Said}
 use Rattle.ghost_cli.specs.Sources.{SpellsTyped}
 use Rattle.ghost_cli.specs.Compile.{compile_work, compiles_to, on_compiled}
 use Rattle.ghost_cli.specs.Questions.{IsRight, WhichCompiled}

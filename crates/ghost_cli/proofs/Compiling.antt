@@ -15,10 +15,10 @@ use Rattle.code_gen.specs.declared.compiling.CompileError.{CompileError}
 use Rattle.code_gen.specs.declared.compiling.CompileError.TheVariants as room
 use Rattle.code_gen.specs.Compiles.{IsFor, LatenciesFit, stores_by}
 use Rattle.code_gen.specs.Implements.{Implements}
-use Rattle.ghost_cli.specs.declared.replies.Verdict.TheVariants.{BadSource}
-use Rattle.ghost_cli.specs.declared.replies.Done.TheVariants.{Compiled}
-use Rattle.ghost_cli.specs.declared.replies.Reply.{Reply}
-use Rattle.ghost_cli.specs.Texts.{Said}
+use Rattle.call_replies.specs.declared.replies.Verdict.TheVariants.{BadSource}
+use Rattle.call_replies.specs.declared.replies.Done.TheVariants.{Compiled}
+use Rattle.call_replies.specs.declared.replies.Reply.{Reply}
+use Rattle.call_replies.specs.Texts.{Said}
 use Rattle.ghost_cli.specs.Questions.{WhichCompiled}
 use Rattle.ghost_cli.specs.Compiled.{HasLayoutFor, HasRoom, IsCompiledTo, LacksRoom, plan_for, source_for, room_fault}
 use Rattle.ghost_cli.specs.Outside.{outside, LeftBy, Explains}

@@ -10,8 +10,8 @@ use Rattle.src_tree.specs.Trees.{Source}
 use Rattle.trace_patterns.specs.Accepts.{Accepts}
 use Rattle.trace_patterns.specs.declared.reasons.Reason.{Reason}
 use Rattle.bus_arbiter.specs.declared.errors.BusError.{BusError}
-use Rattle.ghost_cli.specs.declared.replies.Verdict.{Verdict}
-use Rattle.ghost_cli.specs.declared.replies.Verdict.TheVariants.{BadInput, BadSource, Malformed}
+use Rattle.call_replies.specs.declared.replies.Verdict.{Verdict}
+use Rattle.call_replies.specs.declared.replies.Verdict.TheVariants.{BadInput, BadSource, Malformed}
 use Rattle.ghost_cli.specs.Bus.{on_plan}
 use Rattle.ghost_cli.specs.Headline.{HoldsInputs}
 use Rattle.ghost_cli.specs.Objects.{SpellsObject, object_limit}
@@ -19,7 +19,7 @@ use Rattle.ghost_cli.specs.Promises.{IsDone, IsSafe}
 use Rattle.ghost_cli.specs.Questions.{IsRight, WhetherAccepted, WhichInputs, WhichObject, WhichSource}
 use Rattle.ghost_cli.specs.Sources.{SpellsTyped, source_limit}
 use Rattle.ghost_cli.specs.Steps.{input_limit, on_judged, or_ends, with_accepted, with_object, with_source, with_variables}
-use Rattle.ghost_cli.specs.Texts.{verdict_status}
+use Rattle.call_replies.specs.Texts.{verdict_status}
 use Rattle.ghost_cli.specs.Work.{Asks, Ending, Holds, MayEnd, Reads, Work, said_at}
 use Rattle.ghost_cli.proofs.Behind.{behind-it, not-done}
 

@@ -3,9 +3,9 @@ use Rattle.std.proofs.Common.{◌≡◌, ◌⊎◌, inl, inr, ℕ, ◌≤◌, tr
 use Rattle.std.specs.FinMap.{get}
 use Rattle.gr_base.specs.Counts.{Rose}
 use Rattle.gr_outside.specs.Shelf.{Files}
-use Rattle.ghost_cli.specs.declared.replies.Verdict.{Verdict}
-use Rattle.ghost_cli.specs.declared.replies.Verdict.TheVariants.{Accepted, Traced, Malformed, Refused, BadSource, BadInput, Spent, BadAssembly, OffBus, Shared, NoNotes}
-use Rattle.ghost_cli.specs.Texts.{verdict_status}
+use Rattle.call_replies.specs.declared.replies.Verdict.{Verdict}
+use Rattle.call_replies.specs.declared.replies.Verdict.TheVariants.{Accepted, Traced, Malformed, Refused, BadSource, BadInput, Spent, BadAssembly, OffBus, Shared, NoNotes}
+use Rattle.call_replies.specs.Texts.{verdict_status}
 use Rattle.ghost_cli.specs.Questions.{Question, Answer, IsRight}
 use Rattle.ghost_cli.specs.Work.{Work, Reads, Asks, Ending, IsUnread, IsTooLong, IsVerdict, IsWritten, MayEnd, Ended, Wrote, Missing, TooLong, Found, Answered, Holds, MayRead, ReadsIt, ReadsLater, ReadsThen, MayWrite, WritesIt, WritesLater, WritesThen}
 use Rattle.ghost_cli.specs.Outside.{Gives}

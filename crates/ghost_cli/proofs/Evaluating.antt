@@ -6,10 +6,10 @@ use Rattle.gr_outside.specs.Sink.{SinkSeen}
 use Rattle.run_data.specs.OutputText.{output_of}
 use Rattle.src_tree.specs.Trees.{Source}
 use Rattle.flow_types.specs.Wants.{declared_wants}
-use Rattle.ghost_cli.specs.declared.replies.Reply.{Reply}
-use Rattle.ghost_cli.specs.declared.replies.Verdict.TheVariants.{Spent}
-use Rattle.ghost_cli.specs.declared.replies.Done.TheVariants.{Evaluated}
-use Rattle.ghost_cli.specs.Texts.{Said, comes_to}
+use Rattle.call_replies.specs.declared.replies.Reply.{Reply}
+use Rattle.call_replies.specs.declared.replies.Verdict.TheVariants.{Spent}
+use Rattle.call_replies.specs.declared.replies.Done.TheVariants.{Evaluated}
+use Rattle.call_replies.specs.Texts.{Said, comes_to}
 use Rattle.src_tree.specs.Meaning.{meaning}
 use Rattle.ghost_cli.specs.Questions.{WhatIsLeft}
 use Rattle.ghost_cli.specs.Work.{Work, IsWritten}

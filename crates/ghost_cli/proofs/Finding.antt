@@ -3,8 +3,8 @@ use Rattle.std.proofs.Common.{◌≡◌, ℕ, List, None, Result, Ok, Err, IfOk,
 use Rattle.gr_outside.specs.Shelf.{ShelfSeen}
 use Rattle.lt_isa.specs.Object.{Parts}
 use Rattle.trace_patterns.specs.Accepts.{Accepts}
-use Rattle.ghost_cli.specs.declared.replies.Reply.{Reply}
-use Rattle.ghost_cli.specs.Texts.{Said}
+use Rattle.call_replies.specs.declared.replies.Reply.{Reply}
+use Rattle.call_replies.specs.Texts.{Said}
 use Rattle.ghost_cli.specs.Questions.{Question, Answer, IsRight, WhetherAccepted}
 use Rattle.ghost_cli.specs.Work.{Work, Reads, Asks}
 use Rattle.ghost_cli.specs.Steps.{on_judged, with_object, with_accepted}

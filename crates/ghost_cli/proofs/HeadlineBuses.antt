@@ -16,7 +16,7 @@ use Rattle.bus_arbiter.specs.Shares.{IsPlan, share_of}
 use Rattle.bus_arbiter.specs.Transfers.{Transfer}
 use Rattle.bus_arbiter.proofs.JoinedLaws.{agreeing}
 use Rattle.bus_arbiter.proofs.PlannedRuns.{none-overlaps, plan-none, plan-takes}
-use Rattle.ghost_cli.specs.declared.replies.Verdict.TheVariants.{Shared}
+use Rattle.call_replies.specs.declared.replies.Verdict.TheVariants.{Shared}
 use Rattle.command_words.specs.Pairs.{Pair, in_pairs, pairs_of}
 use Rattle.ghost_cli.specs.Verbs.{works}
 use Rattle.ghost_cli.specs.Bus.{Read, all_halted, bus_work, none_read, on_plan, one_read, shares_bus, with_cores}
@@ -26,7 +26,7 @@ use Rattle.ghost_cli.specs.Promises.{IsDone}
 use Rattle.ghost_cli.specs.Sharing.{AreRead}
 use Rattle.ghost_cli.specs.Showing.{bus_seen, core_lines, transfer_lines}
 use Rattle.ghost_cli.specs.Steps.{with_inputs}
-use Rattle.ghost_cli.specs.Texts.{verdict_status}
+use Rattle.call_replies.specs.Texts.{verdict_status}
 use Rattle.command_words.specs.VerbLines.{Call}
 use Rattle.command_words.specs.declared.verbs.Verb.TheVariants.{Bus}
 use Rattle.ghost_cli.specs.Work.{Ending, Holds, IsVerdict, MayEnd, Work, said_at}

@@ -13,10 +13,10 @@ use Rattle.run_data.specs.OutputText.{output_of}
 use Rattle.src_procs.specs.Inlined.{added, inlined_body}
 use Rattle.src_tree.specs.Meaning.{Store}
 use Rattle.src_tree.specs.Trees.{Source}
-use Rattle.ghost_cli.specs.declared.replies.Verdict.TheVariants.{Accepted, Spent, Traced}
+use Rattle.call_replies.specs.declared.replies.Verdict.TheVariants.{Accepted, Spent, Traced}
 use Rattle.command_words.specs.declared.verbs.Verb.TheVariants.{Check, Compile, Evaluate, Infer, Run, Trace}
-use Rattle.ghost_cli.specs.declared.replies.Done.{Done}
-use Rattle.ghost_cli.specs.declared.replies.Done.TheVariants.{Evaluated, Halted}
+use Rattle.call_replies.specs.declared.replies.Done.{Done}
+use Rattle.call_replies.specs.declared.replies.Done.TheVariants.{Evaluated, Halted}
 use Rattle.ghost_cli.specs.Calls.{MeansItsCalls}
 use Rattle.ghost_cli.specs.Check.{check_work}
 use Rattle.command_words.specs.CommandLines.{Part, Text, has_flag, value_in}
@@ -33,7 +33,7 @@ use Rattle.ghost_cli.specs.Runs.{HaltOf, run_outputs}
 use Rattle.ghost_cli.specs.Showing.{Seen, events_alone, nothing_seen}
 use Rattle.ghost_cli.specs.Sources.{Spells, SpellsTyped}
 use Rattle.ghost_cli.specs.Steps.{with_accepted, with_inputs, with_variables}
-use Rattle.ghost_cli.specs.Texts.{verdict_status}
+use Rattle.call_replies.specs.Texts.{verdict_status}
 use Rattle.ghost_cli.specs.Trace.{shows_on, trace_work}
 use Rattle.command_words.specs.VerbLines.{Call}
 use Rattle.ghost_cli.specs.Verbs.{work_of, works}

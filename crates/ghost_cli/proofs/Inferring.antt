@@ -10,9 +10,9 @@ use Rattle.lt_checker.proofs.Soundness.{accepted_is_oblivious}
 use Rattle.path_oram.proofs.AlikeLeaves.{leaves_alike}
 use Rattle.object_file.specs.Spelling.{spelling}
 use Rattle.note_infer.specs.declared.faults.InferError.{InferError}
-use Rattle.ghost_cli.specs.declared.replies.Done.TheVariants.{Inferred}
-use Rattle.ghost_cli.specs.declared.replies.Reply.{Reply}
-use Rattle.ghost_cli.specs.Texts.{Said}
+use Rattle.call_replies.specs.declared.replies.Done.TheVariants.{Inferred}
+use Rattle.call_replies.specs.declared.replies.Reply.{Reply}
+use Rattle.call_replies.specs.Texts.{Said}
 use Rattle.ghost_cli.specs.Inferred.{GetsNotes}
 use Rattle.ghost_cli.specs.Infer.{infer_work, infers_to, on_inferred}
 use Rattle.ghost_cli.specs.Objects.{SpellsObject}

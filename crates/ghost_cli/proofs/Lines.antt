@@ -9,15 +9,15 @@ use Rattle.gr_base.specs.Counts.{Rose}
 use Rattle.lt_isa.specs.Trace.{Stamped}
 use Rattle.bus_arbiter.specs.Transfers.{Transfer}
 use Rattle.run_data.specs.TraceText.{event_line, event_text}
-use Rattle.ghost_cli.specs.declared.replies.Verdict.{Verdict}
-use Rattle.ghost_cli.specs.declared.replies.Verdict.TheVariants.{Accepted, Traced, Malformed, Refused, BadSource, BadInput, Spent, BadAssembly, OffBus, Shared, NoNotes}
-use Rattle.ghost_cli.specs.declared.replies.Done.{Done}
-use Rattle.ghost_cli.specs.declared.replies.Done.TheVariants.{Halted, Assembled, Disassembled, Evaluated, Compiled, Sampled, Inferred}
+use Rattle.call_replies.specs.declared.replies.Verdict.{Verdict}
+use Rattle.call_replies.specs.declared.replies.Verdict.TheVariants.{Accepted, Traced, Malformed, Refused, BadSource, BadInput, Spent, BadAssembly, OffBus, Shared, NoNotes}
+use Rattle.call_replies.specs.declared.replies.Done.{Done}
+use Rattle.call_replies.specs.declared.replies.Done.TheVariants.{Halted, Assembled, Disassembled, Evaluated, Compiled, Sampled, Inferred}
 use Rattle.run_data.specs.PathText.{leaves_text, levels_behind, levels_line}
 use Rattle.run_data.proofs.PathTexts.{behind-text}
 use Rattle.processor.specs.Watching.{WatcherTold, AnEvent, APath}
 use Rattle.ghost_cli.specs.Showing.{Seen, core_lines, shown_lines, transfer_lines}
-use Rattle.ghost_cli.specs.Texts.{unread, unwritten, no_memory, too_long, comes_to, wrote}
+use Rattle.call_replies.specs.Texts.{unread, unwritten, no_memory, too_long, comes_to, wrote}
 use Rattle.ghost_cli.specs.Work.{Work, IsVerdict, said_at}
 use Rattle.ghost_cli.specs.Outside.{Outside, Unread, Long, Judged, Written, NotWritten, Starved, Explains, NoWork, NoRoom, Worked}
 use Rattle.ghost_cli.specs.Promises.{Gained}

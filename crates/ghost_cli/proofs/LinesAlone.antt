@@ -6,11 +6,11 @@ use Rattle.gr_base.proofs.Added.{Adds-then, AddsLess-then, AddsLess-more}
 use Rattle.gr_outside.specs.Sink.{SinkSeen}
 use Rattle.lt_isa.specs.Trace.{Stamped}
 use Rattle.processor.specs.Watching.{WatcherTold}
-use Rattle.ghost_cli.specs.declared.replies.Verdict.TheVariants.{Traced}
+use Rattle.call_replies.specs.declared.replies.Verdict.TheVariants.{Traced}
 use Rattle.ghost_cli.specs.Outside.{PutsSaid}
 use Rattle.ghost_cli.specs.Runs.{HaltOf}
 use Rattle.ghost_cli.specs.Showing.{shown_lines}
-use Rattle.ghost_cli.specs.Texts.{comes_to}
+use Rattle.call_replies.specs.Texts.{comes_to}
 use Rattle.ghost_cli.specs.Watched.{PutsShown, PutsTrace}
 use Rattle.ghost_cli.proofs.Saying.{halts-or-not}
 

@@ -21,7 +21,7 @@ use Rattle.resident_alloc.specs.ResidentPlan.{in_oblivious_banks, resident_banks
 use Rattle.resident_alloc.specs.ResidentPlan as resident
 use Rattle.code_gen.specs.declared.compiling.CompileError.{CompileError}
 use Rattle.code_gen.specs.declared.compiling.CompileError.TheVariants as room
-use Rattle.ghost_cli.specs.declared.source_faults.SourceFault.{SourceFault}
+use Rattle.call_replies.specs.declared.source_faults.SourceFault.{SourceFault}
 use Rattle.ghost_cli.specs.Compiled.{HasRoom, LacksRoom, room_fault}
 
 some-once : {A : Type 0} (x : Option A) (a b : A) → x ≡ Some a → x ≡ Some b → a ≡ b

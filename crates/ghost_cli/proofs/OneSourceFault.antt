@@ -32,7 +32,7 @@ use Rattle.src_tree.specs.declared.faults.TypeError.TheVariants as program
 use Rattle.src_tree.proofs.FirstFaults.{caused}
 use Rattle.src_tree.proofs.Faultless.{faultless}
 use Rattle.flow_types.specs.Refusals.{ExplainsProgram}
-use Rattle.ghost_cli.specs.declared.source_faults.SourceFault.{SourceFault}
+use Rattle.call_replies.specs.declared.source_faults.SourceFault.{SourceFault}
 use Rattle.ghost_cli.specs.OneAnswer.{OneSource}
 use Rattle.ghost_cli.specs.Questions.{IsRight, WhichSource}
 use Rattle.ghost_cli.specs.Sources.{AreProgram, Spells, SpellsTyped, IsFileFault, NoFile, InCalls, IsTokensFault, IsFirstSourceFault, InPieces, InTokens, InProgram, piece_fault, token_fault, shown_call_fault, program_fault}

@@ -12,14 +12,14 @@ use Rattle.bus_arbiter.specs.Refusals.{refusal}
 use Rattle.bus_arbiter.specs.Shares.{IsPlan, PlanRefuses, PlanTakes, share_of}
 use Rattle.bus_arbiter.proofs.Refusals.{refuses, takes}
 use Rattle.bus_arbiter.proofs.ShareRanges.{share-fits}
-use Rattle.ghost_cli.specs.declared.replies.Verdict.TheVariants.{OffBus}
+use Rattle.call_replies.specs.declared.replies.Verdict.TheVariants.{OffBus}
 use Rattle.command_words.specs.Pairs.{Pair}
 use Rattle.ghost_cli.specs.Bus.{Read, bus_said, none_read, on_plan, one_read, with_core, with_cores}
 use Rattle.ghost_cli.specs.Progress.{HasLeft, Stops}
 use Rattle.ghost_cli.specs.Sharing.{AreRead}
 use Rattle.ghost_cli.specs.Showing.{nothing_seen}
 use Rattle.ghost_cli.specs.Steps.{with_accepted, with_inputs}
-use Rattle.ghost_cli.specs.Texts.{Said, comes_to}
+use Rattle.call_replies.specs.Texts.{Said, comes_to}
 use Rattle.ghost_cli.specs.Work.{IsVerdict, Work, said_at}
 use Rattle.ghost_cli.proofs.Progressing.{ends-at, leads-later, read-starved, stops-later}
 

@@ -5,8 +5,8 @@ use Rattle.std.specs.FinMap.{get}
 use Rattle.std.proofs.lemmas.List.{length-take, take_all}
 use Rattle.gr_base.specs.Counts.{Rose}
 use Rattle.gr_outside.specs.Shelf.{Files, ShelfSeen, front_of}
-use Rattle.ghost_cli.specs.Texts.{Said, no_memory, unread, too_long}
-use Rattle.ghost_cli.specs.declared.replies.Verdict.{Verdict}
+use Rattle.call_replies.specs.Texts.{Said, no_memory, unread, too_long}
+use Rattle.call_replies.specs.declared.replies.Verdict.{Verdict}
 use Rattle.ghost_cli.specs.Questions.{Question, Answer, IsRight}
 use Rattle.ghost_cli.specs.Showing.{nothing_seen}
 use Rattle.ghost_cli.specs.Work.{Work, Ends, Reads, Asks, Ending, IsUnread, IsTooLong, IsVerdict, IsWritten, MayEnd, Ended, Missing, TooLong, Found, Answered, said_at}

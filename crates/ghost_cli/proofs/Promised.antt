@@ -8,8 +8,8 @@ use Rattle.gr_base.specs.Counts.{Rose}
 use Rattle.gr_base.specs.Added.{Adds, AddsLess}
 use Rattle.gr_outside.specs.Shelf.{Files, ShelfSeen, SameBut, with_file}
 use Rattle.gr_outside.specs.Sink.{SinkSeen}
-use Rattle.ghost_cli.specs.declared.replies.Verdict.{Verdict}
-use Rattle.ghost_cli.specs.Texts.{Said, usage, unread, verdict_status}
+use Rattle.call_replies.specs.declared.replies.Verdict.{Verdict}
+use Rattle.call_replies.specs.Texts.{Said, usage, unread, verdict_status}
 use Rattle.ghost_cli.specs.Work.{Work, Ending, IsUnread, IsTooLong, IsVerdict, IsWritten, MayEnd, Holds, said_at, files_at}
 use Rattle.ghost_cli.specs.Outside.{Outside, Gives, PutsSaid, OnlyReads, Unread, Long, Judged, Written, NotWritten, Starved, Explains, NoWork, NoRoom, Worked}
 use Rattle.ghost_cli.specs.Promises.{Answers, NoAnswer, AnswersSo, IsAnswered, IsUnreadable, ReadFailed, WriteFailed, NoMemory, IsCalm, OnlyOutput, StandsAtFour, OfAnswer, UnreadCut, NoMemoryCut, IsDone}

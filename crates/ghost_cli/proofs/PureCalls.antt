@@ -6,11 +6,11 @@ use Rattle.ghost_cli.specs.declared.targets.Target.{Target}
 use Rattle.object_file.specs.declared.errors.DecodeError.{DecodeError}
 use Rattle.src_tree.specs.Trees.{Source}
 use Rattle.trace_patterns.specs.declared.reasons.Reason.{Reason}
-use Rattle.ghost_cli.specs.declared.replies.Done.TheVariants.{Compiled}
-use Rattle.ghost_cli.specs.declared.replies.InputFault.{InputFault}
-use Rattle.ghost_cli.specs.declared.replies.Verdict.{Verdict}
-use Rattle.ghost_cli.specs.declared.replies.Verdict.TheVariants.{BadInput, BadSource, Malformed, Refused}
-use Rattle.ghost_cli.specs.declared.source_faults.SourceFault.{SourceFault}
+use Rattle.call_replies.specs.declared.replies.Done.TheVariants.{Compiled}
+use Rattle.call_replies.specs.declared.replies.InputFault.{InputFault}
+use Rattle.call_replies.specs.declared.replies.Verdict.{Verdict}
+use Rattle.call_replies.specs.declared.replies.Verdict.TheVariants.{BadInput, BadSource, Malformed, Refused}
+use Rattle.call_replies.specs.declared.source_faults.SourceFault.{SourceFault}
 use Rattle.ghost_cli.specs.Compile.{on_compiled}
 use Rattle.ghost_cli.specs.Objects.{SpellsObject}
 use Rattle.ghost_cli.specs.Progress.{EndsWorkWith}
@@ -19,7 +19,7 @@ use Rattle.ghost_cli.specs.Questions.{IsRight, WhetherAccepted, WhichCompiled, W
 use Rattle.ghost_cli.specs.Showing.{nothing_seen}
 use Rattle.ghost_cli.specs.Sources.{SpellsTyped}
 use Rattle.ghost_cli.specs.Steps.{on_judged, or_ends}
-use Rattle.ghost_cli.specs.Texts.{Said, comes_to}
+use Rattle.call_replies.specs.Texts.{Said, comes_to}
 use Rattle.ghost_cli.specs.Work.{Ends, Work, Writes}
 
 -- a work that isn't a verdict, and the verdict of one that is

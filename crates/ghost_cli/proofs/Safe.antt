@@ -3,7 +3,7 @@ use Rattle.std.proofs.Common.{◌≡◌, ◌≢◌, inl, inr, ℕ, ◌+◌, ◌<
 use Rattle.gr_outside.specs.Shelf.{Files}
 use Rattle.lt_isa.specs.Object.{Parts}
 use Rattle.lt_isa.specs.Start.{wants_of}
-use Rattle.ghost_cli.specs.Texts.{Said}
+use Rattle.call_replies.specs.Texts.{Said}
 use Rattle.ghost_cli.specs.Work.{Work, Ending, MayEnd, Holds, said_at}
 use Rattle.ghost_cli.specs.Steps.{with_accepted, with_inputs}
 use Rattle.bus_arbiter.specs.Refusals.{refusal}

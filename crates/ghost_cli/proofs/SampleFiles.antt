@@ -5,7 +5,7 @@ use Rattle.ghost_cli.specs.Histogram.{Made, IsMade, sample_target, sample_text}
 use Rattle.ghost_cli.specs.Outside.{Outside, Gives, Explains, NoWork, NoRoom, Worked, Unread, Long, Judged, Written, NotWritten, Starved}
 use Rattle.ghost_cli.specs.Promises.{Answers, NoAnswer, AnswersSo, IsDone, IsWrittenFor}
 use Rattle.ghost_cli.specs.Sample.{on_sampled, sample_work, samples_on}
-use Rattle.ghost_cli.specs.Texts.{Said}
+use Rattle.call_replies.specs.Texts.{Said}
 use Rattle.ghost_cli.specs.Work.{Work, Ending, IsUnread, IsTooLong, IsVerdict, MayEnd, Holds, said_at, files_at}
 use Rattle.ghost_cli.proofs.Behind.{behind-it}
 use Rattle.ghost_cli.proofs.CompiledRuns.{compiled-runs}

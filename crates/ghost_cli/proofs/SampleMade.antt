@@ -30,9 +30,9 @@ use Rattle.src_tree.proofs.FirstFaults.{caused}
 use Rattle.flow_types.specs.Refusals.{ExplainsProgram}
 use Rattle.code_gen.specs.declared.compiling.CompileError.{CompileError}
 use Rattle.code_gen.specs.declared.compiling.CompileError.TheVariants as room
-use Rattle.ghost_cli.specs.declared.replies.Done.TheVariants.{Compiled}
-use Rattle.ghost_cli.specs.declared.replies.Verdict.{Verdict}
-use Rattle.ghost_cli.specs.declared.source_faults.SourceFault.{SourceFault}
+use Rattle.call_replies.specs.declared.replies.Done.TheVariants.{Compiled}
+use Rattle.call_replies.specs.declared.replies.Verdict.{Verdict}
+use Rattle.call_replies.specs.declared.source_faults.SourceFault.{SourceFault}
 use Rattle.ghost_cli.specs.Compile.{on_compiled}
 use Rattle.ghost_cli.specs.Compiled.{IsCompiledTo, LacksRoom, room_fault}
 use Rattle.ghost_cli.specs.Histogram.{sample_text, sample_target}
@@ -41,9 +41,9 @@ use Rattle.ghost_cli.specs.Questions.{IsRight, WhichSource, WhichCompiled, Wheth
 use Rattle.ghost_cli.specs.SampleTree.{sample_program}
 use Rattle.ghost_cli.specs.Showing.{nothing_seen}
 use Rattle.ghost_cli.specs.Sources.{SpellsTyped, IsFirstSourceFault, InPieces, InTokens, InProgram, token_fault, program_fault, source_limit}
-use Rattle.ghost_cli.specs.declared.replies.Verdict.TheVariants.{BadSource}
+use Rattle.call_replies.specs.declared.replies.Verdict.TheVariants.{BadSource}
 use Rattle.ghost_cli.specs.Steps.{on_judged, or_ends}
-use Rattle.ghost_cli.specs.Texts.{Said, no_memory}
+use Rattle.call_replies.specs.Texts.{Said, no_memory}
 use Rattle.ghost_cli.specs.Work.{Work, Ends, Writes}
 use Rattle.ghost_cli.proofs.SampleProgram.{sample_typed, sample_within, sample_fits, sample_needs, resident_needs}
 use Rattle.ghost_cli.proofs.SampleText.{sample_spells}

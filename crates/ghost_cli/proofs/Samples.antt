@@ -12,10 +12,10 @@ use Rattle.src_tree.specs.Trees.{Source}
 use Rattle.flow_types.specs.Wants.{declared_wants}
 use Rattle.bank_alloc.specs.Layout.{IsLaidOut}
 use Rattle.code_gen.specs.Implements.{by_name}
-use Rattle.ghost_cli.specs.declared.replies.Done.TheVariants.{Sampled}
-use Rattle.ghost_cli.specs.declared.replies.Figures.{Figures}
-use Rattle.ghost_cli.specs.declared.replies.Reply.{Reply}
-use Rattle.ghost_cli.specs.declared.replies.Verdict.TheVariants.{Spent}
+use Rattle.call_replies.specs.declared.replies.Done.TheVariants.{Sampled}
+use Rattle.call_replies.specs.declared.replies.Figures.{Figures}
+use Rattle.call_replies.specs.declared.replies.Reply.{Reply}
+use Rattle.call_replies.specs.declared.replies.Verdict.TheVariants.{Spent}
 use Rattle.ghost_cli.specs.declared.sample.CountedRun.{CountedRun}
 use Rattle.ghost_cli.specs.declared.sample.SampleFile.{SampleFile}
 use Rattle.ghost_cli.specs.Compiled.{IsCompiledTo, plan_for}
@@ -26,7 +26,7 @@ use Rattle.ghost_cli.specs.Questions.{WhatIsMade, WhenItHalts}
 use Rattle.ghost_cli.specs.Sample.{on_sampled, sample_work, samples_on}
 use Rattle.ghost_cli.specs.Sampled.{IsFileOf, SampleIsReady, SampleIsSpent, RanSo}
 use Rattle.ghost_cli.specs.SampleTree.{sample_decls}
-use Rattle.ghost_cli.specs.Texts.{comes_to}
+use Rattle.call_replies.specs.Texts.{comes_to}
 use Rattle.ghost_cli.specs.Work.{Work, IsWritten}
 use Rattle.ghost_cli.proofs.Answering.{written-said}
 use Rattle.ghost_cli.proofs.CompiledRuns.{compiled-runs}

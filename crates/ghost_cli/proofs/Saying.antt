@@ -30,11 +30,11 @@ use Rattle.run_data.specs.InputsOf.{json_of, inputs_of}
 use Rattle.run_data.specs.TraceText.{trace_text_of}
 use Rattle.run_data.specs.declared.errors.InputError.{InputError}
 use Rattle.run_data.specs.declared.errors.InputError.TheVariants as input
-use Rattle.ghost_cli.specs.declared.replies.InputFault.{InputFault}
-use Rattle.ghost_cli.specs.declared.source_faults.SourceFault.{SourceFault}
+use Rattle.call_replies.specs.declared.replies.InputFault.{InputFault}
+use Rattle.call_replies.specs.declared.source_faults.SourceFault.{SourceFault}
 use Rattle.ghost_cli.specs.Sources.{AreProgram, Spells, IsFirstSourceFault, InPieces, InTokens, InProgram, IsTokensFault, NoFile, InCalls, piece_fault, token_fault, shown_call_fault, program_fault}
-use Rattle.ghost_cli.specs.declared.replies.Verdict.TheVariants.{Malformed, BadSource, BadInput, BadAssembly, NoNotes}
-use Rattle.ghost_cli.specs.Texts.{Said}
+use Rattle.call_replies.specs.declared.replies.Verdict.TheVariants.{Malformed, BadSource, BadInput, BadAssembly, NoNotes}
+use Rattle.call_replies.specs.Texts.{Said}
 use Rattle.note_infer.specs.declared.faults.InferError.{InferError}
 use Rattle.note_infer.specs.declared.faults.InferError.TheVariants as notes
 use Rattle.note_infer.specs.Inferred.{IsWhyNot, NoNotesWouldDo}

@@ -20,7 +20,7 @@ use Rattle.bus_arbiter.specs.Turns.{AllLeft}
 use Rattle.bus_arbiter.specs.Transfers.{Transfer}
 use Rattle.path_oram.specs.Orams.{Oram}
 use Rattle.rand_chacha.specs.ChaCha.{ChaCha}
-use Rattle.ghost_cli.specs.declared.replies.Verdict.TheVariants.{Shared}
+use Rattle.call_replies.specs.declared.replies.Verdict.TheVariants.{Shared}
 use Rattle.ghost_cli.specs.Beginning.{BankBegins, HasBegun}
 use Rattle.command_words.specs.Pairs.{Pair}
 use Rattle.ghost_cli.specs.Bus.{Read, all_halted, bus_work, shares_bus, with_halts}

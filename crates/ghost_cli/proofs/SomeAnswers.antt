@@ -44,13 +44,13 @@ use Rattle.bus_arbiter.proofs.PlannedRuns.{on-bus, plan-none, plan-takes, traces
 use Rattle.serde_json.specs.Data.{Data, Members, no_members, member}
 use Rattle.serde_json.specs.Find.{as_object}
 use Rattle.note_infer.proofs.Answered.{Answered, Gets, Fails, answered}
-use Rattle.ghost_cli.specs.declared.replies.Done.{Done}
-use Rattle.ghost_cli.specs.declared.replies.Done.TheVariants as made
-use Rattle.ghost_cli.specs.declared.replies.InputFault.{InputFault}
-use Rattle.ghost_cli.specs.declared.replies.InputFault.TheVariants as fault
-use Rattle.ghost_cli.specs.declared.replies.Verdict.{Verdict}
-use Rattle.ghost_cli.specs.declared.replies.Verdict.TheVariants as verdict
-use Rattle.ghost_cli.specs.declared.source_faults.SourceFault.{SourceFault}
+use Rattle.call_replies.specs.declared.replies.Done.{Done}
+use Rattle.call_replies.specs.declared.replies.Done.TheVariants as made
+use Rattle.call_replies.specs.declared.replies.InputFault.{InputFault}
+use Rattle.call_replies.specs.declared.replies.InputFault.TheVariants as fault
+use Rattle.call_replies.specs.declared.replies.Verdict.{Verdict}
+use Rattle.call_replies.specs.declared.replies.Verdict.TheVariants as verdict
+use Rattle.call_replies.specs.declared.source_faults.SourceFault.{SourceFault}
 use Rattle.ghost_cli.specs.declared.targets.Target.{Target}
 use Rattle.ghost_cli.specs.Assemble.{assemble_work}
 use Rattle.command_words.specs.Pairs.{Pair}
@@ -60,7 +60,7 @@ use Rattle.ghost_cli.specs.Compile.{compile_work, on_compiled}
 use Rattle.ghost_cli.specs.Disassemble.{disassemble_work}
 use Rattle.ghost_cli.specs.Evaluate.{evaluate_work, evaluates_on, on_left}
 use Rattle.ghost_cli.specs.Infer.{infer_work, infers_to, on_inferred}
-use Rattle.ghost_cli.specs.NameText.{name_text}
+use Rattle.call_replies.specs.NameText.{name_text}
 use Rattle.ghost_cli.specs.Objects.{object_limit}
 use Rattle.ghost_cli.specs.OneAnswer.{AreBytes, HasSomeAnswer, SomeAnswer}
 use Rattle.ghost_cli.specs.Promises.{AnswersSo}

@@ -25,7 +25,7 @@ use Rattle.block_cache_gen.proofs.RangesOfCode.{small-word}
 use Rattle.code_gen.specs.Compiles.{LatenciesFit}
 use Rattle.code_gen.proofs.Assembled.{made-promises}
 use Rattle.code_gen.proofs.FoldedPlans.{folded-implements, folded-laid, folded-sound}
-use Rattle.ghost_cli.specs.declared.source_faults.SourceFault.{SourceFault}
+use Rattle.call_replies.specs.declared.source_faults.SourceFault.{SourceFault}
 use Rattle.ghost_cli.specs.declared.targets.Target.{Target}
 use Rattle.ghost_cli.specs.Compiled.{HasRoom, IsCompiled, IsCompiledTo}
 use Rattle.ghost_cli.specs.Sources.{Spells}

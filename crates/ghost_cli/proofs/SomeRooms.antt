@@ -10,8 +10,8 @@ use Rattle.resident_alloc.specs.ResidentPlan.{resident_banks, resident_blocks}
 use Rattle.resident_alloc.specs.Residents.{wants_of}
 use Rattle.code_gen.specs.declared.compiling.CompileError.{CompileError}
 use Rattle.code_gen.specs.declared.compiling.CompileError.TheVariants.{BankFull, TooManyScalars}
-use Rattle.ghost_cli.specs.declared.source_faults.SourceFault.{SourceFault}
-use Rattle.ghost_cli.specs.declared.source_faults.SourceFault.TheVariants as fault
+use Rattle.call_replies.specs.declared.source_faults.SourceFault.{SourceFault}
+use Rattle.call_replies.specs.declared.source_faults.SourceFault.TheVariants as fault
 use Rattle.ghost_cli.specs.declared.targets.Target.{Target}
 use Rattle.ghost_cli.specs.Compiled.{HasRoom, IsCompiled, LacksRoom, room_fault}
 

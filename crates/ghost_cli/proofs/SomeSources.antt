@@ -25,8 +25,8 @@ use Rattle.src_tree.specs.declared.faults.TypeError.TheVariants as program
 use Rattle.src_tree.proofs.Faultless.{fine}
 use Rattle.src_tree.proofs.FirstFaults.{cause}
 use Rattle.flow_types.proofs.Judged.{explained}
-use Rattle.ghost_cli.specs.declared.source_faults.SourceFault.{SourceFault}
-use Rattle.ghost_cli.specs.declared.source_faults.SourceFault.TheVariants as fault
+use Rattle.call_replies.specs.declared.source_faults.SourceFault.{SourceFault}
+use Rattle.call_replies.specs.declared.source_faults.SourceFault.TheVariants as fault
 use Rattle.ghost_cli.specs.Questions.{IsRight, WhichSource}
 use Rattle.ghost_cli.specs.Sources.{Spells, NoFile, InCalls, InPieces, InTokens, InProgram, piece_fault, program_fault, shown_call_fault}
 use Rattle.ghost_cli.proofs.LexedTexts.{IsTold as IsToldPiece, Reading, Reads, Fails, reading}

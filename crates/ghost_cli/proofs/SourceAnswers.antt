@@ -7,18 +7,18 @@ use Rattle.gr_word.specs.declared.variables.Want.{Want}
 use Rattle.ghost_cli.specs.declared.targets.Target.{Target}
 use Rattle.src_tree.specs.Trees.{Source}
 use Rattle.flow_types.specs.Wants.{declared_wants}
-use Rattle.ghost_cli.specs.declared.replies.Done.TheVariants.{Compiled}
-use Rattle.ghost_cli.specs.declared.replies.InputFault.{InputFault}
-use Rattle.ghost_cli.specs.declared.source_faults.SourceFault.{SourceFault}
+use Rattle.call_replies.specs.declared.replies.Done.TheVariants.{Compiled}
+use Rattle.call_replies.specs.declared.replies.InputFault.{InputFault}
+use Rattle.call_replies.specs.declared.source_faults.SourceFault.{SourceFault}
 use Rattle.ghost_cli.specs.Compile.{compile_work, compiles_to, on_compiled}
 use Rattle.ghost_cli.specs.Evaluate.{evaluate_work, evaluates_on, on_left}
 use Rattle.ghost_cli.specs.OneAnswer.{AreOneBut, DoneBut, HasOneAnswerBut, OneAnswer, Same}
 use Rattle.ghost_cli.specs.Promises.{Answers, AnswersSo, IsDone, NoAnswer}
-use Rattle.ghost_cli.specs.Texts.{Said, usage, wrote}
+use Rattle.call_replies.specs.Texts.{Said, usage, wrote}
 use Rattle.ghost_cli.specs.Questions.{IsRight, WhatIsLeft, WhichCompiled, WhichInputs, WhichSource}
 use Rattle.ghost_cli.specs.Showing.{nothing_seen}
 use Rattle.ghost_cli.specs.Sources.{source_limit}
-use Rattle.ghost_cli.specs.declared.replies.Verdict.TheVariants.{BadInput, BadSource}
+use Rattle.call_replies.specs.declared.replies.Verdict.TheVariants.{BadInput, BadSource}
 use Rattle.ghost_cli.specs.Steps.{input_limit, or_ends, with_source, with_variables}
 use Rattle.ghost_cli.specs.Work.{Asks, Ending, Holds, IsVerdict, IsWritten, MayEnd, Work, files_at, said_at}
 use Rattle.ghost_cli.proofs.OneAnswers.{AnswerOf, Once, assemble-once, bus-once, check-once, disassemble-once, infer-once, one-answer, run-once, trace-once, answer-of, asks-once, ends-once, inputs-once, of-told, reads-once, same-ending, writes-once}

@@ -8,7 +8,7 @@ use Rattle.lt_isa.specs.Object.{Parts}
 use Rattle.lt_isa.specs.Start.{trace}
 use Rattle.run_data.specs.TraceText.{trace_text_of}
 use Rattle.processor.specs.Watching.{AnEvent, WatcherTold, events_in}
-use Rattle.ghost_cli.specs.declared.replies.Verdict.TheVariants.{Traced}
+use Rattle.call_replies.specs.declared.replies.Verdict.TheVariants.{Traced}
 use Rattle.ghost_cli.specs.Outside.{PutsSaid}
 use Rattle.ghost_cli.specs.Showing.{Seen, events_alone, run_seen}
 use Rattle.ghost_cli.specs.TracedText.{IsTextOfTrace}

@@ -21,12 +21,12 @@ use Rattle.path_oram.proofs.Existing.{ends_somehow}
 use Rattle.rand_chacha.specs.ChaCha.{ChaCha}
 use Rattle.run_data.specs.PathText.{levels_behind}
 use Rattle.run_data.proofs.PathTexts.{behind-text, behind-parts}
-use Rattle.ghost_cli.specs.declared.replies.Verdict.TheVariants.{Traced}
+use Rattle.call_replies.specs.declared.replies.Verdict.TheVariants.{Traced}
 use Rattle.ghost_cli.specs.Levels.{AreBehind, FirstBanks, MayEndOn, MayRun, OfOram, PutsLast, StandAfter, StandNow}
 use Rattle.ghost_cli.specs.Runs.{HaltOf}
 use Rattle.ghost_cli.specs.Seeds.{stream_from}
 use Rattle.ghost_cli.specs.Showing.{shown_lines}
-use Rattle.ghost_cli.specs.Texts.{comes_to}
+use Rattle.call_replies.specs.Texts.{comes_to}
 use Rattle.ghost_cli.specs.Watched.{PutsShown, PutsTrace}
 use Rattle.ghost_cli.proofs.Saying.{halts-or-not}
 

@@ -1,7 +1,7 @@
 -- The verb `asm TEXT OUT`.
 use Rattle.std.specs.Prelude.{ℕ, List}
 use Rattle.object_file.specs.Spelling.{spelling}
-use Rattle.ghost_cli.specs.declared.replies.Done.TheVariants.{Assembled}
+use Rattle.call_replies.specs.declared.replies.Done.TheVariants.{Assembled}
 use Rattle.ghost_cli.specs.Work.{Work, Writes}
 use Rattle.ghost_cli.specs.Steps.{with_assembly}
 

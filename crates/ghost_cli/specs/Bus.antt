@@ -7,10 +7,10 @@ use Rattle.bus_arbiter.specs.Shares.{share_of}
 use Rattle.bus_arbiter.specs.declared.shares.Share.{Share}
 use Rattle.bus_arbiter.specs.declared.errors.BusError.{BusError}
 use Rattle.bus_arbiter.specs.declared.errors.BusError.TheVariants as bus
-use Rattle.ghost_cli.specs.declared.replies.Verdict.TheVariants.{OffBus, Shared}
+use Rattle.call_replies.specs.declared.replies.Verdict.TheVariants.{OffBus, Shared}
 use Rattle.ghost_cli.specs.Questions.{WhatIsJoined, WhenItHalts}
 use Rattle.ghost_cli.specs.Showing.{bus_seen, nothing_seen}
-use Rattle.ghost_cli.specs.Texts.{Said, comes_to, no_memory}
+use Rattle.call_replies.specs.Texts.{Said, comes_to, no_memory}
 use Rattle.ghost_cli.specs.Work.{Work, Asks, Ends}
 use Rattle.ghost_cli.specs.Steps.{with_accepted, with_inputs}
 use Rattle.command_words.specs.Pairs.{Pair}

@@ -1,6 +1,6 @@
 -- The verb `check OBJ`.
 use Rattle.std.specs.Prelude.{ℕ, List}
-use Rattle.ghost_cli.specs.declared.replies.Verdict.TheVariants.{Accepted}
+use Rattle.call_replies.specs.declared.replies.Verdict.TheVariants.{Accepted}
 use Rattle.ghost_cli.specs.Showing.{nothing_seen}
 use Rattle.ghost_cli.specs.Work.{Work, Ends}
 use Rattle.ghost_cli.specs.Steps.{with_accepted}

@@ -1,9 +1,9 @@
 -- The verb `compile SRC OUT [--fast] [--block-log w] [--window P:O:C] [--procs]`.
 use Rattle.std.specs.Prelude.{ℕ, Bool, List, Result, Ok, Err}
 use Rattle.src_tree.specs.Trees.{Source}
-use Rattle.ghost_cli.specs.declared.source_faults.SourceFault.{SourceFault}
-use Rattle.ghost_cli.specs.declared.replies.Verdict.TheVariants.{BadSource}
-use Rattle.ghost_cli.specs.declared.replies.Done.TheVariants.{Compiled}
+use Rattle.call_replies.specs.declared.source_faults.SourceFault.{SourceFault}
+use Rattle.call_replies.specs.declared.replies.Verdict.TheVariants.{BadSource}
+use Rattle.call_replies.specs.declared.replies.Done.TheVariants.{Compiled}
 use Rattle.ghost_cli.specs.Questions.{WhichCompiled}
 use Rattle.ghost_cli.specs.Showing.{nothing_seen}
 use Rattle.ghost_cli.specs.Work.{Work, Ends, Writes, Asks}

@@ -14,8 +14,8 @@ use Rattle.code_gen.specs.Compiles.{ExplainsResidents, ExplainsRoom, IsFor, stor
 use Rattle.code_gen.specs.Implements.{Implements}
 use Rattle.code_gen.specs.declared.compiling.CompileError.{CompileError}
 use Rattle.code_gen.specs.declared.compiling.CompileError.TheVariants as room
-use Rattle.ghost_cli.specs.declared.source_faults.SourceFault.{SourceFault}
-use Rattle.ghost_cli.specs.declared.source_faults.SourceFault.TheVariants as fault
+use Rattle.call_replies.specs.declared.source_faults.SourceFault.{SourceFault}
+use Rattle.call_replies.specs.declared.source_faults.SourceFault.TheVariants as fault
 use Rattle.ghost_cli.specs.declared.targets.Target.{Target}
 use Rattle.ghost_cli.specs.Objects.{SpellsObject}
 

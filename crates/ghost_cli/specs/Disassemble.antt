@@ -1,7 +1,7 @@
 -- The verb `dis OBJ OUT`.
 use Rattle.std.specs.Prelude.{ℕ, List}
 use Rattle.lt_assembler.specs.Canonical.{canonical}
-use Rattle.ghost_cli.specs.declared.replies.Done.TheVariants.{Disassembled}
+use Rattle.call_replies.specs.declared.replies.Done.TheVariants.{Disassembled}
 use Rattle.ghost_cli.specs.Work.{Work, Writes}
 use Rattle.ghost_cli.specs.Steps.{with_object}
 

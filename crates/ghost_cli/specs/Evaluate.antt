@@ -3,8 +3,8 @@ use Rattle.std.specs.Prelude.{ℕ, ℤ, Bool, List, Option, Some, None}
 use Rattle.run_data.specs.OutputText.{output_of}
 use Rattle.src_tree.specs.Trees.{Source}
 use Rattle.flow_types.specs.Wants.{declared_wants}
-use Rattle.ghost_cli.specs.declared.replies.Verdict.TheVariants.{Spent}
-use Rattle.ghost_cli.specs.declared.replies.Done.TheVariants.{Evaluated}
+use Rattle.call_replies.specs.declared.replies.Verdict.TheVariants.{Spent}
+use Rattle.call_replies.specs.declared.replies.Done.TheVariants.{Evaluated}
 use Rattle.ghost_cli.specs.Questions.{WhatIsLeft}
 use Rattle.ghost_cli.specs.Showing.{nothing_seen}
 use Rattle.ghost_cli.specs.Work.{Work, Ends, Writes, Asks}

@@ -16,7 +16,7 @@ use Rattle.ghost_cli.specs.Compiled.{IsCompiledTo}
 use Rattle.ghost_cli.specs.Counting.{is_plain, is_encrypted, is_second, how_many}
 use Rattle.ghost_cli.specs.Objects.{SpellsObject}
 use Rattle.ghost_cli.specs.Sources.{SpellsTyped}
-use Rattle.ghost_cli.specs.declared.replies.Figures.{Figures}
+use Rattle.call_replies.specs.declared.replies.Figures.{Figures}
 
 -- the program for n numbers
 unfoldable pub sample_text : ℕ → List ℕ

@@ -3,8 +3,8 @@ use Rattle.std.specs.Prelude.{ℕ, List, length, Result, Ok, Err}
 use Rattle.lt_isa.specs.Object.{Parts}
 use Rattle.object_file.specs.Spelling.{spelling}
 use Rattle.note_infer.specs.declared.faults.InferError.{InferError}
-use Rattle.ghost_cli.specs.declared.replies.Verdict.TheVariants.{NoNotes}
-use Rattle.ghost_cli.specs.declared.replies.Done.TheVariants.{Inferred}
+use Rattle.call_replies.specs.declared.replies.Verdict.TheVariants.{NoNotes}
+use Rattle.call_replies.specs.declared.replies.Done.TheVariants.{Inferred}
 use Rattle.ghost_cli.specs.Questions.{WhatIsInferred}
 use Rattle.ghost_cli.specs.Showing.{nothing_seen}
 use Rattle.ghost_cli.specs.Work.{Work, Ends, Writes, Asks}

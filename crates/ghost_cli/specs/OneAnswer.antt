@@ -18,7 +18,7 @@ use Rattle.procs_parser.specs.FileGrammar.{SpellsFile}
 use Rattle.procs_parser.specs.FileRefusals.{ExplainsFile}
 use Rattle.src_procs.specs.Trees.{File}
 use Rattle.src_tree.specs.Trees.{Source}
-use Rattle.ghost_cli.specs.declared.source_faults.SourceFault.{SourceFault}
+use Rattle.call_replies.specs.declared.source_faults.SourceFault.{SourceFault}
 use Rattle.ghost_cli.specs.Assemble.{assemble_work}
 use Rattle.command_words.specs.Pairs.{Pair}
 use Rattle.ghost_cli.specs.Bus.{bus_work}
@@ -32,7 +32,7 @@ use Rattle.ghost_cli.specs.Promises.{Answers, IsDone}
 use Rattle.ghost_cli.specs.Questions.{AreInputs, IsRight, WhichSource}
 use Rattle.ghost_cli.specs.Run.{run_work}
 use Rattle.ghost_cli.specs.Steps.{input_limit}
-use Rattle.ghost_cli.specs.Texts.{Said, usage}
+use Rattle.call_replies.specs.Texts.{Said, usage}
 use Rattle.ghost_cli.specs.Trace.{trace_work}
 use Rattle.ghost_cli.specs.Work.{Work}
 

@@ -6,9 +6,9 @@ use Rattle.gr_base.specs.Counts.{Rose}
 use Rattle.gr_base.specs.Added.{Adds, AddsLess}
 use Rattle.gr_outside.specs.Shelf.{Files, ShelfSeen, SameBut, with_file}
 use Rattle.gr_outside.specs.Sink.{SinkSeen}
-use Rattle.ghost_cli.specs.declared.replies.Verdict.{Verdict}
-use Rattle.ghost_cli.specs.declared.replies.Done.{Done}
-use Rattle.ghost_cli.specs.Texts.{Said, usage, unread, unwritten, no_memory, too_long, wrote}
+use Rattle.call_replies.specs.declared.replies.Verdict.{Verdict}
+use Rattle.call_replies.specs.declared.replies.Done.{Done}
+use Rattle.call_replies.specs.Texts.{Said, usage, unread, unwritten, no_memory, too_long, wrote}
 use Rattle.ghost_cli.specs.Showing.{Seen}
 use Rattle.ghost_cli.specs.Work.{Work, Ending, IsUnread, IsTooLong, IsVerdict, IsWritten, MayEnd, said_at}
 

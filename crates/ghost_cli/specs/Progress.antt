@@ -1,18 +1,18 @@
 -- How far a part of the code has come with the work of a verb. (Only contracts of private functions and proofs say so.)
 use Rattle.std.specs.Prelude.{◌≡◌, ◌⊎◌, ℕ, Option, Some, None}
 use Rattle.gr_outside.specs.Shelf.{ShelfSeen}
-use Rattle.ghost_cli.specs.declared.replies.Verdict.{Verdict}
-use Rattle.ghost_cli.specs.declared.replies.Verdict.TheVariants.{Malformed, BadSource, BadInput, BadAssembly, NoNotes}
+use Rattle.call_replies.specs.declared.replies.Verdict.{Verdict}
+use Rattle.call_replies.specs.declared.replies.Verdict.TheVariants.{Malformed, BadSource, BadInput, BadAssembly, NoNotes}
 use Rattle.object_file.specs.declared.errors.DecodeError.{DecodeError}
 use Rattle.object_file.specs.declared.errors.DecodeError.TheVariants as object
 use Rattle.lt_assembler.specs.declared.errors.AsmError.{AsmError}
 use Rattle.lt_assembler.specs.declared.errors.AsmError.TheVariants as text
 use Rattle.note_infer.specs.declared.faults.InferError.{InferError}
 use Rattle.note_infer.specs.declared.faults.InferError.TheVariants as notes
-use Rattle.ghost_cli.specs.declared.source_faults.SourceFault.{SourceFault}
-use Rattle.ghost_cli.specs.declared.replies.InputFault.{InputFault}
+use Rattle.call_replies.specs.declared.source_faults.SourceFault.{SourceFault}
+use Rattle.call_replies.specs.declared.replies.InputFault.{InputFault}
 use Rattle.run_data.specs.declared.errors.InputError.{InputError}
-use Rattle.ghost_cli.specs.Texts.{Said, usage, no_memory, comes_to}
+use Rattle.call_replies.specs.Texts.{Said, usage, no_memory, comes_to}
 use Rattle.ghost_cli.specs.Questions.{Question, Answer, IsRight, Shows}
 use Rattle.ghost_cli.specs.Showing.{nothing_seen}
 use Rattle.ghost_cli.specs.Work.{Work, Ends, Ending, MayEnd, said_at}

@@ -11,7 +11,7 @@ use Rattle.trace_patterns.specs.Accepts.{Accepts}
 use Rattle.object_file.specs.Spelling.{spelling}
 use Rattle.path_oram.specs.LeavesAlike.{LeavesAlike}
 use Rattle.src_tree.specs.Trees.{Source}
-use Rattle.ghost_cli.specs.Texts.{Said, usage, unread, unwritten, no_memory}
+use Rattle.call_replies.specs.Texts.{Said, usage, unread, unwritten, no_memory}
 use Rattle.ghost_cli.specs.Objects.{SpellsObject}
 use Rattle.ghost_cli.specs.Sources.{SpellsTyped}
 use Rattle.command_words.specs.Pairs.{Pair}

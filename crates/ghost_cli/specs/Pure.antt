@@ -11,16 +11,16 @@ use Rattle.run_data.specs.InputsOf.{inputs_of, json_of}
 use Rattle.src_tree.specs.Trees.{Source}
 use Rattle.trace_patterns.specs.Accepts.{FirstRefusal}
 use Rattle.trace_patterns.specs.declared.reasons.Reason.{Reason}
-use Rattle.ghost_cli.specs.declared.replies.InputFault.{InputFault}
-use Rattle.ghost_cli.specs.declared.replies.Verdict.TheVariants.{BadInput, BadSource, Malformed, Refused}
+use Rattle.call_replies.specs.declared.replies.InputFault.{InputFault}
+use Rattle.call_replies.specs.declared.replies.Verdict.TheVariants.{BadInput, BadSource, Malformed, Refused}
 use Rattle.ghost_cli.specs.declared.run.Ran.{Ran}
-use Rattle.ghost_cli.specs.declared.source_faults.SourceFault.{SourceFault}
+use Rattle.call_replies.specs.declared.source_faults.SourceFault.{SourceFault}
 use Rattle.ghost_cli.specs.Compiled.{IsCompiled}
 use Rattle.ghost_cli.specs.Objects.{SpellsObject}
 use Rattle.ghost_cli.specs.Questions.{AreInputs}
 use Rattle.ghost_cli.specs.Ran.{RanTo}
 use Rattle.ghost_cli.specs.Sources.{IsFirstSourceFault, SpellsTyped}
-use Rattle.ghost_cli.specs.Texts.{Said, comes_to, no_memory}
+use Rattle.call_replies.specs.Texts.{Said, comes_to, no_memory}
 use Rattle.ghost_cli.specs.TracedText.{IsTextOfTrace}
 
 -- Why bytes give no accepted object: memory ran out; or they don't encode an object, and this is their first fault; or

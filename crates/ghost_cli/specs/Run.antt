@@ -1,8 +1,8 @@
 -- The verb `run OBJ INPUT OUT [--cycles n] [--seed s] [--recursive]`.
 use Rattle.std.specs.Prelude.{ℕ, ℤ, List, Option, Some, None}
 use Rattle.lt_isa.specs.Object.{Parts}
-use Rattle.ghost_cli.specs.declared.replies.Verdict.TheVariants.{Spent}
-use Rattle.ghost_cli.specs.declared.replies.Done.TheVariants.{Halted}
+use Rattle.call_replies.specs.declared.replies.Verdict.TheVariants.{Spent}
+use Rattle.call_replies.specs.declared.replies.Done.TheVariants.{Halted}
 use Rattle.ghost_cli.specs.Questions.{WhenItHalts}
 use Rattle.ghost_cli.specs.Runs.{run_outputs}
 use Rattle.ghost_cli.specs.Showing.{nothing_seen}

@@ -1,8 +1,8 @@
 -- The verb `sample N OUT [--fast] [--seed s]`.
 use Rattle.std.specs.Prelude.{ℕ, Bool, List, Option, Some, None}
 use Rattle.lt_isa.specs.Start.{wants_of}
-use Rattle.ghost_cli.specs.declared.replies.Verdict.TheVariants.{Spent}
-use Rattle.ghost_cli.specs.declared.replies.Done.TheVariants.{Sampled}
+use Rattle.call_replies.specs.declared.replies.Verdict.TheVariants.{Spent}
+use Rattle.call_replies.specs.declared.replies.Done.TheVariants.{Sampled}
 use Rattle.ghost_cli.specs.Histogram.{Made, sample_cycles, sample_inputs, figures_of}
 use Rattle.ghost_cli.specs.Questions.{WhatIsMade, WhenItHalts}
 use Rattle.ghost_cli.specs.Showing.{nothing_seen}

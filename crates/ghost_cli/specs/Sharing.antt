@@ -11,13 +11,13 @@ use Rattle.bus_arbiter.specs.Shares.{share_of}
 use Rattle.bus_arbiter.specs.Transfers.{IsJoined, Transfer}
 use Rattle.path_oram.specs.Orams.{Oram}
 use Rattle.rand_chacha.specs.ChaCha.{ChaCha}
-use Rattle.ghost_cli.specs.declared.replies.Verdict.TheVariants.{Shared}
+use Rattle.call_replies.specs.declared.replies.Verdict.TheVariants.{Shared}
 use Rattle.ghost_cli.specs.Beginning.{BankBegins, HasBegun}
 use Rattle.ghost_cli.specs.Bus.{Read, all_halted}
 use Rattle.ghost_cli.specs.Outside.{PutsSaid}
 use Rattle.ghost_cli.specs.Runs.{HaltOf}
 use Rattle.ghost_cli.specs.Showing.{bus_seen, core_lines, transfer_lines}
-use Rattle.ghost_cli.specs.Texts.{verdict_status}
+use Rattle.call_replies.specs.Texts.{verdict_status}
 use Rattle.ghost_cli.specs.Work.{IsVerdict, said_at}
 
 -- the plan is that of the objects, and the inputs are theirs

@@ -6,8 +6,8 @@ use Rattle.processor.specs.Watching.{WatcherTold, AnEvent, APath}
 use Rattle.run_data.specs.PathText.{levels_behind, path_line}
 use Rattle.run_data.specs.TraceText.{event_line, trace_text_of}
 use Rattle.bus_arbiter.specs.Transfers.{Transfer}
-use Rattle.ghost_cli.specs.declared.replies.Verdict.TheVariants.{Traced}
-use Rattle.ghost_cli.specs.Texts.{Said, comes_to}
+use Rattle.call_replies.specs.declared.replies.Verdict.TheVariants.{Traced}
+use Rattle.call_replies.specs.Texts.{Said, comes_to}
 
 -- the line of an event, and of the paths of an access
 abbrev pub shown_line : WatcherTold → List ℕ

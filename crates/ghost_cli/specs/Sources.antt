@@ -25,8 +25,8 @@ use Rattle.src_tree.specs.Limits.{IsWithinLimits}
 use Rattle.flow_types.specs.Refusals.{ExplainsProgram}
 use Rattle.src_tree.specs.declared.faults.TypeError.{TypeError}
 use Rattle.src_tree.specs.declared.faults.TypeError.TheVariants as program
-use Rattle.ghost_cli.specs.declared.source_faults.SourceFault.{SourceFault}
-use Rattle.ghost_cli.specs.declared.source_faults.SourceFault.TheVariants as fault
+use Rattle.call_replies.specs.declared.source_faults.SourceFault.{SourceFault}
+use Rattle.call_replies.specs.declared.source_faults.SourceFault.TheVariants as fault
 
 -- the most bytes that a source text may have
 abbrev pub source_limit : ℕ

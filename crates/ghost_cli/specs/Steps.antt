@@ -6,8 +6,8 @@ use Rattle.lt_isa.specs.Object.{Parts}
 use Rattle.lt_isa.specs.Start.{wants_of}
 use Rattle.src_tree.specs.Trees.{Source}
 use Rattle.trace_patterns.specs.declared.reasons.Reason.{Reason}
-use Rattle.ghost_cli.specs.declared.replies.Verdict.{Verdict}
-use Rattle.ghost_cli.specs.declared.replies.Verdict.TheVariants.{Malformed, Refused, BadSource, BadInput, BadAssembly}
+use Rattle.call_replies.specs.declared.replies.Verdict.{Verdict}
+use Rattle.call_replies.specs.declared.replies.Verdict.TheVariants.{Malformed, Refused, BadSource, BadInput, BadAssembly}
 use Rattle.ghost_cli.specs.Objects.{object_limit}
 use Rattle.ghost_cli.specs.Sources.{source_limit}
 use Rattle.ghost_cli.specs.Questions.{WhichObject, WhichAssembly, WhichSource, WhichInputs, WhetherAccepted}

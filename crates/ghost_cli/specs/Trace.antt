@@ -2,7 +2,7 @@
 use Rattle.std.specs.Prelude.{ℕ, ℤ, Bool, true, false, List, Option, is_some}
 use Rattle.lt_isa.specs.Object.{Parts}
 use Rattle.lt_isa.specs.Start.{trace}
-use Rattle.ghost_cli.specs.declared.replies.Verdict.TheVariants.{Traced}
+use Rattle.call_replies.specs.declared.replies.Verdict.TheVariants.{Traced}
 use Rattle.ghost_cli.specs.Questions.{WhatIsShown, WhenItHalts}
 use Rattle.ghost_cli.specs.Showing.{events_alone}
 use Rattle.ghost_cli.specs.Work.{Work, Ends, Asks}

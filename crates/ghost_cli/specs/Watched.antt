@@ -7,7 +7,7 @@ use Rattle.processor.specs.declared.ends.End.{End}
 use Rattle.processor.specs.Ends.{EndsAs}
 use Rattle.processor.specs.Watching.{WatcherTold, AnEvent, APath}
 use Rattle.gr_outside.specs.Sink.{SinkSeen}
-use Rattle.ghost_cli.specs.declared.replies.Verdict.TheVariants.{Traced}
+use Rattle.call_replies.specs.declared.replies.Verdict.TheVariants.{Traced}
 use Rattle.ghost_cli.specs.Outside.{PutsSaid}
 use Rattle.ghost_cli.specs.Runs.{HaltOf}
 use Rattle.bus_arbiter.specs.Transfers.{Transfer}

@@ -12,14 +12,14 @@ ghost use Rattle.command_words.specs.Options.{texts};
 ghost use Rattle.ghost_cli.specs.Outside.{Explains, outside};
 ghost use Rattle.ghost_cli.specs.Progress.{HasLeft, LeavesToSay, Stops};
 ghost use Rattle.ghost_cli.specs.Sharing.{AllBegin, AreRead, PutsShared};
-ghost use Rattle.ghost_cli.specs.Texts.{said};
+ghost use Rattle.call_replies.specs.Texts.{said};
 ghost use Rattle.ghost_cli.specs.Work.{Work};
 
 use crate::bus_run::put_bus;
 use crate::oblivious::{SeededOram, load_seeded};
 use crate::reading::{find_accepted, find_inputs};
-use crate::replies::{Reply, Verdict};
 use bus_arbiter::{Bus, BusError, Plan};
+use call_replies::replies::{Reply, Verdict};
 use clap::ArgMatches;
 use command_words::options::{number_given, seed_given, value, values};
 use gr_base::Memory;

@@ -2,9 +2,9 @@ ghost use Rattle.std.specs.Prelude.{◌≡◌, ◌≤◌, ◌&&◌, [], IsTrue, 
 ghost use Rattle.bus_arbiter.specs.Cores.{traces_to};
 ghost use Rattle.bus_arbiter.specs.Turns.{AllLeft};
 ghost use Rattle.ghost_cli.specs.Sharing.{PutsHalts, PutsJoined, PutsShared, halts_of};
-ghost use Rattle.ghost_cli.specs.Texts.{verdict_status};
+ghost use Rattle.call_replies.specs.Texts.{verdict_status};
 ghost use Rattle.ghost_cli.specs.Watched.{HoldsLines};
-ghost use Rattle.ghost_cli.specs.declared.replies.Verdict.TheVariants.{Shared};
+ghost use Rattle.call_replies.specs.declared.replies.Verdict.TheVariants.{Shared};
 
 use crate::bus_lines::{BusLines, put_core};
 use crate::oblivious::SeededOram;

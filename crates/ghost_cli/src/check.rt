@@ -4,11 +4,11 @@ ghost use Rattle.command_words.specs.Asks.{check_asks};
 ghost use Rattle.ghost_cli.specs.Check.{check_work};
 ghost use Rattle.ghost_cli.specs.Outside.{Explains, outside};
 ghost use Rattle.ghost_cli.specs.Progress.{LeavesToSay};
-ghost use Rattle.ghost_cli.specs.Texts.{said};
+ghost use Rattle.call_replies.specs.Texts.{said};
 
 use crate::putting::say;
 use crate::reading::find_accepted;
-use crate::replies::{Reply, Verdict};
+use call_replies::replies::{Reply, Verdict};
 use clap::ArgMatches;
 use command_words::options::value;
 use gr_outside::{Shelf, Sink};

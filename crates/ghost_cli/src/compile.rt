@@ -10,13 +10,13 @@ ghost use Rattle.ghost_cli.specs.Compiled.{IsCompiledTo, LacksRoom, room_fault};
 ghost use Rattle.ghost_cli.specs.Outside.{Explains, outside};
 ghost use Rattle.ghost_cli.specs.Progress.{EndsWorkWith, LeavesToSay, SaysSource};
 ghost use Rattle.ghost_cli.specs.Questions.{WhichCompiled};
-ghost use Rattle.ghost_cli.specs.Texts.{said};
+ghost use Rattle.call_replies.specs.Texts.{said};
 
-use crate::replies::{Done, Reply, Verdict};
 use crate::source_faults::room_fault;
 use crate::sources::find_source;
 use crate::targets::Target;
 use crate::writing::write_and_say;
+use call_replies::replies::{Done, Reply, Verdict};
 use clap::ArgMatches;
 use code_gen::CompileError;
 use command_words::options::{block_log_given, flag_given, value};

@@ -4,12 +4,12 @@ ghost use Rattle.command_words.specs.Asks.{disassemble_asks};
 ghost use Rattle.ghost_cli.specs.Disassemble.{disassemble_work};
 ghost use Rattle.ghost_cli.specs.Outside.{Explains, outside};
 ghost use Rattle.ghost_cli.specs.Progress.{LeavesToSay};
-ghost use Rattle.ghost_cli.specs.Texts.{said};
+ghost use Rattle.call_replies.specs.Texts.{said};
 
 use crate::reading::find_object;
-use crate::replies::{Done, Reply};
 use crate::two_names::{TwoNames, two_names};
 use crate::writing::write_and_say;
+use call_replies::replies::{Done, Reply};
 use clap::ArgMatches;
 use command_words::options::value;
 use gr_outside::{Shelf, Sink};

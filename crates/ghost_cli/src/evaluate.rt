@@ -9,12 +9,12 @@ ghost use Rattle.ghost_cli.specs.Evaluate.{evaluate_work};
 ghost use Rattle.ghost_cli.specs.Evaluated.{LeavesText};
 ghost use Rattle.ghost_cli.specs.Outside.{Explains, outside};
 ghost use Rattle.ghost_cli.specs.Progress.{LeavesToSay};
-ghost use Rattle.ghost_cli.specs.Texts.{said};
+ghost use Rattle.call_replies.specs.Texts.{said};
 
 use crate::reading::find_variables;
-use crate::replies::{Done, Reply, Verdict};
 use crate::sources::find_source;
 use crate::writing::write_and_say;
+use call_replies::replies::{Done, Reply, Verdict};
 use clap::ArgMatches;
 use command_words::options::{flag_given, number_given, value};
 use flow_types::Typed;

@@ -4,10 +4,10 @@ ghost use Rattle.gr_word.specs.Fitting.{AreWords, words_at};
 ghost use Rattle.src_tree.specs.Trees.{source_of};
 ghost use Rattle.ghost_cli.specs.Histogram.{next_number, histogram_numbers, sample_inputs, sample_text, sample_words, sum_of};
 ghost use Rattle.ghost_cli.specs.Sources.{SpellsTyped};
-ghost use Rattle.ghost_cli.specs.Texts.{no_memory, said};
+ghost use Rattle.call_replies.specs.Texts.{no_memory, said};
 
-use crate::replies::Reply;
 use crate::sources::source_in;
+use call_replies::replies::Reply;
 use flow_types::Typed;
 use gr_base::Memory;
 use gr_word::{Inputs, Want};

@@ -7,12 +7,12 @@ ghost use Rattle.ghost_cli.specs.Infer.{infer_work, on_inferred};
 ghost use Rattle.ghost_cli.specs.Outside.{Explains, outside};
 ghost use Rattle.ghost_cli.specs.Progress.{EndsWorkWith, LeavesToSay, SaysNotes};
 ghost use Rattle.ghost_cli.specs.Questions.{WhatIsInferred};
-ghost use Rattle.ghost_cli.specs.Texts.{said};
+ghost use Rattle.call_replies.specs.Texts.{said};
 
 use crate::reading::find_object;
-use crate::replies::{Done, Reply, Verdict};
 use crate::two_names::{TwoNames, two_names};
 use crate::writing::write_and_say;
+use call_replies::replies::{Done, Reply, Verdict};
 use clap::ArgMatches;
 use command_words::options::value;
 use gr_outside::{Shelf, Sink};

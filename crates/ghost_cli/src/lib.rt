@@ -7,7 +7,7 @@
 //! every call promises is proved once, for all trees. To add a verb, add its words to the crate `command_words`, write
 //! its tree in a file of its own in `specs/`, its work in a file of its own in `src/`, and in `proofs/` a proof that the
 //! work is that of the tree. Then add it to the tables in `specs/Verbs.antt` and `src/top.rt`. A new question is added
-//! to `specs/Questions.antt`, a new line to `src/replies.rt` with `specs/Texts.antt`. No other verb's files change.
+//! to `specs/Questions.antt`, a new line to the crate `call_replies`. No other verb's files change.
 //!
 //! A verb's function returns the status if it printed its own text. If nothing was printed yet, its `Err` is the reply
 //! to print, also for want of memory: so a step passes its errors on by `?`, and they are printed in one place.
@@ -26,15 +26,13 @@ mod histogram;
 mod infer;
 pub mod laws;
 mod levels;
-mod name_text;
 pub mod oblivious;
 pub mod pure;
 pub mod putting;
 pub mod reading;
-pub mod replies;
 pub mod run;
 pub mod sample;
-pub mod source_faults;
+mod source_faults;
 pub mod sources;
 pub mod targets;
 pub mod text_sink;

@@ -9,18 +9,18 @@ ghost use Rattle.ghost_cli.specs.Pure.{NotChecked, NotCompiled, NotRun, RunsTo, 
 ghost use Rattle.ghost_cli.specs.Questions.{AreInputs, WhichInputs};
 ghost use Rattle.ghost_cli.specs.Sources.{source_limit};
 ghost use Rattle.ghost_cli.specs.Steps.{input_limit, or_ends};
-ghost use Rattle.ghost_cli.specs.Texts.{said};
+ghost use Rattle.call_replies.specs.Texts.{said};
 ghost use Rattle.ghost_cli.specs.Work.{Work};
-ghost use Rattle.ghost_cli.specs.declared.replies.Verdict.TheVariants.{BadInput};
+ghost use Rattle.call_replies.specs.declared.replies.Verdict.TheVariants.{BadInput};
 
 use crate::compile::object_bytes;
 use crate::oblivious::SeededOram;
 use crate::reading::{checked, inputs_in, object_in};
-use crate::replies::Reply;
 use crate::run::{Ran, run_to_end};
 use crate::sources::source_in;
 use crate::targets::Target;
 use crate::trace::trace_text;
+use call_replies::replies::Reply;
 use gr_word::Inputs;
 use lt_checker::Accepted;
 use std::alloc::Global;

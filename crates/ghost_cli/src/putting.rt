@@ -1,8 +1,8 @@
 ghost use Rattle.std.specs.Prelude.{◌≡◌, ◌⊎◌, IfOk, string_bytes};
 ghost use Rattle.ghost_cli.specs.Outside.{PutsSaid};
-ghost use Rattle.ghost_cli.specs.Texts.{no_memory, said};
+ghost use Rattle.call_replies.specs.Texts.{no_memory, said};
 
-use crate::replies::{NO_MEMORY, Reply};
+use call_replies::replies::{NO_MEMORY, Reply};
 use gr_base::Memory;
 use gr_outside::Sink;
 use std::alloc::Global;

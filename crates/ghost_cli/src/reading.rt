@@ -8,12 +8,12 @@ ghost use Rattle.trace_patterns.specs.Accepts.{Accepts};
 ghost use Rattle.ghost_cli.specs.Objects.{SpellsObject, object_limit};
 ghost use Rattle.ghost_cli.specs.Progress.{HasLeft, EndsWorkWith, SaysInputs, SaysObject, SaysText, Stops};
 ghost use Rattle.ghost_cli.specs.Questions.{AreInputs, Shows, WhetherAccepted, WhichAssembly, WhichInputs, WhichObject};
-ghost use Rattle.ghost_cli.specs.declared.replies.Verdict.TheVariants.{BadAssembly, BadInput, Malformed};
+ghost use Rattle.call_replies.specs.declared.replies.Verdict.TheVariants.{BadAssembly, BadInput, Malformed};
 ghost use Rattle.ghost_cli.specs.Steps.{input_limit, on_judged, or_ends, text_limit, with_accepted, with_assembly, with_inputs, with_object, with_variables};
-ghost use Rattle.ghost_cli.specs.Texts.{said};
+ghost use Rattle.call_replies.specs.Texts.{said};
 ghost use Rattle.ghost_cli.specs.Work.{Reads, Work};
 
-use crate::replies::{InputFault, JsonText, Reply, Verdict};
+use call_replies::replies::{InputFault, JsonText, Reply, Verdict};
 use gr_base::Memory;
 use gr_outside::{Shelf, ShelfError};
 use gr_word::{Inputs, Want};

@@ -10,12 +10,12 @@ ghost use Rattle.ghost_cli.specs.Progress.{LeavesToSay};
 ghost use Rattle.ghost_cli.specs.Ran.{RanTo};
 ghost use Rattle.command_words.specs.Asks.{run_asks, run_named};
 ghost use Rattle.ghost_cli.specs.Run.{run_work};
-ghost use Rattle.ghost_cli.specs.Texts.{said};
+ghost use Rattle.call_replies.specs.Texts.{said};
 
 use crate::oblivious::{Seeded, SeededOram, SeededRecursive, load_seeded};
 use crate::reading::{find_accepted, find_inputs};
-use crate::replies::{Done, Reply, Verdict};
 use crate::writing::write_and_say;
+use call_replies::replies::{Done, Reply, Verdict};
 use clap::ArgMatches;
 use command_words::options::{flag_given, number_given, seed_given, value};
 use gr_base::Memory;

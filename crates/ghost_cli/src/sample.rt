@@ -12,7 +12,7 @@ ghost use Rattle.command_words.specs.Asks.{sample_asks, sample_named};
 ghost use Rattle.ghost_cli.specs.Sample.{sample_work};
 ghost use Rattle.ghost_cli.specs.Sampled.{SampleCameTo, SampleIsReady, RanCounted};
 ghost use Rattle.ghost_cli.specs.SampleTree.{sample_program};
-ghost use Rattle.ghost_cli.specs.Texts.{no_memory, said};
+ghost use Rattle.call_replies.specs.Texts.{no_memory, said};
 
 use crate::compile::object_of;
 use crate::count_watch::CountWatch;
@@ -21,9 +21,9 @@ use crate::histogram::{
 };
 use crate::oblivious::{SeededOram, load_seeded};
 use crate::reading::checked;
-use crate::replies::{Done, Figures, Reply, Verdict};
 use crate::targets::Target;
 use crate::writing::write_and_say;
+use call_replies::replies::{Done, Figures, Reply, Verdict};
 use clap::ArgMatches;
 use command_words::options::{flag_given, items_given, seed_given, value};
 use command_words::windows::{ALWAYS_OPEN, windowed};

@@ -5,16 +5,15 @@ ghost use Rattle.src_tree.specs.Trees.{Source, source_of};
 ghost use Rattle.ghost_cli.specs.Progress.{HasLeft, EndsWorkWith, SaysSource, Stops};
 ghost use Rattle.ghost_cli.specs.Questions.{WhichSource};
 ghost use Rattle.ghost_cli.specs.Sources.{AreProgram, IsTokensFault, SpellsTyped, source_limit};
-ghost use Rattle.ghost_cli.specs.declared.replies.Verdict.TheVariants.{BadSource};
+ghost use Rattle.call_replies.specs.declared.replies.Verdict.TheVariants.{BadSource};
 ghost use Rattle.ghost_cli.specs.Steps.{or_ends, with_source};
-ghost use Rattle.ghost_cli.specs.Texts.{said};
+ghost use Rattle.call_replies.specs.Texts.{said};
 ghost use Rattle.ghost_cli.specs.Work.{Work};
 
 use crate::reading::read_whole;
-use crate::replies::{Reply, Verdict};
-use crate::source_faults::{
-    SourceFault, piece_fault, program_fault, shown_call_fault, token_fault,
-};
+use crate::source_faults::{piece_fault, program_fault, shown_call_fault, token_fault};
+use call_replies::replies::{Reply, Verdict};
+use call_replies::source_faults::SourceFault;
 use flow_types::{Typed, type_program};
 use gr_outside::Shelf;
 use procs_parser::parse_procs;

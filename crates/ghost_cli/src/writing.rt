@@ -1,10 +1,10 @@
 ghost use Rattle.std.specs.Prelude.{◌≡◌, IfErr, IfOk, OnErr};
 ghost use Rattle.ghost_cli.specs.Outside.{LeftBy, outside};
-ghost use Rattle.ghost_cli.specs.Texts.{no_memory, said};
+ghost use Rattle.call_replies.specs.Texts.{no_memory, said};
 ghost use Rattle.ghost_cli.specs.Work.{IsWritten};
 
 use crate::putting::{NOT_PUT, line_of, put_text, say_no_memory};
-use crate::replies::{Done, Reply};
+use call_replies::replies::{Done, Reply};
 use gr_outside::{Shelf, ShelfError, Sink};
 use std::alloc::Global;
 

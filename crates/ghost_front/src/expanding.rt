@@ -3,12 +3,12 @@
 ghost use Rattle.std.specs.Prelude.{◌≡◌};
 
 use crate::printing::{DONE, status_after};
-use explain_words::without_calls;
+use call_replies::replies::Reply;
 use command_words::options::value;
-use ghost_cli::putting::say;
-use ghost_cli::replies::Reply;
-use ghost_cli::sources::find_source;
 use command_words::verbs::{Argument, VerbWords};
+use explain_words::without_calls;
+use ghost_cli::putting::say;
+use ghost_cli::sources::find_source;
 use ghost_tools::words::matches_of;
 use gr_base::Memory;
 use gr_outside::{File, Shelf, ShelfError, Sink, SinkFailed, SureShelf};

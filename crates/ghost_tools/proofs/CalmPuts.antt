@@ -2,7 +2,7 @@
 use Rattle.std.proofs.Common.{◌≡◌, ◌≢◌, ◌⊎◌, ℕ, ⊎_elim}
 use Rattle.gr_outside.specs.Sink.{SinkSeen}
 use Rattle.ghost_cli.specs.Outside.{PutsSaid}
-use Rattle.ghost_cli.specs.Texts.{Said, no_memory}
+use Rattle.call_replies.specs.Texts.{Said, no_memory}
 
 pub put-calm : (before after : SinkSeen) (said : Said) (status : ℕ) → PutsSaid before after said status
     → status ≢ 4 → after.faults ≡ before.faults

@@ -4,9 +4,9 @@ use Rattle.gr_outside.specs.Shelf.{ShelfSeen}
 use Rattle.ghost_cli.specs.Outside.{LeavesShelf, OnlyReads}
 use Rattle.ghost_cli.specs.Progress.{NoRoomLeft, Stops, StopsAt}
 use Rattle.ghost_cli.specs.Showing.{nothing_seen}
-use Rattle.ghost_cli.specs.Texts.{Said}
+use Rattle.call_replies.specs.Texts.{Said}
 use Rattle.ghost_cli.specs.Work.{Ends, Ending, IsTooLong, IsUnread, IsVerdict, IsWritten, Work}
-use Rattle.ghost_cli.specs.declared.replies.Verdict.TheVariants.{Accepted}
+use Rattle.call_replies.specs.declared.replies.Verdict.TheVariants.{Accepted}
 
 -- a work that follows a read
 pub any_work : Work

@@ -1,7 +1,7 @@
 ghost use Rattle.std.specs.Prelude.{◌≡◌};
 ghost use Rattle.ghost_tools.specs.declared.case_problems.Problem.TheVariants.{NoMemory};
 
-use ghost_cli::replies::JsonText;
+use call_replies::replies::JsonText;
 use gr_base::Memory;
 use std::alloc::{AllocError, AllocFailed, Global};
 

@@ -3,11 +3,11 @@
 ghost use Rattle.std.specs.Prelude.{◌≡◌, ◌≤◌, IfOk, IfSome, length};
 ghost use Rattle.lt_isa.specs.Ranges.{ProfileFits};
 
+use call_replies::replies::{Reply, Verdict};
 use clap::ArgMatches;
 use command_words::options::{block_log_given, flag_given, value};
 use command_words::windows::{window_given, windowed};
 use flow_types::Typed;
-use ghost_cli::replies::{Reply, Verdict};
 use ghost_cli::sources::find_source;
 use ghost_cli::targets::Target;
 use gr_base::Memory;

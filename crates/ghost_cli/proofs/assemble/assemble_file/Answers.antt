@@ -1,6 +1,6 @@
 use Rattle.std.proofs.Common.{refl, ◌∙◌}
 use Rattle.object_file.specs.Spelling.{spelling}
-use Rattle.ghost_cli.specs.declared.replies.Done.TheVariants.{Assembled}
+use Rattle.call_replies.specs.declared.replies.Done.TheVariants.{Assembled}
 use Rattle.ghost_cli.specs.Progress.{WorkStops}
 use Rattle.ghost_cli.specs.Work.{Writes}
 use Rattle.ghost_cli.proofs.Answering.{passed-on, starved-yet, written-said}

@@ -2,7 +2,7 @@ use Rattle.std.proofs.Common.{List, refl, subst}
 use Rattle.command_words.specs.Pairs.{Pair}
 use Rattle.ghost_cli.specs.Bus.{bus_work, shares_bus}
 use Rattle.ghost_cli.specs.Progress.{HasLeft, Stops, WorkStops}
-use Rattle.ghost_cli.specs.Texts.{said}
+use Rattle.call_replies.specs.Texts.{said}
 use Rattle.ghost_cli.proofs.Answering.{passed-on}
 use Rattle.ghost_cli.proofs.SharedBus.{shared-said}
 use Rattle.ghost_cli.proofs.bus.bus_files.Goals as goal

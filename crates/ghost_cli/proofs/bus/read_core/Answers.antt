@@ -10,7 +10,7 @@ use Rattle.ghost_cli.specs.Bus.{Read, bus_said, on_plan, one_read, with_core}
 use Rattle.ghost_cli.specs.Progress.{HasLeft, Stops}
 use Rattle.ghost_cli.specs.Sharing.{AreRead}
 use Rattle.ghost_cli.specs.Steps.{with_inputs}
-use Rattle.ghost_cli.specs.Texts.{said}
+use Rattle.call_replies.specs.Texts.{said}
 use Rattle.ghost_cli.proofs.Pairing.{core-leads, core-off, core-stops, one-read, read-is, refused-worked, taken-worked}
 use Rattle.ghost_cli.proofs.bus.read_core.Goals as goal
 

@@ -1,6 +1,6 @@
 use Rattle.std.proofs.Common.{◌≡◌, ◌∙◌, List, ℕ, Option, Some, None, Bor, ap, refl}
 use Rattle.std.specs.Option.{option_map}
-use Rattle.ghost_cli.specs.declared.replies.Verdict.TheVariants.{Accepted}
+use Rattle.call_replies.specs.declared.replies.Verdict.TheVariants.{Accepted}
 use Rattle.ghost_cli.specs.Check.{check_work}
 use Rattle.ghost_cli.specs.Progress.{WorkStops}
 use Rattle.ghost_cli.specs.Showing.{nothing_seen}

@@ -1,6 +1,6 @@
 use Rattle.std.proofs.Common.{refl, ◌∙◌}
 use Rattle.lt_assembler.specs.Canonical.{canonical}
-use Rattle.ghost_cli.specs.declared.replies.Done.TheVariants.{Disassembled}
+use Rattle.call_replies.specs.declared.replies.Done.TheVariants.{Disassembled}
 use Rattle.ghost_cli.specs.Progress.{WorkStops}
 use Rattle.ghost_cli.specs.Work.{Writes}
 use Rattle.ghost_cli.proofs.Answering.{passed-on, starved-yet, written-said}

@@ -1,7 +1,7 @@
 use Rattle.std.proofs.Common.{inr, Some, refl, subst}
 use Rattle.lt_checker.specs.declared.checks.CheckError.{CheckError}
 use Rattle.lt_checker.specs.Answers.{IsRefusalOf}
-use Rattle.ghost_cli.specs.declared.replies.Verdict.TheVariants.{Refused}
+use Rattle.call_replies.specs.declared.replies.Verdict.TheVariants.{Refused}
 use Rattle.ghost_cli.proofs.reading.checked.Goals as goal
 
 pub returns-in-Err-Refused-clause-refused : goal.returns-in-Err-Refused-clause-refused

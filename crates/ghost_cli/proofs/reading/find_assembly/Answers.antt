@@ -1,7 +1,7 @@
 use Rattle.std.proofs.Common.{Ok}
 use Rattle.std.proofs.lemmas.Result.{IfErr-weaker, IfOk-weaker, err_from_is_err_and}
 use Rattle.ghost_cli.specs.Work.{Asks}
-use Rattle.ghost_cli.specs.declared.replies.Verdict.TheVariants.{BadAssembly}
+use Rattle.call_replies.specs.declared.replies.Verdict.TheVariants.{BadAssembly}
 use Rattle.ghost_cli.specs.Steps.{or_ends, text_limit}
 use Rattle.ghost_cli.specs.Questions.{WhichAssembly}
 use Rattle.ghost_cli.proofs.Finding.{bytes-found, bytes-refused}

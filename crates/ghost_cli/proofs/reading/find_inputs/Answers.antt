@@ -1,7 +1,7 @@
 use Rattle.std.proofs.Common.{IfErr, ℤ, List, ap, ◌∙◌, subst}
 use Rattle.gr_word.specs.declared.variables.Want.{Want}
 use Rattle.lt_isa.specs.Start.{wants_of}
-use Rattle.ghost_cli.specs.Texts.{said}
+use Rattle.call_replies.specs.Texts.{said}
 use Rattle.ghost_cli.specs.Steps.{with_variables}
 use Rattle.ghost_cli.specs.Progress.{Stops}
 use Rattle.ghost_cli.specs.Work.{Work}

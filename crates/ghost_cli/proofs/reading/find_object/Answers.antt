@@ -2,7 +2,7 @@ use Rattle.std.proofs.Common.{Ok}
 use Rattle.std.proofs.lemmas.Result.{IfErr-weaker, IfOk-weaker, err_from_is_err_and}
 use Rattle.ghost_cli.specs.Objects.{object_limit}
 use Rattle.ghost_cli.specs.Work.{Asks}
-use Rattle.ghost_cli.specs.declared.replies.Verdict.TheVariants.{Malformed}
+use Rattle.call_replies.specs.declared.replies.Verdict.TheVariants.{Malformed}
 use Rattle.ghost_cli.specs.Steps.{or_ends}
 use Rattle.ghost_cli.specs.Questions.{WhichObject}
 use Rattle.ghost_cli.proofs.Finding.{bytes-found, bytes-refused}

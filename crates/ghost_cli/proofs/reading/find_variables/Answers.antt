@@ -1,7 +1,7 @@
 use Rattle.std.proofs.Common.{Ok}
 use Rattle.std.proofs.lemmas.Result.{IfErr-weaker, IfOk-weaker, err_from_is_err_and}
 use Rattle.ghost_cli.specs.Work.{Asks}
-use Rattle.ghost_cli.specs.declared.replies.Verdict.TheVariants.{BadInput}
+use Rattle.call_replies.specs.declared.replies.Verdict.TheVariants.{BadInput}
 use Rattle.ghost_cli.specs.Steps.{input_limit, or_ends}
 use Rattle.ghost_cli.specs.Questions.{WhichInputs}
 use Rattle.ghost_cli.proofs.Finding.{bytes-found, bytes-refused}

@@ -8,7 +8,7 @@ use Rattle.ghost_cli.specs.Compile.{on_compiled}
 use Rattle.ghost_cli.specs.Compiled.{IsCompiledTo}
 use Rattle.ghost_cli.specs.Progress.{EndsWorkWith}
 use Rattle.ghost_cli.specs.Questions.{WhichCompiled}
-use Rattle.ghost_cli.specs.Texts.{said}
+use Rattle.call_replies.specs.Texts.{said}
 use Rattle.ghost_cli.specs.Sampled.{SampleIsReady}
 use Rattle.ghost_cli.proofs.SampleMade.{compile-starved, check-starved, compiled-accepted}
 use Rattle.ghost_cli.proofs.sample.ready.Goals as goal

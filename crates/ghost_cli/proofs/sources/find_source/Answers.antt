@@ -3,7 +3,7 @@ use Rattle.std.proofs.lemmas.Result.{IfErr-weaker, IfOk-weaker, err_from_is_err_
 use Rattle.src_tree.specs.Trees.{source_of}
 use Rattle.ghost_cli.specs.Sources.{source_limit}
 use Rattle.ghost_cli.specs.Work.{Asks}
-use Rattle.ghost_cli.specs.declared.replies.Verdict.TheVariants.{BadSource}
+use Rattle.call_replies.specs.declared.replies.Verdict.TheVariants.{BadSource}
 use Rattle.ghost_cli.specs.Steps.{or_ends}
 use Rattle.ghost_cli.specs.Questions.{WhichSource}
 use Rattle.ghost_cli.proofs.Finding.{bytes-found, bytes-refused}

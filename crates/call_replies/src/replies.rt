@@ -1,7 +1,7 @@
 ghost use Rattle.std.specs.Prelude.{◌≡◌, IfOk, Some};
-ghost use Rattle.ghost_cli.specs.NameText.{name_text};
-ghost use Rattle.ghost_cli.specs.declared.replies.Reply.TheVariants.{NoMemory};
-ghost use Rattle.ghost_cli.specs.Texts.{bus_fault, done_text, figures_text, input_fault, notes_fault, object_fault, said, text_fault, verdict_status, verdict_text};
+ghost use Rattle.call_replies.specs.NameText.{name_text};
+ghost use Rattle.call_replies.specs.declared.replies.Reply.TheVariants.{NoMemory};
+ghost use Rattle.call_replies.specs.Texts.{bus_fault, done_text, figures_text, input_fault, notes_fault, object_fault, said, text_fault, verdict_status, verdict_text};
 
 use crate::name_text::without_hidden;
 use crate::source_faults::SourceFault;

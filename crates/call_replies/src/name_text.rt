@@ -1,6 +1,6 @@
 ghost use Rattle.std.specs.Prelude.{◌≡◌, ◌<◌, ◌≤◌, ◌++◌, ◌∷◌, [], IfOk, OnOk, string_bytes};
 ghost use Rattle.std.specs.Char.{digit_char};
-ghost use Rattle.ghost_cli.specs.NameText.{escaped_char, escaped_unit, is_hidden, shown_char, without_hidden};
+ghost use Rattle.call_replies.specs.NameText.{escaped_char, escaped_unit, is_hidden, shown_char, without_hidden};
 
 use std::alloc::{AllocError, Global};
 
