@@ -1,0 +1,253 @@
+//! The form of compiled code: where expressions, assignments, guards and arms end.
+
+use gr_word::Label;
+use lt_isa::Instr;
+use scratch_alloc::SlotPlan;
+use src_tree::{Decl, Expr, Guard};
+
+/// The code of a program, and what its form depends on.
+#[derive(Clone, Copy)]
+pub struct CompiledCode<'a> {
+    /// The object's instructions.
+    pub code: &'a [Instr],
+    /// The cycles of a branch that is taken.
+    pub taken: u8,
+    /// The program's variables.
+    pub decls: &'a [Decl],
+    /// How the code uses the slots of the scratchpad.
+    pub slots: &'a SlotPlan,
+}
+
+/// A region of two arms: the branch before the first, the jump that ends it, and the place after the second.
+#[derive(Clone, Copy)]
+pub(crate) struct Region {
+    pub(crate) branch: usize,
+    pub(crate) jump: usize,
+    pub(crate) end: usize,
+}
+
+/// Where the arms of a region begin: that of a branch that isn't taken, after instructions that do nothing, and that of one
+/// that is, before such instructions.
+#[derive(Clone, Copy)]
+pub(crate) struct Arms {
+    pub(crate) idle: usize,
+    pub(crate) untaken: usize,
+    pub(crate) taken: usize,
+    pub(crate) idle_again: usize,
+}
+
+impl CompiledCode<'_> {
+    /// Where the code of the statements begins: after the loads of the slots' first blocks.
+    pub(crate) fn body_start(&self) -> usize {
+        let mut start = 0usize;
+        for _ in 0..8 {
+            if self.loads_first(start) {
+                start = start.saturating_add(2);
+            }
+        }
+        start
+    }
+
+    // Whether a slot is loaded with a block of a fixed number at a place.
+    fn loads_first(&self, at: usize) -> bool {
+        match (self.code.get(at), self.code.get(at.saturating_add(1))) {
+            (Some(Instr::Li { rd: 0, .. }), Some(Instr::Ldb { reg: 0, .. })) => true,
+            _ => false,
+        }
+    }
+
+    /// Whether only stores of slots and the halt are left at a place.
+    pub(crate) fn ends_from(&self, at: usize) -> bool {
+        let mut is_over = false;
+        for instruction in self.code.iter().skip(at) {
+            match instruction {
+                Instr::Stb { .. } if !is_over => {}
+                Instr::Halt if !is_over => is_over = true,
+                _ => return false,
+            }
+        }
+        is_over
+    }
+
+    /// The target of a jump or a branch.
+    pub(crate) fn target(&self, at: usize) -> Option<usize> {
+        let offset = match self.code.get(at)? {
+            Instr::Jmp { offset } => *offset,
+            Instr::Br { offset, .. } => *offset,
+            _ => return None,
+        };
+        let target = i64::try_from(at).ok()?.checked_add(i64::from(offset))?;
+        usize::try_from(target).ok()
+    }
+
+    // The first place from one on that ends the code of an expression: a store of a word, a jump, a halt, or a branch
+    // other than one that skips the load of a cached block.
+    fn expression_end(&self, from: usize) -> Option<usize> {
+        let mut tests_cache = false;
+        for (at, instruction) in self.code.iter().enumerate().skip(from) {
+            match instruction {
+                Instr::Stw { .. } | Instr::Jmp { .. } | Instr::Halt => return Some(at),
+                Instr::Br { .. } if !tests_cache => return Some(at),
+                _ => {}
+            }
+            tests_cache = matches!(instruction, Instr::Idb { .. });
+        }
+        None
+    }
+
+    /// The branch after a guard whose code begins at a place.
+    pub(crate) fn guard_end(&self, from: usize) -> Option<usize> {
+        let end = self.expression_end(from)?;
+        match self.code.get(end)? {
+            Instr::Br { .. } => Some(end),
+            _ => None,
+        }
+    }
+
+    // The slot of a variable.
+    fn slot_of(&self, name: &[u8]) -> Option<u8> {
+        let number = number_of(self.decls, name)?;
+        Some(*self.slots.of_var.as_slice().get(number)?)
+    }
+
+    /// The end of an assignment to a variable, whose code begins at a place: after its store, and for an element of an
+    /// array that no slot holds for the whole run after the store of its block.
+    pub(crate) fn assignment_end(
+        &self,
+        name: &[u8],
+        is_element: bool,
+        from: usize,
+    ) -> Option<usize> {
+        let own = self.slot_of(name)?;
+        let store = self.expression_end(from)?;
+        match self.code.get(store)? {
+            Instr::Stw { slot, .. } if *slot == own => {}
+            _ => return None,
+        }
+        let next = store.checked_add(1)?;
+        if !is_element || is_pinned(self.slots, own) {
+            return Some(next);
+        }
+        match self.code.get(next)? {
+            Instr::Stb { slot } if *slot == own => next.checked_add(1),
+            _ => None,
+        }
+    }
+
+    // Whether this many instructions from a place do nothing.
+    fn idles(&self, from: usize, count: usize) -> bool {
+        let mut left = count;
+        for instruction in self.code.iter().skip(from) {
+            if left == 0 {
+                return true;
+            }
+            match instruction {
+                Instr::Nop => left -= 1,
+                _ => return false,
+            }
+        }
+        left == 0
+    }
+
+    /// Whether a guard has a secret variable.
+    pub(crate) fn is_secret_guard(&self, guard: &Guard) -> bool {
+        has_secret(self.decls, &guard.left) || has_secret(self.decls, &guard.right)
+    }
+
+    /// How many statements have their code between two places of an arm.
+    pub(crate) fn statements_between(&self, from: usize, to: usize) -> Option<usize> {
+        let mut at = from;
+        let mut count = 0usize;
+        for _ in 0..self.code.len() {
+            if to <= at {
+                return Some(count);
+            }
+            at = self.statement_end(at)?;
+            count = count.saturating_add(1);
+        }
+        None
+    }
+
+    // The end of the code of a statement of an arm.
+    fn statement_end(&self, from: usize) -> Option<usize> {
+        let end = self.expression_end(from)?;
+        let next = end.checked_add(1)?;
+        match self.code.get(end)? {
+            Instr::Stw { .. } => match self.code.get(next)? {
+                Instr::Stb { .. } => next.checked_add(1),
+                _ => Some(next),
+            },
+            Instr::Br { .. } => Some(self.region_at(end)?.end),
+            _ => None,
+        }
+    }
+
+    /// The region of two arms after a branch.
+    pub(crate) fn region_at(&self, branch: usize) -> Option<Region> {
+        let taken = self.target(branch)?;
+        let jump = taken.checked_sub(1)?;
+        match self.code.get(jump)? {
+            Instr::Jmp { .. } => {}
+            _ => return None,
+        }
+        let end = self.target(jump)?;
+        if jump <= branch || end <= jump {
+            return None;
+        }
+        Some(Region { branch, jump, end })
+    }
+
+    /// Where the arms of a region begin, and where the instructions that do nothing are.
+    pub(crate) fn arms_of(&self, region: Region) -> Option<Arms> {
+        let taken = usize::from(self.taken);
+        let arms = Arms {
+            idle: region.branch.checked_add(1)?,
+            untaken: region.branch.checked_add(taken)?,
+            taken: region.jump.checked_add(1)?,
+            idle_again: region.end.checked_sub(taken)?,
+        };
+        if self.idles(arms.idle, taken.checked_sub(1)?) && self.idles(arms.idle_again, taken) {
+            Some(arms)
+        } else {
+            None
+        }
+    }
+}
+
+// Whether an expression has a secret variable.
+fn has_secret(decls: &[Decl], e: &Expr) -> bool {
+    match e {
+        Expr::Num(_) => false,
+        Expr::Var(name) => is_secret(decls, name.bytes()),
+        Expr::Item(name, index) => is_secret(decls, name.bytes()) || has_secret(decls, index),
+        Expr::Bin(_, left, right) => has_secret(decls, left) || has_secret(decls, right),
+    }
+}
+
+fn is_secret(decls: &[Decl], name: &[u8]) -> bool {
+    match number_of(decls, name) {
+        Some(number) => match decls.get(number) {
+            Some(decl) => decl.label == Label::Secret,
+            None => false,
+        },
+        None => false,
+    }
+}
+
+// Whether a slot holds one block for the whole run.
+fn is_pinned(slots: &SlotPlan, slot: u8) -> bool {
+    match slots.pins.get(usize::from(slot)) {
+        Some(pin) => pin.is_some(),
+        None => false,
+    }
+}
+
+// The number of the variable of a name, in the order of declaration.
+fn number_of(decls: &[Decl], name: &[u8]) -> Option<usize> {
+    for (number, decl) in decls.iter().enumerate() {
+        if decl.name.bytes() == name {
+            return Some(number);
+        }
+    }
+    None
+}
