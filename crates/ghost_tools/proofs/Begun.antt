@@ -1,5 +1,5 @@
 -- What is proved of the trace of a machine that has just begun is proved of the object's run on the inputs.
-use Rattle.std.proofs.Common.{◌≡◌, ℕ, ℤ, List, Result, IfOk, ap, ◌∙◌, subst}
+use Rattle.std.proofs.Common.{◌≡◌, ℕ, ℤ, List, Result, IfOk, refl, ap, ◌∙◌, subst}
 use Rattle.lt_isa.specs.Machine.{State}
 use Rattle.lt_isa.specs.Object.{Parts}
 use Rattle.lt_isa.specs.Start.{start_state, trace}
@@ -28,3 +28,19 @@ pub counts-begun : {E : Type 0} (o : Parts) (inputs : List (List ℤ)) (n : ℕ)
     → IfOk result (λ tally. CountsEvents tally (trace o inputs n))
 counts-begun o inputs n p s same start result is =
     subst (λ l. IfOk result (λ tally. CountsEvents tally l)) (trace-begun o inputs n p s same start) is
+
+-- what is proved of a machine that has just begun, of any kind
+pub begun-is : {X E : Type 0} (P : Parts → State → X → Type 0) (o : Parts) (inputs : List (List ℤ)) (p : Parts) (s : State)
+    → p ≡ o → s ≡ start_state o inputs → (result : Result X E) → IfOk result (P p s)
+    → IfOk result (P o (start_state o inputs))
+begun-is P o inputs p s same start result is =
+    subst (λ t. IfOk result (P o t)) start (subst (λ q. IfOk result (P q s)) same is)
+
+-- a run begins at the first place and cycle
+pub first-place : (o : Parts) (inputs : List (List ℤ)) → (start_state o inputs).place ≡ 0
+unfolding start_state
+first-place o inputs = refl
+
+pub first-cycle : (o : Parts) (inputs : List (List ℤ)) → (start_state o inputs).cycle ≡ 0
+unfolding start_state
+first-cycle o inputs = refl

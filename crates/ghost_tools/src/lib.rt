@@ -1,5 +1,6 @@
 //! Tools over the machine and the compiler: [`diff`] compares the traces of two runs, [`count`] counts the events of
-//! one, [`layout`] prints where the compiler stores each variable and why, and [`test`] tries a program on cases.
+//! one, [`layout`] prints where the compiler stores each variable and why, [`profile`] prints what each line of a
+//! program costs, and [`test`] tries a program on cases.
 //!
 //! [`compare`] and [`count_events`] say what their results mean of the traces, by the machine's own definitions. Both
 //! read a trace window by window of cycles, so that the memory needed doesn't grow with the trace. No tool writes a file.
@@ -14,6 +15,8 @@ pub mod diff_tool;
 pub mod differences;
 mod expectations;
 pub mod layout_tool;
+mod profile_lines;
+pub mod profile_tool;
 mod reasons;
 pub mod recorder;
 pub mod reports;
@@ -31,4 +34,5 @@ pub use count_tool::count;
 pub use counting::{Tally, count_events};
 pub use diff_tool::diff;
 pub use layout_tool::layout;
+pub use profile_tool::profile;
 pub use test_tool::test;

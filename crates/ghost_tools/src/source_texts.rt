@@ -80,6 +80,39 @@ impl SourceText {
         }
     }
 
+    // Whether a statement begins at a token. In their order statements have their numbers.
+    fn begins_statement(&self, at: usize) -> bool {
+        if self.is(at, "if") || self.is(at, "while") {
+            return true;
+        }
+        self.is_name(at) && self.follows_end(at)
+    }
+
+    // Whether a declaration, a statement or a block ends before a token.
+    fn follows_end(&self, at: usize) -> bool {
+        match at.checked_sub(1) {
+            Some(before) => matches!(self.word(before), b";" | b"{" | b"}"),
+            None => true,
+        }
+    }
+
+    /// The line of each statement, from 0, in order.
+    pub(crate) fn statement_lines(&self, alloc: Global) -> Result<Vec<u32>, Memory> {
+        let mut lines = Vec::new(alloc);
+        let mut reached = 0usize;
+        let mut line: u32 = 0;
+        for (at, token) in self.tokens.iter().enumerate() {
+            let start = token.start as usize;
+            let between = piece(&self.text, reached, start.saturating_sub(reached));
+            line = line.saturating_add(line_feeds(between));
+            reached = start;
+            if self.begins_statement(at) {
+                lines.push(line)?;
+            }
+        }
+        Ok(lines)
+    }
+
     /// The first access with a secret index to each variable that has one, in the order of declaration.
     pub(crate) fn secret_accesses<'a>(
         &'a self,
@@ -171,6 +204,16 @@ fn tokens_of(alloc: Global, text: &[u8]) -> Result<Vec<Token>, Memory> {
         Err(LexError::Memory) => Err(Memory),
         Err(_) => Ok(Vec::new(alloc)),
     }
+}
+
+fn line_feeds(text: &[u8]) -> u32 {
+    let mut count: u32 = 0;
+    for byte in text {
+        if *byte == b'\n' {
+            count = count.saturating_add(1);
+        }
+    }
+    count
 }
 
 // Keeps the first access to the variable of a number.

@@ -40,6 +40,15 @@ pub const TEST: VerbWords<'static> = VerbWords {
     flags: &["procs", "fast"],
 };
 
+/// The words that `profile` takes.
+pub const PROFILE: VerbWords<'static> = VerbWords {
+    name: "profile",
+    place: Argument::Word,
+    places: &["SRC", "INPUT"],
+    options: &["block-log", "window", "cycles"],
+    flags: &["procs", "fast"],
+};
+
 /// What a tool finds in the words, its name first, or `None` if they don't fit.
 pub fn matches_of<'a>(
     alloc: Global,
