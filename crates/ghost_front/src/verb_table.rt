@@ -10,7 +10,7 @@ pub struct VerbHelp {
 }
 
 /// The verbs, in the order in which `help` lists them.
-pub(crate) const VERBS: [VerbHelp; 15] = [
+pub(crate) const VERBS: [VerbHelp; 16] = [
     VerbHelp {
         usage: "check OBJ",
         text: "    Checks an object file and prints whether it is accepted.\n",
@@ -78,6 +78,11 @@ pub(crate) const VERBS: [VerbHelp; 15] = [
             secret index that makes an array oblivious, or the slot of the scratchpad.\n",
     },
     VerbHelp {
+        usage: "profile SRC INPUT [--fast] [--block-log W] [--window P:O:C] [--procs] [--cycles N]",
+        text: "    Compiles and runs a program and prints for each of its lines the cycles, the accesses to\n    \
+            memory, and how many of the cycles only pad the arms of branches on secrets.\n",
+    },
+    VerbHelp {
         usage: "test SRC CASES [--fast] [--block-log W] [--window P:O:C] [--procs] [--cycles N]",
         text: "    Compiles a program and tries it on cases, one a line of CASES: inputs, and outputs that are\n    \
             expected. It prints each case whose run leaves other outputs, or differs from the evaluation,\n    \
@@ -97,11 +102,11 @@ pub(crate) const NOTES: &str =
     4294967295; the default is 1000000000. S is the seed of the random words of oblivious banks, from 0\n\
     to 18446744073709551615; the default is 0. W is from 3 to 9; the default is 9. A file to read may be\n\
     `-`, standard input; if OUT is `-`, the file goes to standard output, and the verb's line to standard\n\
-    error. Exit status: 0 done, 1 traces differ (diff) or a case fails (test), 2 usage error, 3 a file\n\
-    couldn't be read, 4 output couldn't be written, 5 out of memory, 6 not an object file, 7 object\n\
-    rejected, 8 source rejected, 9 inputs don't fit, 10 cycles or iterations are spent, 11 file too long,\n\
-    12 not an assembly text, 13 object can't be a core of the bus; of the script only 69 no toolchain to\n\
-    build with, 70 the build failed.\n";
+    error. Exit status: 0 done, 1 traces differ (diff), a case fails (test) or code has an unknown form\n\
+    (profile), 2 usage error, 3 a file couldn't be read, 4 output couldn't be written, 5 out of memory,\n\
+    6 not an object file, 7 object rejected, 8 source rejected, 9 inputs don't fit, 10 cycles or\n\
+    iterations are spent, 11 file too long, 12 not an assembly text, 13 object can't be a core of the bus;\n\
+    of the script only 69 no toolchain to build with, 70 the build failed.\n";
 
 /// The name of a verb: the first word of its usage.
 pub(crate) fn name_of(verb: VerbHelp) -> &'static str {
