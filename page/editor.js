@@ -3,6 +3,7 @@
 // only, so a carriage return stays in the text, as does a byte order mark. Tab moves the focus on.
 
 const Editor = (() => {
+  const COSTS = 'line-costs';
   const COMMENTS = { source: /^\/\/.*/, assembly: /^;.*/ };
 
   // colours the words of a source or of an assembly text
@@ -20,6 +21,7 @@ const Editor = (() => {
 
   let code = null;
   let marks = [];
+  let hasCosts = false;
 
   function make(parent, edited) {
     code = CodeMirror(parent, {
@@ -48,7 +50,27 @@ const Editor = (() => {
     if (code.getOption('readOnly') !== readOnly) code.setOption('readOnly', readOnly);
   }
 
+  // writes what each line costs into a gutter of its own
+  function showCosts(costs) {
+    code.setOption('gutters', ['CodeMirror-linenumbers', COSTS]);
+    for (const { number, words, title } of costs) {
+      if (number <= code.lineCount()) {
+        const item = document.createElement('span');
+        item.className = 'line-cost';
+        item.title = title;
+        item.textContent = words;
+        code.setGutterMarker(number - 1, COSTS, item);
+      }
+    }
+    hasCosts = true;
+  }
+
   function clear() {
+    if (hasCosts) {
+      code.clearGutter(COSTS);
+      code.setOption('gutters', ['CodeMirror-linenumbers']);
+      hasCosts = false;
+    }
     for (const { mark, line } of marks) {
       mark.clear();
       code.removeLineClass(line, 'gutter', 'fault-line');
@@ -96,6 +118,7 @@ const Editor = (() => {
     open,
     mark,
     clear,
+    showCosts,
     textFrom,
     setForm,
     goTo,

@@ -5,6 +5,7 @@
 
 function ghostEngine() {
   const MOST_TEXT = 2 ** 29;          // bytes of text that a call may put
+  const USAGE = 2;                    // the status of words that fit no verb
   const coder = new TextEncoder();
   const decoder = new TextDecoder();
   let module = null;
@@ -104,6 +105,20 @@ function ghostEngine() {
     exports.ghost_explain(...given, text, BigInt(room), answer);
     const { status: ended, textLength } = told(answer);
     return ended === 0 && textLength <= room ? decoder.decode(bytesAt(text, textLength)) : '';
+  }
+
+  // What the tool `layout` or `profile` prints, and its status. A module that was made without the tools fails as if
+  // they were unknown.
+  function tool(words, program, input) {
+    const { exports, put, bytesAt, told } = instance();
+    if (!exports.ghost_tool) return { status: USAGE, text: '' };
+    const given = [coder.encode(words.join('\n')), bytesOf(program), bytesOf(input)].flatMap(put);
+    const room = roomOf(22);
+    const text = roomIn(exports, room);
+    const answer = roomIn(exports, 24);
+    exports.ghost_tool(...given, text, BigInt(room), answer);
+    const { status, textLength } = told(answer);
+    return { status, text: decoder.decode(bytesAt(text, Math.min(textLength, room))) };
   }
 
   // ---- traces
@@ -208,7 +223,7 @@ function ghostEngine() {
     return one.kinds.length === two.kinds.length && one.end === two.end ? null : shared;
   }
 
-  return { load, call, explain, traceOf, firstDifference, lineOf, NoMemory };
+  return { load, call, explain, tool, traceOf, firstDifference, lineOf, NoMemory };
 }
 
 if (typeof module === 'object') module.exports = ghostEngine;

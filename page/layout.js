@@ -53,8 +53,30 @@ const Layout = (() => {
     if (!held.length) made(item, 'span', { class: 'quiet' }, 'free');
   }
 
-  // shows the banks, and of a compiled object the reasons of the places
-  function show(parent, layout, job) {
+  // the reason of each variable's place, by its name, from the lines of the tool `layout`
+  function reasonsIn(lines) {
+    const found = (lines || '').split('\n').map((line) => /^\w+ (\w+)[^;]*; (.*)$/.exec(line)).filter(Boolean);
+    return new Map(found.map(([, name, reason]) => [name, reason]));
+  }
+
+  // shows why the variables of a bank are there
+  function because(part, layout, bank, found) {
+    const held = layout.symbols.filter((it) => it.bank === bank && found.has(it.name));
+    if (!held.length) return;
+    const list = made(part, 'ul', { class: 'reasons' });
+    for (const { name, label } of held.slice(0, MOST_BOXES)) {
+      const item = made(list, 'li');
+      made(item, 'span', { class: label }, name);
+      made(item, 'span', {}, `: ${found.get(name)}`);
+    }
+    if (held.length > MOST_BOXES) {
+      made(list, 'li', { class: 'quiet' }, `and ${counted(held.length - MOST_BOXES, 'more variable')}`);
+    }
+  }
+
+  // shows the banks, and of a compiled object the reasons of the places; `lines` is what the tool `layout` prints
+  function show(parent, layout, job, lines) {
+    const found = reasonsIn(lines);
     const reasons = job.form === 'source' ? REASONS[job.options.fast ? 'scratchpad' : 'memory'] : [];
     made(parent, 'h2', {}, 'Where the variables are');
     const banks = made(parent, 'div', { id: 'layout' });
@@ -71,6 +93,7 @@ const Layout = (() => {
       if (boxes.length > MOST_BOXES) {
         made(part, 'p', { class: 'quiet' }, `and ${counted(boxes.length - MOST_BOXES, 'more group')} of blocks`);
       }
+      because(part, layout, bank, found);
     });
   }
 

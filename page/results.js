@@ -8,6 +8,8 @@ const Results = (() => {
   const MOST_OUTPUT = 65_536;         // bytes of a run's outputs that are shown
   const MOST_LISTED = 100;            // words of a list in them
 
+  const COSTS = 'Beside each line are its cycles, and in brackets how many of them only pad.';
+
   let urls = [];
 
   function clear() {
@@ -39,13 +41,13 @@ const Results = (() => {
 
   const SHOWS = {
     check(result, job) {
-      Layout.show(at('shown'), result.layout, job);
+      Layout.show(at('shown'), result.layout, job, result.reasons);
       return ['good', ['Accepted: the memory bus shows only public data in each of its runs.']];
     },
     compile(result, job) {
       heading(`The object as assembly: ${counted(result.listing.starts.length, 'line')}`);
       Listing.show(at('shown'), result.listing, 'listing', 'The object as assembly');
-      Layout.show(at('shown'), result.layout, job);
+      Layout.show(at('shown'), result.layout, job, result.reasons);
       offer('save-listing', result.listing.bytes, 'text/plain', `${job.base}.asm`, 'Save the assembly');
       return ['good', [`The object has ${grouped(result.object.length)} bytes.`]];
     },
@@ -56,7 +58,7 @@ const Results = (() => {
         offer(`save-output-${run + 1}`, bytes, 'application/json', `${job.base}-${run + 1}.json`,
           `Save the outputs of run ${run + 1}`);
       });
-      return ['good', ['Both runs are done.']];
+      return ['good', ['Both runs are done.', ...(result.profiles ? [COSTS] : [])]];
     },
     trace(result, job) {
       const verdict = Difference.verdictOf(result);
@@ -86,6 +88,7 @@ const Results = (() => {
     offer('save', result.object, 'application/octet-stream', `${job.base}.obj`,
       `Save the object (${grouped(result.object.length)} bytes)`);
     const [tone, sentences] = SHOWS[job.verb](result, job);
+    if (result.profiles && !isStale) Editor.showCosts(Profile.marksOf(result.profiles));
     Verdict.say(tone, sentences, result.done.reduce((sum, step) => sum + step.milliseconds, 0));
   }
 

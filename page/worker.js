@@ -29,14 +29,40 @@ function ghostWorker(engine, objects, marks, tell) {
       throw step;
     }
 
-    made() {
-      const { form, program, options } = this.job;
-      if (form === 'object') return program;
-      if (form === 'assembly') return this.call('assemble', ['asm', 'program', 'output'], program).output;
+    // the options of a compilation
+    compilation() {
+      const { options } = this.job;
       const size = options.blockLog ? ['--block-log', options.blockLog] : [];
       const procedures = options.procedures ? ['--procs'] : [];
       const fast = options.fast ? ['--fast'] : [];
-      return this.call('compile', ['compile', 'program', 'output', ...size, ...fast, ...procedures], program).output;
+      return [...size, ...fast, ...procedures];
+    }
+
+    made() {
+      const { form, program } = this.job;
+      if (form === 'object') return program;
+      if (form === 'assembly') return this.call('assemble', ['asm', 'program', 'output'], program).output;
+      return this.call('compile', ['compile', 'program', 'output', ...this.compilation()], program).output;
+    }
+
+    // what a tool prints about a source; null for other programs, and if the tool fails
+    told(words, input, good = [0]) {
+      if (this.job.form !== 'source') return null;
+      const { status, text } = engine.tool([...words, ...this.compilation()], this.job.program, input);
+      return good.includes(status) ? text : null;
+    }
+
+    // why each variable is where it is
+    reasons() {
+      return this.told(['layout', 'program']);
+    }
+
+    // What each line costs in both runs. The lines of a source with procedures would be those of another text.
+    profiles() {
+      if (this.job.options.procedures) return null;
+      const words = ['profile', 'program', 'input', '--cycles', this.job.options.cycles];
+      const tables = this.job.inputs.map((input) => this.told(words, input, [0, STATUS_SPENT]));
+      return tables.includes(null) ? null : tables;
     }
 
     checked() {
@@ -53,20 +79,21 @@ function ghostWorker(engine, objects, marks, tell) {
     }
 
     check() {
-      return { object: this.checked() };
+      const object = this.checked();
+      return { object, reasons: this.reasons() };
     }
 
     compile() {
       const object = this.made();
       const { output } = this.call('disassemble', ['dis', 'program', 'output'], object);
-      return { object, listing: { bytes: output, starts: startsOf(output) } };
+      return { object, reasons: this.reasons(), listing: { bytes: output, starts: startsOf(output) } };
     }
 
     run() {
       const { object, steps } = this.both('run',
         () => ['run', 'program', 'input', 'output', '--cycles', this.job.options.cycles]);
       const outputs = steps.map(({ text, output }) => ({ said: decoder.decode(text).trim(), bytes: output }));
-      return { object, outputs };
+      return { object, outputs, profiles: this.profiles() };
     }
 
     trace() {

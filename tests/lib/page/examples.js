@@ -106,4 +106,21 @@ async function scratchpad(user) {
   await user.browser.key('Home');
 }
 
-module.exports = [opens, examples, leaks, paths, scratchpad];
+// the reason of each place, and what each line costs
+async function reasons(user) {
+  await user.chooses('heappop.gr');
+  await user.presses('check');
+  const why = await user.value("[...document.querySelectorAll('.reasons li')].map((it) => it.textContent).join()");
+  user.says(/h: oblivious: the index of h\[.*\] at \d+:\d+ is secret; an access takes \d+ cycles/.test(why),
+    'each variable has the reason of its place', why);
+  const beside = () => user.value("[...document.querySelectorAll('.line-cost')].map((it) => it.textContent).join(';')");
+  await user.chooses('findmax.gr');
+  await user.presses('run');
+  const costs = await beside();
+  user.says(/(^|;)[\d ,.\u00a0\u202f]+ \([\d ,.\u00a0\u202f]+\)/.test(costs),
+    'a run writes the cycles of each line beside it, and how many pad', costs);
+  await user.presses('check');
+  user.says(await beside() === '', 'and the next job takes them away', await beside());
+}
+
+module.exports = [opens, examples, leaks, paths, scratchpad, reasons];
