@@ -132,12 +132,35 @@ static bool is_masked(const struct variable *array)
     return !is_oblivious(array) && (length & (length - 1)) == 0;
 }
 
+/* Whether an index is compared with the length of its array before the remainder is taken. */
+static bool is_compared(const struct emitter *emitter, const struct variable *array, const struct expr *index, enum mode mode)
+{
+    return emitter->is_fast && array->is_resident && mode == IN_PUBLIC && !is_masked(array) && !index->is_secret;
+}
+
+/* The index in a register becomes its remainder by a length. If it is below the length, nothing is done: 2^63 less, so that
+ * signed numbers compare as unsigned ones, it is below the length less 2^63. */
+static void put_compared(struct emitter *emitter, uint32_t length, unsigned to, uint32_t mask)
+{
+    put_constant(emitter, to + 1, INT64_MIN);
+    put_plain(emitter, ADD, to + 1, to + 1, to);
+    put_constant(emitter, to + 2, INT64_MIN + (int64_t)length);
+    put(emitter, (struct instruction){.opcode = BR_LT, .a = (uint8_t)(to + 1), .b = (uint8_t)(to + 2), .offset = 3});
+    put_constant(emitter, to + 1, length);
+    put_plain(emitter, REMU, to, to, to + 1);
+    put_note(emitter, without(mask, to));
+}
+
 /* Leaves the number of the word of an array that an index names in a register. */
 static void put_word(struct emitter *emitter, const struct variable *array, const struct expr *index, unsigned to,
                      enum mode mode, uint32_t mask)
 {
     const uint32_t length = array->symbol.length;
     put_expr(emitter, index, to, mode, mask);
+    if (is_compared(emitter, array, index, mode)) {
+        put_compared(emitter, length, to, mask);
+        return;
+    }
     put_constant(emitter, to + 1, is_masked(array) ? length - 1 : length);
     put_plain(emitter, is_masked(array) ? AND : REMU, to, to, to + 1);
 }

@@ -1,10 +1,10 @@
 -- The labels of the registers in the public code of an access: the number of the word, that of its block, and the load.
-use Rattle.std.proofs.Common.{◌≡◌, ℕ, zero, suc, ◌+◌, ◌-◌, ◌<◌, ◌≤◌, Bool, true, false, not, ◌||◌, ◌&&◌, ◌==◌, ℤ, pos, List, [], ◌∷◌, ◌++◌, length, Some, refl, sym, ap, ◌∙◌, subst, arith}
+use Rattle.std.proofs.Common.{◌≡◌, ℕ, zero, suc, ◌+◌, ◌-◌, ◌<◌, ◌≤◌, Bool, true, false, not, ◌||◌, ◌&&◌, ◌==◌, ℤ, pos, ◌+ℤ◌, List, [], ◌∷◌, ◌++◌, length, Some, refl, sym, ap, ◌∙◌, subst, arith}
 use Rattle.std.specs.Prelude.{if◌then◌else◌}
 use Rattle.std.proofs.lemmas.Bool.{ne_eqb}
 use Rattle.gr_word.specs.declared.operations.Op.{Op}
 use Rattle.gr_word.specs.declared.operations.Op.TheVariants.{Add, Remu, And, Shr}
-use Rattle.gr_word.specs.declared.operations.Cmp.TheVariants.{Eq}
+use Rattle.gr_word.specs.declared.operations.Cmp.TheVariants.{Eq, Lt}
 use Rattle.lt_isa.specs.declared.instructions.Instr.{Instr}
 use Rattle.lt_isa.specs.declared.instructions.Instr.TheVariants.{Li, Alu}
 use Rattle.lt_isa.specs.Object.{Parts}
@@ -12,7 +12,7 @@ use Rattle.trace_patterns.specs.Known.{Known, is_secret, bank_known, set_secret,
 use Rattle.trace_patterns.specs.Rules.{Falls, shows_block, claimed_at}
 use Rattle.stretches.proofs.Passed.{GoesOn, NoMore, One, goes-then, rules-li, rules-alu, rules-idb, rules-ldb, branch-falls, secret-same, secret-other}
 use Rattle.block_cache_gen.specs.Homes.{Home}
-use Rattle.block_cache_gen.specs.Codes.{is_masked, reduced_code, offset_code, shift_code, fixed_code, load_code}
+use Rattle.block_cache_gen.specs.Codes.{is_masked, least_word, compared_code, reduced_code, offset_code, shift_code, fixed_code, load_code}
 use Rattle.block_cache_gen.proofs.KeptRegisters.{SameBelow, same-itself, same-set, same-then, or_false}
 
 -- After straight code a register and the next have a label, and the registers below are as before.
@@ -131,22 +131,114 @@ module _ (o : Parts) (to : ℕ) (low : to + 2 < 32) where
         (One (p + 1 + 1 + 1) _ _ three _ _ (rules-alu o (p + 1 + 1 + 1) three Add (to + 1) (to + 1) (to + 2))
         (NoMore (p + 1 + 1 + 1 + 1) _))))
 
-  -- the place of a resident array's word in its block
-  pub placed-numbered : (h : Home) (p : ℕ) (k : Known) → length k.secret ≡ 32
-      → Placed o p (reduced_code h to ++ offset_code h to) to k (is_secret k to)
-  placed-numbered h p k sized =
-      let mid = reduced_known k sized in
-      let first = reduced_same k sized in
-      let size : length mid.secret ≡ 32 = first.sized ∙ sized in
-      record {
-        after = reduced_known mid size;
-        goes
-            = goes-then o p (reduced_code h to) (offset_code h to) k mid (reduced_known mid size)
-            (reduced_by k sized h p (is_masked h))
-            (applied_by mid size Add (pos h.word) (p + length (reduced_code h to)));
-        same = same-then to k mid (reduced_known mid size) first (reduced_same mid size);
-        word_is = reduced_word mid size ∙ reduced_word k sized;
-      }
+  -- without a comparison
+  pub reduced-numbered : (h : Home) (p : ℕ) (k : Known) → length k.secret ≡ 32
+      → Placed o p (reduced_code h to) to k (is_secret k to)
+  reduced-numbered h p k sized = record {
+    after = reduced_known k sized;
+    goes = reduced_by k sized h p (is_masked h);
+    same = reduced_same k sized;
+    word_is = reduced_word k sized;
+  }
+
+  -- the number of a resident array's first word is added
+  pub offset-numbered : (h : Home) (p : ℕ) (k : Known) → length k.secret ≡ 32
+      → Placed o p (offset_code h to) to k (is_secret k to)
+  offset-numbered h p k sized = record {
+    after = reduced_known k sized;
+    goes = applied_by k sized Add (pos h.word) p;
+    same = reduced_same k sized;
+    word_is = reduced_word k sized;
+  }
+
+  -- A comparison of a public index with the length, and the remainder if it isn't below it.
+  module _ (h : Home) (k : Known) (sized : length k.secret ≡ 32) (public : is_secret k to ≡ false) where
+    -- what is known at the branch
+    pub compared_known : Known
+    compared_known =
+        let one = set_secret k (to + 1) false in
+        let two = set_secret one (to + 1) (is_secret one (to + 1) || is_secret one to) in
+        set_secret two (to + 2) false
+
+    -- the lower registers are as before, and so is the index
+    pub compared_same : SameBelow (to + 1) k compared_known
+    unfolding compared_known
+    compared_same =
+        let one = set_secret k (to + 1) false in
+        let two = set_secret one (to + 1) (is_secret one (to + 1) || is_secret one to) in
+        same-set (to + 1) k two (to + 2) false (omega arith)
+        (same-set (to + 1) k one (to + 1) _ (omega arith)
+        (same-set (to + 1) k k (to + 1) false (omega arith) (same-itself (to + 1) k)))
+
+    pub compared_word : is_secret compared_known to ≡ false
+    compared_word = compared_same.registers to (omega arith) ∙ public
+
+    -- what is compared is public
+    compared_sum : is_secret compared_known (to + 1) ≡ false
+    unfolding compared_known
+    compared_sum =
+        let one = set_secret k (to + 1) false in
+        let sum = is_secret one (to + 1) || is_secret one to in
+        let two = set_secret one (to + 1) sum in
+        let size : length one.secret ≡ 32 =
+        (same-set to k k (to + 1) false (omega arith) (same-itself to k)).sized ∙ sized in
+        secret-other two (to + 2) (to + 1) false (λ e. absurd (omega arith))
+        ∙ secret-same one (to + 1) sum (omega arith)
+        ∙ ap (λ (b : Bool). b || is_secret one to) (secret-same k (to + 1) false (omega arith))
+        ∙ secret-other k (to + 1) to false (λ e. absurd (omega arith))
+        ∙ public
+
+    compared_length : is_secret compared_known (to + 2) ≡ false
+    unfolding compared_known
+    compared_length =
+        let one = set_secret k (to + 1) false in
+        let sum = is_secret one (to + 1) || is_secret one to in
+        let two = set_secret one (to + 1) sum in
+        let first = same-set to k k (to + 1) false (omega arith) (same-itself to k) in
+        let second = same-set to k one (to + 1) sum (omega arith) first in
+        let size : length two.secret ≡ 32 = second.sized ∙ sized in
+        secret-same two (to + 2) false (omega arith)
+
+    compared_sized : length compared_known.secret ≡ 32
+    compared_sized = compared_same.sized ∙ sized
+
+    -- what is known after the remainder
+    pub divided_known : Known
+    divided_known = reduced_known compared_known compared_sized
+
+    pub divided_same : SameBelow to k divided_known
+    unfolding divided_known
+    divided_same =
+        same-then to k compared_known (reduced_known compared_known compared_sized)
+        (record {
+          sized = compared_same.sized;
+          count = compared_same.count;
+          registers = λ r lt. compared_same.registers r (omega arith);
+          slots = compared_same.slots;
+        })
+        (reduced_same compared_known compared_sized)
+
+    pub divided_word : is_secret divided_known to ≡ false
+    unfolding divided_known
+    divided_word = reduced_word compared_known compared_sized ∙ compared_word
+
+    -- both are passed: what is known after the comparison fits the claim of the note that follows
+    pub compared-by : (p : ℕ) (claimed : Known) → p + 6 < length o.code → claimed_at o (p + 6) ≡ Some claimed
+        → FitsClaim compared_known claimed → GoesOn o p (compared_code h to) k divided_known
+    unfolding compared_known divided_known
+    compared-by p claimed inside noted fit =
+        let one = set_secret k (to + 1) false in
+        let two = set_secret one (to + 1) (is_secret one (to + 1) || is_secret one to) in
+        let three = set_secret two (to + 2) false in
+        let target : (p + 1 + 1 + 1) + 3 ≡ p + 6 = omega arith in
+        One p _ _ k one _ (rules-li o p k (to + 1) least_word)
+        (One (p + 1) _ _ one two _ (rules-alu o (p + 1) one Add (to + 1) (to + 1) to)
+        (One (p + 1 + 1) _ _ two three _ (rules-li o (p + 1 + 1) two (to + 2) (least_word +ℤ pos h.length))
+        (One (p + 1 + 1 + 1) _ _ three three _
+        (branch-falls o (p + 1 + 1 + 1) three claimed Lt (to + 1) (to + 2) (pos 3) compared_sum compared_length
+        (subst (λ (q : ℕ). q < length o.code) (sym target) inside)
+        (subst (λ (q : ℕ). claimed_at o q ≡ Some claimed) (sym target) noted) fit)
+        (applied_by three compared_sized Remu (pos h.length) (p + 1 + 1 + 1 + 1)))))
 
   -- both
   pub numbered : (block_log : ℕ) (h : Home) (p : ℕ) (k : Known) → length k.secret ≡ 32

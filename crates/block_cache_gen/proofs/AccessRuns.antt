@@ -284,15 +284,15 @@ module _ (o : Parts) (fits : IsInRange o) (f : Setting) (homes : HasHomes o f) (
       (λ t shape found. found)
 
   -- the whole access
-  pub runs-access : (mode : Mode) (to : ℕ) (i : Tree) (s : State) → IsShaped o s → StandsFor f s store → to + 2 < 32
+  pub runs-access : (near : Bool) (mode : Mode) (to : ℕ) (i : Tree) (s : State) → IsShaped o s → StandsFor f s store → to + 2 < 32
       → RunsIndex mode to i s → StandsAt o s.place
-      (access_by false f.profile.block_log mode (home_of f x) to (fixed_index (home_of f x) i) (expr_code f mode to i))
+      (access_by false near f.profile.block_log mode (home_of f x) to (fixed_index (home_of f x) i) (expr_code f mode to i))
       → RunsThrough o s
-      (access_by false f.profile.block_log mode (home_of f x) to (fixed_index (home_of f x) i) (expr_code f mode to i))
+      (access_by false near f.profile.block_log mode (home_of f x) to (fixed_index (home_of f x) i) (expr_code f mode to i))
       (seen_of_all mode s.banks s.slots (accesses f store i ++ access_of f store x (evaluated f.decls store i) ∷ []))
       (Accesses f store (accesses f store i)
       (access_of f store x (evaluated f.decls store i)) to (word_number f store x (evaluated f.decls store i)) s)
-  runs-access mode to i s shaped stands small run at =
+  runs-access near mode to i s shaped stands small run at =
       let h = home_of f x in
       let home = homes.arrays x label known turn in
       let w = words_a_block f in

@@ -21,11 +21,12 @@ use Rattle.stretches.proofs.ArmCode.{Walked, walked-none, walked-then}
 use Rattle.block_cache_gen.specs.declared.frames.Mode.{Mode}
 use Rattle.block_cache_gen.specs.declared.frames.Mode.TheVariants as modes
 use Rattle.block_cache_gen.specs.Homes.{Setting, home_of, pin_of, HasHomes}
-use Rattle.block_cache_gen.specs.Codes.{may_skip_loads, fixed_index, expr_code, access_by, placed_code, store_code, stored_code, set_code}
+use Rattle.block_cache_gen.specs.Codes.{may_skip_loads, fixed_index, expr_code, access_by, placed_code, store_code, stored_code, set_code, access_code}
 use Rattle.block_cache_gen.specs.Carries.{CarriesInArm}
 use Rattle.block_cache_gen.specs.PublicIndexes.{SetHasPublicIndexes}
 use Rattle.block_cache_gen.specs.PatternsOf.{word_gap, block_tree, number_tree, store_shows, Loads, no_loads, then_loads, element_slot, placed_shows, placed_tree, index_loads, shows_by, loads_by, stored_by, tree_of_expr, shows_of_expr, slots_of_expr, shows_of_set, slots_of_set}
 use Rattle.lt_checker.proofs.Singles.{IsKnown, IsHidden}
+use Rattle.block_cache_gen.proofs.SomeCode.{compares-secret}
 use Rattle.block_cache_gen.proofs.ArmInstructions.{loaded-bank, sets-ldw, walked-stw, walked-stb}
 use Rattle.block_cache_gen.proofs.ArmStates.{LeavesTree, then_loads-held, carries-same}
 use Rattle.block_cache_gen.proofs.HomeFacts.{shows-cached}
@@ -173,7 +174,7 @@ module _ (o : Parts) (f : Setting) (homes : HasHomes o f) (depth : ℕ) where
         → LowStatement (SetElement x i e) → CarriesInArm f s
         → Goes o f depth s
         (expr_code f mode 0 e
-        ++ (access_by b f.profile.block_log mode (home_of f x) 1 (fixed_index (home_of f x) i) (expr_code f mode 1 i)
+        ++ (access_by b false f.profile.block_log mode (home_of f x) 1 (fixed_index (home_of f x) i) (expr_code f mode 1 i)
         ++ (store_code mode (home_of f x).slot ++ stored_code b (home_of f x).slot)))
         (shows_of_expr f e
         ++ (shows_by b f (home_of f x) (fixed_index (home_of f x) i) (tree_of_expr f i) (shows_of_expr f i)
@@ -196,7 +197,7 @@ module _ (o : Parts) (f : Setting) (homes : HasHomes o f) (depth : ℕ) where
         let place = placed-leaves o f homes depth value.state 1 h fixed index (expr_code f mode 1 i)
         (shows_of_expr f i) (slots_of_expr f i) value.carries number (omega arith) in
         let stored = resident-hidden o f homes place.state x Array place.carries declared is in
-        let code = placed_code h 1 fixed (expr_code f mode 1 i) in
+        let code = placed_code false h 1 fixed (expr_code f mode 1 i) in
         let shown = placed_shows f h fixed (shows_of_expr f i) in
         let loads = index_loads fixed (slots_of_expr f i) in
         let one = goes-leaves o f depth s (expr_code f mode 0 e) (shows_of_expr f e) 0 (tree_of_expr f e)
@@ -228,7 +229,7 @@ module _ (o : Parts) (f : Setting) (homes : HasHomes o f) (depth : ℕ) where
         (shows_of_expr f i) (slots_of_expr f i) value.carries number (omega arith) used is seen in
         let stored = stored-of_bank bound h.bank (loaded-bank f h.bank (block_tree f h fixed index) seen)
         (λ e. let wrong : Secret ≡ Public = home.plain.0 e in let g : ◌≡◌ {A = Label} Secret Public = wrong in cc) in
-        let code = access_by false f.profile.block_log mode h 1 fixed (expr_code f mode 1 i) in
+        let code = access_by false false f.profile.block_log mode h 1 fixed (expr_code f mode 1 i) in
         let shown = shows_by false f h fixed index (shows_of_expr f i) in
         let loads = loads_by false f h fixed index (slots_of_expr f i) in
         let one = goes-leaves o f depth s (expr_code f mode 0 e) (shows_of_expr f e) 0 (tree_of_expr f e)
@@ -247,7 +248,15 @@ module _ (o : Parts) (f : Setting) (homes : HasHomes o f) (depth : ℕ) where
         → Goes o f depth s (set_code f mode (SetElement x i e)) (shows_of_set f (SetElement x i e))
         (slots_of_set f (SetElement x i e))
     element-goes s x i e typed public low carries =
-        element_by-goes (home_of f x).resident s x i e refl typed public low carries
+        let h = home_of f x in
+        let fixed = fixed_index h i in
+        subst (λ (near : Bool). Goes o f depth s
+        (expr_code f mode 0 e
+        ++ (access_code near f.profile.block_log mode h 1 fixed (expr_code f mode 1 i)
+        ++ (store_code mode h.slot ++ stored_code h.resident h.slot)))
+        (shows_of_set f (SetElement x i e)) (slots_of_set f (SetElement x i e)))
+        (sym (compares-secret f mode h i secret))
+        (element_by-goes h.resident s x i e refl typed public low carries)
 
     -- the code of an assignment, and no code
     pub set-goes : (a : Statement) (s : SymState) → TypedStatement (context_of f.decls) Secret a

@@ -20,12 +20,13 @@ use Rattle.trace_patterns.specs.Single.{applied_trees}
 use Rattle.stretches.proofs.ArmCode.{Walked, walked-then}
 use Rattle.block_cache_gen.specs.declared.frames.Mode.{Mode}
 use Rattle.block_cache_gen.specs.Homes.{Home, Setting, home_of, words_a_block, blocks_set, HasHomes}
-use Rattle.block_cache_gen.specs.Codes.{may_skip_loads, is_cached, is_masked, fixed_index, fixed_word, scalar_code, reduced_code, shift_code, offset_code, placed_code, fixed_code, located_code, load_code, skips, access_by, operation_code, steps_at, expr_code, guard_code}
+use Rattle.block_cache_gen.specs.Codes.{may_skip_loads, is_cached, is_masked, fixed_index, fixed_word, scalar_code, reduced_code, shift_code, offset_code, placed_code, fixed_code, located_code, load_code, skips, access_by, operation_code, steps_at, expr_code, guard_code, access_code}
 use Rattle.lt_isa.specs.declared.profiles.Profile.{Profile}
 use Rattle.strength_reduction.specs.Steps.{Step, Constant, Compute, StepFits, reads_known, numbered, code_of}
 use Rattle.strength_reduction.proofs.Replacing.{result-alike}
 use Rattle.step_code.proofs.StepWalks.{steps_show, walks-steps}
 use Rattle.src_tree.proofs.TreeHeights.{height-some}
+use Rattle.block_cache_gen.proofs.SomeCode.{compares-secret}
 use Rattle.block_cache_gen.proofs.StepsAt.{steps-of}
 use Rattle.block_cache_gen.specs.Carries.{CarriesInArm}
 use Rattle.block_cache_gen.specs.PublicIndexes.{shows_index, HasPublicIndexes, TestHasPublicIndexes}
@@ -291,7 +292,7 @@ module _ (o : Parts) (f : Setting) (homes : HasHomes o f) (depth : ℕ) where
   pub placed-leaves : (s : SymState) (to : ℕ) (h : Home) (fixed : Option ℤ) (index : Option Value) (code : List Instr)
       (shows : List Show) (loads : Loads) → CarriesInArm f s → LeavesTree o f depth s code shows to index loads
       → to + 2 < 32
-      → LeavesTree o f depth s (placed_code h to fixed code) (placed_shows f h fixed shows) to
+      → LeavesTree o f depth s (placed_code false h to fixed code) (placed_shows f h fixed shows) to
       (placed_tree h fixed index) (index_loads fixed loads)
   placed-leaves s to h (Some z) index code shows loads carries first inside =
       number-leaves s to (pos (h.word + fixed_word h z)) carries (omega arith)
@@ -320,7 +321,7 @@ module _ (o : Parts) (f : Setting) (homes : HasHomes o f) (depth : ℕ) where
         → LeavesTree o f depth s code shows to index loads → to + 2 < 32 → (used : UsedAs (context_of f.decls) x Array)
         → (home_of f x).resident ≡ false
         → IsSeen (home_of f x).bank (block_tree f (home_of f x) fixed index)
-        → Accessed s (access_by false f.profile.block_log mode (home_of f x) to fixed code)
+        → Accessed s (access_by false false f.profile.block_log mode (home_of f x) to fixed code)
         (shows_by false f (home_of f x) fixed index shows) to (number_tree (home_of f x) fixed index)
         (loads_by false f (home_of f x) fixed index loads) (home_of f x).slot (element_slot f (home_of f x) fixed index)
     access-leaves s to x fixed index code shows loads carries first inside used turn seen =
@@ -367,7 +368,7 @@ module _ (o : Parts) (f : Setting) (homes : HasHomes o f) (depth : ℕ) where
         → to + 2 < 32 → UsedAs (context_of f.decls) x Array
         → (shows_index (home_of f x) ≡ true → IsKnown (tree_of_expr f i))
         → LeavesTree o f depth s
-        (access_by b f.profile.block_log mode (home_of f x) to (fixed_index (home_of f x) i) (expr_code f mode to i)
+        (access_by b false f.profile.block_log mode (home_of f x) to (fixed_index (home_of f x) i) (expr_code f mode to i)
         ++ Ldw to (home_of f x).slot to ∷ [])
         (shows_by b f (home_of f x) (fixed_index (home_of f x) i) (tree_of_expr f i) (shows_of_expr f i)
         ++ word_gap f ∷ []) to
@@ -378,7 +379,7 @@ module _ (o : Parts) (f : Setting) (homes : HasHomes o f) (depth : ℕ) where
         let fixed = fixed_index h i in
         let index = tree_of_expr f i in
         let place = placed_tree h fixed index in
-        let code = placed_code h to fixed (expr_code f mode to i) in
+        let code = placed_code false h to fixed (expr_code f mode to i) in
         let shown = placed_shows f h fixed (shows_of_expr f i) in
         let loads = index_loads fixed (slots_of_expr f i) in
         let there = placed-leaves s to h fixed index (expr_code f mode to i) (shows_of_expr f i) (slots_of_expr f i)
@@ -404,7 +405,7 @@ module _ (o : Parts) (f : Setting) (homes : HasHomes o f) (depth : ℕ) where
         let is_bound = bound-of_bank bound h.bank (loaded-bank f h.bank (block_tree f h fixed index) seen) in
         let word = sets-ldw o depth f homes.profile there.state to h.slot to bound number there.carries.registers
         (omega arith) access.holds is_bound there.held in
-        leaves-then_sets s (access_by false f.profile.block_log mode h to fixed (expr_code f mode to i))
+        leaves-then_sets s (access_by false false f.profile.block_log mode h to fixed (expr_code f mode to i))
         (shows_by false f h fixed index (shows_of_expr f i)) to number
         (loads_by false f h fixed index (slots_of_expr f i))
         there (Ldw to h.slot to ∷ []) (word_gap f ∷ []) to (word_read f bound number) (omega arith) word
@@ -416,7 +417,13 @@ module _ (o : Parts) (f : Setting) (homes : HasHomes o f) (depth : ℕ) where
         → LeavesTree o f depth s (expr_code f mode to (Element x i)) (shows_of_expr f (Element x i)) to
         (tree_of_expr f (Element x i)) (slots_of_expr f (Element x i))
     element-leaves s to x i carries first inside used known =
-        element_by-leaves (home_of f x).resident s to x i refl carries first inside used known
+        let h = home_of f x in
+        let fixed = fixed_index h i in
+        subst (λ (near : Bool). LeavesTree o f depth s
+        (access_code near f.profile.block_log mode h to fixed (expr_code f mode to i) ++ Ldw to h.slot to ∷ [])
+        (shows_of_expr f (Element x i)) to (tree_of_expr f (Element x i)) (slots_of_expr f (Element x i)))
+        (sym (compares-secret f mode h i secret))
+        (element_by-leaves h.resident s to x i refl carries first inside used known)
 
     -- an operation on both
     operation-leaves : (s : SymState) (to : ℕ) (op : Op) (left right : Option Value) (code rest : List Instr)

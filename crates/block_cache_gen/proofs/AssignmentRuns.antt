@@ -26,7 +26,7 @@ use Rattle.scratch_alloc.proofs.Serving.{serves-within}
 use Rattle.block_cache_gen.specs.declared.frames.Mode.{Mode}
 use Rattle.block_cache_gen.specs.declared.frames.Mode.TheVariants.{Public, Real, Mirrored}
 use Rattle.block_cache_gen.specs.Homes.{Setting, HasHomes, home_of, words_a_block}
-use Rattle.block_cache_gen.specs.Codes.{fixed_index, access_by, placed_code, expr_code, store_code, stored_code, set_code}
+use Rattle.block_cache_gen.specs.Codes.{fixed_index, access_by, placed_code, expr_code, store_code, stored_code, set_code, compares}
 use Rattle.block_cache_gen.specs.StandsFor.{StandsFor, FitsHomes}
 use Rattle.block_cache_gen.specs.Accesses.{access_of, accessed_by, accesses, word_number, block_in, slots_after, seen_of_all}
 use Rattle.block_cache_gen.specs.Assignments.{Assigns, assigned, by_mode, words_written, write_by, seen_of_set}
@@ -179,15 +179,15 @@ module _ (o : Parts) (fits : IsInRange o) (f : Setting) (homes : HasHomes o f) (
   runs-set_by : (mode : Mode) (x : List ℕ) (label : Label) → context_of f.decls x ≡ Some (label, Array)
       → (i e : Tree) → TypedTree (context_of f.decls) i → TypedTree (context_of f.decls) e → 1 + height_of i ≤ 26
       → height_of e ≤ 26 → (s : State) → IsShaped o s → StandsFor f s store
-      → (resident : Bool) → (home_of f x).resident ≡ resident
+      → (near resident : Bool) → (home_of f x).resident ≡ resident
       → StandsAt o s.place
       (expr_code f mode 0 e
-      ++ (access_by resident f.profile.block_log mode (home_of f x) 1 (fixed_index (home_of f x) i)
+      ++ (access_by resident near f.profile.block_log mode (home_of f x) 1 (fixed_index (home_of f x) i)
       (expr_code f mode 1 i)
       ++ (store_code mode (home_of f x).slot ++ stored_code resident (home_of f x).slot)))
       → RunsThrough o s
       (expr_code f mode 0 e
-      ++ (access_by resident f.profile.block_log mode (home_of f x) 1 (fixed_index (home_of f x) i)
+      ++ (access_by resident near f.profile.block_log mode (home_of f x) 1 (fixed_index (home_of f x) i)
       (expr_code f mode 1 i)
       ++ (store_code mode (home_of f x).slot ++ stored_code resident (home_of f x).slot)))
       (seen_of_all mode s.banks s.slots
@@ -199,7 +199,7 @@ module _ (o : Parts) (fits : IsInRange o) (f : Setting) (homes : HasHomes o f) (
       (block_in s.banks (home_of f x).bank (access_of f store x (evaluated f.decls store i)).block)
       (word_number f store x (evaluated f.decls store i) % words_a_block f) (evaluated f.decls store e))))
       (Assigns f (by_mode mode (assigned f.decls (SetElement x i e) store) store))
-  runs-set_by mode x label known i e typed_index typed room_index room s shaped stands true resident at =
+  runs-set_by mode x label known i e typed_index typed room_index room s shaped stands near true resident at =
       let h = home_of f x in
       let k = variable_number f.decls x in
       let value = evaluated f.decls store e in
@@ -209,7 +209,7 @@ module _ (o : Parts) (fits : IsInRange o) (f : Setting) (homes : HasHomes o f) (
       let before = accesses f store e in
       let then = accesses f store i in
       let first = expr_code f mode 0 e in
-      let access = placed_code h 1 (fixed_index h i) (expr_code f mode 1 i) in
+      let access = placed_code near h 1 (fixed_index h i) (expr_code f mode 1 i) in
       let store_word = store_code mode h.slot in
       let seen_first = seen_of_all mode s.banks s.slots before in
       let seen_then = seen_of_all mode s.banks (slots_after s.banks s.slots before) then in
@@ -234,7 +234,7 @@ module _ (o : Parts) (fits : IsInRange o) (f : Setting) (homes : HasHomes o f) (
       (runs-placed o fits f homes store store_fits x label Array known resident mode 1 i t shape leaves.stands
       (omega arith)
       (runs-expression o fits f homes store store_fits mode i typed_index 1 room_index t shape leaves.stands)
-      (fixed_index h i) refl at'')
+      near (fixed_index h i) refl at'')
       (ap (λ l. seen_of_all mode l t.slots then) leaves.banks ∙ ap (λ l. seen_of_all mode s.banks l then) leaves.slots)
       (λ u shape' done. done))
       (λ u shape' placed at''.
@@ -244,7 +244,7 @@ module _ (o : Parts) (fits : IsInRange o) (f : Setting) (homes : HasHomes o f) (
       at'')))
       shown
       (λ t shape done. done)
-  runs-set_by mode x label known i e typed_index typed room_index room s shaped stands false turn at =
+  runs-set_by mode x label known i e typed_index typed room_index room s shaped stands near false turn at =
       let h = home_of f x in
       let home = homes.arrays x label known turn in
       let served = serves-within home.slot in
@@ -258,7 +258,7 @@ module _ (o : Parts) (fits : IsInRange o) (f : Setting) (homes : HasHomes o f) (
       let before = accesses f store e in
       let then = accesses f store i ++ access_of f store x index ∷ [] in
       let first = expr_code f mode 0 e in
-      let access = access_by false f.profile.block_log mode h 1 (fixed_index h i) (expr_code f mode 1 i) in
+      let access = access_by false near f.profile.block_log mode h 1 (fixed_index h i) (expr_code f mode 1 i) in
       let store_word = store_code mode h.slot in
       let store_block = Stb h.slot in
       let seen_first = seen_of_all mode s.banks s.slots before in
@@ -281,7 +281,7 @@ module _ (o : Parts) (fits : IsInRange o) (f : Setting) (homes : HasHomes o f) (
       (λ at''.
       runs-weaker t access (seen_of_all mode t.banks t.slots then) seen_then
       (Accesses f store (accesses f store i) a 1 n t) (Accesses f store (accesses f store i) a 1 n t)
-      (runs-access o fits f homes store store_fits x label known turn mode 1 i t shape leaves.stands (omega arith)
+      (runs-access o fits f homes store store_fits x label known turn near mode 1 i t shape leaves.stands (omega arith)
       (runs-expression o fits f homes store store_fits mode i typed_index 1 room_index t shape leaves.stands) at'')
       (ap (λ l. seen_of_all mode l t.slots then) leaves.banks ∙ ap (λ l. seen_of_all mode s.banks l then) leaves.slots)
       (λ u shape' done. done))
@@ -341,4 +341,4 @@ module _ (o : Parts) (fits : IsInRange o) (f : Setting) (homes : HasHomes o f) (
       (Assigns f (by_mode mode (assigned f.decls (SetElement x i e) store) store))
   runs-set_element mode x label known i e typed_index typed room_index room s shaped stands at =
       runs-set_by mode x label known i e typed_index typed room_index room s shaped stands
-      (home_of f x).resident refl at
+      (compares f mode (home_of f x) i) (home_of f x).resident refl at

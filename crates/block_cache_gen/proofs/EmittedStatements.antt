@@ -11,7 +11,7 @@ use Rattle.block_cache_gen.specs.declared.frames.CodeBuf.{CodeBuf}
 use Rattle.block_cache_gen.specs.declared.frames.Mode.{Mode}
 use Rattle.block_cache_gen.specs.declared.frames.Mode.TheVariants.{Public}
 use Rattle.block_cache_gen.specs.Homes.{Home, Setting, home_of}
-use Rattle.block_cache_gen.specs.Codes.{access_code, fixed_index, expr_code, store_code, stored_code}
+use Rattle.block_cache_gen.specs.Codes.{access_code, compares, fixed_index, expr_code, store_code, stored_code}
 use Rattle.block_cache_gen.specs.Notes.{all_marked, expr_notes, marked_by}
 use Rattle.block_cache_gen.specs.Emitted.{Appended, no_notes, notes_in, access_notes, EmitsExpr, EmitsAccess, EmitsSet}
 use Rattle.block_cache_gen.proofs.Emitting.{silent_behind}
@@ -44,15 +44,17 @@ element_set f mode x y i e h label other a b c d last same home is_label is_othe
     let index = expr_code f mode 1 i in
     let P : Home → ℕ → Type 0 = λ k m. Appended a last
     (expr_code f mode 0 e
-    ++ (access_code log mode k 1 (fixed_index k i) index ++ (store_code mode k.slot ++ stored_code k.resident k.slot)))
+    ++ (access_code (compares f mode k i) log mode k 1 (fixed_index k i) index
+    ++ (store_code mode k.slot ++ stored_code k.resident k.slot)))
     (λ place. notes_in mode
     (expr_notes f all_marked 0 place e ++ access_notes f k m 1 i (place + length (expr_code f Public 0 e)))) in
     subst (P (home_of f x)) (is_other ∙ ap (λ k. marked_by k all_marked 0) is_label)
     (subst (λ k. P k other) (home ∙ ap (home_of f) same)
     (expr_then f mode all_marked 0 e
-    (access_code log mode h 1 (fixed_index h i) index ++ (store_code mode h.slot ++ stored_code h.resident h.slot))
+    (access_code (compares f mode h i) log mode h 1 (fixed_index h i) index
+    ++ (store_code mode h.slot ++ stored_code h.resident h.slot))
     (λ place. access_notes f h other 1 i place) a b last value
-    (silent_behind b c last (access_code log mode h 1 (fixed_index h i) index)
+    (silent_behind b c last (access_code (compares f mode h i) log mode h 1 (fixed_index h i) index)
     (store_code mode h.slot ++ stored_code h.resident h.slot)
     (λ place. notes_in mode (access_notes f h other 1 i place)) access
     (silent_behind c d last (store_code mode h.slot) (stored_code h.resident h.slot) no_notes store block))))

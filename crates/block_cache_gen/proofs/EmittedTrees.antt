@@ -1,11 +1,13 @@
 -- What is appended for expressions, by their parts.
-use Rattle.std.proofs.Common.{◌≡◌, ℕ, ◌+◌, ◌*◌, ◌<◌, ◌≤◌, ◌^◌, Bool, true, false, append_assoc, List, [], ◌∷◌, ◌++◌, length, Option, Some, None, ℤ, refl, sym, ap, ◌∙◌, subst, arith, length-append, add_assoc}
+use Rattle.std.proofs.Common.{◌≡◌, ℕ, ◌+◌, ◌-◌, ◌*◌, ◌<◌, ◌≤◌, ◌^◌, Bool, true, false, append_assoc, List, [], ◌∷◌, ◌++◌, length, Option, Some, None, ℤ, pos, ◌+ℤ◌, refl, sym, ap, ◌∙◌, subst, arith, length-append, add_assoc}
 use Rattle.std.specs.Option.{option_map}
 use Rattle.gr_word.specs.declared.operations.Op.{Op}
 use Rattle.gr_word.specs.declared.variables.Label.{Label}
 use Rattle.lt_isa.specs.Limits.{most_instructions}
 use Rattle.lt_isa.specs.declared.instructions.Instr.{Instr}
-use Rattle.lt_isa.specs.declared.instructions.Instr.TheVariants.{Alu, Ldw}
+use Rattle.gr_word.specs.declared.operations.Op.TheVariants.{Add, Remu}
+use Rattle.gr_word.specs.declared.operations.Cmp.TheVariants.{Lt}
+use Rattle.lt_isa.specs.declared.instructions.Instr.TheVariants.{Li, Alu, Ldw, Br}
 use Rattle.lt_isa.specs.declared.symbols.Note.{Note}
 use Rattle.src_tree.specs.Contexts.{context_of}
 use Rattle.src_tree.specs.Labels.{label_of}
@@ -15,44 +17,67 @@ use Rattle.block_cache_gen.specs.declared.frames.CodeBuf.{CodeBuf}
 use Rattle.block_cache_gen.specs.declared.frames.Mode.{Mode}
 use Rattle.block_cache_gen.specs.declared.frames.Mode.TheVariants.{Public, Real, Mirrored}
 use Rattle.block_cache_gen.specs.Homes.{Home, Setting, home_of}
-use Rattle.block_cache_gen.specs.Codes.{access_by, found_by, reduced_code, shift_code, fixed_code, load_code, skips, access_code, fixed_index, operation_code, steps_at, expr_code}
+use Rattle.block_cache_gen.specs.Codes.{access_by, found_by, compares, compared_code, least_word, numbered_code, offset_code, reduced_code, shift_code, fixed_code, load_code, skips, access_code, fixed_index, operation_code, steps_at, expr_code}
 use Rattle.strength_reduction.specs.Steps.{Step, code_of}
-use Rattle.block_cache_gen.specs.Notes.{expr_notes, operation_notes, index_notes, loaded_notes, load_notes, marked_by}
-use Rattle.block_cache_gen.specs.Emitted.{Appended, no_notes, notes_in, access_notes, OperationBy, EmitsOperation, EmitsExpr, EmitsAccess}
+use Rattle.block_cache_gen.specs.Notes.{expr_notes, operation_notes, index_notes, compared_notes, loaded_notes, load_notes, marked_by, unmarked, note_of}
+use Rattle.block_cache_gen.specs.Emitted.{Appended, no_notes, notes_in, access_notes, OperationBy, EmitsOperation, EmitsExpr, EmitsAccess, EmitsFound}
 use Rattle.block_cache_gen.proofs.Emitting.{appended_then, appended_as, appended_length, silent_behind, silent_before, notes_both, notes_by}
 use Rattle.block_cache_gen.proofs.Sizes.{expr_code_short}
 
 -- an access, by what is known of its index
-abbrev pub AccessBy : Setting → Mode → Home → (mask to : ℕ) → Tree → Option ℤ → CodeBuf → CodeBuf → Type 0
-AccessBy f mode h mask to i fixed a c =
-    Appended a c (access_code f.profile.block_log mode h to fixed (expr_code f mode to i))
+abbrev pub AccessBy : Setting → Mode → (near : Bool) → Home → (mask to : ℕ) → Tree → Option ℤ → CodeBuf → CodeBuf → Type 0
+AccessBy f mode near h mask to i fixed a c =
+    Appended a c (access_code near f.profile.block_log mode h to fixed (expr_code f mode to i))
     (λ place. notes_in mode
     (index_notes fixed (expr_notes f mask to place i)
-    ++ load_notes f h mask to
-    (place + length (access_code f.profile.block_log Public h to fixed (expr_code f Public to i)))))
+    ++ load_notes near fixed f h mask to
+    (place + length (access_code near f.profile.block_log Public h to fixed (expr_code f Public to i)))))
+
+-- secret code has no notes, so that it is no matter what these are
+notes_near : (mode : Mode) (f : Setting) (h : Home) (i : Tree) (notes : Bool → List Note)
+    → notes_in mode (notes (compares f mode h i)) ≡ notes_in mode (notes (compares f Public h i))
+notes_near Public f h i notes = refl
+notes_near Real f h i notes = refl
+notes_near Mirrored f h i notes = refl
+
+-- public code has the note of a comparison, and secret code has no comparison
+pub compared_in : (mode : Mode) (f : Setting) (h : Home) (i : Tree) (mask to place : ℕ)
+    → compared_notes (compares f mode h i) None f mask to place
+    ≡ notes_in mode (compared_notes (compares f mode h i) None f mask to place)
+compared_in Public f h i mask to place = refl
+compared_in Real f h i mask to place = refl
+compared_in Mirrored f h i mask to place = refl
+
+-- so an access is appended with the notes of public code
+access_as : (f : Setting) (mode : Mode) (h : Home) (mask to : ℕ) (i : Tree) (a c : CodeBuf)
+    → AccessBy f mode (compares f mode h i) h mask to i (fixed_index h i) a c → EmitsAccess f mode h mask to i a c
+access_as f mode h mask to i a c x =
+    let code : List Instr =
+    access_code (compares f mode h i) f.profile.block_log mode h to (fixed_index h i) (expr_code f mode to i) in
+    let notes : ℕ → Bool → List Note = λ place near.
+    index_notes (fixed_index h i) (expr_notes f mask to place i)
+    ++ load_notes near (fixed_index h i) f h mask to
+    (place + length (access_code near f.profile.block_log Public h to (fixed_index h i) (expr_code f Public to i))) in
+    appended_as a c code code (λ place. notes_in mode (notes place (compares f mode h i)))
+    (λ place. notes_in mode (notes place (compares f Public h i))) refl (λ place. notes_near mode f h i (notes place)) x
 
 -- what the load of an access appends
 abbrev pub EmitsLoad : Setting → Mode → Home → (mask to : ℕ) → CodeBuf → CodeBuf → Type 0
 EmitsLoad f mode h mask to a b =
     Appended a b (load_code (skips mode h) h to)
-    (λ place. notes_in mode (loaded_notes false f h mask to (place + length (load_code (skips Public h) h to))))
+    (λ place. notes_in mode
+    (loaded_notes false false None f h mask to (place + length (load_code (skips Public h) h to))))
 
 further : (place : ℕ) (xs ys : List Instr) → place + length xs + length ys ≡ place + length (xs ++ ys)
 further place xs ys = add_assoc place (length xs) (length ys) ∙ ap (λ n. place + n) (sym (length-append xs ys))
 
--- the code of an access by a number, and what follows the code of any other index
+-- the code of an access by a number
 abbrev pub EmitsFixed : Setting → Mode → Home → (mask to : ℕ) → ℤ → CodeBuf → CodeBuf → Type 0
 EmitsFixed f mode h mask to z a c =
-    Appended a c (access_by h.resident f.profile.block_log mode h to (Some z) [])
+    Appended a c (access_by h.resident false f.profile.block_log mode h to (Some z) [])
     (λ place. notes_in mode
-    (loaded_notes h.resident f h mask to
-    (place + length (access_by h.resident f.profile.block_log Public h to (Some z) []))))
-
-abbrev pub EmitsFound : Setting → Mode → Home → (mask to : ℕ) → CodeBuf → CodeBuf → Type 0
-EmitsFound f mode h mask to b c =
-    Appended b c (found_by h.resident f.profile.block_log mode h to)
-    (λ place. notes_in mode
-    (loaded_notes h.resident f h mask to (place + length (found_by h.resident f.profile.block_log Public h to))))
+    (loaded_notes h.resident false (Some z) f h mask to
+    (place + length (access_by h.resident false f.profile.block_log Public h to (Some z) []))))
 
 -- the pieces of an access by a number that loads its block
 pub fixed_loaded : (f : Setting) (mode : Mode) (h : Home) (mask to : ℕ) (z : ℤ) (a b c : CodeBuf)
@@ -60,38 +85,43 @@ pub fixed_loaded : (f : Setting) (mode : Mode) (h : Home) (mask to : ℕ) (z : �
     → EmitsLoad f mode h mask to b c → EmitsFixed f mode h mask to z a c
 fixed_loaded f mode h mask to z a b c turn x y =
     let log = f.profile.block_log in
-    let P : Bool → Type 0 = λ r. Appended a c (access_by r log mode h to (Some z) [])
-    (λ place. notes_in mode (loaded_notes r f h mask to (place + length (access_by r log Public h to (Some z) [])))) in
+    let P : Bool → Type 0 = λ r. Appended a c (access_by r false log mode h to (Some z) [])
+    (λ place. notes_in mode
+    (loaded_notes r false (Some z) f h mask to (place + length (access_by r false log Public h to (Some z) [])))) in
     subst P (sym turn)
     (appended_as a c (fixed_code log h to z ++ load_code (skips mode h) h to)
     (fixed_code log h to z ++ load_code (skips mode h) h to)
     (λ place. notes_in mode
-    (loaded_notes false f h mask to
+    (loaded_notes false false None f h mask to
     (place + length (fixed_code log h to z) + length (load_code (skips Public h) h to))))
     (λ place. notes_in mode
-    (loaded_notes false f h mask to (place + length (fixed_code log h to z ++ load_code (skips Public h) h to))))
+    (loaded_notes false false (Some z) f h mask to
+    (place + length (fixed_code log h to z ++ load_code (skips Public h) h to))))
     refl
-    (λ place. ap (λ n. notes_in mode (loaded_notes false f h mask to n))
+    (λ place. ap (λ n. notes_in mode (loaded_notes false false None f h mask to n))
     (further place (fixed_code log h to z) (load_code (skips Public h) h to)))
     (silent_before a b c (fixed_code log h to z) (load_code (skips mode h) h to)
-    (λ place. notes_in mode (loaded_notes false f h mask to (place + length (load_code (skips Public h) h to)))) x y))
+    (λ place. notes_in mode
+    (loaded_notes false false None f h mask to (place + length (load_code (skips Public h) h to)))) x y))
 
 -- the pieces of an access by a number are its code
 pub access_fixed : (f : Setting) (mode : Mode) (h : Home) (mask to : ℕ) (i : Tree) (z : ℤ) (a c : CodeBuf)
     → fixed_index h i ≡ Some z → EmitsFixed f mode h mask to z a c → EmitsAccess f mode h mask to i a c
 access_fixed f mode h mask to i z a c is x =
-    let log = f.profile.block_log in
-    let P : Option ℤ → Type 0 = λ fixed. AccessBy f mode h mask to i fixed a c in
-    subst P (sym is) (by h.resident x)
+    let P : Option ℤ → Type 0 = λ fixed. AccessBy f mode (compares f mode h i) h mask to i fixed a c in
+    access_as f mode h mask to i a c (subst P (sym is) (by h.resident x))
   where
     by : (r : Bool)
-        → Appended a c (access_by r f.profile.block_log mode h to (Some z) [])
+        → Appended a c (access_by r false f.profile.block_log mode h to (Some z) [])
         (λ place. notes_in mode
-        (loaded_notes r f h mask to (place + length (access_by r f.profile.block_log Public h to (Some z) []))))
-        → Appended a c (access_by r f.profile.block_log mode h to (Some z) (expr_code f mode to i))
+        (loaded_notes r false (Some z) f h mask to
+        (place + length (access_by r false f.profile.block_log Public h to (Some z) []))))
+        → Appended a c
+        (access_by r (compares f mode h i) f.profile.block_log mode h to (Some z) (expr_code f mode to i))
         (λ place. notes_in mode
-        ([] ++ loaded_notes r f h mask to
-        (place + length (access_by r f.profile.block_log Public h to (Some z) (expr_code f Public to i)))))
+        ([] ++ loaded_notes r (compares f mode h i) (Some z) f h mask to
+        (place + length
+        (access_by r (compares f mode h i) f.profile.block_log Public h to (Some z) (expr_code f Public to i)))))
     by true y = y
     by false y = y
 
@@ -114,52 +144,142 @@ expr_then f mode mask to l code second a b c x y =
 
 -- the pieces of an access by any other index are its code
 pub access_worked : (f : Setting) (mode : Mode) (h : Home) (mask to : ℕ) (i : Tree) (a b c : CodeBuf)
-    → fixed_index h i ≡ None → EmitsExpr f mode mask to i a b → EmitsFound f mode h mask to b c
+    → fixed_index h i ≡ None → EmitsExpr f mode mask to i a b → EmitsFound f mode h mask to i b c
     → EmitsAccess f mode h mask to i a c
 access_worked f mode h mask to i a b c is x y =
-    let P : Option ℤ → Type 0 = λ fixed. AccessBy f mode h mask to i fixed a c in
-    subst P (sym is) (by h.resident y)
+    let P : Option ℤ → Type 0 = λ fixed. AccessBy f mode (compares f mode h i) h mask to i fixed a c in
+    access_as f mode h mask to i a c (subst P (sym is) (by h.resident (compares f mode h i) y))
   where
-    by : (r : Bool)
-        → Appended b c (found_by r f.profile.block_log mode h to)
+    by : (r near : Bool)
+        → Appended b c (found_by r near f.profile.block_log mode h to)
         (λ place. notes_in mode
-        (loaded_notes r f h mask to (place + length (found_by r f.profile.block_log Public h to))))
-        → Appended a c (access_by r f.profile.block_log mode h to None (expr_code f mode to i))
+        (loaded_notes r near None f h mask to (place + length (found_by r near f.profile.block_log Public h to))))
+        → Appended a c (access_by r near f.profile.block_log mode h to None (expr_code f mode to i))
         (λ place. notes_in mode
         (expr_notes f mask to place i
-        ++ loaded_notes r f h mask to
-        (place + length (access_by r f.profile.block_log Public h to None (expr_code f Public to i)))))
-    by true z =
-        expr_then f mode mask to i (found_by true f.profile.block_log mode h to) (λ place. []) a b c x z
-    by false z =
+        ++ loaded_notes r near None f h mask to
+        (place + length (access_by r near f.profile.block_log Public h to None (expr_code f Public to i)))))
+    by true near z =
+        let found : List Instr = found_by true near f.profile.block_log mode h to in
+        let index : List Instr = expr_code f Public to i in
+        appended_as a c (expr_code f mode to i ++ found) (expr_code f mode to i ++ found)
+        (λ place. notes_in mode
+        (expr_notes f mask to place i
+        ++ loaded_notes true near None f h mask to (place + length index + length found)))
+        (λ place. notes_in mode
+        (expr_notes f mask to place i ++ loaded_notes true near None f h mask to (place + length (index ++ found))))
+        refl
+        (λ place. ap (λ n. notes_in mode (expr_notes f mask to place i ++ loaded_notes true near None f h mask to n))
+        (further place index found))
+        (expr_then f mode mask to i found (λ place. loaded_notes true near None f h mask to (place + length found)) a b c
+        x z)
+    by false near z =
         let log = f.profile.block_log in
         let located : List Instr = reduced_code h to ++ shift_code log h to in
         let skipped : List Instr = load_code (skips Public h) h to in
         let index : List Instr = expr_code f Public to i in
-        appended_as a c (expr_code f mode to i ++ found_by false log mode h to)
+        appended_as a c (expr_code f mode to i ++ found_by false near log mode h to)
         (expr_code f mode to i ++ located ++ load_code (skips mode h) h to)
         (λ place. notes_in mode
         (expr_notes f mask to place i
-        ++ loaded_notes false f h mask to (place + length index + length (located ++ skipped))))
+        ++ loaded_notes false near None f h mask to (place + length index + length (located ++ skipped))))
         (λ place. notes_in mode
         (expr_notes f mask to place i
-        ++ loaded_notes false f h mask to (place + length (index ++ located ++ skipped))))
+        ++ loaded_notes false near None f h mask to (place + length (index ++ located ++ skipped))))
         (sym (append_assoc (expr_code f mode to i) located (load_code (skips mode h) h to)))
-        (λ place. ap (λ n. notes_in mode (expr_notes f mask to place i ++ loaded_notes false f h mask to n))
+        (λ place. ap (λ n. notes_in mode (expr_notes f mask to place i ++ loaded_notes false near None f h mask to n))
         (further place index (located ++ skipped)
         ∙ ap (λ l. place + length l) (sym (append_assoc index located skipped))))
-        (expr_then f mode mask to i (found_by false log mode h to)
-        (λ place. loaded_notes false f h mask to (place + length (located ++ skipped))) a b c x z)
+        (expr_then f mode mask to i (found_by false near log mode h to)
+        (λ place. loaded_notes false near None f h mask to (place + length (located ++ skipped))) a b c x z)
+
+-- a comparison and its note
+pub compared_noted : (f : Setting) (mask to found : ℕ) (h : Home) (bound size : ℤ) (a b c : CodeBuf)
+    → found ≡ unmarked mask to → bound ≡ least_word +ℤ pos h.length → size ≡ pos h.length
+    → Appended a b
+    (Li (to + 1) least_word
+    ∷ Alu Add (to + 1) (to + 1) to
+    ∷ Li (to + 2) bound
+    ∷ Br Lt (to + 1) (to + 2) (pos 3)
+    ∷ Li (to + 1) size
+    ∷ Alu Remu to to (to + 1)
+    ∷ []) no_notes
+    → Appended b c [] (λ place. note_of f found place ∷ [])
+    → Appended a c (compared_code h to) (λ place. note_of f (unmarked mask to) (place + 6) ∷ [])
+compared_noted f mask to found h bound size a b c is is_bound is_size x y =
+    let code : ℤ → ℤ → List Instr = λ v n.
+    Li (to + 1) least_word
+    ∷ Alu Add (to + 1) (to + 1) to
+    ∷ Li (to + 2) v
+    ∷ Br Lt (to + 1) (to + 2) (pos 3)
+    ∷ Li (to + 1) n
+    ∷ Alu Remu to to (to + 1)
+    ∷ [] in
+    appended_as a c (code bound size ++ []) (compared_code h to)
+    (λ place. note_of f found (place + 6) ∷ [])
+    (λ place. note_of f (unmarked mask to) (place + 6) ∷ []) (λ k. code (is_bound k) (is_size k))
+    (λ place. ap (λ m. note_of f m (place + 6) ∷ []) is)
+    (silent_before a b c (code bound size) [] (λ place. note_of f found place ∷ []) x y)
+
+-- what follows the code of the index of a resident array
+pub found_placed : (f : Setting) (mode : Mode) (h : Home) (mask to : ℕ) (i : Tree) (b c : CodeBuf)
+    → h.resident ≡ true
+    → Appended b c (numbered_code (compares f mode h i) h to ++ offset_code h to)
+    (λ place. compared_notes (compares f mode h i) None f mask to
+    (place + length (numbered_code (compares f mode h i) h to)))
+    → EmitsFound f mode h mask to i b c
+found_placed f mode h mask to i b c is x =
+    let near = compares f mode h i in
+    let number : List Instr = numbered_code near h to in
+    let offset : List Instr = offset_code h to in
+    let P : Bool → Type 0 = λ r. Appended b c (found_by r near f.profile.block_log mode h to)
+    (λ place. notes_in mode
+    (loaded_notes r near None f h mask to (place + length (found_by r near f.profile.block_log Public h to)))) in
+    subst P (sym is)
+    (appended_as b c (number ++ offset) (number ++ offset)
+    (λ place. compared_notes near None f mask to (place + length number))
+    (λ place. notes_in mode (compared_notes near None f mask to (place + length (number ++ offset) - length offset)))
+    refl
+    (λ place.
+    ap (compared_notes near None f mask to) (before place number offset)
+    ∙ compared_in mode f h i mask to (place + length (number ++ offset) - length offset))
+    x)
+  where
+    before : (place : ℕ) (xs ys : List Instr) → place + length xs ≡ place + length (xs ++ ys) - length ys
+    before place xs ys = let size = length-append xs ys in omega arith
+
+-- what follows the code of any other index
+pub found_loaded : (f : Setting) (mode : Mode) (h : Home) (mask to : ℕ) (i : Tree) (b c d : CodeBuf)
+    → h.resident ≡ false
+    → Appended b c (reduced_code h to ++ shift_code f.profile.block_log h to) no_notes → EmitsLoad f mode h mask to c d
+    → EmitsFound f mode h mask to i b d
+found_loaded f mode h mask to i b c d turn x y =
+    let near = compares f mode h i in
+    let log = f.profile.block_log in
+    let located : List Instr = reduced_code h to ++ shift_code log h to in
+    let skipped : List Instr = load_code (skips Public h) h to in
+    let P : Bool → Type 0 = λ r. Appended b d (found_by r near log mode h to)
+    (λ place. notes_in mode (loaded_notes r near None f h mask to (place + length (found_by r near log Public h to)))) in
+    subst P (sym turn)
+    (appended_as b d (located ++ load_code (skips mode h) h to) (located ++ load_code (skips mode h) h to)
+    (λ place. notes_in mode (loaded_notes false near None f h mask to (place + length located + length skipped)))
+    (λ place. notes_in mode (loaded_notes false near None f h mask to (place + length (located ++ skipped))))
+    refl
+    (λ place. ap (λ n. notes_in mode (loaded_notes false near None f h mask to n)) (further place located skipped))
+    (silent_before b c d located (load_code (skips mode h) h to)
+    (λ place. notes_in mode (loaded_notes false near None f h mask to (place + length skipped))) x y))
 
 pub element_emitted : (f : Setting) (mode : Mode) (mask to : ℕ) (x : List ℕ) (i : Tree) (h : Home) (a b c : CodeBuf)
     → h ≡ home_of f x → EmitsAccess f mode h mask to i a b → Appended b c (Ldw to h.slot to ∷ []) no_notes
     → EmitsExpr f mode mask to (Element x i) a c
 element_emitted f mode mask to x i h a b c is y z =
     let P : Home → Type 0 = λ k. Appended a c
-    (access_code f.profile.block_log mode k to (fixed_index k i) (expr_code f mode to i) ++ Ldw to k.slot to ∷ [])
+    (access_code (compares f mode k i) f.profile.block_log mode k to (fixed_index k i) (expr_code f mode to i)
+    ++ Ldw to k.slot to ∷ [])
     (λ place. notes_in mode (access_notes f k mask to i place)) in
     subst P is
-    (silent_behind a b c (access_code f.profile.block_log mode h to (fixed_index h i) (expr_code f mode to i))
+    (silent_behind a b c
+    (access_code (compares f mode h i) f.profile.block_log mode h to (fixed_index h i) (expr_code f mode to i))
     (Ldw to h.slot to ∷ []) (λ place. notes_in mode (access_notes f h mask to i place)) y z)
 
 -- the steps, or the right side and the operation

@@ -21,7 +21,7 @@ use Rattle.src_tree.specs.Typing.{TypedTree}
 use Rattle.src_tree.proofs.TreeHeights.{height-some}
 use Rattle.block_cache_gen.specs.declared.frames.Mode.{Mode}
 use Rattle.block_cache_gen.specs.Homes.{Setting, HasHomes, home_of, words_a_block, start_of_home}
-use Rattle.block_cache_gen.specs.Codes.{fixed_index, scalar_code, access_by, placed_code, operation_code, steps_at, expr_code}
+use Rattle.block_cache_gen.specs.Codes.{fixed_index, scalar_code, access_by, placed_code, operation_code, steps_at, expr_code, compares}
 use Rattle.gr_word.specs.declared.operations.Op.{Op}
 use Rattle.strength_reduction.specs.Steps.{Step, numbered, words_after, code_of}
 use Rattle.step_code.proofs.StepRuns.{Leaves, runs-steps}
@@ -99,13 +99,13 @@ module _ (o : Parts) (fits : IsInRange o) (f : Setting) (homes : HasHomes o f) (
       → (StandsAt o s.place (expr_code f mode to i)
       → RunsThrough o s (expr_code f mode to i) (seen_of_all mode s.banks s.slots (accesses f store i))
       (LeavesWord f store (accesses f store i) to (evaluated f.decls store i) s))
-      → (resident : Bool) → (home_of f x).resident ≡ resident
+      → (near resident : Bool) → (home_of f x).resident ≡ resident
       → StandsAt o s.place
-      (access_by resident f.profile.block_log mode (home_of f x) to (fixed_index (home_of f x) i)
+      (access_by resident near f.profile.block_log mode (home_of f x) to (fixed_index (home_of f x) i)
       (expr_code f mode to i)
       ++ Ldw to (home_of f x).slot to ∷ [])
       → RunsThrough o s
-      (access_by resident f.profile.block_log mode (home_of f x) to (fixed_index (home_of f x) i)
+      (access_by resident near f.profile.block_log mode (home_of f x) to (fixed_index (home_of f x) i)
       (expr_code f mode to i)
       ++ Ldw to (home_of f x).slot to ∷ [])
       (seen_of_all mode s.banks s.slots
@@ -113,13 +113,13 @@ module _ (o : Parts) (fits : IsInRange o) (f : Setting) (homes : HasHomes o f) (
       (LeavesWord f store
       (accesses f store i ++ accessed_by resident (access_of f store x (evaluated f.decls store i))) to
       (element store (variable_number f.decls x) (evaluated f.decls store i)) s)
-  runs-element mode x i label known to small s shaped stands run true resident at =
+  runs-element mode x i label known to small s shaped stands run near true resident at =
       let h = home_of f x in
       let index = evaluated f.decls store i in
       let n = word_number f store x index in
       let value = element store (variable_number f.decls x) index in
       let before = accesses f store i in
-      let code = placed_code h to (fixed_index h i) (expr_code f mode to i) in
+      let code = placed_code near h to (fixed_index h i) (expr_code f mode to i) in
       let load = Ldw to h.slot to in
       let seen = seen_of_all mode s.banks s.slots before in
       let same : before ≡ before ++ [] = sym (append-nil before) in
@@ -130,7 +130,7 @@ module _ (o : Parts) (fits : IsInRange o) (f : Setting) (homes : HasHomes o f) (
       (runs-weaker s (code ++ load ∷ []) (seen ++ []) seen Done Done
       (runs-append s code (load ∷ []) seen [] (LeavesWord f store before to (pos (h.word + n)) s) Done at
       (runs-placed o fits f homes store store_fits x label Array known resident mode to i s shaped stands small run
-      (fixed_index h i) refl)
+      near (fixed_index h i) refl)
       (λ t shape placed at'.
       runs-weaker t (load ∷ []) [] [] (Sets t to value) Done
       (runs-read o fits f homes store store_fits x label Array known resident to n t shape placed.stands
@@ -146,20 +146,20 @@ module _ (o : Parts) (fits : IsInRange o) (f : Setting) (homes : HasHomes o f) (
       })))
       (append-nil seen)
       (λ t shape done. done))
-  runs-element mode x i label known to small s shaped stands run false turn at =
+  runs-element mode x i label known to small s shaped stands run near false turn at =
       let h = home_of f x in
       let index = evaluated f.decls store i in
       let n = word_number f store x index in
       let a = access_of f store x index in
       let value = element store (variable_number f.decls x) index in
       let before = accesses f store i in
-      let code = access_by false f.profile.block_log mode h to (fixed_index h i) (expr_code f mode to i) in
+      let code = access_by false near f.profile.block_log mode h to (fixed_index h i) (expr_code f mode to i) in
       let load = Ldw to h.slot to in
       let seen = seen_of_all mode s.banks s.slots (before ++ a ∷ []) in
       let Done : State → Type 0 = LeavesWord f store (before ++ a ∷ []) to value s in
       runs-weaker s (code ++ load ∷ []) (seen ++ []) seen Done Done
       (runs-append s code (load ∷ []) seen [] (Accesses f store before a to n s) Done at
-      (runs-access o fits f homes store store_fits x label known turn mode to i s shaped stands small run)
+      (runs-access o fits f homes store store_fits x label known turn near mode to i s shaped stands small run)
       (λ t shape accessed at'.
       let named : word_named o (register t to) ≡ n % words_a_block f =
       ap (λ word. word_named o word) accessed.leaves.value ∙ ap (λ w. n % w) (block_words-is homes) in
@@ -321,7 +321,8 @@ module _ (o : Parts) (fits : IsInRange o) (f : Setting) (homes : HasHomes o f) (
       runs-scalar x typed.0 typed.1 to (omega arith) s shaped stands at
   runs-expression mode (Element x i) typed to room s shaped stands at =
       runs-element mode x i typed.0.0 typed.0.1 to (omega (arith, height-some i)) s shaped stands
-      (runs-expression mode i typed.1.0 to (omega arith) s shaped stands) (home_of f x).resident refl at
+      (runs-expression mode i typed.1.0 to (omega arith) s shaped stands) (compares f mode (home_of f x) i)
+      (home_of f x).resident refl at
   runs-expression mode (Operation op left right) typed to room s shaped stands at =
       runs-either mode op left right to (omega (arith, height-some right)) s shaped stands
       (runs-expression mode left typed.0 to (omega arith) s shaped stands)

@@ -1,21 +1,26 @@
 -- Runs of the code that finds the word of an element and its block.
-use Rattle.std.proofs.Common.{◌≡◌, ◌≢◌, ℕ, zero, suc, ◌+◌, ◌-◌, ◌/◌, ◌%◌, ◌^◌, ◌<◌, ◌≤◌, true, ◌==◌, eqb-true, ℤ, pos, [], ◌∷◌, refl, sym, ap, ◌∙◌, ⊎_elim, arith}
+use Rattle.std.proofs.Common.{◌≡◌, ◌≢◌, ℕ, zero, suc, ◌+◌, ◌-◌, ◌/◌, ◌%◌, ◌^◌, ◌<◌, ◌≤◌, true, Bool, false, ◌==◌, eqb-true, ℤ, pos, ◌+ℤ◌, [], ◌∷◌, length, refl, sym, ap, ◌∙◌, subst, ⊎_elim, arith}
 use Rattle.std.specs.List.{range_with_len, list_any}
 use Rattle.std.proofs.lemmas.Bool.{cond_both, or_cases, and_parts, false≢true}
-use Rattle.gr_word.specs.Words.{applied, unsigned_of}
+use Rattle.gr_word.specs.Words.{IsWord, applied, compared, unsigned_of}
 use Rattle.gr_word.specs.declared.operations.Op.{Op}
 use Rattle.gr_word.specs.declared.operations.Op.TheVariants.{Add, Remu, And, Shr}
+use Rattle.gr_word.specs.declared.operations.Cmp.TheVariants.{Lt}
 use Rattle.gr_word.proofs.SmallNumbers.{remu_small, and_small, shr_small, add_small}
-use Rattle.lt_isa.specs.declared.instructions.Instr.TheVariants.{Li, Alu}
+use Rattle.lt_isa.specs.declared.instructions.Instr.TheVariants.{Li, Alu, Br}
 use Rattle.lt_isa.specs.Object.{Parts}
 use Rattle.lt_isa.specs.Ranges.{IsInRange}
 use Rattle.lt_isa.specs.Machine.{State, register}
 use Rattle.lt_isa.specs.Shape.{IsShaped}
-use Rattle.stretches.specs.Standing.{StandsAt}
+use Rattle.lt_isa.proofs.Shapes.{IsWord-register}
+use Rattle.stretches.specs.Standing.{StandsAt, greatest_costs}
 use Rattle.stretches.specs.Coming.{RunsThrough, Sets, Keeps}
+use Rattle.stretches.proofs.Standing.{standing-head}
+use Rattle.stretches.proofs.Coming.{comes-br_taken, comes-br_on, comes-weaker}
 use Rattle.stretches.proofs.RunningThrough.{runs-cons, runs-one, runs-weaker, sets-li, sets-alu, keeps-set, keeps-on}
 use Rattle.block_cache_gen.specs.Homes.{Home}
-use Rattle.block_cache_gen.specs.Codes.{is_power, is_masked, is_cached, reduced_code, shift_code, fixed_code, fixed_word}
+use Rattle.block_cache_gen.specs.Codes.{is_power, is_masked, is_cached, reduced_code, least_word, compared_code, numbered_code, shift_code, fixed_code, fixed_word}
+use Rattle.block_cache_gen.proofs.NearIndexes.{near-index}
 
 -- The number of a word is in register `to`, and that of its block in the next one; the registers below, the slots and
 -- the banks are as before.
@@ -87,6 +92,87 @@ module _ (o : Parts) (fits : IsInRange o) where
       (masks h index (and_parts (is_cached h) (is_power h.length) masked).1))
       (λ not_masked.
       runs-reducing Remu (pos h.length) h to s index shaped has below (remu_small index h.length least (omega arith)))
+
+  -- The branch over the remainder is taken if the index is below the length, and then the index is the number of the
+  -- word.
+  runs-branch : (h : Home) (to : ℕ) (s t : State) (index : ℤ) → IsShaped o t → register t to ≡ index → Keeps to s t
+      → to + 2 < 32 → 1 ≤ h.length → h.length ≤ 1048576
+      → (near : Bool) → compared Lt (register t (to + 1)) (register t (to + 2)) ≡ near
+      → (near ≡ true → pos (unsigned_of index % h.length) ≡ index)
+      → StandsAt o t.place
+      (Br Lt (to + 1) (to + 2) (pos 3) ∷ Li (to + 1) (pos h.length) ∷ Alu Remu to to (to + 1) ∷ [])
+      → RunsThrough o t
+      (Br Lt (to + 1) (to + 2) (pos 3) ∷ Li (to + 1) (pos h.length) ∷ Alu Remu to to (to + 1) ∷ []) []
+      (Reduces to (unsigned_of index % h.length) s)
+  runs-branch h to s t index shaped has keeps below least most true is itself at =
+      let branch = Br Lt (to + 1) (to + 2) (pos 3) in
+      let rest = Li (to + 1) (pos h.length) ∷ Alu Remu to to (to + 1) ∷ [] in
+      let Done : State → Type 0 = Reduces to (unsigned_of index % h.length) s in
+      comes-weaker [] (t.place + length (branch ∷ rest)) (greatest_costs o (branch ∷ rest)) Done
+      (comes-br_taken o fits t shaped Lt (to + 1) (to + 2) (pos 3) Done (standing-head branch rest at) is
+      (record {
+        word = has ∙ sym (itself refl);
+        keeps = record { below = keeps.below; slots = keeps.slots; banks = keeps.banks };
+      }))
+      refl refl (omega arith) (λ u shape done. done)
+  runs-branch h to s t index shaped has keeps below least most false is itself at =
+      let branch = Br Lt (to + 1) (to + 2) (pos 3) in
+      let rest = Li (to + 1) (pos h.length) ∷ Alu Remu to to (to + 1) ∷ [] in
+      let word = unsigned_of index % h.length in
+      runs-cons t branch rest [] [] (Keeps (to + 1) t) (Reduces to word s) at
+      (λ stands. comes-br_on o fits t shaped Lt (to + 1) (to + 2) (pos 3) (Keeps (to + 1) t) stands is
+      (record { below = λ r under. refl; slots = refl; banks = refl }))
+      (λ u shape on at'.
+      let same : Keeps to t u =
+      record { below = λ r under. on.below r (omega arith); slots = on.slots; banks = on.banks } in
+      runs-weaker u rest [] [] (Reduces to word u) (Reduces to word s)
+      (runs-reducing Remu (pos h.length) h to u index shape (on.below to (omega arith) ∙ has) below
+      (remu_small index h.length least (omega arith)) at')
+      refl
+      (λ v shape' reduces. record {
+        word = reduces.word;
+        keeps = keeps-on keeps (keeps-on same reduces.keeps);
+      }))
+
+  -- an index is compared with the length first
+  runs-compared : (h : Home) (to : ℕ) (s : State) (index : ℤ) → IsShaped o s → register s to ≡ index → to + 2 < 32
+      → 1 ≤ h.length → h.length ≤ 1048576 → StandsAt o s.place (compared_code h to)
+      → RunsThrough o s (compared_code h to) [] (Reduces to (unsigned_of index % h.length) s)
+  runs-compared h to s index shaped has below least most at =
+      let bound = least_word +ℤ pos h.length in
+      let sum = applied Add least_word index in
+      let add = Alu Add (to + 1) (to + 1) to in
+      let rest = Br Lt (to + 1) (to + 2) (pos 3) ∷ Li (to + 1) (pos h.length) ∷ Alu Remu to to (to + 1) ∷ [] in
+      let word : IsWord index = subst IsWord has (IsWord-register o s shaped to) in
+      let Done : State → Type 0 = Reduces to (unsigned_of index % h.length) s in
+      runs-cons s (Li (to + 1) least_word) (add ∷ Li (to + 2) bound ∷ rest) [] [] (Sets s (to + 1) least_word) Done at
+      (sets-li o fits s shaped (to + 1) least_word (omega arith))
+      (λ t1 shape1 sets1 at1.
+      let has1 : register t1 to ≡ index = sets1.others to (λ same. absurd (omega arith)) ∙ has in
+      let added : applied Add (register t1 (to + 1)) (register t1 to) ≡ sum =
+      ap (λ a. applied Add a (register t1 to)) sets1.value ∙ ap (applied Add least_word) has1 in
+      runs-cons t1 add (Li (to + 2) bound ∷ rest) [] [] (Sets t1 (to + 1) sum) Done at1
+      (sets-alu o fits t1 shape1 Add (to + 1) (to + 1) to sum (omega arith) added)
+      (λ t2 shape2 sets2 at2.
+      let has2 : register t2 to ≡ index = sets2.others to (λ same. absurd (omega arith)) ∙ has1 in
+      runs-cons t2 (Li (to + 2) bound) rest [] [] (Sets t2 (to + 2) bound) Done at2
+      (sets-li o fits t2 shape2 (to + 2) bound (omega arith))
+      (λ t3 shape3 sets3 at3.
+      let has3 : register t3 to ≡ index = sets3.others to (λ same. absurd (omega arith)) ∙ has2 in
+      let left : register t3 (to + 1) ≡ sum = sets3.others (to + 1) (λ same. absurd (omega arith)) ∙ sets2.value in
+      let test : compared Lt (register t3 (to + 1)) (register t3 (to + 2)) ≡ compared Lt sum bound =
+      ap (λ a. compared Lt a (register t3 (to + 2))) left ∙ ap (compared Lt sum) sets3.value in
+      runs-branch h to s t3 index shape3 has3
+      (keeps-on (keeps-set to sets1 (omega arith))
+      (keeps-on (keeps-set to sets2 (omega arith)) (keeps-set to sets3 (omega arith))))
+      below least most (compared Lt sum bound) test (near-index index h.length word (omega arith)) at3)))
+
+  -- with a comparison or without one
+  pub runs-numbered : (near : Bool) (h : Home) (to : ℕ) (s : State) (index : ℤ) → IsShaped o s → register s to ≡ index
+      → to + 2 < 32 → 1 ≤ h.length → h.length ≤ 1048576 → StandsAt o s.place (numbered_code near h to)
+      → RunsThrough o s (numbered_code near h to) [] (Reduces to (unsigned_of index % h.length) s)
+  runs-numbered true h to s index shaped has below least most at = runs-compared h to s index shaped has below least most at
+  runs-numbered false h to s index shaped has below least most at = runs-reduced h to s index shaped has below least most at
 
   -- the block, from the word
   pub runs-block : (block_log : ℕ) (h : Home) (to : ℕ) (s : State) (word : ℕ)

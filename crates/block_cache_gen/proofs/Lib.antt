@@ -10,6 +10,7 @@ pub mod AccessLaws
 pub mod HomeFacts
 pub mod Settled
 pub mod Stands
+pub mod NearIndexes
 pub mod IndexRuns
 pub mod AccessRuns
 pub mod ExpressionRuns

@@ -1,5 +1,5 @@
 -- The places of the notes of public code: after its first instruction, each at one of its instructions.
-use Rattle.std.proofs.Common.{◌≡◌, ℕ, ◌+◌, ◌<◌, ◌≤◌, Bool, true, false, ℤ, List, [], ◌∷◌, ◌++◌, length, length-append, Option, Some, None, ap, ◌∙◌, arith}
+use Rattle.std.proofs.Common.{◌≡◌, ℕ, ◌+◌, ◌-◌, ◌<◌, ◌≤◌, Bool, true, false, ℤ, List, [], ◌∷◌, ◌++◌, length, length-append, Option, Some, None, ap, ◌∙◌, arith}
 use Rattle.std.specs.Prelude.{if◌then◌else◌}
 use Rattle.lt_isa.specs.declared.symbols.Note.{Note}
 use Rattle.lt_isa.specs.declared.instructions.Instr.{Instr}
@@ -10,10 +10,10 @@ use Rattle.src_tree.specs.Trees.{Tree, Number, Variable, Element, Operation}
 use Rattle.stretches.proofs.Passed.{LieBetween, lie_wider, lie_both}
 use Rattle.block_cache_gen.specs.declared.frames.Mode.TheVariants.{Public}
 use Rattle.block_cache_gen.specs.Homes.{Home, Setting, home_of}
-use Rattle.block_cache_gen.specs.Codes.{is_cached, fixed_index, reduced_code, shift_code, offset_code, located_code, load_code, skips, access_by, access_code, operation_code, steps_at, expr_code}
+use Rattle.block_cache_gen.specs.Codes.{is_cached, compares, compared_code, numbered_code, fixed_index, reduced_code, shift_code, offset_code, located_code, load_code, skips, access_by, access_code, operation_code, steps_at, expr_code}
 use Rattle.gr_word.specs.declared.operations.Op.{Op}
 use Rattle.strength_reduction.specs.Steps.{Step, code_of}
-use Rattle.block_cache_gen.specs.Notes.{marked_by, access_mask, note_of, loaded_notes, load_notes, index_notes, operation_notes, expr_notes}
+use Rattle.block_cache_gen.specs.Notes.{marked_by, unmarked, access_mask, note_of, compared_notes, loaded_notes, load_notes, index_notes, operation_notes, expr_notes}
 
 -- a located word takes two instructions at least, and more than its index
 abbrev pub index_length : Option ℤ → List Instr → ℕ
@@ -37,7 +37,8 @@ load_longer false h to = omega arith
 
 -- and one more in an access
 pub access-longer : (block_log : ℕ) (h : Home) (to : ℕ) (fixed : Option ℤ) (index : List Instr)
-    → length (located_code block_log h to fixed index) + 1 ≤ length (access_by false block_log Public h to fixed index)
+    → length (located_code block_log h to fixed index) + 1
+    ≤ length (located_code block_log h to fixed index ++ load_code (skips Public h) h to)
 access-longer block_log h to fixed index =
     omega (
       arith,
@@ -46,16 +47,16 @@ access-longer block_log h to fixed index =
     )
 
 -- an access is longer than its index
-pub access-more : (resident : Bool) (block_log : ℕ) (h : Home) (to : ℕ) (fixed : Option ℤ) (index : List Instr)
-    → index_length fixed index + 1 ≤ length (access_by resident block_log Public h to fixed index)
-access-more true block_log h to (Some z) index = omega arith
-access-more true block_log h to None index =
+pub access-more : (resident near : Bool) (block_log : ℕ) (h : Home) (to : ℕ) (fixed : Option ℤ) (index : List Instr)
+    → index_length fixed index + 1 ≤ length (access_by resident near block_log Public h to fixed index)
+access-more true near block_log h to (Some z) index = omega arith
+access-more true near block_log h to None index =
     omega (
       arith,
-      length-append index (reduced_code h to ++ offset_code h to),
-      length-append (reduced_code h to) (offset_code h to),
+      length-append index (numbered_code near h to ++ offset_code h to),
+      length-append (numbered_code near h to) (offset_code h to),
     )
-access-more false block_log h to fixed index =
+access-more false near block_log h to fixed index =
     let longer = located-longer block_log h to fixed index in
     let more = access-longer block_log h to fixed index in
     omega arith
@@ -66,10 +67,28 @@ pub load-lies : (f : Setting) (h : Home) (mask to behind p q : ℕ) (cached : Bo
 load-lies f h mask to behind p q true low high = ((low, high), tt)
 load-lies f h mask to behind p q false low high = tt
 
-pub loaded-lie : (f : Setting) (h : Home) (mask to behind p q : ℕ) (resident : Bool) → p < behind → behind < q
-    → LieBetween p q (loaded_notes resident f h mask to behind)
-loaded-lie f h mask to behind p q true low high = tt
-loaded-lie f h mask to behind p q false low high = load-lies f h mask to behind p q (is_cached h) low high
+-- the note of a comparison
+pub compared-lie : (near : Bool) (f : Setting) (mask to place p q : ℕ) → p < place → place < q
+    → LieBetween p q (compared_notes near None f mask to place)
+compared-lie true f mask to place p q low high = ((low, high), tt)
+compared-lie false f mask to place p q low high = tt
+
+-- the note of a comparison, or of a load
+pub loaded-lie : (f : Setting) (h : Home) (mask to p : ℕ) (resident near : Bool) (fixed : Option ℤ)
+    (index : List Instr)
+    → LieBetween p (p + length (access_by resident near f.profile.block_log Public h to fixed index) + 1)
+    (loaded_notes resident near fixed f h mask to
+    (p + length (access_by resident near f.profile.block_log Public h to fixed index)))
+loaded-lie f h mask to p true near (Some z) index = tt
+loaded-lie f h mask to p true true None index =
+    let size : length (index ++ (compared_code h to ++ offset_code h to)) ≡ length index + 8 =
+    length-append index (compared_code h to ++ offset_code h to) in
+    ((omega arith, omega arith), tt)
+loaded-lie f h mask to p true false None index = tt
+loaded-lie f h mask to p false near fixed index =
+    let more = access-more false near f.profile.block_log h to fixed index in
+    load-lies f h mask to (p + length (access_by false near f.profile.block_log Public h to fixed index)) p _
+    (is_cached h) (omega arith) (omega arith)
 
 -- the notes of an index
 pub index-lie : (fixed : Option ℤ) (p : ℕ) (index : List Instr) (notes : List Note)
@@ -78,18 +97,18 @@ index-lie (Some z) p index notes lie = tt
 index-lie None p index notes lie = lie
 
 -- the notes of an access
-pub access-lie : (f : Setting) (h : Home) (mask to p : ℕ) (fixed : Option ℤ) (index : List Instr) (notes : List Note)
-    → LieBetween p (p + length index) notes
-    → LieBetween p (p + length (access_code f.profile.block_log Public h to fixed index) + 1)
+pub access-lie : (f : Setting) (near : Bool) (h : Home) (mask to p : ℕ) (fixed : Option ℤ) (index : List Instr)
+    (notes : List Note) → LieBetween p (p + length index) notes
+    → LieBetween p (p + length (access_code near f.profile.block_log Public h to fixed index) + 1)
     (index_notes fixed notes
-    ++ load_notes f h mask to (p + length (access_code f.profile.block_log Public h to fixed index)))
-access-lie f h mask to p fixed index notes lie =
-    let size = length (access_code f.profile.block_log Public h to fixed index) in
-    let more = access-more h.resident f.profile.block_log h to fixed index in
-    lie_both p (p + size + 1) (index_notes fixed notes) (load_notes f h mask to (p + size))
+    ++ load_notes near fixed f h mask to (p + length (access_code near f.profile.block_log Public h to fixed index)))
+access-lie f near h mask to p fixed index notes lie =
+    let size = length (access_code near f.profile.block_log Public h to fixed index) in
+    let more = access-more h.resident near f.profile.block_log h to fixed index in
+    lie_both p (p + size + 1) (index_notes fixed notes) (load_notes near fixed f h mask to (p + size))
     (lie_wider p (p + index_length fixed index) p (p + size + 1) (index_notes fixed notes) (omega arith)
     (omega arith) (index-lie fixed p index notes lie))
-    (loaded-lie f h mask to (p + size) p (p + size + 1) h.resident (omega arith) (omega arith))
+    (loaded-lie f h mask to p h.resident near fixed index)
 
 -- an expression has some code
 pub expression-longer : (f : Setting) (e : Tree) (to : ℕ) → 1 ≤ length (expr_code f Public to e)
@@ -99,7 +118,9 @@ expression-longer f (Element x i) to =
     let h = home_of f x in
     omega (
       arith,
-      length-append (access_code f.profile.block_log Public h to (fixed_index h i) (expr_code f Public to i))
+      length-append
+          (access_code (compares f Public h i) f.profile.block_log Public h to (fixed_index h i)
+          (expr_code f Public to i))
           (Ldw to h.slot to ∷ []),
     )
 expression-longer f (Operation op a b) to =
@@ -136,11 +157,12 @@ expression-lies f (Variable x) mask to p = tt
 expression-lies f (Element x i) mask to p =
     let h = home_of f x in
     let index = expr_code f Public to i in
-    let code = access_code f.profile.block_log Public h to (fixed_index h i) index in
+    let code = access_code (compares f Public h i) f.profile.block_log Public h to (fixed_index h i) index in
     let notes = expr_notes f mask to p (Element x i) in
     let size : length (code ++ Ldw to h.slot to ∷ []) ≡ length code + 1 = length-append code (Ldw to h.slot to ∷ []) in
     lie_wider p (p + length code + 1) p (p + length (code ++ Ldw to h.slot to ∷ [])) notes (omega arith) (omega arith)
-    (access-lie f h mask to p (fixed_index h i) index (expr_notes f mask to p i) (expression-lies f i mask to p))
+    (access-lie f (compares f Public h i) h mask to p (fixed_index h i) index (expr_notes f mask to p i)
+    (expression-lies f i mask to p))
 expression-lies f (Operation op a b) mask to p =
     let first = expr_code f Public to a in
     let mid = p + length first in

@@ -1,8 +1,8 @@
 -- The public code of an access is passed: the word of an array, with its block in the array's slot.
-use Rattle.std.proofs.Common.{◌≡◌, ℕ, ◌+◌, ◌-◌, ◌<◌, ◌≤◌, Bool, true, false, ℤ, List, [], ◌∷◌, ◌++◌, length, length-append, Option, Some, None, refl, sym, ap, ◌∙◌, subst, ⊎_elim, arith}
+use Rattle.std.proofs.Common.{◌≡◌, ℕ, ◌+◌, ◌-◌, ◌<◌, ◌≤◌, Bool, true, false, not, ◌&&◌, ℤ, List, [], ◌∷◌, ◌++◌, length, length-append, Option, Some, None, refl, sym, ap, ◌∙◌, subst, ⊎_elim, arith}
 use Rattle.std.specs.Prelude.{if◌then◌else◌}
 use Rattle.std.specs.Option.{option_map}
-use Rattle.std.proofs.lemmas.Bool.{cases_lt, ltb-true, ltb-false}
+use Rattle.std.proofs.lemmas.Bool.{cases_lt, ltb-true, ltb-false, and_parts, false≢true}
 use Rattle.gr_word.specs.declared.variables.Label.{Label}
 use Rattle.gr_word.specs.declared.variables.Label.TheVariants as label
 use Rattle.gr_word.specs.declared.variables.Shape.TheVariants.{Array}
@@ -22,16 +22,17 @@ use Rattle.stretches.proofs.Standing.{standing-first, standing-rest}
 use Rattle.stretches.proofs.Passed.{passes-then, passes-to, passes-goes, passes-noted, no_note-before, no_note-behind, notes-before, notes-behind, no_note-there, notes-within, noted, bank-same, secret-same, rules-li, One, NoMore, LieBetween, lie_wider}
 use Rattle.block_cache_gen.specs.declared.frames.Mode.TheVariants.{Public}
 use Rattle.block_cache_gen.specs.Homes.{Home, Setting, HasHomes, Serves, home_of, pin_of}
-use Rattle.block_cache_gen.specs.Codes.{is_cached, fixed_index, reduced_code, shift_code, offset_code, placed_code, located_code, load_code, access_by, access_code, expr_code}
-use Rattle.block_cache_gen.specs.Notes.{unmarked, access_mask, note_of, loaded_notes, load_notes, index_notes, expr_notes}
+use Rattle.block_cache_gen.specs.Codes.{is_cached, is_masked, compares, compared_code, numbered_code, fixed_index, reduced_code, shift_code, offset_code, placed_code, located_code, load_code, access_by, access_code, expr_code}
+use Rattle.block_cache_gen.specs.Notes.{unmarked, access_mask, note_of, compared_notes, loaded_notes, load_notes, index_notes, expr_notes}
 use Rattle.block_cache_gen.specs.Carries.{Carries}
-use Rattle.block_cache_gen.specs.PublicCode.{StandsNoted}
+use Rattle.block_cache_gen.specs.PublicCode.{StandsNoted, HasLabel}
 use Rattle.block_cache_gen.specs.PublicIndexes.{shows_index, IndexIsPublic}
 use Rattle.block_cache_gen.proofs.KeptBelow.{LeavesPublic, KeptBelow, PassedBelow}
 use Rattle.block_cache_gen.proofs.NoteClaims.{unmarked-same, unmarked-other, leaves-without, leaves-later, claimed-register, note-fits, note-carries}
-use Rattle.block_cache_gen.proofs.NotesOfCode.{index_length, located-longer, access-longer, access-more, load-lies, index-lie, expression-longer, expression-lies}
+use Rattle.block_cache_gen.proofs.NotesOfCode.{compared-lie, index_length, located-longer, access-longer, load-lies, index-lie, expression-longer, expression-lies}
 use Rattle.block_cache_gen.proofs.KeptRegisters.{SameBelow, same-itself, same-set, same-bound, carries-same, kept-same, kept-itself}
-use Rattle.block_cache_gen.proofs.AccessLabels.{numbered, placed-numbered, fixed-numbered, asked_known, asked_same, asked_block, skipped_by, loaded-by}
+use Rattle.block_cache_gen.proofs.AccessLabels.{numbered, reduced-numbered, offset-numbered, compared_known, compared_same, compared_word, divided_known, divided_same, divided_word, compared-by, fixed-numbered, asked_known, asked_same, asked_block, skipped_by, loaded-by}
+use Rattle.block_cache_gen.proofs.Sizes.{numbered_some}
 use Rattle.block_cache_gen.proofs.HomeFacts.{serves-oblivious, serves-cached, shows-cached, shown-low}
 
 -- what passing the code of an expression means, at any place
@@ -44,13 +45,15 @@ ExprPasses o f e =
 -- the code of an access, and its notes
 abbrev pub array_code : Setting → ℕ → List ℕ → Tree → List Instr
 array_code f to x i =
-    access_code f.profile.block_log Public (home_of f x) to (fixed_index (home_of f x) i) (expr_code f Public to i)
+    access_code (compares f Public (home_of f x) i) f.profile.block_log Public (home_of f x) to
+    (fixed_index (home_of f x) i) (expr_code f Public to i)
 
 -- the notes of an access to an array
 abbrev pub array_notes : Setting → (mask to p : ℕ) → List ℕ → Tree → List Note
 array_notes f mask to p x i =
     index_notes (fixed_index (home_of f x) i) (expr_notes f mask to p i)
-    ++ load_notes f (home_of f x) mask to (p + length (array_code f to x i))
+    ++ load_notes (compares f Public (home_of f x) i) (fixed_index (home_of f x) i) f (home_of f x) mask to
+    (p + length (array_code f to x i))
 
 -- the word is located: where its memory shows addresses, its number and that of its block are public
 record LocatedAt (o : Parts) (f : Setting) (h : Home) (mask to : ℕ) (p : ℕ) (k holds : Known) (q : ℕ) : Type 0 where
@@ -66,6 +69,16 @@ record PlacedAt (o : Parts) (f : Setting) (h : Home) (mask to : ℕ) (p : ℕ) (
   passes : Passes o p k q last
   kept : KeptBelow f mask to holds last
   word : shows_index h ≡ true → is_secret last to ≡ false
+  none : claimed_at o q ≡ None
+
+-- the number of a word is found, from an index of a label
+record NumberedAt (o : Parts) (f : Setting) (l : Label) (mask to : ℕ) (p : ℕ) (k holds : Known) (q : ℕ) : Type 0 where
+  last : Known
+  held : Known
+  passes : Passes o p k q last
+  here : HoldsAt o q last held
+  kept : KeptBelow f mask to holds held
+  word : l ≡ label.Public → is_secret held to ≡ false
 
 -- the block of the word is in its slot
 pub record AccessPassed (o : Parts) (f : Setting) (h : Home) (mask to : ℕ) (p : ℕ) (k holds : Known)
@@ -243,100 +256,211 @@ module _ (o : Parts) (f : Setting) (homes : HasHomes o f) (once : DeclaredOnce f
       loaded_if true is stands size between = loaded_claimed (ltb-true (home_of f x).bank 2 is) size between stands
       loaded_if false is stands size between = loaded_plainly (ltb-false (home_of f x).bank 2 is) size between stands
 
+  -- The number of a word of a resident array is found, after the code of the index.
+  module _ (h : Home) (l : Label) (mask to : ℕ) (low : to + 2 < 32) (p : ℕ) (k holds : Known)
+      (leaves : LeavesPublic mask to holds) (kept : KeptBelow f mask to holds k) (labelled : HasLabel k to l)
+      (none : claimed_at o p ≡ None) where
+    -- the mask leaves the registers below and the number of the word public
+    leaves_number : (m : Known) → SameBelow to k m → is_secret m to ≡ false
+        → LeavesPublic (unmarked mask to) (to + 1) m
+    leaves_number m same word =
+        leaves-without mask to to (to + 1) m
+        (leaves-later mask to holds m leaves (λ s lt unmarks. same.registers s lt ∙ kept.publics s lt unmarks))
+        (omega arith) (omega arith) (omega arith) word
+
+    compared_at : l ≡ label.Public → StandsAt o p (compared_code h to)
+        → NotesBetween o p (p + 6 + 1) (note_of f (unmarked mask to) (p + 6) ∷ []) → p + 6 < length o.code
+        → NumberedAt o f l mask to p k holds (p + 6)
+    compared_at public stands between inside =
+        let r = p + 6 in
+        let note = note_of f (unmarked mask to) r in
+        let claim = note_known note in
+        let sized = kept.carries.registers in
+        let open_index : is_secret k to ≡ false = labelled ∙ ap secret_label public in
+        let one = compared_known o to low h k sized open_index in
+        let near = compared_same o to low h k sized open_index in
+        let same_one : SameBelow to k one = record {
+          sized = near.sized;
+          count = near.count;
+          registers = λ s lt. near.registers s (omega arith);
+          slots = near.slots;
+        } in
+        let last = divided_known o to low h k sized open_index in
+        let same = divided_same o to low h k sized open_index in
+        let fit_one : FitsClaim one claim = note-fits o f homes once (unmarked mask to) r (to + 1) one
+        (carries-same f to k one kept.carries same_one)
+        (leaves_number one same_one (compared_word o to low h k sized open_index)) in
+        let fit : FitsClaim last claim = note-fits o f homes once (unmarked mask to) r (to + 1) last
+        (carries-same f to k last kept.carries same)
+        (leaves_number last same (divided_word o to low h k sized open_index)) in
+        let at : claimed_at o r ≡ Some claim = noted o p (r + 1) note between (omega arith) (omega arith) in
+        let goes = compared-by o to low h k sized open_index p claim inside at fit_one in
+        record {
+          last = last;
+          held = claim;
+          passes = passes-goes o p (compared_code h to) k last goes stands
+              (λ s above below. quiet_before s above below between)
+              inside;
+          here = AsClaimed last claim at fit;
+          kept = record {
+            carries = note-carries o f homes once (unmarked mask to) r;
+            publics = λ s lt unmarks. claimed-register f (unmarked mask to) r s (omega arith)
+                ∙ unmarked-other mask to s (omega arith) (omega arith) (λ e. absurd (omega arith)) ∙ unmarks;
+            secrets = λ s lt secret. fit.registers s (same.registers s lt ∙ kept.secrets s lt secret);
+          };
+          word = λ e. claimed-register f (unmarked mask to) r to (omega arith) ∙ unmarked-same mask to (omega arith);
+        }
+      where
+        quiet_before : (s : ℕ) → p ≤ s → s < p + 6
+            → NotesBetween o p (p + 6 + 1) (note_of f (unmarked mask to) (p + 6) ∷ []) → claimed_at o s ≡ None
+        quiet_before s above below between =
+            ⊎_elim
+            (λ (lt : p < s). between s lt (omega arith)
+            ∙ ap (option_map note_known) (no_note-before (p + 5) (p + 7) s (note_of f (unmarked mask to) (p + 6) ∷ [])
+            ((omega arith, omega arith), tt) (omega arith)))
+            (λ (le : s ≤ p). let e : p ≡ s = omega arith in subst (λ (t : ℕ). claimed_at o t ≡ None) e none)
+            (cases_lt p s)
+
+    numbered_at : (near : Bool) → (near ≡ true → l ≡ label.Public) → StandsAt o p (numbered_code near h to)
+        → NotesBetween o p (p + length (numbered_code near h to) + 1)
+        (compared_notes near None f mask to (p + length (numbered_code near h to)))
+        → p + length (numbered_code near h to) < length o.code
+        → NumberedAt o f l mask to p k holds (p + length (numbered_code near h to))
+    numbered_at true public stands between inside = compared_at (public refl) stands between inside
+    numbered_at false public stands between inside =
+        let found = reduced-numbered o to low h p k kept.carries.registers in
+        let some = numbered_some false h to in
+        record {
+          last = found.after;
+          held = found.after;
+          passes = passes-goes o p (reduced_code h to) k found.after found.goes stands
+              (λ s above below.
+              ⊎_elim
+              (λ (lt : p < s). between s lt (omega arith))
+              (λ (le : s ≤ p). let e : p ≡ s = omega arith in subst (λ (t : ℕ). claimed_at o t ≡ None) e none)
+              (cases_lt p s))
+              inside;
+          here = AsItComes found.after (between (p + length (reduced_code h to)) (omega arith) (omega arith));
+          kept = kept-same f mask to holds k found.after kept found.same;
+          word = λ e. found.word_is ∙ labelled ∙ ap secret_label e;
+        }
+
   -- The place of a resident array's word is found.
   module _ (h : Home) (i : Tree) (mask to : ℕ) (low : to + 2 < 32) (p : ℕ) (k holds : Known)
-      (here : HoldsAt o p k holds) (carries : Carries f holds) (leaves : LeavesPublic mask to holds) where
-    placed_by : (fixed : Option ℤ) → StandsAt o p (placed_code h to fixed (expr_code f Public to i))
-        → NotesBetween o p (p + length (placed_code h to fixed (expr_code f Public to i)))
-        (index_notes fixed (expr_notes f mask to p i))
-        → p + length (placed_code h to fixed (expr_code f Public to i)) < length o.code
+      (here : HoldsAt o p k holds) (carries : Carries f holds) (leaves : LeavesPublic mask to holds) (near : Bool)
+      (open_index : near ≡ true → label_of (context_of f.decls) i ≡ label.Public) where
+    placed_by : (fixed : Option ℤ) → StandsAt o p (placed_code near h to fixed (expr_code f Public to i))
+        → NotesBetween o p (p + length (placed_code near h to fixed (expr_code f Public to i)) + 1)
+        (index_notes fixed (expr_notes f mask to p i)
+        ++ compared_notes near fixed f mask to
+        (p + length (placed_code near h to fixed (expr_code f Public to i)) - length (offset_code h to)))
+        → p + length (placed_code near h to fixed (expr_code f Public to i)) < length o.code
         → to + height_of i ≤ 26 → ExprPasses o f i
         → (shows_index h ≡ true → label_of (context_of f.decls) i ≡ label.Public)
-        → PlacedAt o f h mask to p k holds (p + length (placed_code h to fixed (expr_code f Public to i)))
+        → PlacedAt o f h mask to p k holds (p + length (placed_code near h to fixed (expr_code f Public to i)))
     placed_by (Some z) stands between inside high index public =
         let one = set_secret holds to false in
         let sized = carries.registers in
         record {
           last = one;
           passes = passes-noted o p _ _ k holds one here
-              (One p _ _ holds one one (rules-li o p holds to _) (NoMore (p + 1) one)) stands between inside;
+              (One p _ _ holds one one (rules-li o p holds to _) (NoMore (p + 1) one)) stands
+              (λ s above below. between s above (omega arith)) inside;
           kept = kept-same f mask to holds holds one
               (kept-itself f mask to holds carries (λ r lt unmarks. let h = leaves r (omega arith) unmarks in h.1))
               (same-set to holds holds to false (omega arith) (same-itself to holds));
           word = λ shows. secret-same holds to false (omega arith);
+          none = between (p + 1) (omega arith) (omega arith);
         }
     placed_by None stands between inside high index public =
         let code = expr_code f Public to i in
-        let rest = reduced_code h to ++ offset_code h to in
+        let number = numbered_code near h to in
+        let offset = offset_code h to in
+        let rest = number ++ offset in
         let mid = p + length code in
+        let next = mid + length number in
+        let last = p + length (code ++ rest) in
         let size : length (code ++ rest) ≡ length code + length rest = length-append code rest in
-        let lie = expression-lies f i mask to p in
+        let rest_size : length rest ≡ length number + length offset = length-append number offset in
         let some = expression-longer f i to in
-        let longer = access-more true f.profile.block_log h to None code in
+        let some_number = numbered_some near h to in
+        let before = expr_notes f mask to p i in
+        let behind = compared_notes near None f mask to next in
+        let place : last - length offset ≡ next = omega arith in
+        let all : NotesBetween o p (last + 1) (before ++ behind) =
+        subst (λ (n : ℕ). NotesBetween o p (last + 1) (before ++ compared_notes near None f mask to n)) place between in
+        let lie_before : LieBetween p mid before = expression-lies f i mask to p in
+        let lie_behind : LieBetween mid (next + 1) behind =
+        compared-lie near f mask to next mid (next + 1) (omega arith) (omega arith) in
+        let lie_wide : LieBetween mid (last + 1) behind =
+        compared-lie near f mask to next mid (last + 1) (omega arith) (omega arith) in
+        let later : NotesBetween o mid (last + 1) behind =
+        notes-behind o p mid (last + 1) before behind lie_before lie_wide all (omega arith) in
         let first = index mask to p k holds high
         (record {
           code_stands = standing-first code rest stands;
-          noted = notes-within o p (p + length (code ++ rest)) p mid (expr_notes f mask to p i) (omega arith)
-              (omega arith) between;
+          noted = notes-before o p mid (last + 1) before behind lie_before lie_wide all (omega arith);
           behind = omega arith;
         }) here carries leaves in
-        let l = placed-numbered o to low h mid first.last first.kept.carries.registers in
-        let quiet : (r : ℕ) → mid ≤ r → r < mid + length rest → claimed_at o r ≡ None = (λ r above below.
-        between r (omega arith) (omega arith)
-        ∙ ap (option_map note_known) (no_note-behind p mid r (expr_notes f mask to p i) lie above)) in
-        let second : Passes o mid first.last
-        (mid + length rest) l.after = passes-goes o mid rest first.last l.after l.goes
-        (standing-rest code rest stands) quiet (omega arith) in
+        let stands_rest = standing-rest code rest stands in
+        let second = numbered_at h (label_of (context_of f.decls) i) mask to low mid first.last holds leaves first.kept
+        first.labelled (no_note-there o p mid (last + 1) before behind lie_before lie_wide all (omega arith) (omega arith))
+        near open_index (standing-first number offset stands_rest)
+        (notes-within o mid (last + 1) mid (next + 1) behind (omega arith) (omega arith) later) (omega arith) in
+        let l = offset-numbered o to low h next second.held second.kept.carries.registers in
+        let quiet_after : (r : ℕ) → next < r → r < last + 1 → claimed_at o r ≡ None = (λ r above below.
+        later r (omega arith) below
+        ∙ ap (option_map note_known) (no_note-behind mid (next + 1) r behind lie_behind (omega arith))) in
+        let third : Passes o next second.last (next + length offset) l.after =
+        passes-noted o next _ _ second.last second.held l.after second.here l.goes
+        (standing-rest number offset stands_rest) (λ r above below. quiet_after r above (omega arith)) (omega arith) in
         record {
           last = l.after;
           passes
-              = passes-to o p k (mid + length rest) (p + length (code ++ rest)) l.after (omega arith)
-              (passes-then o p k mid first.last first.passes (mid + length rest) l.after second);
-          kept = kept-same f mask to holds first.last l.after first.kept l.same;
-          word = λ shows. l.word_is ∙ first.labelled ∙ ap secret_label (public shows);
+              = passes-to o p k (next + length offset) last l.after (omega arith)
+              (passes-then o p k mid first.last first.passes (next + length offset) l.after
+              (passes-then o mid first.last next second.last second.passes (next + length offset) l.after third));
+          kept = kept-same f mask to holds second.held l.after second.kept l.same;
+          word = λ shows. l.word_is ∙ second.word (public shows);
+          none = quiet_after last (omega arith) (omega arith);
         }
 
   -- a whole access, of an array that is resident or isn't
-  abbrev code_by : Bool → ℕ → List ℕ → Tree → List Instr
-  code_by b to x i =
-      access_by b f.profile.block_log Public (home_of f x) to (fixed_index (home_of f x) i) (expr_code f Public to i)
+  abbrev code_by : (resident near : Bool) → ℕ → List ℕ → Tree → List Instr
+  code_by b near to x i =
+      access_by b near f.profile.block_log Public (home_of f x) to (fixed_index (home_of f x) i)
+      (expr_code f Public to i)
 
   passes_by : (x : List ℕ) (l : Label) (i : Tree) (mask to p : ℕ) (k holds : Known)
-      → context_of f.decls x ≡ Some (l, Array) → (b : Bool) → (home_of f x).resident ≡ b
+      → context_of f.decls x ≡ Some (l, Array) → (b near : Bool) → (home_of f x).resident ≡ b
+      → (near ≡ true → label_of (context_of f.decls) i ≡ label.Public)
       → (shows_index (home_of f x) ≡ true → label_of (context_of f.decls) i ≡ label.Public)
       → ExprPasses o f i → to + height_of i ≤ 26 → to + 2 < 32
-      → StandsAt o p (code_by b to x i)
-      → NotesBetween o p (p + length (code_by b to x i) + 1)
+      → StandsAt o p (code_by b near to x i)
+      → NotesBetween o p (p + length (code_by b near to x i) + 1)
       (index_notes (fixed_index (home_of f x) i) (expr_notes f mask to p i)
-      ++ loaded_notes b f (home_of f x) mask to (p + length (code_by b to x i)))
-      → p + length (code_by b to x i) < length o.code → HoldsAt o p k holds → Carries f holds
+      ++ loaded_notes b near (fixed_index (home_of f x) i) f (home_of f x) mask to (p + length (code_by b near to x i)))
+      → p + length (code_by b near to x i) < length o.code → HoldsAt o p k holds → Carries f holds
       → LeavesPublic mask to holds
-      → AccessPassed o f (home_of f x) mask to p k holds (p + length (code_by b to x i))
-  passes_by x l i mask to p k holds declared true is public index high low stands between inside here carries leaves =
+      → AccessPassed o f (home_of f x) mask to p k holds (p + length (code_by b near to x i))
+  passes_by x l i mask to p k holds declared true near is open_index public index high low stands between inside here
+      carries leaves =
       let h = home_of f x in
-      let fixed = fixed_index h i in
-      let code = expr_code f Public to i in
-      let r = p + length (placed_code h to fixed code) in
-      let more = access-more true f.profile.block_log h to fixed code in
-      let before = index_notes fixed (expr_notes f mask to p i) in
-      let lie_before : LieBetween p r before = lie_wider p (p + index_length fixed code) p r before (omega arith)
-      (omega arith) (index-lie fixed p code (expr_notes f mask to p i) (expression-lies f i mask to p)) in
-      let found = placed_by h i mask to low p k holds here carries leaves fixed stands
-      (notes-before o p r (r + 1) before [] lie_before tt between (omega arith)) inside high index public in
+      let found = placed_by h i mask to low p k holds here carries leaves near open_index (fixed_index h i) stands between
+      inside high index public in
       let home = homes.residents x l Array declared is in
       let pin = homes.pins h.slot (pin_of h) home.pinned in
       record {
         last = found.last;
         held = found.last;
         passes = found.passes;
-        here = AsItComes found.last
-            (no_note-there o p r (r + 1) before [] lie_before tt between (omega arith) (omega arith));
+        here = AsItComes found.last found.none;
         kept = found.kept;
         bound = found.kept.carries.pinned h.slot (pin_of h) home.pinned pin.few pin.apart;
         word = found.word;
       }
-  passes_by x l i mask to p k holds declared false turn public index high low stands between inside here carries
-      leaves =
+  passes_by x l i mask to p k holds declared false near turn open_index public index high low stands between inside here
+      carries leaves =
       let h = home_of f x in
       let fixed = fixed_index h i in
       let code = expr_code f Public to i in
@@ -348,7 +472,7 @@ module _ (o : Parts) (f : Setting) (homes : HasHomes o f) (once : DeclaredOnce f
       let longer = located-longer f.profile.block_log h to fixed code in
       let more = access-longer f.profile.block_log h to fixed code in
       let before = index_notes fixed (expr_notes f mask to p i) in
-      let behind = loaded_notes false f h mask to r in
+      let behind = loaded_notes false near fixed f h mask to r in
       let lie_before : LieBetween p q before = lie_wider p (p + index_length fixed code) p q before (omega arith)
       (omega arith) (index-lie fixed p code (expr_notes f mask to p i) (expression-lies f i mask to p)) in
       let lie_behind : LieBetween q (r + 1) behind = load-lies f h mask to r q (r + 1) (is_cached h) (omega arith)
@@ -371,6 +495,19 @@ module _ (o : Parts) (f : Setting) (homes : HasHomes o f) (once : DeclaredOnce f
         word = held.word;
       }
 
+  -- only public indexes are compared
+  label_public : (l : Label) → not (secret_label l) ≡ true → l ≡ label.Public
+  label_public label.Public is = refl
+  label_public label.Secret is = absurd (false≢true is)
+
+  compares-public : (h : Home) (i : Tree) → compares f Public h i ≡ true
+      → label_of (context_of f.decls) i ≡ label.Public
+  compares-public h i is =
+      let secret = not (secret_label (label_of (context_of f.decls) i)) in
+      let part = and_parts f.reduces (not (is_masked h) && secret) is in
+      let label = and_parts (not (is_masked h)) secret part.1 in
+      label_public (label_of (context_of f.decls) i) label.1
+
   pub access-passes : (x : List ℕ) (l : Label) (i : Tree) (mask to p : ℕ) (k holds : Known)
       → context_of f.decls x ≡ Some (l, Array) → IndexIsPublic f x i
       → ExprPasses o f i → to + height_of i ≤ 26 → to + 2 < 32
@@ -380,5 +517,5 @@ module _ (o : Parts) (f : Setting) (homes : HasHomes o f) (once : DeclaredOnce f
       → LeavesPublic mask to holds
       → AccessPassed o f (home_of f x) mask to p k holds (p + length (array_code f to x i))
   access-passes x l i mask to p k holds declared public index high low stands between inside here carries leaves =
-      passes_by x l i mask to p k holds declared (home_of f x).resident refl public index high low stands between inside
-      here carries leaves
+      passes_by x l i mask to p k holds declared (home_of f x).resident (compares f Public (home_of f x) i) refl
+      (compares-public (home_of f x) i) public index high low stands between inside here carries leaves

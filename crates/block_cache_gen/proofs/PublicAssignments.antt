@@ -20,7 +20,7 @@ use Rattle.stretches.proofs.Standing.{standing-first, standing-rest}
 use Rattle.stretches.proofs.Passed.{passes-then, passes-to, passes-goes, passes-noted, GoesOn, NoMore, One, rules-li, rules-stw, rules-stb, secret-same, secret-other, notes-before, notes-behind, no_note-there, notes-within, no_note-behind, LieBetween, lie_wider, lie_both}
 use Rattle.block_cache_gen.specs.declared.frames.Mode.TheVariants.{Public}
 use Rattle.block_cache_gen.specs.Homes.{Setting, HasHomes, home_of}
-use Rattle.block_cache_gen.specs.Codes.{stored_code, expr_code, set_code}
+use Rattle.block_cache_gen.specs.Codes.{compares, stored_code, expr_code, set_code}
 use Rattle.block_cache_gen.specs.Notes.{all_marked, marked_by, expr_notes, set_notes}
 use Rattle.block_cache_gen.specs.Carries.{Carries}
 use Rattle.block_cache_gen.specs.PublicIndexes.{SetHasPublicIndexes}
@@ -144,7 +144,7 @@ module _ (o : Parts) (f : Setting) (homes : HasHomes o f) (once : DeclaredOnce f
       let before = expr_notes f all_marked 0 p e in
       let later = array_notes f mask 1 mid x i in
       let lie_before : LieBetween p mid before = expression-lies f e all_marked 0 p in
-      let lie_access : LieBetween mid (r + 1) later = access-lie f h mask 1 mid _ (expr_code f Public 1 i)
+      let lie_access : LieBetween mid (r + 1) later = access-lie f (compares f Public h i) h mask 1 mid _ (expr_code f Public 1 i)
       (expr_notes f mask 1 mid i) (expression-lies f i mask 1 mid) in
       let lie_later : LieBetween mid whole later = lie_wider mid (r + 1) mid whole later (omega arith)
       (omega arith) lie_access in

@@ -1,8 +1,8 @@
 -- The code of expressions, guards and assignments is in its ranges, in all modes.
-use Rattle.std.proofs.Common.{◌≡◌, ℕ, ◌+◌, ◌-◌, ◌/◌, ◌^◌, ◌<◌, ◌≤◌, Bool, true, false, ℤ, pos, List, [], ◌∷◌, ◌++◌, Option, Some, None, refl, arith}
+use Rattle.std.proofs.Common.{◌≡◌, ℕ, ◌+◌, ◌-◌, ◌/◌, ◌^◌, ◌<◌, ◌≤◌, Bool, true, false, ℤ, pos, negsuc, ◌+ℤ◌, List, [], ◌∷◌, ◌++◌, Option, Some, None, refl, sym, subst, arith}
 use Rattle.std.specs.Prelude.{All, if◌then◌else◌, FitsSigned}
 use Rattle.std.specs.Int.{w32, w64}
-use Rattle.std.proofs.lemmas.Int.{fits_signed_from_abs}
+use Rattle.std.proofs.lemmas.Int.{ints, fits_signed_from_abs}
 use Rattle.std.proofs.lemmas.List.Elements.{All-nil, All-cons, All-head, All-tail}
 use Rattle.std.proofs.Math.Nat.{mod-lt, div-le_self}
 use Rattle.gr_base.specs.Lists.{Within}
@@ -11,7 +11,7 @@ use Rattle.gr_word.specs.declared.variables.Label.{Label}
 use Rattle.gr_word.specs.declared.variables.Shape.{Shape}
 use Rattle.gr_word.specs.declared.operations.Op.{Op}
 use Rattle.gr_word.specs.declared.operations.Op.TheVariants.{Add, Remu, And, Shr}
-use Rattle.gr_word.specs.declared.operations.Cmp.TheVariants.{Eq}
+use Rattle.gr_word.specs.declared.operations.Cmp.TheVariants.{Eq, Lt}
 use Rattle.lt_isa.specs.declared.instructions.Instr.{Instr}
 use Rattle.lt_isa.specs.declared.instructions.Instr.TheVariants.{Li, Alu, Ldb, Stb, Idb, Ldw, Stw, Br}
 use Rattle.lt_isa.specs.Ranges.{InstrFits}
@@ -24,7 +24,7 @@ use Rattle.block_cache_gen.specs.declared.frames.Mode.{Mode}
 use Rattle.block_cache_gen.specs.declared.frames.Mode.TheVariants.{Public, Real, Mirrored}
 use Rattle.block_cache_gen.specs.Homes.{Pin, pin_at, Home, Setting, home_of}
 use Rattle.block_cache_gen.specs.TreeWords.{HasWords}
-use Rattle.block_cache_gen.specs.Codes.{is_masked, fixed_index, fixed_word, reduced_code, shift_code, fixed_code, located_code, load_code, skips, access_by, placed_code, offset_code, stored_code, access_code, expr_code, guard_code, store_code, set_code, operation_code, steps_at}
+use Rattle.block_cache_gen.specs.Codes.{is_masked, compares, least_word, numbered_code, fixed_index, fixed_word, reduced_code, shift_code, fixed_code, located_code, load_code, skips, access_by, placed_code, offset_code, stored_code, access_code, expr_code, guard_code, store_code, set_code, operation_code, steps_at}
 use Rattle.strength_reduction.specs.Steps.{Step, Constant, Compute, StepFits, numbered, code_of}
 use Rattle.step_code.proofs.Registers.{numbered-low}
 use Rattle.src_tree.proofs.TreeHeights.{height-some}
@@ -67,6 +67,9 @@ small-word n low = fits_signed_from_abs w64 (pos n) low
 
 small_offset : FitsSigned w32 (pos 2)
 small_offset = fits_signed_from_abs w32 (pos 2) (omega arith)
+
+small_offset_three : FitsSigned w32 (pos 3)
+small_offset_three = fits_signed_from_abs w32 (pos 3) (omega arith)
 
 module _ (banks : ℕ) where
   none : CodeFits banks []
@@ -149,27 +152,44 @@ module _ (banks : ℕ) where
         both index (reduced_code h to ++ shift_code block_log h to) fit
         (both (reduced_code h to) (shift_code block_log h to) (reduced_by (is_masked h)) (block_by block_log few))
 
-    placed_by : (fixed : Option ℤ) (index : List Instr) → CodeFits banks index
-        → CodeFits banks (placed_code h to fixed index)
-    placed_by (Some z) index fit =
+    -- the length 2^63 less is a word
+    bound-word : (n : ℕ) → n ≤ 1048576 → IsWord (least_word +ℤ pos n)
+    bound-word n most =
+        let is : least_word +ℤ pos n ≡ negsuc (9223372036854775807 - n) = omega (arith, ints) in
+        subst IsWord (sym is) (record { sfits = omega arith })
+
+    numbered_by : (near : Bool) → CodeFits banks (numbered_code near h to)
+    numbered_by true =
+        let most = home.length.1 in
+        li (to + 1) least_word _ (omega arith) (record { sfits = omega arith })
+        (alu Add (to + 1) (to + 1) to _ (omega arith) (omega arith) (omega arith)
+        (li (to + 2) (least_word +ℤ pos h.length) _ (omega arith) (bound-word h.length most)
+        (Before (Br Lt (to + 1) (to + 2) (pos 3)) _ (omega arith, omega arith, small_offset_three)
+        (li (to + 1) (pos h.length) _ (omega arith) (small-word h.length (omega arith))
+        (alu Remu to to (to + 1) [] (omega arith) (omega arith) (omega arith) none)))))
+    numbered_by false = reduced_by (is_masked h)
+
+    placed_by : (near : Bool) (fixed : Option ℤ) (index : List Instr) → CodeFits banks index
+        → CodeFits banks (placed_code near h to fixed index)
+    placed_by near (Some z) index fit =
         let small = home.word in
         let least = home.length.0 in
         let most = home.length.1 in
         let below : fixed_word h z < h.length = mod-lt (unsigned_of z) (omega arith) in
         li to (pos (h.word + fixed_word h z)) [] (omega arith) (small-word (h.word + fixed_word h z) (omega arith)) none
-    placed_by None index fit =
+    placed_by near None index fit =
         let small = home.word in
-        both index (reduced_code h to ++ offset_code h to) fit
-        (both (reduced_code h to) (offset_code h to) (reduced_by (is_masked h))
+        both index (numbered_code near h to ++ offset_code h to) fit
+        (both (numbered_code near h to) (offset_code h to) (numbered_by near)
         (li (to + 1) (pos h.word) _ (omega arith) (small-word h.word (omega arith))
         (alu Add to to (to + 1) [] (omega arith) (omega arith) (omega arith) none)))
 
-    pub access-fits : (block_log : ℕ) (mode : Mode) (fixed : Option ℤ) (index : List Instr) → block_log ≤ 9
-        → CodeFits banks index → CodeFits banks (access_code block_log mode h to fixed index)
-    access-fits block_log mode fixed index few fit = by h.resident
+    pub access-fits : (near : Bool) (block_log : ℕ) (mode : Mode) (fixed : Option ℤ) (index : List Instr)
+        → block_log ≤ 9 → CodeFits banks index → CodeFits banks (access_code near block_log mode h to fixed index)
+    access-fits near block_log mode fixed index few fit = by h.resident
       where
-        by : (b : Bool) → CodeFits banks (access_by b block_log mode h to fixed index)
-        by true = placed_by fixed index fit
+        by : (b : Bool) → CodeFits banks (access_by b near block_log mode h to fixed index)
+        by true = placed_by near fixed index fit
         by false =
             both (located_code block_log h to fixed index) (load_code (skips mode h) h to)
             (located_by block_log fixed index few fit) (load_by (skips mode h))
@@ -210,8 +230,10 @@ module _ (banks : ℕ) where
   expression-fits f mode homes to (Element x i) typed words high =
       let home = homes.homes x typed.0.0 _ typed.0.1 in
       both
-      (access_code f.profile.block_log mode (home_of f x) to (fixed_index (home_of f x) i) (expr_code f mode to i)) _
-      (access-fits (home_of f x) home to (omega arith) f.profile.block_log mode (fixed_index (home_of f x) i)
+      (access_code (compares f mode (home_of f x) i) f.profile.block_log mode (home_of f x) to
+      (fixed_index (home_of f x) i) (expr_code f mode to i)) _
+      (access-fits (home_of f x) home to (omega arith) (compares f mode (home_of f x) i) f.profile.block_log mode
+      (fixed_index (home_of f x) i)
       (expr_code f mode to i) homes.block_log
       (expression-fits f mode homes to i typed.1.0 words (omega arith)))
       (ldw to (home_of f x).slot to [] (omega arith) home.slot (omega arith) none)
@@ -258,11 +280,12 @@ module _ (banks : ℕ) where
       → height_of i ≤ 25 → height_of e ≤ 26 → CodeFits banks (set_code f mode (SetElement x i e))
   set_element-fits f mode homes x i e typed value index words low_index low =
       let home = homes.homes x typed.0.0 _ typed.0.1 in
-      let access = access_code f.profile.block_log mode (home_of f x) 1 (fixed_index (home_of f x) i)
-      (expr_code f mode 1 i) in
+      let access = access_code (compares f mode (home_of f x) i) f.profile.block_log mode (home_of f x) 1
+      (fixed_index (home_of f x) i) (expr_code f mode 1 i) in
       both (expr_code f mode 0 e) _ (expression-fits f mode homes 0 e value words (omega arith))
       (both access _
-      (access-fits (home_of f x) home 1 (omega arith) f.profile.block_log mode (fixed_index (home_of f x) i)
+      (access-fits (home_of f x) home 1 (omega arith) (compares f mode (home_of f x) i) f.profile.block_log mode
+      (fixed_index (home_of f x) i)
       (expr_code f mode 1 i) homes.block_log
       (expression-fits f mode homes 1 i typed.1.0 index (omega arith)))
       (both (store_code mode (home_of f x).slot) _ (store_by mode (home_of f x).slot home.slot)

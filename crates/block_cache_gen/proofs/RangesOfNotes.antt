@@ -1,5 +1,5 @@
 -- The notes of public code rise in place and are in their ranges, and there is one a node at most.
-use Rattle.std.proofs.Common.{◌≡◌, ℕ, ◌+◌, ◌*◌, ◌%◌, ◌^◌, ◌<◌, ◌≤◌, ◌==◌, Bool, true, false, nat_lt, ◌||◌, ℤ, pos, List, [], ◌∷◌, ◌++◌, length, length-append, Option, Some, None, refl, sym, ap, ◌∙◌, subst, arith, w32}
+use Rattle.std.proofs.Common.{◌≡◌, ℕ, ◌+◌, ◌-◌, ◌*◌, ◌%◌, ◌^◌, ◌<◌, ◌≤◌, ◌==◌, Bool, true, false, nat_lt, ◌||◌, ℤ, pos, List, [], ◌∷◌, ◌++◌, length, length-append, Option, Some, None, refl, sym, ap, ◌∙◌, subst, arith, w32}
 use Rattle.std.specs.Int.{bit_not}
 use Rattle.std.specs.Prelude.{if◌then◌else◌, All, IsTrue}
 use Rattle.std.proofs.lemmas.Bool.{lt-ltb}
@@ -19,10 +19,10 @@ use Rattle.src_tree.specs.Limits.{tree_weight, test_weight}
 use Rattle.src_tree.specs.Trees.{Tree, Number, Variable, Element, Operation, Test, Statement, SetVariable, SetElement, Choice, Loop}
 use Rattle.block_cache_gen.specs.declared.frames.Mode.TheVariants.{Public}
 use Rattle.block_cache_gen.specs.Homes.{Pin, pin_at, Home, Setting, home_of}
-use Rattle.block_cache_gen.specs.Codes.{is_cached, fixed_index, stored_code, access_code, operation_code, steps_at, expr_code, guard_code, set_code}
+use Rattle.block_cache_gen.specs.Codes.{is_cached, compares, compared_code, offset_code, access_by, fixed_index, stored_code, access_code, operation_code, steps_at, expr_code, guard_code, set_code}
 use Rattle.gr_word.specs.declared.operations.Op.{Op}
 use Rattle.strength_reduction.specs.Steps.{Step, code_of}
-use Rattle.block_cache_gen.specs.Notes.{all_marked, unmarked, marked_by, is_used, claimed_where_used, claim_by, slot_claims, note_of, access_mask, loaded_notes, load_notes, index_notes, operation_notes, expr_notes, guard_notes, set_notes}
+use Rattle.block_cache_gen.specs.Notes.{all_marked, unmarked, marked_by, is_used, claimed_where_used, claim_by, slot_claims, note_of, access_mask, compared_notes, loaded_notes, load_notes, index_notes, operation_notes, expr_notes, guard_notes, set_notes}
 use Rattle.block_cache_gen.proofs.NotesOfCode.{index_length, access-more, expression-longer}
 use Rattle.block_cache_gen.proofs.PublicAccesses.{array_code, array_notes}
 
@@ -74,11 +74,22 @@ load_rises : (f : Setting) (mask to behind low high : ℕ) (cached : Bool) → m
 load_rises f mask to behind low high true small le lt = ((le, lt), (access_mask-below mask to small, refl), tt)
 load_rises f mask to behind low high false small le lt = tt
 
-loaded_rises : (f : Setting) (h : Home) (mask to behind low high : ℕ) (b : Bool) → mask < 2 ^ 32 → low ≤ behind
-    → behind < high → NotesRise f low high (loaded_notes b f h mask to behind)
-loaded_rises f h mask to behind low high true small le lt = tt
-loaded_rises f h mask to behind low high false small le lt =
-    load_rises f mask to behind low high (is_cached h) small le lt
+loaded_rises : (f : Setting) (h : Home) (mask to p : ℕ) (b near : Bool) (fixed : Option ℤ) (index : List Instr)
+    → mask < 2 ^ 32
+    → NotesRise f (p + index_length fixed index + 1)
+    (p + length (access_by b near f.profile.block_log Public h to fixed index) + 1)
+    (loaded_notes b near fixed f h mask to
+    (p + length (access_by b near f.profile.block_log Public h to fixed index)))
+loaded_rises f h mask to p true near (Some z) index small = tt
+loaded_rises f h mask to p true true None index small =
+    let size : length (index ++ (compared_code h to ++ offset_code h to)) ≡ length index + 8 =
+    length-append index (compared_code h to ++ offset_code h to) in
+    ((omega arith, omega arith), (unmarked_below mask to small, refl), tt)
+loaded_rises f h mask to p true false None index small = tt
+loaded_rises f h mask to p false near fixed index small =
+    let more = access-more false near f.profile.block_log h to fixed index in
+    load_rises f mask to (p + length (access_by false near f.profile.block_log Public h to fixed index)) _ _
+    (is_cached h) small (omega arith) (omega arith)
 
 index_rises : (f : Setting) (fixed : Option ℤ) (p : ℕ) (index : List Instr) (notes : List Note)
     → NotesRise f (p + 1) (p + length index) notes
@@ -86,19 +97,20 @@ index_rises : (f : Setting) (fixed : Option ℤ) (p : ℕ) (index : List Instr) 
 index_rises f (Some z) p index notes rise = tt
 index_rises f None p index notes rise = rise
 
-pub access-rises : (f : Setting) (h : Home) (mask to p : ℕ) (fixed : Option ℤ) (index : List Instr) (notes : List Note)
-    → mask < 2 ^ 32 → NotesRise f (p + 1) (p + length index) notes
-    → NotesRise f (p + 1) (p + length (access_code f.profile.block_log Public h to fixed index) + 1)
+pub access-rises : (f : Setting) (near : Bool) (h : Home) (mask to p : ℕ) (fixed : Option ℤ) (index : List Instr)
+    (notes : List Note) → mask < 2 ^ 32 → NotesRise f (p + 1) (p + length index) notes
+    → NotesRise f (p + 1) (p + length (access_code near f.profile.block_log Public h to fixed index) + 1)
     (index_notes fixed notes
-    ++ load_notes f h mask to (p + length (access_code f.profile.block_log Public h to fixed index)))
-access-rises f h mask to p fixed index notes small rise =
-    let size = length (access_code f.profile.block_log Public h to fixed index) in
-    let more = access-more h.resident f.profile.block_log h to fixed index in
-    rise-then f (p + 1) (p + size) (p + size + 1) (index_notes fixed notes) (load_notes f h mask to (p + size))
+    ++ load_notes near fixed f h mask to (p + length (access_code near f.profile.block_log Public h to fixed index)))
+access-rises f near h mask to p fixed index notes small rise =
+    let size = length (access_code near f.profile.block_log Public h to fixed index) in
+    let mid = p + index_length fixed index + 1 in
+    let more = access-more h.resident near f.profile.block_log h to fixed index in
+    rise-then f (p + 1) mid (p + size + 1) (index_notes fixed notes) (load_notes near fixed f h mask to (p + size))
     (omega arith) (omega arith)
-    (rise-wider f (p + 1) (p + index_length fixed index) (p + 1) (p + size) (index_notes fixed notes) (omega arith)
+    (rise-wider f (p + 1) (p + index_length fixed index) (p + 1) mid (index_notes fixed notes) (omega arith)
     (omega arith) (index_rises f fixed p index notes rise))
-    (loaded_rises f h mask to (p + size) (p + size) (p + size + 1) h.resident small (omega arith) (omega arith))
+    (loaded_rises f h mask to p h.resident near fixed index small)
 
 -- the notes of an operation, by those of its sides
 operation-rises : (f : Setting) (op : Op) (to p : ℕ) (first : List Instr) (before : List Note) (second : List Instr)
@@ -131,7 +143,7 @@ expression-rises f (Element x i) mask to p small =
     let size : length (code ++ Ldw to h.slot to ∷ []) ≡ length code + 1 = length-append code (Ldw to h.slot to ∷ []) in
     rise-wider f (p + 1) (p + length code + 1) (p + 1) (p + length (code ++ Ldw to h.slot to ∷ [])) notes (omega arith)
     (omega arith)
-    (access-rises f h mask to p (fixed_index h i) (expr_code f Public to i) (expr_notes f mask to p i) small
+    (access-rises f (compares f Public h i) h mask to p (fixed_index h i) (expr_code f Public to i) (expr_notes f mask to p i) small
     (expression-rises f i mask to p small))
 expression-rises f (Operation op a b) mask to p small =
     let first = expr_code f Public to a in
@@ -188,7 +200,7 @@ set-rises f p (SetElement x i e) =
     (omega arith) (expression-rises f e all_marked 0 p all_small)
     (rise-wider f (mid + 1) (mid + length access + 1) mid whole (array_notes f mask 1 mid x i) (omega arith)
     (omega arith)
-    (access-rises f h mask 1 mid (fixed_index h i) (expr_code f Public 1 i) (expr_notes f mask 1 mid i) small
+    (access-rises f (compares f Public h i) h mask 1 mid (fixed_index h i) (expr_code f Public 1 i) (expr_notes f mask 1 mid i) small
     (expression-rises f i mask 1 mid small)))
 set-rises f p (Choice t a b) = tt
 set-rises f p (Loop t a) = tt
@@ -272,23 +284,30 @@ load_count : (f : Setting) (mask to behind : ℕ) (cached : Bool)
 load_count f mask to behind true = omega arith
 load_count f mask to behind false = omega arith
 
-loaded_count : (f : Setting) (h : Home) (mask to behind : ℕ) (b : Bool)
-    → length (loaded_notes b f h mask to behind) ≤ 1
-loaded_count f h mask to behind true = omega arith
-loaded_count f h mask to behind false = load_count f mask to behind (is_cached h)
+compared_count : (near : Bool) (fixed : Option ℤ) (f : Setting) (mask to place : ℕ)
+    → length (compared_notes near fixed f mask to place) ≤ 1
+compared_count near (Some z) f mask to place = omega arith
+compared_count true None f mask to place = omega arith
+compared_count false None f mask to place = omega arith
+
+loaded_count : (f : Setting) (h : Home) (mask to behind : ℕ) (b near : Bool) (fixed : Option ℤ)
+    → length (loaded_notes b near fixed f h mask to behind) ≤ 1
+loaded_count f h mask to behind true near fixed =
+    compared_count near fixed f mask to (behind - length (offset_code h to))
+loaded_count f h mask to behind false near fixed = load_count f mask to behind (is_cached h)
 
 index_count : (fixed : Option ℤ) (notes : List Note) → length (index_notes fixed notes) ≤ length notes
 index_count (Some z) notes = omega arith
 index_count None notes = omega arith
 
-pub access-count : (f : Setting) (h : Home) (mask to behind : ℕ) (fixed : Option ℤ) (notes : List Note)
-    → length (index_notes fixed notes ++ load_notes f h mask to behind) ≤ length notes + 1
-access-count f h mask to behind fixed notes =
+pub access-count : (f : Setting) (near : Bool) (h : Home) (mask to behind : ℕ) (fixed : Option ℤ) (notes : List Note)
+    → length (index_notes fixed notes ++ load_notes near fixed f h mask to behind) ≤ length notes + 1
+access-count f near h mask to behind fixed notes =
     omega (
       arith,
-      length-append (index_notes fixed notes) (load_notes f h mask to behind),
+      length-append (index_notes fixed notes) (load_notes near fixed f h mask to behind),
       index_count fixed notes,
-      loaded_count f h mask to behind h.resident,
+      loaded_count f h mask to behind h.resident near fixed,
     )
 
 operation-count : (found : Option (List Step)) (notes : List Note) → length (operation_notes found notes) ≤ length notes
@@ -300,7 +319,7 @@ pub expression-count : (f : Setting) (e : Tree) (mask to p : ℕ) → length (ex
 expression-count f (Number z) mask to p = omega arith
 expression-count f (Variable x) mask to p = omega arith
 expression-count f (Element x i) mask to p =
-    let count = access-count f (home_of f x) mask to (p + length (array_code f to x i)) (fixed_index (home_of f x) i)
+    let count = access-count f (compares f Public (home_of f x) i) (home_of f x) mask to (p + length (array_code f to x i)) (fixed_index (home_of f x) i)
     (expr_notes f mask to p i) in
     let index = expression-count f i mask to p in
     omega arith
@@ -336,7 +355,7 @@ set_element-count f p x i e =
     let mid = p + length (expr_code f Public 0 e) in
     let mask = marked_by (label_of (context_of f.decls) e) all_marked 0 in
     let size = length-append (expr_notes f all_marked 0 p e) (array_notes f mask 1 mid x i) in
-    let count = access-count f (home_of f x) mask 1 (mid + length (array_code f 1 x i)) (fixed_index (home_of f x) i)
+    let count = access-count f (compares f Public (home_of f x) i) (home_of f x) mask 1 (mid + length (array_code f 1 x i)) (fixed_index (home_of f x) i)
     (expr_notes f mask 1 mid i) in
     let value = expression-count f e all_marked 0 p in
     let index = expression-count f i mask 1 mid in

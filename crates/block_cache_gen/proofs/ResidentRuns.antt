@@ -1,5 +1,5 @@
 -- Runs of the code that finds the place of a resident variable's word in its block, and that reads it there.
-use Rattle.std.proofs.Common.{◌≡◌, ℕ, ◌+◌, ◌%◌, ◌^◌, ◌<◌, true, ℤ, pos, List, [], ◌∷◌, ◌++◌, get_or, append-nil, Option, Some, None, refl, sym, ap, ◌∙◌, subst, arith, mod-lt, mod-eq_of_lt}
+use Rattle.std.proofs.Common.{◌≡◌, ℕ, ◌+◌, ◌%◌, ◌^◌, ◌<◌, Bool, true, ℤ, pos, List, [], ◌∷◌, ◌++◌, get_or, append-nil, Option, Some, None, refl, sym, ap, ◌∙◌, subst, arith, mod-lt, mod-eq_of_lt}
 use Rattle.std.proofs.lemmas.Nat.{pow_below}
 use Rattle.gr_word.specs.Words.{applied, unsigned_of}
 use Rattle.gr_word.proofs.SmallNumbers.{add_small}
@@ -20,12 +20,12 @@ use Rattle.src_tree.specs.Meaning.{Store, variable_number, words_of_number, eval
 use Rattle.src_tree.specs.Trees.{Tree}
 use Rattle.block_cache_gen.specs.declared.frames.Mode.{Mode}
 use Rattle.block_cache_gen.specs.Homes.{Home, Setting, HasHomes, home_of, pin_of}
-use Rattle.block_cache_gen.specs.Codes.{fixed_index, fixed_word, reduced_code, offset_code, placed_code, expr_code}
+use Rattle.block_cache_gen.specs.Codes.{fixed_index, fixed_word, numbered_code, offset_code, placed_code, expr_code}
 use Rattle.block_cache_gen.specs.StandsFor.{StandsFor, FitsHomes, HoldsBlock}
 use Rattle.block_cache_gen.specs.Accesses.{accesses, word_number, seen_of_all}
 use Rattle.block_cache_gen.specs.LeavesWord.{LeavesWord}
 use Rattle.block_cache_gen.proofs.Stands.{stands-like}
-use Rattle.block_cache_gen.proofs.IndexRuns.{Reduces, runs-reduced}
+use Rattle.block_cache_gen.proofs.IndexRuns.{Reduces, runs-numbered}
 use Rattle.block_cache_gen.proofs.AccessRuns.{fixed-is}
 
 -- the first word of a variable is added to a number
@@ -94,13 +94,13 @@ module _ (o : Parts) (fits : IsInRange o) (f : Setting) (homes : HasHomes o f) (
       → (StandsAt o s.place (expr_code f mode to i)
       → RunsThrough o s (expr_code f mode to i) (seen_of_all mode s.banks s.slots (accesses f store i))
       (LeavesWord f store (accesses f store i) to (evaluated f.decls store i) s))
-      → (fixed : Option ℤ) → fixed_index (home_of f x) i ≡ fixed
-      → StandsAt o s.place (placed_code (home_of f x) to fixed (expr_code f mode to i))
-      → RunsThrough o s (placed_code (home_of f x) to fixed (expr_code f mode to i))
+      → (near : Bool) (fixed : Option ℤ) → fixed_index (home_of f x) i ≡ fixed
+      → StandsAt o s.place (placed_code near (home_of f x) to fixed (expr_code f mode to i))
+      → RunsThrough o s (placed_code near (home_of f x) to fixed (expr_code f mode to i))
       (seen_of_all mode s.banks s.slots (accesses f store i))
       (LeavesWord f store (accesses f store i) to
       (pos ((home_of f x).word + word_number f store x (evaluated f.decls store i))) s)
-  runs-placed mode to i s shaped stands small run (Some z) is at =
+  runs-placed mode to i s shaped stands small run near (Some z) is at =
       let h = home_of f x in
       let place = pos (h.word + fixed_word h z) in
       subst
@@ -120,7 +120,7 @@ module _ (o : Parts) (fits : IsInRange o) (f : Setting) (homes : HasHomes o f) (
         slots = sets.slots;
         stands = stands-like f s t store sets.slots sets.banks stands;
       }))
-  runs-placed mode to i s shaped stands small run None is at =
+  runs-placed mode to i s shaped stands small run near None is at =
       let h = home_of f x in
       let home = homes.residents x label shape known resident in
       let index = evaluated f.decls store i in
@@ -132,12 +132,12 @@ module _ (o : Parts) (fits : IsInRange o) (f : Setting) (homes : HasHomes o f) (
       let small_place : h.word + n < 2 ^ 63 =
       let most = pow_below o.profile.block_log 10 (omega (arith, fits.profile.block_log)) in
       omega (arith, home.inside, resident-within index, most) in
-      runs-weaker s (code ++ (reduced_code h to ++ offset_code h to)) (seen ++ []) seen Done Done
-      (runs-append s code (reduced_code h to ++ offset_code h to) seen [] (LeavesWord f store before to index s) Done at
+      runs-weaker s (code ++ (numbered_code near h to ++ offset_code h to)) (seen ++ []) seen Done Done
+      (runs-append s code (numbered_code near h to ++ offset_code h to) seen [] (LeavesWord f store before to index s) Done at
       run
       (λ t shape leaves at'.
-      runs-append t (reduced_code h to) (offset_code h to) [] [] (Reduces to (unsigned_of index % h.length) t) Done at'
-      (runs-reduced o fits h to t index shape leaves.value small home.length.0 home.length.1)
+      runs-append t (numbered_code near h to) (offset_code h to) [] [] (Reduces to (unsigned_of index % h.length) t) Done at'
+      (runs-numbered o fits near h to t index shape leaves.value small home.length.0 home.length.1)
       (λ u shape' reduces at''.
       let word : register u to ≡ pos n = reduces.word ∙ ap pos (resident_number-is index) in
       runs-weaker u (offset_code h to) [] [] (Reduces to (h.word + n) u) Done

@@ -1,32 +1,40 @@
 -- The codes of the two secret modes: the same but for the register that a store takes, with one store an assignment and
 -- none in an expression.
-use Rattle.std.proofs.Common.{◌≡◌, ℕ, ◌+◌, ◌-◌, Bool, true, false, ◌&&◌, ℤ, pos, List, [], ◌∷◌, ◌++◌, Option, Some, None, refl, sym, ap, ◌∙◌, arith}
+use Rattle.std.proofs.Common.{◌≡◌, ℕ, ◌+◌, ◌-◌, Bool, true, false, not, ◌&&◌, ℤ, pos, List, [], ◌∷◌, ◌++◌, Option, Some, None, refl, sym, ap, ◌∙◌, arith}
 use Rattle.std.specs.Prelude.{cond, if◌then◌else◌}
 use Rattle.std.proofs.lemmas.List.{map-append}
 use Rattle.std.proofs.lemmas.List.Sums.{sum_by-append}
 use Rattle.gr_word.specs.declared.operations.Op.TheVariants.{Remu, And}
 use Rattle.lt_isa.specs.declared.instructions.Instr.{Instr}
 use Rattle.lt_isa.specs.declared.instructions.Instr.TheVariants.{Li, Alu, Ldw}
+use Rattle.src_tree.specs.Contexts.{context_of}
+use Rattle.src_tree.specs.Labels.{label_of, secret_label}
 use Rattle.src_tree.specs.Trees.{Tree, Number, Variable, Element, Operation, Test, Statement, SetVariable, SetElement, Choice, Loop}
 use Rattle.block_cache_gen.specs.declared.frames.Mode.{Mode}
 use Rattle.block_cache_gen.specs.declared.frames.Mode.TheVariants.{Public, Real, Mirrored}
 use Rattle.block_cache_gen.specs.Homes.{Home, Setting, home_of}
-use Rattle.block_cache_gen.specs.Codes.{may_skip_loads, is_cached, is_masked, fixed_index, reduced_code, shift_code, located_code, offset_code, placed_code, stored_code, access_by, load_code, skips, access_code, expr_code, guard_code, store_code, set_code, operation_code, steps_at}
+use Rattle.block_cache_gen.specs.Codes.{may_skip_loads, is_cached, is_masked, fixed_index, reduced_code, shift_code, located_code, offset_code, placed_code, stored_code, access_by, load_code, skips, access_code, expr_code, guard_code, store_code, set_code, operation_code, steps_at, compares, numbered_code}
 use Rattle.gr_word.specs.declared.operations.Op.{Op}
 use Rattle.strength_reduction.specs.Steps.{Step}
 use Rattle.block_cache_gen.proofs.StepsAt.{steps-stores}
 use Rattle.block_cache_gen.specs.StoredWords.{is_stw, stored_words, register_aside, registers_aside}
 
 -- an expression's code depends on the mode only in being public or secret
-access_code-mode : (f : Setting) (m n : Mode) (h : Home) (to : ℕ) (fixed : Option ℤ) (one other : List Instr)
-    → may_skip_loads m ≡ may_skip_loads n → one ≡ other
-    → access_code f.profile.block_log m h to fixed one ≡ access_code f.profile.block_log n h to fixed other
-access_code-mode f m n h to fixed one other same index = by h.resident
+access_code-mode : (f : Setting) (m n : Mode) (near far : Bool) (h : Home) (to : ℕ) (fixed : Option ℤ)
+    (one other : List Instr) → may_skip_loads m ≡ may_skip_loads n → near ≡ far → one ≡ other
+    → access_code near f.profile.block_log m h to fixed one ≡ access_code far f.profile.block_log n h to fixed other
+access_code-mode f m n near far h to fixed one other same alike index = by h.resident
   where
-    by : (b : Bool) → access_by b f.profile.block_log m h to fixed one
-        ≡ access_by b f.profile.block_log n h to fixed other
-    by true = ap (placed_code h to fixed) index
+    by : (b : Bool) → access_by b near f.profile.block_log m h to fixed one
+        ≡ access_by b far f.profile.block_log n h to fixed other
+    by true = λ i. placed_code (alike i) h to fixed (index i)
     by false = λ i. located_code f.profile.block_log h to fixed (index i) ++ load_code (same i && is_cached h) h to
+
+compares-mode : (f : Setting) (m n : Mode) (h : Home) (i : Tree) → may_skip_loads m ≡ may_skip_loads n
+    → compares f m h i ≡ compares f n h i
+compares-mode f m n h i same =
+    ap (λ (b : Bool). b && (f.reduces && (not (is_masked h) && not (secret_label (label_of (context_of f.decls) i)))))
+    same
 
 pub expr_code-mode : (f : Setting) (m n : Mode) (to : ℕ) (e : Tree) → may_skip_loads m ≡ may_skip_loads n
     → expr_code f m to e ≡ expr_code f n to e
@@ -34,8 +42,9 @@ expr_code-mode f m n to (Number z) same = refl
 expr_code-mode f m n to (Variable x) same = refl
 expr_code-mode f m n to (Element x i) same =
     ap (λ (code : List Instr). code ++ Ldw to (home_of f x).slot to ∷ [])
-    (access_code-mode f m n (home_of f x) to (fixed_index (home_of f x) i) (expr_code f m to i) (expr_code f n to i)
-    same (expr_code-mode f m n to i same))
+    (access_code-mode f m n (compares f m (home_of f x) i) (compares f n (home_of f x) i) (home_of f x) to
+    (fixed_index (home_of f x) i) (expr_code f m to i) (expr_code f n to i) same
+    (compares-mode f m n (home_of f x) i same) (expr_code-mode f m n to i same))
 expr_code-mode f m n to (Operation op a b) same =
     let left = expr_code-mode f m n to a same in
     let right = expr_code-mode f m n (to + 1) b same in
@@ -71,9 +80,9 @@ set_code-aside f (SetElement x i e) =
     let h = home_of f x in
     let fixed = fixed_index h i in
     let value = expr_code-mode f Real Mirrored 0 e refl in
-    let access = access_code-mode f Real Mirrored h 1 fixed (expr_code f Real 1 i) (expr_code f Mirrored 1 i) refl
+    let access = access_code-mode f Real Mirrored false false h 1 fixed (expr_code f Real 1 i) (expr_code f Mirrored 1 i) refl refl
     (expr_code-mode f Real Mirrored 1 i refl) in
-    element_aside (expr_code f Real 0 e) (access_code f.profile.block_log Real h 1 fixed (expr_code f Real 1 i))
+    element_aside (expr_code f Real 0 e) (access_code false f.profile.block_log Real h 1 fixed (expr_code f Real 1 i))
     (stored_code h.resident h.slot) (store_code Real h.slot) (store_code Mirrored h.slot) refl
     ∙ λ k. registers_aside (value k ++ (access k ++ (store_code Mirrored h.slot ++ stored_code h.resident h.slot)))
 set_code-aside f (Choice t a b) = refl
@@ -103,22 +112,32 @@ located-stores log h to None index none =
     blocks : stored_words (shift_code log h to) ≡ 0
     blocks = refl
 
+numbered-stores : (near : Bool) (h : Home) (to : ℕ) → stored_words (numbered_code near h to) ≡ 0
+numbered-stores true h to = refl
+numbered-stores false h to = reduced-stores h to
+
 load-stores : (skips_load : Bool) (h : Home) (to : ℕ) → stored_words (load_code skips_load h to) ≡ 0
 load-stores true h to = refl
 load-stores false h to = refl
 
-access-stores : (f : Setting) (mode : Mode) (h : Home) (to : ℕ) (fixed : Option ℤ) (index : List Instr)
-    → stored_words index ≡ 0 → stored_words (access_code f.profile.block_log mode h to fixed index) ≡ 0
-access-stores f mode h to fixed index none = by h.resident
+access-stores : (f : Setting) (mode : Mode) (near : Bool) (h : Home) (to : ℕ) (fixed : Option ℤ) (index : List Instr)
+    → stored_words index ≡ 0 → stored_words (access_code near f.profile.block_log mode h to fixed index) ≡ 0
+access-stores f mode near h to fixed index none = by h.resident
   where
-    placed : (g : Option ℤ) → stored_words (placed_code h to g index) ≡ 0
+    placed : (g : Option ℤ) → stored_words (placed_code near h to g index) ≡ 0
     placed (Some z) = refl
     placed None =
         let offset : stored_words (offset_code h to) ≡ 0 = refl in
-        stored-append index (reduced_code h to ++ offset_code h to)
-        ∙ omega (arith, none, stored-append (reduced_code h to) (offset_code h to), reduced-stores h to, offset)
+        stored-append index (numbered_code near h to ++ offset_code h to)
+        ∙ omega (
+          arith,
+          none,
+          stored-append (numbered_code near h to) (offset_code h to),
+          numbered-stores near h to,
+          offset,
+        )
 
-    by : (b : Bool) → stored_words (access_by b f.profile.block_log mode h to fixed index) ≡ 0
+    by : (b : Bool) → stored_words (access_by b near f.profile.block_log mode h to fixed index) ≡ 0
     by true = placed fixed
     by false =
         stored-append (located_code f.profile.block_log h to fixed index) (load_code (skips mode h) h to)
@@ -136,10 +155,10 @@ expr-stores f mode to (Number z) = refl
 expr-stores f mode to (Variable x) = refl
 expr-stores f mode to (Element x i) =
     let h = home_of f x in
-    let access = access_code f.profile.block_log mode h to (fixed_index h i) (expr_code f mode to i) in
+    let access = access_code (compares f mode h i) f.profile.block_log mode h to (fixed_index h i) (expr_code f mode to i) in
     stored-append access (Ldw to h.slot to ∷ [])
     ∙ ap (λ (n : ℕ). n + 0)
-    (access-stores f mode h to (fixed_index h i) (expr_code f mode to i) (expr-stores f mode to i))
+    (access-stores f mode (compares f mode h i) h to (fixed_index h i) (expr_code f mode to i) (expr-stores f mode to i))
 expr-stores f mode to (Operation op a b) =
     let right = expr_code f mode (to + 1) b in
     stored-append (expr_code f mode to a) (operation_code op to (steps_at f op b) right)
@@ -180,12 +199,12 @@ pub element-stores : (f : Setting) (mode : Mode) (x : List ℕ) (i e : Tree)
     → stored_words (set_code f mode (SetElement x i e)) ≡ 1
 element-stores f mode x i e =
     let h = home_of f x in
-    let access = access_code f.profile.block_log mode h 1 (fixed_index h i) (expr_code f mode 1 i) in
+    let access = access_code (compares f mode h i) f.profile.block_log mode h 1 (fixed_index h i) (expr_code f mode 1 i) in
     let store = store_code mode h.slot in
     let last = stored_code h.resident h.slot in
     stored-append (expr_code f mode 0 e) (access ++ (store ++ last))
     ∙ (λ k. expr-stores f mode 0 e k + stored-append access (store ++ last) k)
     ∙ (λ k.
-    0 + (access-stores f mode h 1 (fixed_index h i) (expr_code f mode 1 i) (expr-stores f mode 1 i) k
+    0 + (access-stores f mode (compares f mode h i) h 1 (fixed_index h i) (expr_code f mode 1 i) (expr-stores f mode 1 i) k
     + stored-append store last k))
     ∙ (λ k. 0 + (0 + (store-stores mode h.slot k + last-stores h.resident h.slot k)))

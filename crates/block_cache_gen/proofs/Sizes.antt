@@ -11,7 +11,7 @@ use Rattle.block_cache_gen.specs.declared.frames.Mode.{Mode}
 use Rattle.block_cache_gen.specs.declared.frames.Mode.TheVariants.{Public, Real, Mirrored}
 use Rattle.block_cache_gen.specs.Assignments.{IsAssignment}
 use Rattle.block_cache_gen.specs.Homes.{Home, Setting, home_of}
-use Rattle.block_cache_gen.specs.Codes.{is_masked, reduced_code, shift_code, offset_code, placed_code, stored_code, located_code, load_code, skips, access_by, access_code, fixed_index, operation_code, steps_at, expr_code, guard_code, store_code, set_code}
+use Rattle.block_cache_gen.specs.Codes.{is_masked, compares, numbered_code, reduced_code, shift_code, offset_code, placed_code, stored_code, located_code, load_code, skips, access_by, access_code, fixed_index, operation_code, steps_at, expr_code, guard_code, store_code, set_code}
 use Rattle.block_cache_gen.proofs.StepsAt.{operation-short}
 
 two_of : (b : Bool) (p q r s : Instr) → length (if b then p ∷ q ∷ [] else r ∷ s ∷ []) ≡ 2
@@ -35,25 +35,34 @@ located_short block_log h to None index =
     let l = located_length block_log h to in
     omega arith
 
-reduced_two : (h : Home) (to : ℕ) → length (reduced_code h to) ≡ 2
+-- a number of a word takes six instructions at most, and one at least
+pub reduced_two : (h : Home) (to : ℕ) → length (reduced_code h to) ≡ 2
 reduced_two h to = two_of (is_masked h) _ _ _ _
 
+numbered_short : (near : Bool) (h : Home) (to : ℕ) → length (numbered_code near h to) ≤ 6
+numbered_short true h to = omega arith
+numbered_short false h to = omega (arith, reduced_two h to)
+
+pub numbered_some : (near : Bool) (h : Home) (to : ℕ) → 1 ≤ length (numbered_code near h to)
+numbered_some true h to = omega arith
+numbered_some false h to = omega (arith, reduced_two h to)
+
 -- an access takes at most nine instructions after the index
-pub access_short : (block_log : ℕ) (mode : Mode) (h : Home) (to : ℕ) (fixed : Option ℤ) (index : List Instr)
-    → length (access_code block_log mode h to fixed index) ≤ length index + 9
-access_short block_log mode h to fixed index = by h.resident
+pub access_short : (near : Bool) (block_log : ℕ) (mode : Mode) (h : Home) (to : ℕ) (fixed : Option ℤ)
+    (index : List Instr) → length (access_code near block_log mode h to fixed index) ≤ length index + 9
+access_short near block_log mode h to fixed index = by h.resident
   where
-    placed : (g : Option ℤ) → length (placed_code h to g index) ≤ length index + 9
+    placed : (g : Option ℤ) → length (placed_code near h to g index) ≤ length index + 9
     placed (Some z) = omega arith
     placed None =
         omega (
           arith,
-          length-append index (reduced_code h to ++ offset_code h to),
-          length-append (reduced_code h to) (offset_code h to),
-          reduced_two h to,
+          length-append index (numbered_code near h to ++ offset_code h to),
+          length-append (numbered_code near h to) (offset_code h to),
+          numbered_short near h to,
         )
 
-    by : (b : Bool) → length (access_by b block_log mode h to fixed index) ≤ length index + 9
+    by : (b : Bool) → length (access_by b near block_log mode h to fixed index) ≤ length index + 9
     by true = placed fixed
     by false =
         let e = length-append (located_code block_log h to fixed index) (load_code (skips mode h) h to) in
@@ -68,10 +77,12 @@ expr_code_short f mode to (Number z) = omega arith
 expr_code_short f mode to (Variable x) = omega arith
 expr_code_short f mode to (Element x i) =
     let code =
-    access_code f.profile.block_log mode (home_of f x) to (fixed_index (home_of f x) i) (expr_code f mode to i) in
+    access_code (compares f mode (home_of f x) i) f.profile.block_log mode (home_of f x) to (fixed_index (home_of f x) i)
+    (expr_code f mode to i) in
     let e = length-append code (Ldw to (home_of f x).slot to ∷ []) in
     let s =
-    access_short f.profile.block_log mode (home_of f x) to (fixed_index (home_of f x) i) (expr_code f mode to i) in
+    access_short (compares f mode (home_of f x) i) f.profile.block_log mode (home_of f x) to (fixed_index (home_of f x) i)
+    (expr_code f mode to i) in
     let h = expr_code_short f mode to i in
     omega arith
 expr_code_short f mode to (Operation op a b) =
@@ -113,13 +124,13 @@ set_code_short f mode known code (SetVariable x e) is =
 set_code_short f mode known code (SetElement x i e) is =
     let h = home_of f x in
     let index = expr_code f mode 1 i in
-    let access = access_code f.profile.block_log mode h 1 (fixed_index h i) index in
+    let access = access_code (compares f mode h i) f.profile.block_log mode h 1 (fixed_index h i) index in
     let last = store_code mode h.slot ++ stored_code h.resident h.slot in
     let l = length-append (expr_code f mode 0 e) (access ++ last) in
     let m = length-append access last in
     let n = length-append (store_code mode h.slot) (stored_code h.resident h.slot) in
     let t = stored_short h.resident h.slot in
-    let a = access_short f.profile.block_log mode h 1 (fixed_index h i) index in
+    let a = access_short (compares f mode h i) f.profile.block_log mode h 1 (fixed_index h i) index in
     let k = expr_code_short f mode 0 e in
     let j = expr_code_short f mode 1 i in
     let s = store_short mode h.slot in

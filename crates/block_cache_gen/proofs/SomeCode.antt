@@ -1,11 +1,13 @@
--- No expression and no guard is made into no code.
-use Rattle.std.proofs.Common.{ℕ, ◌+◌, ◌≤◌, [], ◌∷◌, length, arith}
+-- No expression and no guard is made into no code; and secret code compares no index.
+use Rattle.std.proofs.Common.{◌≡◌, ℕ, ◌+◌, ◌≤◌, Bool, false, not, ◌&&◌, [], ◌∷◌, length, ap, arith}
 use Rattle.std.proofs.lemmas.List.{length-append}
 use Rattle.lt_isa.specs.declared.instructions.Instr.TheVariants.{Ldw}
+use Rattle.src_tree.specs.Contexts.{context_of}
+use Rattle.src_tree.specs.Labels.{label_of, secret_label}
 use Rattle.src_tree.specs.Trees.{Tree, Number, Variable, Element, Operation, Test}
 use Rattle.block_cache_gen.specs.declared.frames.Mode.{Mode}
-use Rattle.block_cache_gen.specs.Homes.{Setting, home_of}
-use Rattle.block_cache_gen.specs.Codes.{expr_code, guard_code, access_code, fixed_index, operation_code, steps_at}
+use Rattle.block_cache_gen.specs.Homes.{Home, Setting, home_of}
+use Rattle.block_cache_gen.specs.Codes.{may_skip_loads, is_masked, compares, expr_code, guard_code, access_code, fixed_index, operation_code, steps_at}
 
 -- an expression has an instruction at least, and so has a guard
 pub expr_code-some : (f : Setting) (m : Mode) (to : ℕ) (e : Tree) → 1 ≤ length (expr_code f m to e)
@@ -14,8 +16,8 @@ expr_code-some f m to (Variable x) = omega arith
 expr_code-some f m to (Element x i) =
     omega (
       arith,
-      length-append (access_code f.profile.block_log m (home_of f x) to (fixed_index (home_of f x) i)
-          (expr_code f m to i)) (Ldw to (home_of f x).slot to ∷ []),
+      length-append (access_code (compares f m (home_of f x) i) f.profile.block_log m (home_of f x) to
+          (fixed_index (home_of f x) i) (expr_code f m to i)) (Ldw to (home_of f x).slot to ∷ []),
     )
 expr_code-some f m to (Operation op a b) =
     omega (
@@ -29,3 +31,10 @@ pub guard_code-some : (f : Setting) (m : Mode) (to : ℕ) (t : Test) → 1 ≤ l
 guard_code-some f m to t =
     omega
     (arith, expr_code-some f m to t.left, length-append (expr_code f m to t.left) (expr_code f m (to + 1) t.right))
+
+-- secret code compares no index with a length
+pub compares-secret : (f : Setting) (m : Mode) (h : Home) (i : Tree) → may_skip_loads m ≡ false
+    → compares f m h i ≡ false
+compares-secret f m h i secret =
+    ap (λ (b : Bool). b && (f.reduces && (not (is_masked h) && not (secret_label (label_of (context_of f.decls) i)))))
+    secret

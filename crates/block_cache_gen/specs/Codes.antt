@@ -1,16 +1,18 @@
 -- For proofs, and for the functions that branch_padding and code_gen build on: the instructions that are made of
 -- expressions, guards and assignments. Which instructions these are is free; what they do and what the check sees of
 -- them is said by the clauses of the calls over a frame.
-use Rattle.std.specs.Prelude.{ℕ, ◌+◌, ◌-◌, ◌/◌, ◌%◌, ◌^◌, Bool, true, false, ◌&&◌, ◌==◌, nat_lt, if◌then◌else◌, ℤ, pos, List, [], ◌∷◌, ◌++◌, Option, Some, None}
+use Rattle.std.specs.Prelude.{ℕ, ◌+◌, ◌-◌, ◌/◌, ◌%◌, ◌^◌, Bool, true, false, not, ◌&&◌, ◌==◌, nat_lt, if◌then◌else◌, ℤ, pos, negsuc, ◌+ℤ◌, List, [], ◌∷◌, ◌++◌, Option, Some, None}
 use Rattle.std.specs.List.{range_with_len, list_any}
 use Rattle.gr_word.specs.Words.{unsigned_of}
 use Rattle.gr_word.specs.declared.operations.Op.{Op}
 use Rattle.gr_word.specs.declared.operations.Op.TheVariants.{Add, Sub, Mul, Div, Rem, Remu, And, Or, Xor, Shl, Shr}
-use Rattle.gr_word.specs.declared.operations.Cmp.TheVariants.{Eq}
+use Rattle.gr_word.specs.declared.operations.Cmp.TheVariants.{Eq, Lt}
 use Rattle.lt_isa.specs.declared.instructions.Instr.{Instr}
 use Rattle.lt_isa.specs.declared.instructions.Instr.TheVariants.{Li, Alu, Ldb, Stb, Idb, Ldw, Stw, Br}
 use Rattle.strength_reduction.specs.Reduced.{steps_by_number}
 use Rattle.strength_reduction.specs.Steps.{Step, code_of}
+use Rattle.src_tree.specs.Contexts.{context_of}
+use Rattle.src_tree.specs.Labels.{label_of, secret_label}
 use Rattle.src_tree.specs.Trees.{Tree, Number, Variable, Element, Operation, Test, Statement, SetVariable, SetElement, Choice, Loop}
 use Rattle.block_cache_gen.specs.declared.frames.Mode.{Mode}
 use Rattle.block_cache_gen.specs.declared.frames.Mode.TheVariants.{Public, Real, Mirrored}
@@ -50,6 +52,33 @@ reduced_code h to =
     if is_masked h then Li (to + 1) (pos (h.length - 1)) ∷ Alu And to to (to + 1) ∷ []
     else Li (to + 1) (pos h.length) ∷ Alu Remu to to (to + 1) ∷ []
 
+-- Public code compares a public index with the length of a resident array before it takes the remainder, if other
+-- operations by numbers are replaced by steps too. Most indexes are below the length, and a remainder takes many cycles.
+abbrev pub compares : Setting → Mode → Home → Tree → Bool
+compares f mode h i =
+    may_skip_loads mode && (f.reduces && (not (is_masked h) && not (secret_label (label_of (context_of f.decls) i))))
+
+-- The order of unsigned words is the order of the signed words that are 2^63 less.
+abbrev pub least_word : ℤ
+least_word = negsuc 9223372036854775807
+
+-- The same, where the remainder is taken only of an index that isn't below the length. The note that follows the code
+-- is one of `compared_notes`.
+abbrev pub compared_code : Home → ℕ → List Instr
+compared_code h to =
+    Li (to + 1) least_word
+    ∷ Alu Add (to + 1) (to + 1) to
+    ∷ Li (to + 2) (least_word +ℤ pos h.length)
+    ∷ Br Lt (to + 1) (to + 2) (pos 3)
+    ∷ Li (to + 1) (pos h.length)
+    ∷ Alu Remu to to (to + 1)
+    ∷ []
+
+-- the same, with a comparison or without one
+abbrev pub numbered_code : Bool → Home → ℕ → List Instr
+numbered_code true h to = compared_code h to
+numbered_code false h to = reduced_code h to
+
 -- the number of its block in register to + 1, by a shift
 abbrev pub shift_code : ℕ → Home → ℕ → List Instr
 shift_code block_log h to =
@@ -87,24 +116,24 @@ abbrev pub offset_code : Home → ℕ → List Instr
 offset_code h to = Li (to + 1) (pos h.word) ∷ Alu Add to to (to + 1) ∷ []
 
 -- the number of a word of a resident array in its block, in register `to`
-abbrev pub placed_code : Home → ℕ → Option ℤ → List Instr → List Instr
-placed_code h to (Some z) index = Li to (pos (h.word + fixed_word h z)) ∷ []
-placed_code h to None index = index ++ (reduced_code h to ++ offset_code h to)
+abbrev pub placed_code : Bool → Home → ℕ → Option ℤ → List Instr → List Instr
+placed_code compared h to (Some z) index = Li to (pos (h.word + fixed_word h z)) ∷ []
+placed_code compared h to None index = index ++ (numbered_code compared h to ++ offset_code h to)
 
 -- the number of the word in its block in register `to`, with the block in the home's slot
-abbrev pub access_by : Bool → ℕ → Mode → Home → ℕ → Option ℤ → List Instr → List Instr
-access_by true block_log mode h to fixed index = placed_code h to fixed index
-access_by false block_log mode h to fixed index =
+abbrev pub access_by : (resident compared : Bool) → ℕ → Mode → Home → ℕ → Option ℤ → List Instr → List Instr
+access_by true compared block_log mode h to fixed index = placed_code compared h to fixed index
+access_by false compared block_log mode h to fixed index =
     located_code block_log h to fixed index ++ load_code (skips mode h) h to
 
 -- the part of it that follows the code of the index
-abbrev pub found_by : Bool → ℕ → Mode → Home → ℕ → List Instr
-found_by true block_log mode h to = reduced_code h to ++ offset_code h to
-found_by false block_log mode h to =
+abbrev pub found_by : (resident compared : Bool) → ℕ → Mode → Home → ℕ → List Instr
+found_by true compared block_log mode h to = numbered_code compared h to ++ offset_code h to
+found_by false compared block_log mode h to =
     reduced_code h to ++ shift_code block_log h to ++ load_code (skips mode h) h to
 
-abbrev pub access_code : ℕ → Mode → Home → ℕ → Option ℤ → List Instr → List Instr
-access_code block_log mode h to fixed index = access_by h.resident block_log mode h to fixed index
+abbrev pub access_code : Bool → ℕ → Mode → Home → ℕ → Option ℤ → List Instr → List Instr
+access_code compared block_log mode h to fixed index = access_by h.resident compared block_log mode h to fixed index
 
 -- After an element is set its block is stored, unless the slot holds it for the whole run.
 abbrev pub stored_code : Bool → ℕ → List Instr
@@ -149,7 +178,8 @@ abbrev pub expr_code : Setting → Mode → ℕ → Tree → List Instr
 expr_code f mode to (Number z) = Li to z ∷ []
 expr_code f mode to (Variable x) = scalar_code (home_of f x) to
 expr_code f mode to (Element x i) =
-    access_code f.profile.block_log mode (home_of f x) to (fixed_index (home_of f x) i) (expr_code f mode to i)
+    access_code (compares f mode (home_of f x) i) f.profile.block_log mode (home_of f x) to (fixed_index (home_of f x) i)
+    (expr_code f mode to i)
     ++ Ldw to (home_of f x).slot to ∷ []
 expr_code f mode to (Operation op a b) =
     expr_code f mode to a ++ operation_code op to (steps_at f op b) (expr_code f mode (to + 1) b)
@@ -171,7 +201,8 @@ set_code f mode (SetVariable x e) =
     expr_code f mode 0 e ++ (Li 1 (pos (home_of f x).word) ∷ store_code mode (home_of f x).slot)
 set_code f mode (SetElement x i e) =
     expr_code f mode 0 e
-    ++ (access_code f.profile.block_log mode (home_of f x) 1 (fixed_index (home_of f x) i) (expr_code f mode 1 i)
+    ++ (access_code (compares f mode (home_of f x) i) f.profile.block_log mode (home_of f x) 1
+    (fixed_index (home_of f x) i) (expr_code f mode 1 i)
     ++ (store_code mode (home_of f x).slot ++ stored_code (home_of f x).resident (home_of f x).slot))
 set_code f mode (Choice t a b) = []
 set_code f mode (Loop t a) = []

@@ -1,6 +1,6 @@
 -- For proofs, and for the functions that branch_padding and code_gen build on: what a call appends to the code
 -- and its notes.
-use Rattle.std.specs.Prelude.{◌≡◌, ℕ, ◌+◌, List, [], ◌++◌, length, Option}
+use Rattle.std.specs.Prelude.{◌≡◌, ℕ, ◌+◌, List, [], ◌++◌, length, Option, None}
 use Rattle.gr_word.specs.declared.operations.Op.{Op}
 use Rattle.strength_reduction.specs.Steps.{Step}
 use Rattle.lt_isa.specs.declared.instructions.Instr.{Instr}
@@ -11,8 +11,8 @@ use Rattle.block_cache_gen.specs.declared.frames.Mode.{Mode}
 use Rattle.block_cache_gen.specs.declared.frames.Mode.TheVariants.{Public, Real, Mirrored}
 pub use Rattle.block_cache_gen.specs.Behind.{CodeGrows}
 use Rattle.block_cache_gen.specs.Homes.{Home, Setting}
-use Rattle.block_cache_gen.specs.Codes.{operation_code, steps_at, expr_code, guard_code, set_code, access_code, fixed_index}
-use Rattle.block_cache_gen.specs.Notes.{operation_notes, expr_notes, guard_notes, set_notes, index_notes, load_notes}
+use Rattle.block_cache_gen.specs.Codes.{operation_code, steps_at, expr_code, guard_code, set_code, access_code, found_by, fixed_index, compares}
+use Rattle.block_cache_gen.specs.Notes.{operation_notes, expr_notes, guard_notes, set_notes, index_notes, loaded_notes, load_notes}
 
 -- code was appended, and notes that go by the place where that code begins
 pub record Appended (before after : CodeBuf) (more : List Instr) (noted : ℕ → List Note) : Type 0 where
@@ -32,8 +32,9 @@ notes_in Mirrored notes = []
 abbrev pub access_notes : Setting → Home → (mask to : ℕ) → Tree → ℕ → List Note
 access_notes f h mask to i place =
     index_notes (fixed_index h i) (expr_notes f mask to place i)
-    ++ load_notes f h mask to
-    (place + length (access_code f.profile.block_log Public h to (fixed_index h i) (expr_code f Public to i)))
+    ++ load_notes (compares f Public h i) (fixed_index h i) f h mask to
+    (place + length (access_code (compares f Public h i) f.profile.block_log Public h to (fixed_index h i)
+    (expr_code f Public to i)))
 
 -- what is appended for the part of an operation that follows its left side
 abbrev pub OperationBy : Setting → Mode → (mask to : ℕ) → Op → Tree → Option (List Step) → CodeBuf → CodeBuf → Type 0
@@ -52,8 +53,17 @@ EmitsExpr f mode mask to e before after =
 
 abbrev pub EmitsAccess : Setting → Mode → Home → (mask to : ℕ) → Tree → CodeBuf → CodeBuf → Type 0
 EmitsAccess f mode h mask to i before after =
-    Appended before after (access_code f.profile.block_log mode h to (fixed_index h i) (expr_code f mode to i))
+    Appended before after
+    (access_code (compares f mode h i) f.profile.block_log mode h to (fixed_index h i) (expr_code f mode to i))
     (λ place. notes_in mode (access_notes f h mask to i place))
+
+-- the part of an access that follows the code of its index, where the index is no number that needs no code
+abbrev pub EmitsFound : Setting → Mode → Home → (mask to : ℕ) → Tree → CodeBuf → CodeBuf → Type 0
+EmitsFound f mode h mask to i before after =
+    Appended before after (found_by h.resident (compares f mode h i) f.profile.block_log mode h to)
+    (λ place. notes_in mode
+    (loaded_notes h.resident (compares f mode h i) None f h mask to
+    (place + length (found_by h.resident (compares f mode h i) f.profile.block_log Public h to))))
 
 abbrev pub EmitsGuard : Setting → Mode → ℕ → Test → CodeBuf → CodeBuf → Type 0
 EmitsGuard f mode to t before after =

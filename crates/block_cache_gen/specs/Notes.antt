@@ -1,6 +1,7 @@
 -- For proofs, and for the functions that branch_padding and code_gen build on: the notes of the public code that is
--- made of expressions, guards and assignments. A note stands behind each load that may be skipped. It claims what a
--- mask says of the registers below those of the access, and the bank of each slot that the program uses.
+-- made of expressions, guards and assignments. A note follows each load that may be skipped, and each remainder of an
+-- index that may be skipped. It claims what a mask says of the registers below those of the access, and the bank of
+-- each slot that the program uses.
 use Rattle.std.specs.Prelude.{ℕ, ◌+◌, ◌-◌, ◌*◌, ◌%◌, ◌^◌, bit_and, ℤ, Bool, true, false, ◌==◌, if◌then◌else◌, List, [], ◌∷◌, ◌++◌, length, Option, Some, None}
 use Rattle.std.specs.List.{list_any}
 use Rattle.std.specs.Int.{w32, bit_not}
@@ -13,7 +14,7 @@ use Rattle.src_tree.specs.Labels.{label_of}
 use Rattle.src_tree.specs.Trees.{Tree, Number, Variable, Element, Operation, Test, Statement, SetVariable, SetElement, Choice, Loop}
 use Rattle.block_cache_gen.specs.declared.frames.Mode.TheVariants as mode
 use Rattle.block_cache_gen.specs.Homes.{Home, Pin, Setting, pin_at, home_of}
-use Rattle.block_cache_gen.specs.Codes.{is_cached, fixed_index, steps_at, expr_code, access_code}
+use Rattle.block_cache_gen.specs.Codes.{is_cached, fixed_index, compares, offset_code, steps_at, expr_code, access_code}
 use Rattle.strength_reduction.specs.Steps.{Step}
 
 -- every register may hold a secret
@@ -62,13 +63,22 @@ note_of f mask place = record { pc = place; secrets = mask; slots = slot_claims 
 abbrev pub access_mask : ℕ → ℕ → ℕ
 access_mask mask to = unmarked (unmarked (unmarked mask to) (to + 1)) (to + 2)
 
--- The note behind the load of an access whose code stands from a place on, and before it those of the index.
-abbrev pub loaded_notes : Bool → Setting → Home → (mask to behind : ℕ) → List Note
-loaded_notes true f h mask to behind = []
-loaded_notes false f h mask to behind = if is_cached h then note_of f (access_mask mask to) behind ∷ [] else []
+-- The note that follows a comparison of an index with a length: the number of the word is public.
+abbrev pub compared_notes : Bool → Option ℤ → Setting → (mask to place : ℕ) → List Note
+compared_notes compared (Some z) f mask to place = []
+compared_notes true None f mask to place = note_of f (unmarked mask to) place ∷ []
+compared_notes false None f mask to place = []
 
-abbrev pub load_notes : Setting → Home → (mask to behind : ℕ) → List Note
-load_notes f h mask to behind = loaded_notes h.resident f h mask to behind
+-- The notes of an access apart from those of its index, by the place after its code: of a resident array the note that
+-- follows a comparison, of any other array the one that follows the load.
+abbrev pub loaded_notes : (resident compared : Bool) → Option ℤ → Setting → Home → (mask to behind : ℕ) → List Note
+loaded_notes true compared fixed f h mask to behind =
+    compared_notes compared fixed f mask to (behind - length (offset_code h to))
+loaded_notes false compared fixed f h mask to behind =
+    if is_cached h then note_of f (access_mask mask to) behind ∷ [] else []
+
+abbrev pub load_notes : Bool → Option ℤ → Setting → Home → (mask to behind : ℕ) → List Note
+load_notes compared fixed f h mask to behind = loaded_notes h.resident compared fixed f h mask to behind
 
 abbrev pub index_notes : Option ℤ → List Note → List Note
 index_notes (Some z) notes = []
@@ -85,9 +95,9 @@ expr_notes f mask to place (Number z) = []
 expr_notes f mask to place (Variable x) = []
 expr_notes f mask to place (Element x i) =
     index_notes (fixed_index (home_of f x) i) (expr_notes f mask to place i)
-    ++ load_notes f (home_of f x) mask to
-    (place + length (access_code f.profile.block_log mode.Public (home_of f x) to (fixed_index (home_of f x) i)
-    (expr_code f mode.Public to i)))
+    ++ load_notes (compares f mode.Public (home_of f x) i) (fixed_index (home_of f x) i) f (home_of f x) mask to
+    (place + length (access_code (compares f mode.Public (home_of f x) i) f.profile.block_log mode.Public (home_of f x) to
+    (fixed_index (home_of f x) i) (expr_code f mode.Public to i)))
 expr_notes f mask to place (Operation op a b) =
     expr_notes f mask to place a
     ++ operation_notes (steps_at f op b)
@@ -111,9 +121,10 @@ set_notes f place (SetElement x i e) =
     ++ (index_notes (fixed_index (home_of f x) i)
     (expr_notes f (marked_by (label_of (context_of f.decls) e) all_marked 0) 1
     (place + length (expr_code f mode.Public 0 e)) i)
-    ++ load_notes f (home_of f x) (marked_by (label_of (context_of f.decls) e) all_marked 0) 1
+    ++ load_notes (compares f mode.Public (home_of f x) i) (fixed_index (home_of f x) i) f (home_of f x)
+    (marked_by (label_of (context_of f.decls) e) all_marked 0) 1
     ((place + length (expr_code f mode.Public 0 e))
-    + length (access_code f.profile.block_log mode.Public (home_of f x) 1 (fixed_index (home_of f x) i)
-    (expr_code f mode.Public 1 i))))
+    + length (access_code (compares f mode.Public (home_of f x) i) f.profile.block_log mode.Public (home_of f x) 1
+    (fixed_index (home_of f x) i) (expr_code f mode.Public 1 i))))
 set_notes f place (Choice t a b) = []
 set_notes f place (Loop t a) = []

@@ -1,14 +1,15 @@
-ghost use Rattle.std.specs.Prelude.{◌≡◌, ℕ, ◌+◌, ◌*◌, ◌/◌, ◌%◌, ◌^◌, ◌<◌, ◌≤◌, ◌&&◌, ◌==◌, [], ◌∷◌, ◌++◌, Some, false, OnOk, OnSome, length};
+ghost use Rattle.std.specs.Prelude.{◌≡◌, ℕ, ◌+◌, ◌*◌, ◌/◌, ◌%◌, ◌^◌, ◌<◌, ◌≤◌, ◌&&◌, ◌==◌, [], ◌∷◌, ◌++◌, Some, None, not, false, pos, ◌+ℤ◌, OnOk, OnSome, length};
 ghost use Rattle.std.specs.List.{list_any, range_with_len};
 ghost use Rattle.gr_word.specs.Words.{unsigned_of};
+ghost use Rattle.src_tree.specs.Labels.{secret_label};
 ghost use Rattle.src_tree.specs.Trees.{expr_tree};
-ghost use Rattle.block_cache_gen.specs.Codes.{access_by, found_by, placed_code, offset_code, shift_code, fixed_code, fixed_index, fixed_word, is_cached, is_masked, is_power, may_skip_loads, literal, load_code, reduced_code, scalar_code, skips};
-ghost use Rattle.block_cache_gen.specs.Notes.{access_mask, loaded_notes, marked_by, note_of, unmarked};
-ghost use Rattle.block_cache_gen.specs.Emitted.{Appended, CodeGrows, no_notes, notes_in};
+ghost use Rattle.block_cache_gen.specs.Codes.{access_by, compares, compared_code, least_word, numbered_code, placed_code, offset_code, shift_code, fixed_code, fixed_index, fixed_word, is_cached, is_masked, is_power, may_skip_loads, literal, load_code, reduced_code, scalar_code, skips};
+ghost use Rattle.block_cache_gen.specs.Notes.{access_mask, compared_notes, loaded_notes, marked_by, note_of, unmarked};
+ghost use Rattle.block_cache_gen.specs.Emitted.{Appended, CodeGrows, EmitsFound, no_notes, notes_in};
 ghost use Rattle.block_cache_gen.specs.TreeWords.{HasWords};
 ghost use Rattle.block_cache_gen.specs.Variables.{home_in};
 
-use crate::emitter::Emitter;
+use crate::emitter::{Emitter, label_of};
 use crate::frames::{CodeBuf, Mode};
 use crate::variables::Variable;
 use gr_base::Memory;
@@ -92,6 +93,25 @@ pub(crate) fn is_masked(array: Variable) -> bool
     ensures { result ≡ is_masked (home_in array) }
 {
     is_cached(array) && is_power(array.place.length)
+}
+
+fn is_public_label(label: Label) -> bool
+    ensures { result ≡ not (secret_label label) }
+{
+    match label {
+        Label::Public => true,
+        Label::Secret => false,
+    }
+}
+
+// Whether an index of a resident array is compared with the length before the remainder is taken.
+fn compares<'a>(emitter: &Emitter<'a>, mode: Mode, array: Variable, index: &'a Expr) -> bool
+    ensures { result ≡ compares emitter.now mode (home_in array) (expr_tree index.now) }
+{
+    is_public(mode)
+        && emitter.reduces()
+        && !is_masked(array)
+        && is_public_label(label_of(emitter, index))
 }
 
 // The number that an expression is, if it is one.
@@ -186,7 +206,7 @@ pub(crate) fn is_resident(variable: Variable) -> bool
 fn put_placed_word(out: &mut CodeBuf, array: Variable, index: i64, to: u8) -> Result<(), Memory>
     requires length { 1 ≤ array.place.length }
     ensures appended { OnOk result
-        (Appended out.old out.new (placed_code (home_in array) to (Some index) []) no_notes) }
+        (Appended out.old out.new (placed_code false (home_in array) to (Some index) []) no_notes) }
     ensures grows { CodeGrows out.old out.new }
 {
     let place = u64::from(array.place.word) + fixed_word(array, index);
@@ -217,14 +237,102 @@ fn put_offset(out: &mut CodeBuf, array: Variable, to: u8) -> Result<(), Memory>
 }
 
 // The index in a register becomes the number of the resident array's word in its block.
-fn put_placed(out: &mut CodeBuf, array: Variable, to: u8) -> Result<(), Memory>
+fn put_placed(
+    emitter: &Emitter<'_>,
+    out: &mut CodeBuf,
+    array: Variable,
+    to: u8,
+    compared: bool,
+    mask: u32,
+) -> Result<(), Memory>
     requires registers { to + 2 < 32 }
-    ensures appended { OnOk result
-        (Appended out.old out.new (reduced_code (home_in array) to ++ offset_code (home_in array) to) no_notes) }
+    requires room { length out.old.code.items + 6 < 2 ^ 32 }
+    ensures appended { OnOk result (Appended out.old out.new
+        (numbered_code compared (home_in array) to ++ offset_code (home_in array) to)
+        (λ place. compared_notes compared None emitter.now mask to
+        (place + length (numbered_code compared (home_in array) to)))) }
     ensures grows { CodeGrows out.old out.new }
 {
-    put_reduced(out, array, to)?;
+    put_numbered(emitter, out, array, to, compared, mask)?;
     put_offset(out, array, to)
+}
+
+// The index in a register becomes the number of the word, with a comparison first or without one.
+fn put_numbered(
+    emitter: &Emitter<'_>,
+    out: &mut CodeBuf,
+    array: Variable,
+    to: u8,
+    compared: bool,
+    mask: u32,
+) -> Result<(), Memory>
+    requires registers { to + 2 < 32 }
+    requires room { length out.old.code.items + 6 < 2 ^ 32 }
+    ensures appended { OnOk result (Appended out.old out.new (numbered_code compared (home_in array) to)
+        (λ place. compared_notes compared None emitter.now mask to
+        (place + length (numbered_code compared (home_in array) to)))) }
+    ensures grows { CodeGrows out.old out.new }
+{
+    if compared {
+        return put_compared(emitter, out, array, to, mask);
+    }
+    put_reduced(out, array, to)
+}
+
+// An array's length less 2^63.
+fn lowered_length(array: Variable) -> i64
+    ensures { result ≡ least_word +ℤ pos (home_in array).length }
+{
+    i64::MIN + i64::from(array.place.length)
+}
+
+// The same, where the remainder is taken only of an index that isn't below the length. A note follows.
+fn put_compared(
+    emitter: &Emitter<'_>,
+    out: &mut CodeBuf,
+    array: Variable,
+    to: u8,
+    mask: u32,
+) -> Result<(), Memory>
+    requires registers { to + 2 < 32 }
+    requires room { length out.old.code.items + 6 < 2 ^ 32 }
+    ensures appended { OnOk result (Appended out.old out.new (compared_code (home_in array) to)
+        (λ place. note_of emitter.now (unmarked mask to) (place + 6) ∷ [])) }
+    ensures grows { CodeGrows out.old out.new }
+{
+    out.put(&[
+        Instr::Li {
+            rd: to + 1,
+            value: i64::MIN,
+        },
+        Instr::Alu {
+            op: Op::Add,
+            rd: to + 1,
+            ra: to + 1,
+            rb: to,
+        },
+        Instr::Li {
+            rd: to + 2,
+            value: lowered_length(array),
+        },
+        Instr::Br {
+            cmp: Cmp::Lt,
+            ra: to + 1,
+            rb: to + 2,
+            offset: 3,
+        },
+        Instr::Li {
+            rd: to + 1,
+            value: i64::from(array.place.length),
+        },
+        Instr::Alu {
+            op: Op::Remu,
+            rd: to,
+            ra: to,
+            rb: to + 1,
+        },
+    ])?;
+    put_note_behind(emitter, out, unmarked(mask, to))
 }
 
 // The index in a register becomes the number of the word.
@@ -332,7 +440,7 @@ fn put_load(
     requires registers { to + 2 < 32 }
     requires room { length out.old.code.items + 3 < 2 ^ 32 }
     ensures appended { OnOk result (Appended out.old out.new (load_code (skips mode (home_in array)) (home_in array) to)
-        (λ place. notes_in mode (loaded_notes false emitter.now (home_in array) mask to
+        (λ place. notes_in mode (loaded_notes false false None emitter.now (home_in array) mask to
         (place + length (load_code (skips Mode.Public (home_in array)) (home_in array) to))))) }
     ensures grows { CodeGrows out.old out.new }
 {
@@ -374,10 +482,11 @@ pub(crate) fn put_fixed_access(
     requires registers { to + 2 < 32 }
     requires room { length out.old.code.items + 6 < 2 ^ 32 }
     ensures appended { OnOk result (Appended out.old out.new
-        (access_by (home_in array).resident emitter.now.profile.block_log mode (home_in array) to (Some index) [])
-        (λ place. notes_in mode (loaded_notes (home_in array).resident emitter.now (home_in array) mask to
-        (place + length (access_by (home_in array).resident emitter.now.profile.block_log Mode.Public (home_in array) to
-        (Some index) []))))) }
+        (access_by (home_in array).resident false emitter.now.profile.block_log mode (home_in array) to (Some index) [])
+        (λ place. notes_in mode
+        (loaded_notes (home_in array).resident false (Some index) emitter.now (home_in array) mask to
+        (place + length (access_by (home_in array).resident false emitter.now.profile.block_log Mode.Public
+        (home_in array) to (Some index) []))))) }
     ensures grows { CodeGrows out.old out.new }
 {
     if is_resident(array) {
@@ -388,25 +497,24 @@ pub(crate) fn put_fixed_access(
 }
 
 /// Appends the part of the code of an access that follows the code of its index. The only error is want of memory.
-pub(crate) fn put_found_access(
-    emitter: &Emitter<'_>,
+pub(crate) fn put_found_access<'a>(
+    emitter: &Emitter<'a>,
     out: &mut CodeBuf,
     array: Variable,
+    index: &'a Expr,
     to: u8,
     mode: Mode,
     mask: u32,
 ) -> Result<(), Memory>
     requires registers { to + 2 < 32 }
     requires room { length out.old.code.items + 12 < 2 ^ 32 }
-    ensures appended { OnOk result (Appended out.old out.new
-        (found_by (home_in array).resident emitter.now.profile.block_log mode (home_in array) to)
-        (λ place. notes_in mode (loaded_notes (home_in array).resident emitter.now (home_in array) mask to
-        (place + length
-        (found_by (home_in array).resident emitter.now.profile.block_log Mode.Public (home_in array) to))))) }
+    ensures appended { OnOk result
+        (EmitsFound emitter.now mode (home_in array) mask to (expr_tree index.now) out.old out.new) }
     ensures grows { CodeGrows out.old out.new }
 {
     if is_resident(array) {
-        return put_placed(out, array, to);
+        let compared = compares(emitter, mode, array, index);
+        return put_placed(emitter, out, array, to, compared, mask);
     }
     put_located(emitter, out, array, to)?;
     put_load(emitter, out, array, to, mode, mask)

@@ -118,7 +118,7 @@ pub(crate) fn put_access<'a>(
         Some(number) => { put_fixed_access(emitter, out, array, number, to, mode, mask) }
         None => {
             put_expr(emitter, out, index, to, mode, mask)?;
-            put_found_access(emitter, out, array, to, mode, mask)
+            put_found_access(emitter, out, array, index, to, mode, mask)
         }
     }
 }

@@ -13,7 +13,7 @@ use Rattle.src_tree.specs.Trees.{Tree, Test, Statement, SetVariable, SetElement,
 use Rattle.block_cache_gen.specs.declared.frames.Mode.{Mode}
 use Rattle.block_cache_gen.specs.declared.frames.Mode.TheVariants as modes
 use Rattle.block_cache_gen.specs.Homes.{Setting, home_of}
-use Rattle.block_cache_gen.specs.Codes.{fixed_index, expr_code, access_code, store_code, stored_code, guard_code, set_code}
+use Rattle.block_cache_gen.specs.Codes.{compares, fixed_index, expr_code, access_code, store_code, stored_code, guard_code, set_code}
 use Rattle.block_cache_gen.specs.Alike.{pair_count}
 use Rattle.block_cache_gen.proofs.Sizes.{access_short, expr_code_short, store_short, stored_short}
 use Rattle.branch_padding.specs.Padded.{idle, in_a_row, arm_mode, untaken_arm, taken_arm, first_padded, second_padded, region_code, padded_code, padded_codes}
@@ -36,7 +36,7 @@ element-short f mode x i e =
     let h = home_of f x in
     let value = expr_code f mode 0 e in
     let index = expr_code f mode 1 i in
-    let access = access_code f.profile.block_log mode h 1 (fixed_index h i) index in
+    let access = access_code (compares f mode h i) f.profile.block_log mode h 1 (fixed_index h i) index in
     let store = store_code mode h.slot in
     let last = stored_code h.resident h.slot in
     omega (
@@ -46,7 +46,7 @@ element-short f mode x i e =
       length-append store last,
       expr_code_short f mode 0 e,
       expr_code_short f mode 1 i,
-      access_short f.profile.block_log mode h 1 (fixed_index h i) index,
+      access_short (compares f mode h i) f.profile.block_log mode h 1 (fixed_index h i) index,
       store_short mode h.slot,
       stored_short h.resident h.slot,
     )

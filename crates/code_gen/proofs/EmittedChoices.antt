@@ -16,7 +16,7 @@ use Rattle.src_tree.specs.Labels.{label_of_test}
 use Rattle.block_cache_gen.specs.declared.frames.CodeBuf.{CodeBuf}
 use Rattle.block_cache_gen.specs.declared.frames.Mode.TheVariants.{Public, Real, Mirrored}
 use Rattle.block_cache_gen.specs.Homes.{Setting, home_of}
-use Rattle.block_cache_gen.specs.Codes.{expr_code, guard_code, stored_code, access_code, fixed_index}
+use Rattle.block_cache_gen.specs.Codes.{compares, expr_code, guard_code, stored_code, access_code, fixed_index}
 use Rattle.block_cache_gen.specs.Notes.{guard_notes}
 use Rattle.block_cache_gen.specs.Alike.{pair_count}
 use Rattle.block_cache_gen.specs.Emitted.{Appended, no_notes, EmitsGuard}
@@ -39,7 +39,7 @@ statement_code-some f (SetVariable x e) =
 statement_code-some f (SetElement x i e) =
     let h = home_of f x in
     longer (expr_code f Public 0 e)
-    (access_code f.profile.block_log Public h 1 (fixed_index h i) (expr_code f Public 1 i)
+    (access_code (compares f Public h i) f.profile.block_log Public h 1 (fixed_index h i) (expr_code f Public 1 i)
     ++ Stw 0 h.slot 1 ∷ stored_code h.resident h.slot)
     (expr_code-some f Public 0 e)
 statement_code-some f (Choice t a b) = by (label_of_test (context_of f.decls) t)

@@ -13,7 +13,7 @@ use Rattle.src_tree.specs.Limits.{tree_weight, test_weight, parts_weight, statem
 use Rattle.block_cache_gen.specs.declared.frames.CodeBuf.{CodeBuf}
 use Rattle.block_cache_gen.specs.declared.frames.Mode.TheVariants.{Public}
 use Rattle.block_cache_gen.specs.Homes.{Setting, home_of}
-use Rattle.block_cache_gen.specs.Codes.{expr_code, guard_code, set_code, stored_code, access_code, fixed_index}
+use Rattle.block_cache_gen.specs.Codes.{compares, expr_code, guard_code, set_code, stored_code, access_code, fixed_index}
 use Rattle.block_cache_gen.specs.Notes.{guard_notes, set_notes}
 use Rattle.block_cache_gen.specs.Emitted.{Appended, no_notes, EmitsGuard, EmitsSet}
 use Rattle.block_cache_gen.proofs.Emitting.{appended_then, appended_length}
@@ -51,13 +51,14 @@ pub element_code-short : (f : Setting) (x : List ℕ) (i e : Tree)
     → length (set_code f Public (SetElement x i e)) ≤ 120 * (1 + (tree_weight i + tree_weight e))
 element_code-short f x i e =
     let h = home_of f x in
-    let access = access_code f.profile.block_log Public h 1 (fixed_index h i) (expr_code f Public 1 i) in
+    let access = access_code (compares f Public h i) f.profile.block_log Public h 1 (fixed_index h i)
+    (expr_code f Public 1 i) in
     let stored = Stw 0 h.slot 1 ∷ stored_code h.resident h.slot in
     omega (
       arith,
       expr_code_short f Public 0 e,
       expr_code_short f Public 1 i,
-      access_short f.profile.block_log Public h 1 (fixed_index h i) (expr_code f Public 1 i),
+      access_short (compares f Public h i) f.profile.block_log Public h 1 (fixed_index h i) (expr_code f Public 1 i),
       stored_short h.resident h.slot,
       length-append (expr_code f Public 0 e) (access ++ stored),
       length-append access stored,
