@@ -1,6 +1,6 @@
 //! The form of compiled code: where expressions, assignments, guards and arms end.
 
-use gr_word::Label;
+use gr_word::{Label, Op};
 use lt_isa::Instr;
 use scratch_alloc::SlotPlan;
 use src_tree::{Decl, Expr, Guard};
@@ -80,14 +80,29 @@ impl CompiledCode<'_> {
         usize::try_from(target).ok()
     }
 
+    // Whether the branch at a place only skips the remainder of an index that is in range.
+    fn skips_remainder(&self, at: usize) -> bool {
+        let branch = self.code.get(at);
+        let length = self.code.get(at.saturating_add(1));
+        let remainder = self.code.get(at.saturating_add(2));
+        match (branch, length, remainder) {
+            (
+                Some(Instr::Br { offset: 3, .. }),
+                Some(Instr::Li { .. }),
+                Some(Instr::Alu { op: Op::Remu, .. }),
+            ) => true,
+            _ => false,
+        }
+    }
+
     // The first place from one on that ends the code of an expression: a store of a word, a jump, a halt, or a branch
-    // other than one that skips the load of a cached block.
+    // other than one that skips the load of a cached block or a remainder.
     fn expression_end(&self, from: usize) -> Option<usize> {
         let mut tests_cache = false;
         for (at, instruction) in self.code.iter().enumerate().skip(from) {
             match instruction {
                 Instr::Stw { .. } | Instr::Jmp { .. } | Instr::Halt => return Some(at),
-                Instr::Br { .. } if !tests_cache => return Some(at),
+                Instr::Br { .. } if !tests_cache && !self.skips_remainder(at) => return Some(at),
                 _ => {}
             }
             tests_cache = matches!(instruction, Instr::Idb { .. });
