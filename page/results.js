@@ -90,6 +90,7 @@ const Results = (() => {
     const [tone, sentences] = SHOWS[job.verb](result, job);
     if (result.profiles && !isStale) Editor.showCosts(Profile.marksOf(result.profiles));
     Verdict.say(tone, sentences, result.done.reduce((sum, step) => sum + step.milliseconds, 0));
+    Verdict.warn(result.done, job);
   }
 
   // greys the result that is shown, and takes the offers to save back

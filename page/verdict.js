@@ -58,23 +58,41 @@ const Verdict = (() => {
     }
   }
 
-  // says what a step's fault means; the place in the editor is a link
+  // the run whose step this is
+  const runOf = (step) => Number((/run (\d)/.exec(step.what) || [0, 1])[1]);
+
+  // a line that says where something is, and what; the place in the editor is a link
+  function sayPlaced(look, found, run, place, words) {
+    const line = made(at('verdict'), 'p', { class: look });
+    const where = whereWords(found, run, place);
+    if (place) {
+      const link = made(line, 'button', { type: 'button', class: 'link' }, where.replace(/: $/, ''));
+      link.onclick = () => Editor.goTo(place);
+    } else line.append(where.replace(/: $/, ''));
+    line.append(where ? `: ${words}` : words);
+  }
+
+  // says what a step's fault means
   function fault(step, job, place) {
     const found = Places.explained(step.explained || '');
-    const run = Number((/run (\d)/.exec(step.what) || [0, 1])[1]);
+    const run = runOf(step);
     const title = TITLES[step.status] || (() => 'The program can’t do this.');
     say('bad', [title(run, job.options)]);
     const verdict = at('verdict');
-    const where = whereWords(found, run, place);
-    if (found.words) {
-      const line = made(verdict, 'p', {});
-      if (place) made(line, 'button', { type: 'button', class: 'link', id: 'to-fault' }, where.replace(/: $/, ''));
-      else line.append(where.replace(/: $/, ''));
-      line.append(where ? `: ${found.words}` : found.words);
-      if (place) line.querySelector('button').onclick = () => Editor.goTo(place);
-    }
+    if (found.words) sayPlaced('fault', found, run, place, found.words);
     sayMore(verdict, found.more);
     made(verdict, 'p', { class: 'said' }, `${step.text.trim().split('\n')[0]} (status ${step.status})`);
+  }
+
+  // says the warnings of the steps that did their work, a line each
+  function warn(steps, job) {
+    for (const step of steps) {
+      for (const line of (step.explained || '').split('\n').filter((it) => it.includes(': warning: '))) {
+        const found = Places.explained(line);
+        const place = job.text === null ? null : Places.placeIn(job.text, found);
+        sayPlaced('warning', found, runOf(step), place, found.words);
+      }
+    }
   }
 
   // what is said if the worker stopped
@@ -86,5 +104,5 @@ const Verdict = (() => {
     } else say('bad', ['The program stopped, which says nothing about its inputs.', error.message]);
   }
 
-  return { say, fault, stopped };
+  return { say, fault, warn, stopped };
 })();

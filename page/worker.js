@@ -24,8 +24,8 @@ function ghostWorker(engine, objects, marks, tell) {
       const { status, text, output } = engine.call(words, first, second);
       const step = { what, words, status, output, text, milliseconds: performance.now() - began };
       this.done.push(step);
-      if (good.includes(status)) return step;
       step.explained = engine.explain(status, this.job.usages[words[0]] || '', words, first, second);
+      if (good.includes(status)) return step;
       throw step;
     }
 

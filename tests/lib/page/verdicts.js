@@ -105,7 +105,7 @@ async function faults(user) {
     user.says(!COMMAND.test(told), 'in words of the page', told);
   }
   await user.keeps('fault');
-  await user.clicks('#to-fault');
+  await user.clicks('.fault .link');
   const line = await user.value("document.querySelector('.CodeMirror').CodeMirror.getCursor().line");
   user.says(line === 8 && await user.focus() === 'source', 'its place leads into the editor',
     `${line} ${await user.focus()}`);
@@ -119,6 +119,21 @@ async function inputFaults(user) {
   const told = await user.presses('run');
   user.says(told.includes('The inputs of run 2 don’t fit') && told.includes('Inputs of run 2, line 2, column 2')
     && told.includes('no variable has this name'), 'the fault of inputs', told);
+  await user.clicks('#restore');
+}
+
+// what the command warns of on standard error, the page says below its verdict
+async function warnings(user) {
+  await user.chooses('sum.gr');
+  await user.writesProgram('public int x;\npublic int y;\npublic int a[4];\nx = a[5];\n');
+  await user.writesInputs('{"x":1,"x":2}', '{}');
+  const told = await user.presses('run');
+  user.says(told.startsWith('Both runs are done') && told.includes('Line 4, column 5: warning: the index 5 is out of range')
+    && told.includes('Line 2, column 12: warning: y is never used')
+    && told.includes('Inputs of run 1, line 1, column 8: warning: x is given twice'), 'warnings follow the verdict', told);
+  await user.clicks('.warning .link');
+  const line = await user.value("document.querySelector('.CodeMirror').CodeMirror.getCursor().line");
+  user.says(line === 3, 'the place of a warning leads into the editor', line);
   await user.clicks('#restore');
 }
 
@@ -154,4 +169,4 @@ async function options(user) {
   await user.clicks('#paths');
 }
 
-module.exports = [cutOff, staleText, staleInputs, staleJob, faults, inputFaults, spent, options];
+module.exports = [cutOff, staleText, staleInputs, staleJob, faults, inputFaults, warnings, spent, options];
