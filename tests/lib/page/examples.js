@@ -119,6 +119,7 @@ async function reasons(user) {
   const costs = await beside();
   user.says(/(^|;)[\d ,.\u00a0\u202f]+ \([\d ,.\u00a0\u202f]+\)/.test(costs),
     'a run writes the cycles of each line beside it, and how many pad', costs);
+  await user.keeps('costs');
   await user.presses('check');
   user.says(await beside() === '', 'and the next job takes them away', await beside());
 }

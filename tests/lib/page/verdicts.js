@@ -131,6 +131,7 @@ async function warnings(user) {
   user.says(told.startsWith('Both runs are done') && told.includes('Line 4, column 5: warning: the index 5 is out of range')
     && told.includes('Line 2, column 12: warning: y is never used')
     && told.includes('Inputs of run 1, line 1, column 8: warning: x is given twice'), 'warnings follow the verdict', told);
+  await user.keeps('warnings');
   await user.clicks('.warning .link');
   const line = await user.value("document.querySelector('.CodeMirror').CodeMirror.getCursor().line");
   user.says(line === 3, 'the place of a warning leads into the editor', line);
