@@ -52,6 +52,8 @@ const Editor = (() => {
 
   // writes what each line costs into a gutter of its own
   function showCosts(costs) {
+    const widest = Math.max(...costs.map(({ words }) => words.length));
+    code.getWrapperElement().style.setProperty('--costs', `${widest + 2}ch`);
     code.setOption('gutters', ['CodeMirror-linenumbers', COSTS]);
     for (const { number, words, title } of costs) {
       if (number <= code.lineCount()) {

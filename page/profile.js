@@ -14,21 +14,24 @@ const Profile = (() => {
     }));
   }
 
-  const wordsOf = ({ cycles, padding }) => (padding ? `${grouped(cycles)} (${grouped(padding)})` : grouped(cycles));
+  // the words beside a line: cycles, and in brackets those that pad; of both runs where they differ
+  function wordsOf([one, two]) {
+    const both = (a, b) => (a === b ? grouped(a) : `${grouped(a)} / ${grouped(b)}`);
+    const pads = one.padding || two.padding ? ` (${both(one.padding, two.padding)})` : '';
+    return `${both(one.cycles, two.cycles)}${pads}`;
+  }
 
   function sentenceOf({ cycles, accesses, padding }, run) {
     const pads = padding ? `, ${grouped(padding)} of them padding` : '';
     return `Run ${run + 1}: ${counted(cycles, 'cycle')}${pads}; ${grouped(accesses)} ${accesses === 1 ? 'access' : 'accesses'}`;
   }
 
-  // For each line its number, the words beside it, and those when it is pointed at. If the runs differ in a line, both
-  // are named.
+  // for each line its number, the words beside it, and those when it is pointed at
   function marksOf(tables) {
     const [one, two] = tables.map(rowsOf);
     return [...one].map(([number, row]) => {
       const rows = [row, two.get(number) || row];
-      const words = [...new Set(rows.map(wordsOf))].join(' / ');
-      return { number, words, title: rows.map(sentenceOf).join('\n') };
+      return { number, words: wordsOf(rows), title: rows.map(sentenceOf).join('\n') };
     });
   }
 

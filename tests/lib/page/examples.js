@@ -117,8 +117,10 @@ async function reasons(user) {
   await user.chooses('findmax.gr');
   await user.presses('run');
   const costs = await beside();
-  user.says(/(^|;)[\d ,.\u00a0\u202f]+ \([\d ,.\u00a0\u202f]+\)/.test(costs),
+  user.says(/(^|;)[\d,.\u00a0\u202f]+ \([\d /,.\u00a0\u202f]+\)/.test(costs),
     'a run writes the cycles of each line beside it, and how many pad', costs);
+  const cut = await user.value("[...document.querySelectorAll('.line-cost')].some((it) => it.scrollWidth > it.clientWidth)");
+  user.says(!cut, 'none of them is cut off');
   await user.keeps('costs');
   await user.presses('check');
   user.says(await beside() === '', 'and the next job takes them away', await beside());
