@@ -135,7 +135,7 @@ static bool is_masked(const struct variable *array)
 /* Whether an index is compared with the length of its array before the remainder is taken. */
 static bool is_compared(const struct emitter *emitter, const struct variable *array, const struct expr *index, enum mode mode)
 {
-    return emitter->is_fast && array->is_resident && mode == IN_PUBLIC && !is_masked(array) && !index->is_secret;
+    return emitter->is_fast && mode == IN_PUBLIC && !is_masked(array) && !index->is_secret;
 }
 
 /* The index in a register becomes its remainder by a length. If it is below the length, nothing is done: 2^63 less, so that

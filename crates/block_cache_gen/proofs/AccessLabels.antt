@@ -1,5 +1,5 @@
 -- The labels of the registers in the public code of an access: the number of the word, that of its block, and the load.
-use Rattle.std.proofs.Common.{◌≡◌, ℕ, zero, suc, ◌+◌, ◌-◌, ◌<◌, ◌≤◌, Bool, true, false, not, ◌||◌, ◌&&◌, ◌==◌, ℤ, pos, ◌+ℤ◌, List, [], ◌∷◌, ◌++◌, length, Some, refl, sym, ap, ◌∙◌, subst, arith}
+use Rattle.std.proofs.Common.{◌≡◌, ℕ, zero, suc, ◌+◌, ◌-◌, ◌<◌, ◌≤◌, Bool, true, false, not, ◌||◌, ◌&&◌, ◌==◌, ℤ, pos, ◌+ℤ◌, List, [], ◌∷◌, length, Some, refl, sym, ap, ◌∙◌, subst, arith}
 use Rattle.std.specs.Prelude.{if◌then◌else◌}
 use Rattle.std.proofs.lemmas.Bool.{ne_eqb}
 use Rattle.gr_word.specs.declared.operations.Op.{Op}
@@ -10,7 +10,7 @@ use Rattle.lt_isa.specs.declared.instructions.Instr.TheVariants.{Li, Alu}
 use Rattle.lt_isa.specs.Object.{Parts}
 use Rattle.trace_patterns.specs.Known.{Known, is_secret, bank_known, set_secret, set_bank, FitsClaim}
 use Rattle.trace_patterns.specs.Rules.{Falls, shows_block, claimed_at}
-use Rattle.stretches.proofs.Passed.{GoesOn, NoMore, One, goes-then, rules-li, rules-alu, rules-idb, rules-ldb, branch-falls, secret-same, secret-other}
+use Rattle.stretches.proofs.Passed.{GoesOn, NoMore, One, rules-li, rules-alu, rules-idb, rules-ldb, branch-falls, secret-same, secret-other}
 use Rattle.block_cache_gen.specs.Homes.{Home}
 use Rattle.block_cache_gen.specs.Codes.{is_masked, least_word, compared_code, reduced_code, offset_code, shift_code, fixed_code, load_code}
 use Rattle.block_cache_gen.proofs.KeptRegisters.{SameBelow, same-itself, same-set, same-then, or_false}
@@ -240,22 +240,16 @@ module _ (o : Parts) (to : ℕ) (low : to + 2 < 32) where
         (subst (λ (q : ℕ). claimed_at o q ≡ Some claimed) (sym target) noted) fit)
         (applied_by three compared_sized Remu (pos h.length) (p + 1 + 1 + 1 + 1)))))
 
-  -- both
-  pub numbered : (block_log : ℕ) (h : Home) (p : ℕ) (k : Known) → length k.secret ≡ 32
-      → Labelled o p (reduced_code h to ++ shift_code block_log h to) to k (is_secret k to) (is_secret k to)
-  numbered block_log h p k sized =
-      let mid = reduced_known k sized in
-      let first = reduced_same k sized in
-      let size : length mid.secret ≡ 32 = first.sized ∙ sized in
-      record {
-        after = block_known mid size;
-        goes
-            = goes-then o p (reduced_code h to) (shift_code block_log h to) k mid (block_known mid size)
-            (reduced_by k sized h p (is_masked h)) (block_by mid size block_log h (p + length (reduced_code h to)));
-        same = same-then to k mid (block_known mid size) first (block_same mid size);
-        word_is = block_word mid size ∙ reduced_word k sized;
-        block_is = block_block mid size ∙ reduced_word k sized;
-      }
+  -- the number of the block is found
+  pub shifted-numbered : (block_log : ℕ) (h : Home) (p : ℕ) (k : Known) → length k.secret ≡ 32
+      → Labelled o p (shift_code block_log h to) to k (is_secret k to) (is_secret k to)
+  shifted-numbered block_log h p k sized = record {
+    after = block_known k sized;
+    goes = block_by k sized block_log h p;
+    same = block_same k sized;
+    word_is = block_word k sized;
+    block_is = block_block k sized;
+  }
 
   -- both where the index is a number
   pub fixed-numbered : (block_log : ℕ) (h : Home) (z : ℤ) (p : ℕ) (k : Known) → length k.secret ≡ 32

@@ -25,14 +25,14 @@ use Rattle.scratch_alloc.proofs.Serving.{serves-within}
 use Rattle.block_cache_gen.specs.declared.frames.Mode.{Mode}
 use Rattle.block_cache_gen.specs.declared.frames.Mode.TheVariants.{Public, Real, Mirrored}
 use Rattle.block_cache_gen.specs.Homes.{Home, Setting, HasHomes, home_of, words_a_block}
-use Rattle.block_cache_gen.specs.Codes.{skips, is_cached, fixed_index, fixed_word, located_code, fixed_code, reduced_code, shift_code, load_code, access_by, expr_code}
+use Rattle.block_cache_gen.specs.Codes.{skips, is_cached, fixed_index, fixed_word, located_code, fixed_code, numbered_code, shift_code, load_code, access_by, expr_code}
 use Rattle.block_cache_gen.specs.StandsFor.{StandsFor, FitsHomes, IsBlockOf}
 use Rattle.block_cache_gen.specs.Accesses.{ArrayAccess, access_of, accesses, word_number, block_in, slots_after, may_skip, is_held, seen_of, seen_of_all}
 use Rattle.block_cache_gen.specs.LeavesWord.{LeavesWord}
 use Rattle.block_cache_gen.proofs.AccessLaws.{slots_after-append, seen_of_all-append, may_skip-is, seen_of-unskipped}
 use Rattle.block_cache_gen.proofs.HomeFacts.{serves-cached, block-of, block-exists, block-small, profile-fits}
 use Rattle.block_cache_gen.proofs.Stands.{stands-like, stands-loaded}
-use Rattle.block_cache_gen.proofs.IndexRuns.{Locates, Reduces, runs-reduced, runs-block, runs-fixed}
+use Rattle.block_cache_gen.proofs.IndexRuns.{Locates, Reduces, runs-numbered, runs-block, runs-fixed}
 
 -- the block of an access is loaded; the registers up to `to` and the banks are as before
 pub record Loads (a : ArrayAccess) (to : ℕ) (s t : State) : Type 0 where
@@ -214,13 +214,13 @@ module _ (o : Parts) (fits : IsInRange o) (f : Setting) (homes : HasHomes o f) (
 
   -- the word and the block are found
   runs-located : (mode : Mode) (to : ℕ) (i : Tree) (s : State) → IsShaped o s → StandsFor f s store → to + 2 < 32
-      → RunsIndex mode to i s → (fixed : Option ℤ) → fixed_index (home_of f x) i ≡ fixed
-      → StandsAt o s.place (located_code f.profile.block_log (home_of f x) to fixed (expr_code f mode to i))
-      → RunsThrough o s (located_code f.profile.block_log (home_of f x) to fixed (expr_code f mode to i))
+      → RunsIndex mode to i s → (near : Bool) (fixed : Option ℤ) → fixed_index (home_of f x) i ≡ fixed
+      → StandsAt o s.place (located_code near f.profile.block_log (home_of f x) to fixed (expr_code f mode to i))
+      → RunsThrough o s (located_code near f.profile.block_log (home_of f x) to fixed (expr_code f mode to i))
       (seen_of_all mode s.banks s.slots (accesses f store i))
       (Finds f store (accesses f store i) to (word_number f store x (evaluated f.decls store i))
       (access_of f store x (evaluated f.decls store i)).block s)
-  runs-located mode to i s shaped stands small run (Some z) is at =
+  runs-located mode to i s shaped stands small run near (Some z) is at =
       let h = home_of f x in
       let n = word_number f store x z in
       let w = words_a_block f in
@@ -244,7 +244,7 @@ module _ (o : Parts) (fits : IsInRange o) (f : Setting) (homes : HasHomes o f) (
         slots = locates.keeps.slots;
         stands = stands-like f s t store locates.keeps.slots locates.keeps.banks stands;
       }))
-  runs-located mode to i s shaped stands small run None is at =
+  runs-located mode to i s shaped stands small run near None is at =
       let h = home_of f x in
       let home = homes.arrays x label known turn in
       let w = words_a_block f in
@@ -257,13 +257,14 @@ module _ (o : Parts) (fits : IsInRange o) (f : Setting) (homes : HasHomes o f) (
       let log_small : log < 64 = omega (arith, (profile-fits fits homes).block_log) in
       let block_small : h.block + n / w < 2 ^ 63 =
       omega (arith, block-small o fits f homes label h home n (word-within index)) in
-      runs-weaker s (expr_code f mode to i ++ (reduced_code h to ++ shift_code log h to)) (seen ++ []) seen Found Found
-      (runs-append s (expr_code f mode to i) (reduced_code h to ++ shift_code log h to) seen []
+      runs-weaker s (expr_code f mode to i ++ (numbered_code near h to ++ shift_code log h to))
+      (seen ++ []) seen Found Found
+      (runs-append s (expr_code f mode to i) (numbered_code near h to ++ shift_code log h to) seen []
       (LeavesWord f store before to index s) Found at run
       (λ t shape leaves at'.
-      runs-append t (reduced_code h to) (shift_code log h to) [] []
+      runs-append t (numbered_code near h to) (shift_code log h to) [] []
       (Reduces to (unsigned_of index % h.length) t) Found at'
-      (runs-reduced o fits h to t index shape leaves.value small home.length.0 home.length.1)
+      (runs-numbered o fits near h to t index shape leaves.value small home.length.0 home.length.1)
       (λ u shape' reduces at''.
       let word : register u to ≡ pos n = reduces.word ∙ ap pos (word_number-is index) in
       runs-weaker u (shift_code log h to) [] [] (Locates to n (h.block + n / w) u) Found
@@ -284,11 +285,14 @@ module _ (o : Parts) (fits : IsInRange o) (f : Setting) (homes : HasHomes o f) (
       (λ t shape found. found)
 
   -- the whole access
-  pub runs-access : (near : Bool) (mode : Mode) (to : ℕ) (i : Tree) (s : State) → IsShaped o s → StandsFor f s store → to + 2 < 32
+  pub runs-access : (near : Bool) (mode : Mode) (to : ℕ) (i : Tree) (s : State) → IsShaped o s
+      → StandsFor f s store → to + 2 < 32
       → RunsIndex mode to i s → StandsAt o s.place
-      (access_by false near f.profile.block_log mode (home_of f x) to (fixed_index (home_of f x) i) (expr_code f mode to i))
+      (access_by false near f.profile.block_log mode (home_of f x) to (fixed_index (home_of f x) i)
+      (expr_code f mode to i))
       → RunsThrough o s
-      (access_by false near f.profile.block_log mode (home_of f x) to (fixed_index (home_of f x) i) (expr_code f mode to i))
+      (access_by false near f.profile.block_log mode (home_of f x) to (fixed_index (home_of f x) i)
+      (expr_code f mode to i))
       (seen_of_all mode s.banks s.slots (accesses f store i ++ access_of f store x (evaluated f.decls store i) ∷ []))
       (Accesses f store (accesses f store i)
       (access_of f store x (evaluated f.decls store i)) to (word_number f store x (evaluated f.decls store i)) s)
@@ -302,7 +306,7 @@ module _ (o : Parts) (fits : IsInRange o) (f : Setting) (homes : HasHomes o f) (
       let n = word_number f store x index in
       let before = accesses f store i in
       let a = access_of f store x index in
-      let located = located_code log h to fixed (expr_code f mode to i) in
+      let located = located_code near log h to fixed (expr_code f mode to i) in
       let load = load_code (skips mode h) h to in
       let first = seen_of_all mode s.banks s.slots before in
       let second = seen_of mode s.banks (slots_after s.banks s.slots before) a in
@@ -312,7 +316,7 @@ module _ (o : Parts) (fits : IsInRange o) (f : Setting) (homes : HasHomes o f) (
       ap (λ l. first ++ l) (sym (append-nil second)) ∙ sym (seen_of_all-append mode s.banks s.slots before (a ∷ [])) in
       runs-weaker s (located ++ load) (first ++ second) (seen_of_all mode s.banks s.slots (before ++ a ∷ [])) Done Done
       (runs-append s located load first second Found Done at
-      (runs-located mode to i s shaped stands small run fixed refl)
+      (runs-located mode to i s shaped stands small run near fixed refl)
       (λ t shape finds at'.
       runs-weaker t load (seen_of mode t.banks t.slots a) second (Loads a to t) Done
       (runs-load mode to n t shape finds.stands (word-within index) small finds.block (skips mode h)

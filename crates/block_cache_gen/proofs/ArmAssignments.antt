@@ -174,7 +174,8 @@ module _ (o : Parts) (f : Setting) (homes : HasHomes o f) (depth : ℕ) where
         → LowStatement (SetElement x i e) → CarriesInArm f s
         → Goes o f depth s
         (expr_code f mode 0 e
-        ++ (access_by b false f.profile.block_log mode (home_of f x) 1 (fixed_index (home_of f x) i) (expr_code f mode 1 i)
+        ++ (access_by b false f.profile.block_log mode (home_of f x) 1 (fixed_index (home_of f x) i)
+        (expr_code f mode 1 i)
         ++ (store_code mode (home_of f x).slot ++ stored_code b (home_of f x).slot)))
         (shows_of_expr f e
         ++ (shows_by b f (home_of f x) (fixed_index (home_of f x) i) (tree_of_expr f i) (shows_of_expr f i)

@@ -257,7 +257,7 @@ module _ (o : Parts) (f : Setting) (homes : HasHomes o f) (depth : ℕ) where
   located : (s : SymState) (to : ℕ) (h : Home) (fixed : Option ℤ) (index : Option Value) (code : List Instr)
       (shows : List Show) (loads : Loads) → CarriesInArm f s → LeavesTree o f depth s code shows to index loads
       → to + 2 < 32
-      → LeavesTwo o f depth s (located_code f.profile.block_log h to fixed code) (found_shows f h fixed shows) to
+      → LeavesTwo o f depth s (located_code false f.profile.block_log h to fixed code) (found_shows f h fixed shows) to
       (number_tree h fixed index) (block_tree f h fixed index) (index_loads fixed loads)
   located s to h (Some z) index code shows loads carries first inside = fixed-located s to h z carries inside
   located s to h None index code shows loads carries first inside =
@@ -338,7 +338,7 @@ module _ (o : Parts) (f : Setting) (homes : HasHomes o f) (depth : ℕ) where
         let load = walked-ldb o depth f homes.profile there.state h.slot h.bank (to + 1) block sizes found.next seen in
         let skipped : load_code false h to ≡ load_code (skips mode h) h to =
         sym (ap (λ (b : Bool). load_code (b && is_cached h) h to) secret) in
-        let before = located_code f.profile.block_log h to fixed code in
+        let before = located_code false f.profile.block_log h to fixed code in
         let shown = found_shows f h fixed shows in
         let whole = walked-then o depth s before shown there.state (load_code false h to) (load_shows bound) t
         there.walked load in
@@ -368,7 +368,8 @@ module _ (o : Parts) (f : Setting) (homes : HasHomes o f) (depth : ℕ) where
         → to + 2 < 32 → UsedAs (context_of f.decls) x Array
         → (shows_index (home_of f x) ≡ true → IsKnown (tree_of_expr f i))
         → LeavesTree o f depth s
-        (access_by b false f.profile.block_log mode (home_of f x) to (fixed_index (home_of f x) i) (expr_code f mode to i)
+        (access_by b false f.profile.block_log mode (home_of f x) to (fixed_index (home_of f x) i)
+        (expr_code f mode to i)
         ++ Ldw to (home_of f x).slot to ∷ [])
         (shows_by b f (home_of f x) (fixed_index (home_of f x) i) (tree_of_expr f i) (shows_of_expr f i)
         ++ word_gap f ∷ []) to

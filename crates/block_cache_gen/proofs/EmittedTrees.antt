@@ -1,5 +1,6 @@
 -- What is appended for expressions, by their parts.
 use Rattle.std.proofs.Common.{◌≡◌, ℕ, ◌+◌, ◌-◌, ◌*◌, ◌<◌, ◌≤◌, ◌^◌, Bool, true, false, append_assoc, List, [], ◌∷◌, ◌++◌, length, Option, Some, None, ℤ, pos, ◌+ℤ◌, refl, sym, ap, ◌∙◌, subst, arith, length-append, add_assoc}
+use Rattle.std.specs.Prelude.{if◌then◌else◌}
 use Rattle.std.specs.Option.{option_map}
 use Rattle.gr_word.specs.declared.operations.Op.{Op}
 use Rattle.gr_word.specs.declared.variables.Label.{Label}
@@ -17,15 +18,16 @@ use Rattle.block_cache_gen.specs.declared.frames.CodeBuf.{CodeBuf}
 use Rattle.block_cache_gen.specs.declared.frames.Mode.{Mode}
 use Rattle.block_cache_gen.specs.declared.frames.Mode.TheVariants.{Public, Real, Mirrored}
 use Rattle.block_cache_gen.specs.Homes.{Home, Setting, home_of}
-use Rattle.block_cache_gen.specs.Codes.{access_by, found_by, compares, compared_code, least_word, numbered_code, offset_code, reduced_code, shift_code, fixed_code, load_code, skips, access_code, fixed_index, operation_code, steps_at, expr_code}
+use Rattle.block_cache_gen.specs.Codes.{access_by, found_by, is_cached, compares, compared_code, least_word, numbered_code, offset_code, shift_code, fixed_code, load_code, skips, access_code, fixed_index, operation_code, steps_at, expr_code}
 use Rattle.strength_reduction.specs.Steps.{Step, code_of}
-use Rattle.block_cache_gen.specs.Notes.{expr_notes, operation_notes, index_notes, compared_notes, loaded_notes, load_notes, marked_by, unmarked, note_of}
+use Rattle.block_cache_gen.specs.Notes.{expr_notes, operation_notes, index_notes, compared_notes, loaded_notes, load_notes, access_mask, marked_by, unmarked, note_of}
 use Rattle.block_cache_gen.specs.Emitted.{Appended, no_notes, notes_in, access_notes, OperationBy, EmitsOperation, EmitsExpr, EmitsAccess, EmitsFound}
 use Rattle.block_cache_gen.proofs.Emitting.{appended_then, appended_as, appended_length, silent_behind, silent_before, notes_both, notes_by}
 use Rattle.block_cache_gen.proofs.Sizes.{expr_code_short}
 
 -- an access, by what is known of its index
-abbrev pub AccessBy : Setting → Mode → (near : Bool) → Home → (mask to : ℕ) → Tree → Option ℤ → CodeBuf → CodeBuf → Type 0
+abbrev pub AccessBy : Setting → Mode → (near : Bool) → Home → (mask to : ℕ) → Tree → Option ℤ → CodeBuf → CodeBuf
+    → Type 0
 AccessBy f mode near h mask to i fixed a c =
     Appended a c (access_code near f.profile.block_log mode h to fixed (expr_code f mode to i))
     (λ place. notes_in mode
@@ -171,11 +173,12 @@ access_worked f mode h mask to i a b c is x y =
         refl
         (λ place. ap (λ n. notes_in mode (expr_notes f mask to place i ++ loaded_notes true near None f h mask to n))
         (further place index found))
-        (expr_then f mode mask to i found (λ place. loaded_notes true near None f h mask to (place + length found)) a b c
+        (expr_then f mode mask to i found (λ place. loaded_notes true near None f h mask to
+        (place + length found)) a b c
         x z)
     by false near z =
         let log = f.profile.block_log in
-        let located : List Instr = reduced_code h to ++ shift_code log h to in
+        let located : List Instr = numbered_code near h to ++ shift_code log h to in
         let skipped : List Instr = load_code (skips Public h) h to in
         let index : List Instr = expr_code f Public to i in
         appended_as a c (expr_code f mode to i ++ found_by false near log mode h to)
@@ -251,23 +254,43 @@ found_placed f mode h mask to i b c is x =
 -- what follows the code of any other index
 pub found_loaded : (f : Setting) (mode : Mode) (h : Home) (mask to : ℕ) (i : Tree) (b c d : CodeBuf)
     → h.resident ≡ false
-    → Appended b c (reduced_code h to ++ shift_code f.profile.block_log h to) no_notes → EmitsLoad f mode h mask to c d
+    → Appended b c (numbered_code (compares f mode h i) h to ++ shift_code f.profile.block_log h to)
+    (λ place. compared_notes (compares f mode h i) None f mask to
+    (place + length (numbered_code (compares f mode h i) h to)))
+    → EmitsLoad f mode h mask to c d
     → EmitsFound f mode h mask to i b d
 found_loaded f mode h mask to i b c d turn x y =
     let near = compares f mode h i in
     let log = f.profile.block_log in
-    let located : List Instr = reduced_code h to ++ shift_code log h to in
-    let skipped : List Instr = load_code (skips Public h) h to in
+    let number : List Instr = numbered_code near h to in
+    let located : List Instr = number ++ shift_code log h to in
+    let skipped : List Instr = load_code (is_cached h) h to in
+    let load : ℕ → List Note = λ behind. if is_cached h then note_of f (access_mask mask to) behind ∷ [] else [] in
     let P : Bool → Type 0 = λ r. Appended b d (found_by r near log mode h to)
-    (λ place. notes_in mode (loaded_notes r near None f h mask to (place + length (found_by r near log Public h to)))) in
+    (λ place. notes_in mode (loaded_notes r near None f h mask to
+    (place + length (found_by r near log Public h to)))) in
     subst P (sym turn)
     (appended_as b d (located ++ load_code (skips mode h) h to) (located ++ load_code (skips mode h) h to)
-    (λ place. notes_in mode (loaded_notes false near None f h mask to (place + length located + length skipped)))
-    (λ place. notes_in mode (loaded_notes false near None f h mask to (place + length (located ++ skipped))))
+    (λ place. compared_notes near None f mask to (place + length number)
+    ++ notes_in mode (load (place + length located + length skipped)))
+    (λ place. notes_in mode
+    (compared_notes near None f mask to (place + length (located ++ skipped) - length (shift_code log h to ++ skipped))
+    ++ load (place + length (located ++ skipped))))
     refl
-    (λ place. ap (λ n. notes_in mode (loaded_notes false near None f h mask to n)) (further place located skipped))
-    (silent_before b c d located (load_code (skips mode h) h to)
-    (λ place. notes_in mode (loaded_notes false near None f h mask to (place + length skipped))) x y))
+    (λ place.
+    (λ k. compared_in mode f h i mask to (before place number (shift_code log h to) skipped k) k
+    ++ notes_in mode (load (further place located skipped k)))
+    ∙ notes_both mode
+    (compared_notes near None f mask to (place + length (located ++ skipped) - length (shift_code log h to ++ skipped)))
+    (load (place + length (located ++ skipped))))
+    (appended_then b c d located (load_code (skips mode h) h to)
+    (λ place. compared_notes near None f mask to (place + length number))
+    (λ place. notes_in mode (load (place + length skipped))) x y))
+  where
+    before : (place : ℕ) (xs ys zs : List Instr)
+        → place + length xs ≡ place + length (xs ++ ys ++ zs) - length (ys ++ zs)
+    before place xs ys zs =
+        omega (arith, length-append (xs ++ ys) zs, length-append xs ys, length-append ys zs)
 
 pub element_emitted : (f : Setting) (mode : Mode) (mask to : ℕ) (x : List ℕ) (i : Tree) (h : Home) (a b c : CodeBuf)
     → h ≡ home_of f x → EmitsAccess f mode h mask to i a b → Appended b c (Ldw to h.slot to ∷ []) no_notes
@@ -351,7 +374,7 @@ room_for_right f mode mask to l right a b room x =
 -- and after an index for the rest of its access
 pub room_for_found : (f : Setting) (mode : Mode) (mask to : ℕ) (i : Tree) (a b : CodeBuf)
     → length a.code.items + 120 * (1 + tree_weight i) ≤ most_instructions → EmitsExpr f mode mask to i a b
-    → length b.code.items + 12 < 2 ^ 32
+    → length b.code.items + 16 < 2 ^ 32
 room_for_found f mode mask to i a b room x =
     let rest = room_for_right f mode mask to i 1 a b (omega arith) x in omega arith
 

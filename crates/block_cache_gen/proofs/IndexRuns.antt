@@ -171,8 +171,10 @@ module _ (o : Parts) (fits : IsInRange o) where
   pub runs-numbered : (near : Bool) (h : Home) (to : ℕ) (s : State) (index : ℤ) → IsShaped o s → register s to ≡ index
       → to + 2 < 32 → 1 ≤ h.length → h.length ≤ 1048576 → StandsAt o s.place (numbered_code near h to)
       → RunsThrough o s (numbered_code near h to) [] (Reduces to (unsigned_of index % h.length) s)
-  runs-numbered true h to s index shaped has below least most at = runs-compared h to s index shaped has below least most at
-  runs-numbered false h to s index shaped has below least most at = runs-reduced h to s index shaped has below least most at
+  runs-numbered true h to s index shaped has below least most at =
+      runs-compared h to s index shaped has below least most at
+  runs-numbered false h to s index shaped has below least most at =
+      runs-reduced h to s index shaped has below least most at
 
   -- the block, from the word
   pub runs-block : (block_log : ℕ) (h : Home) (to : ℕ) (s : State) (word : ℕ)

@@ -32,7 +32,8 @@ pub near-index : (index : ℤ) (n : ℕ) → IsWord index → n < 2 ^ 62
 near-index (pos m) n fits small test =
     let top : ℕ = 9223372036854775807 in
     let turned : nat_lt (top - n) (top - m) ≡ int_lt (applied Add least_word (pos m)) (least_word +ℤ pos n) =
-    sym (ap (λ a. int_lt a (least_word +ℤ pos n)) (lowered m fits.sfits) ∙ ap (int_lt (negsuc (top - m))) (bound-is n small))
+    sym (ap (λ a. int_lt a (least_word +ℤ pos n)) (lowered m fits.sfits) ∙ ap (int_lt (negsuc (top - m)))
+    (bound-is n small))
     in
     let below : top - n < top - m = ltb-true (top - n) (top - m) (turned ∙ test) in
     let less : m < n = omega (arith, fits.sfits) in
@@ -40,6 +41,7 @@ near-index (pos m) n fits small test =
 near-index (negsuc m) n fits small test =
     let top : ℕ = 9223372036854775807 in
     let turned : false ≡ int_lt (applied Add least_word (negsuc m)) (least_word +ℤ pos n) =
-    sym (ap (λ a. int_lt a (least_word +ℤ pos n)) (raised m fits.sfits) ∙ ap (int_lt (pos (top - m))) (bound-is n small))
+    sym (ap (λ a. int_lt a (least_word +ℤ pos n)) (raised m fits.sfits) ∙ ap (int_lt (pos (top - m)))
+    (bound-is n small))
     in
     absurd (false≢true (turned ∙ test))

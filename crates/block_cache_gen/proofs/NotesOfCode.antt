@@ -10,10 +10,10 @@ use Rattle.src_tree.specs.Trees.{Tree, Number, Variable, Element, Operation}
 use Rattle.stretches.proofs.Passed.{LieBetween, lie_wider, lie_both}
 use Rattle.block_cache_gen.specs.declared.frames.Mode.TheVariants.{Public}
 use Rattle.block_cache_gen.specs.Homes.{Home, Setting, home_of}
-use Rattle.block_cache_gen.specs.Codes.{is_cached, compares, compared_code, numbered_code, fixed_index, reduced_code, shift_code, offset_code, located_code, load_code, skips, access_by, access_code, operation_code, steps_at, expr_code}
+use Rattle.block_cache_gen.specs.Codes.{is_cached, compares, compared_code, numbered_code, fixed_index, shift_code, offset_code, located_code, load_code, skips, access_by, access_code, operation_code, steps_at, expr_code}
 use Rattle.gr_word.specs.declared.operations.Op.{Op}
 use Rattle.strength_reduction.specs.Steps.{Step, code_of}
-use Rattle.block_cache_gen.specs.Notes.{marked_by, unmarked, access_mask, note_of, compared_notes, loaded_notes, load_notes, index_notes, operation_notes, expr_notes}
+use Rattle.block_cache_gen.specs.Notes.{marked_by, access_mask, note_of, compared_notes, loading_code, loaded_notes, load_notes, index_notes, operation_notes, expr_notes}
 
 -- a located word takes two instructions at least, and more than its index
 abbrev pub index_length : Option ℤ → List Instr → ℕ
@@ -21,14 +21,14 @@ index_length (Some z) index = 0
 index_length None index = length index
 
 -- at least two instructions follow the index
-pub located-longer : (block_log : ℕ) (h : Home) (to : ℕ) (fixed : Option ℤ) (index : List Instr)
-    → index_length fixed index + 2 ≤ length (located_code block_log h to fixed index)
-located-longer block_log h to (Some z) index = omega arith
-located-longer block_log h to None index =
+pub located-longer : (near : Bool) (block_log : ℕ) (h : Home) (to : ℕ) (fixed : Option ℤ) (index : List Instr)
+    → index_length fixed index + 2 ≤ length (located_code near block_log h to fixed index)
+located-longer near block_log h to (Some z) index = omega arith
+located-longer near block_log h to None index =
     omega (
       arith,
-      length-append index (reduced_code h to ++ shift_code block_log h to),
-      length-append (reduced_code h to) (shift_code block_log h to),
+      length-append index (numbered_code near h to ++ shift_code block_log h to),
+      length-append (numbered_code near h to) (shift_code block_log h to),
     )
 
 load_longer : (skip : Bool) (h : Home) (to : ℕ) → 1 ≤ length (load_code skip h to)
@@ -36,13 +36,13 @@ load_longer true h to = omega arith
 load_longer false h to = omega arith
 
 -- and one more in an access
-pub access-longer : (block_log : ℕ) (h : Home) (to : ℕ) (fixed : Option ℤ) (index : List Instr)
-    → length (located_code block_log h to fixed index) + 1
-    ≤ length (located_code block_log h to fixed index ++ load_code (skips Public h) h to)
-access-longer block_log h to fixed index =
+pub access-longer : (near : Bool) (block_log : ℕ) (h : Home) (to : ℕ) (fixed : Option ℤ) (index : List Instr)
+    → length (located_code near block_log h to fixed index) + 1
+    ≤ length (located_code near block_log h to fixed index ++ load_code (skips Public h) h to)
+access-longer near block_log h to fixed index =
     omega (
       arith,
-      length-append (located_code block_log h to fixed index) (load_code (skips Public h) h to),
+      length-append (located_code near block_log h to fixed index) (load_code (skips Public h) h to),
       load_longer (skips Public h) h to,
     )
 
@@ -57,8 +57,8 @@ access-more true near block_log h to None index =
       length-append (numbered_code near h to) (offset_code h to),
     )
 access-more false near block_log h to fixed index =
-    let longer = located-longer block_log h to fixed index in
-    let more = access-longer block_log h to fixed index in
+    let longer = located-longer near block_log h to fixed index in
+    let more = access-longer near block_log h to fixed index in
     omega arith
 
 -- the note of a load
@@ -73,6 +73,34 @@ pub compared-lie : (near : Bool) (f : Setting) (mask to place p q : ℕ) → p <
 compared-lie true f mask to place p q low high = ((low, high), tt)
 compared-lie false f mask to place p q low high = tt
 
+-- before the number of the block is computed there is at most the note of a comparison
+pub located-lie : (f : Setting) (h : Home) (mask to p : ℕ) (near : Bool) (fixed : Option ℤ) (index : List Instr)
+    → LieBetween p (p + length (located_code near f.profile.block_log h to fixed index))
+    (compared_notes near fixed f mask to
+    (p + length (located_code near f.profile.block_log h to fixed index)
+    - length (shift_code f.profile.block_log h to)))
+located-lie f h mask to p near (Some z) index = tt
+located-lie f h mask to p false None index = tt
+located-lie f h mask to p true None index =
+    let shift = shift_code f.profile.block_log h to in
+    let size : length (index ++ (compared_code h to ++ shift)) ≡ length index + 10 =
+    length-append index (compared_code h to ++ shift) in
+    compared-lie true f mask to _ p _ (omega arith) (omega arith)
+
+-- the place of the note of a comparison in the code of an access that loads
+pub loading-behind : (f : Setting) (h : Home) (to p : ℕ) (index : List Instr)
+    → p + length (access_by false true f.profile.block_log Public h to None index) - length (loading_code f h to)
+    ≡ p + length index + 6
+loading-behind f h to p index =
+    let log = f.profile.block_log in
+    let load = load_code (is_cached h) h to in
+    omega (
+      arith,
+      length-append (index ++ (compared_code h to ++ shift_code log h to)) load,
+      length-append index (compared_code h to ++ shift_code log h to),
+      length-append (shift_code log h to) load,
+    )
+
 -- the note of a comparison, or of a load
 pub loaded-lie : (f : Setting) (h : Home) (mask to p : ℕ) (resident near : Bool) (fixed : Option ℤ)
     (index : List Instr)
@@ -86,9 +114,22 @@ loaded-lie f h mask to p true true None index =
     ((omega arith, omega arith), tt)
 loaded-lie f h mask to p true false None index = tt
 loaded-lie f h mask to p false near fixed index =
+    let code = access_by false near f.profile.block_log Public h to fixed index in
     let more = access-more false near f.profile.block_log h to fixed index in
-    load-lies f h mask to (p + length (access_by false near f.profile.block_log Public h to fixed index)) p _
-    (is_cached h) (omega arith) (omega arith)
+    lie_both p (p + length code + 1) (compared_notes near fixed f mask to
+    (p + length code - length (loading_code f h to)))
+    (if is_cached h then note_of f (access_mask mask to) (p + length code) ∷ [] else []) (compared near fixed)
+    (load-lies f h mask to (p + length code) p (p + length code + 1) (is_cached h) (omega arith) (omega arith))
+  where
+    compared : (near : Bool) (fixed : Option ℤ)
+        → LieBetween p (p + length (access_by false near f.profile.block_log Public h to fixed index) + 1)
+        (compared_notes near fixed f mask to
+        (p + length (access_by false near f.profile.block_log Public h to fixed index) - length (loading_code f h to)))
+    compared near (Some z) = tt
+    compared false None = tt
+    compared true None =
+        let size = loading-behind f h to p index in
+        compared-lie true f mask to _ p _ (omega (arith, size)) (omega (arith, size))
 
 -- the notes of an index
 pub index-lie : (fixed : Option ℤ) (p : ℕ) (index : List Instr) (notes : List Note)

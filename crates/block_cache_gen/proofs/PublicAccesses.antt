@@ -1,5 +1,5 @@
 -- The public code of an access is passed: the word of an array, with its block in the array's slot.
-use Rattle.std.proofs.Common.{◌≡◌, ℕ, ◌+◌, ◌-◌, ◌<◌, ◌≤◌, Bool, true, false, not, ◌&&◌, ℤ, List, [], ◌∷◌, ◌++◌, length, length-append, Option, Some, None, refl, sym, ap, ◌∙◌, subst, ⊎_elim, arith}
+use Rattle.std.proofs.Common.{◌≡◌, ℕ, ◌+◌, ◌-◌, ◌<◌, ◌≤◌, Bool, true, false, not, ◌&&◌, ℤ, List, [], ◌∷◌, ◌++◌, length, length-append, append_assoc, Option, Some, None, refl, sym, ap, ◌∙◌, subst, ⊎_elim, arith}
 use Rattle.std.specs.Prelude.{if◌then◌else◌}
 use Rattle.std.specs.Option.{option_map}
 use Rattle.std.proofs.lemmas.Bool.{cases_lt, ltb-true, ltb-false, and_parts, false≢true}
@@ -19,19 +19,19 @@ use Rattle.trace_patterns.specs.Rules.{claimed_at}
 use Rattle.stretches.specs.Standing.{StandsAt}
 use Rattle.stretches.specs.Passing.{HoldsAt, AsItComes, AsClaimed, Passes, NotesBetween}
 use Rattle.stretches.proofs.Standing.{standing-first, standing-rest}
-use Rattle.stretches.proofs.Passed.{passes-then, passes-to, passes-goes, passes-noted, no_note-before, no_note-behind, notes-before, notes-behind, no_note-there, notes-within, noted, bank-same, secret-same, rules-li, One, NoMore, LieBetween, lie_wider}
+use Rattle.stretches.proofs.Passed.{passes-then, passes-to, passes-goes, passes-noted, no_note-before, no_note-behind, notes-before, notes-behind, no_note-there, notes-within, noted, bank-same, secret-same, rules-li, One, NoMore, LieBetween, lie_wider, lie_both}
 use Rattle.block_cache_gen.specs.declared.frames.Mode.TheVariants.{Public}
 use Rattle.block_cache_gen.specs.Homes.{Home, Setting, HasHomes, Serves, home_of, pin_of}
 use Rattle.block_cache_gen.specs.Codes.{is_cached, is_masked, compares, compared_code, numbered_code, fixed_index, reduced_code, shift_code, offset_code, placed_code, located_code, load_code, access_by, access_code, expr_code}
-use Rattle.block_cache_gen.specs.Notes.{unmarked, access_mask, note_of, compared_notes, loaded_notes, load_notes, index_notes, expr_notes}
+use Rattle.block_cache_gen.specs.Notes.{unmarked, access_mask, note_of, compared_notes, loading_code, loaded_notes, load_notes, index_notes, expr_notes}
 use Rattle.block_cache_gen.specs.Carries.{Carries}
 use Rattle.block_cache_gen.specs.PublicCode.{StandsNoted, HasLabel}
 use Rattle.block_cache_gen.specs.PublicIndexes.{shows_index, IndexIsPublic}
 use Rattle.block_cache_gen.proofs.KeptBelow.{LeavesPublic, KeptBelow, PassedBelow}
 use Rattle.block_cache_gen.proofs.NoteClaims.{unmarked-same, unmarked-other, leaves-without, leaves-later, claimed-register, note-fits, note-carries}
-use Rattle.block_cache_gen.proofs.NotesOfCode.{compared-lie, index_length, located-longer, access-longer, load-lies, index-lie, expression-longer, expression-lies}
+use Rattle.block_cache_gen.proofs.NotesOfCode.{compared-lie, located-lie, index_length, located-longer, access-longer, load-lies, index-lie, expression-longer, expression-lies}
 use Rattle.block_cache_gen.proofs.KeptRegisters.{SameBelow, same-itself, same-set, same-bound, carries-same, kept-same, kept-itself}
-use Rattle.block_cache_gen.proofs.AccessLabels.{numbered, reduced-numbered, offset-numbered, compared_known, compared_same, compared_word, divided_known, divided_same, divided_word, compared-by, fixed-numbered, asked_known, asked_same, asked_block, skipped_by, loaded-by}
+use Rattle.block_cache_gen.proofs.AccessLabels.{shifted-numbered, reduced-numbered, offset-numbered, compared_known, compared_same, compared_word, divided_known, divided_same, divided_word, compared-by, fixed-numbered, asked_known, asked_same, asked_block, skipped_by, loaded-by}
 use Rattle.block_cache_gen.proofs.Sizes.{numbered_some}
 use Rattle.block_cache_gen.proofs.HomeFacts.{serves-oblivious, serves-cached, shows-cached, shown-low}
 
@@ -92,6 +92,95 @@ pub record AccessPassed (o : Parts) (f : Setting) (h : Home) (mask to : ℕ) (p 
   pub word : shows_index h ≡ true → is_secret held to ≡ false
 
 module _ (o : Parts) (f : Setting) (homes : HasHomes o f) (once : DeclaredOnce f.decls) where
+  -- The number of a word is found, after the code of the index.
+  module _ (h : Home) (l : Label) (mask to : ℕ) (low : to + 2 < 32) (p : ℕ) (k holds : Known)
+      (leaves : LeavesPublic mask to holds) (kept : KeptBelow f mask to holds k) (labelled : HasLabel k to l)
+      (none : claimed_at o p ≡ None) where
+    -- the mask leaves the registers below and the number of the word public
+    leaves_number : (m : Known) → SameBelow to k m → is_secret m to ≡ false
+        → LeavesPublic (unmarked mask to) (to + 1) m
+    leaves_number m same word =
+        leaves-without mask to to (to + 1) m
+        (leaves-later mask to holds m leaves (λ s lt unmarks. same.registers s lt ∙ kept.publics s lt unmarks))
+        (omega arith) (omega arith) (omega arith) word
+
+    compared_at : l ≡ label.Public → StandsAt o p (compared_code h to)
+        → NotesBetween o p (p + 6 + 1) (note_of f (unmarked mask to) (p + 6) ∷ []) → p + 6 < length o.code
+        → NumberedAt o f l mask to p k holds (p + 6)
+    compared_at public stands between inside =
+        let r = p + 6 in
+        let note = note_of f (unmarked mask to) r in
+        let claim = note_known note in
+        let sized = kept.carries.registers in
+        let open_index : is_secret k to ≡ false = labelled ∙ ap secret_label public in
+        let one = compared_known o to low h k sized open_index in
+        let near = compared_same o to low h k sized open_index in
+        let same_one : SameBelow to k one = record {
+          sized = near.sized;
+          count = near.count;
+          registers = λ s lt. near.registers s (omega arith);
+          slots = near.slots;
+        } in
+        let last = divided_known o to low h k sized open_index in
+        let same = divided_same o to low h k sized open_index in
+        let fit_one : FitsClaim one claim = note-fits o f homes once (unmarked mask to) r (to + 1) one
+        (carries-same f to k one kept.carries same_one)
+        (leaves_number one same_one (compared_word o to low h k sized open_index)) in
+        let fit : FitsClaim last claim = note-fits o f homes once (unmarked mask to) r (to + 1) last
+        (carries-same f to k last kept.carries same)
+        (leaves_number last same (divided_word o to low h k sized open_index)) in
+        let at : claimed_at o r ≡ Some claim = noted o p (r + 1) note between (omega arith) (omega arith) in
+        let goes = compared-by o to low h k sized open_index p claim inside at fit_one in
+        record {
+          last = last;
+          held = claim;
+          passes = passes-goes o p (compared_code h to) k last goes stands
+              (λ s above below. quiet_before s above below between)
+              inside;
+          here = AsClaimed last claim at fit;
+          kept = record {
+            carries = note-carries o f homes once (unmarked mask to) r;
+            publics = λ s lt unmarks. claimed-register f (unmarked mask to) r s (omega arith)
+                ∙ unmarked-other mask to s (omega arith) (omega arith) (λ e. absurd (omega arith)) ∙ unmarks;
+            secrets = λ s lt secret. fit.registers s (same.registers s lt ∙ kept.secrets s lt secret);
+          };
+          word = λ e. claimed-register f (unmarked mask to) r to (omega arith) ∙ unmarked-same mask to (omega arith);
+        }
+      where
+        quiet_before : (s : ℕ) → p ≤ s → s < p + 6
+            → NotesBetween o p (p + 6 + 1) (note_of f (unmarked mask to) (p + 6) ∷ []) → claimed_at o s ≡ None
+        quiet_before s above below between =
+            ⊎_elim
+            (λ (lt : p < s). between s lt (omega arith)
+            ∙ ap (option_map note_known) (no_note-before (p + 5) (p + 7) s (note_of f (unmarked mask to) (p + 6) ∷ [])
+            ((omega arith, omega arith), tt) (omega arith)))
+            (λ (le : s ≤ p). let e : p ≡ s = omega arith in subst (λ (t : ℕ). claimed_at o t ≡ None) e none)
+            (cases_lt p s)
+
+    numbered_at : (near : Bool) → (near ≡ true → l ≡ label.Public) → StandsAt o p (numbered_code near h to)
+        → NotesBetween o p (p + length (numbered_code near h to) + 1)
+        (compared_notes near None f mask to (p + length (numbered_code near h to)))
+        → p + length (numbered_code near h to) < length o.code
+        → NumberedAt o f l mask to p k holds (p + length (numbered_code near h to))
+    numbered_at true public stands between inside = compared_at (public refl) stands between inside
+    numbered_at false public stands between inside =
+        let found = reduced-numbered o to low h p k kept.carries.registers in
+        let some = numbered_some false h to in
+        record {
+          last = found.after;
+          held = found.after;
+          passes = passes-goes o p (reduced_code h to) k found.after found.goes stands
+              (λ s above below.
+              ⊎_elim
+              (λ (lt : p < s). between s lt (omega arith))
+              (λ (le : s ≤ p). let e : p ≡ s = omega arith in subst (λ (t : ℕ). claimed_at o t ≡ None) e none)
+              (cases_lt p s))
+              inside;
+          here = AsItComes found.after (between (p + length (reduced_code h to)) (omega arith) (omega arith));
+          kept = kept-same f mask to holds k found.after kept found.same;
+          word = λ e. found.word_is ∙ labelled ∙ ap secret_label e;
+        }
+
   module _ (h : Home) (i : Tree) (mask to : ℕ) (low : to + 2 < 32) (p : ℕ) (k holds : Known)
       (here : HoldsAt o p k holds)
       (carries : Carries f holds) (leaves : LeavesPublic mask to holds) where
@@ -99,15 +188,18 @@ module _ (o : Parts) (f : Setting) (homes : HasHomes o f) (once : DeclaredOnce f
     held_kept = kept-itself f mask to holds carries (λ r lt unmarks. let h = leaves r (omega arith) unmarks in h.1)
 
     -- by the code of the index, or as a number
-    located_by : (fixed : Option ℤ)
-        → StandsAt o p (located_code f.profile.block_log h to fixed (expr_code f Public to i))
-        → NotesBetween o p (p + length (located_code f.profile.block_log h to fixed (expr_code f Public to i)))
-        (index_notes fixed (expr_notes f mask to p i))
-        → p + length (located_code f.profile.block_log h to fixed (expr_code f Public to i)) < length o.code
+    located_by : (near : Bool) → (near ≡ true → label_of (context_of f.decls) i ≡ label.Public) → (fixed : Option ℤ)
+        → StandsAt o p (located_code near f.profile.block_log h to fixed (expr_code f Public to i))
+        → NotesBetween o p (p + length (located_code near f.profile.block_log h to fixed (expr_code f Public to i)))
+        (index_notes fixed (expr_notes f mask to p i)
+        ++ compared_notes near fixed f mask to
+        (p + length (located_code near f.profile.block_log h to fixed (expr_code f Public to i))
+        - length (shift_code f.profile.block_log h to)))
+        → p + length (located_code near f.profile.block_log h to fixed (expr_code f Public to i)) < length o.code
         → to + height_of i ≤ 26 → ExprPasses o f i → (h.bank < 2 → label_of (context_of f.decls) i ≡ label.Public)
         → LocatedAt o f h mask to p k holds
-        (p + length (located_code f.profile.block_log h to fixed (expr_code f Public to i)))
-    located_by (Some z) stands between inside high index public =
+        (p + length (located_code near f.profile.block_log h to fixed (expr_code f Public to i)))
+    located_by near open_index (Some z) stands between inside high index public =
         let l = fixed-numbered o to low f.profile.block_log h z p holds carries.registers in
         record {
           last = l.after;
@@ -116,36 +208,57 @@ module _ (o : Parts) (f : Setting) (homes : HasHomes o f) (once : DeclaredOnce f
           word = λ cached. l.word_is;
           block = λ cached. l.block_is;
         }
-    located_by None stands between inside high index public =
+    located_by near open_index None stands between inside high index public =
         let code = expr_code f Public to i in
-        let rest = reduced_code h to ++ shift_code f.profile.block_log h to in
+        let number = numbered_code near h to in
+        let shift = shift_code f.profile.block_log h to in
+        let rest = number ++ shift in
         let mid = p + length code in
+        let next = mid + length number in
+        let last = p + length (code ++ rest) in
         let size : length (code ++ rest) ≡ length code + length rest = length-append code rest in
-        let lie = expression-lies f i mask to p in
+        let rest_size : length rest ≡ length number + length shift = length-append number shift in
         let some = expression-longer f i to in
-        let longer = located-longer f.profile.block_log h to None code in
+        let some_number = numbered_some near h to in
+        let before = expr_notes f mask to p i in
+        let behind = compared_notes near None f mask to next in
+        let place : last - length shift ≡ next = omega arith in
+        let all : NotesBetween o p last (before ++ behind) =
+        subst (λ (n : ℕ). NotesBetween o p last (before ++ compared_notes near None f mask to n)) place between in
+        let lie_before : LieBetween p mid before = expression-lies f i mask to p in
+        let lie_behind : LieBetween mid (next + 1) behind =
+        compared-lie near f mask to next mid (next + 1) (omega arith) (omega arith) in
+        let lie_wide : LieBetween mid last behind =
+        compared-lie near f mask to next mid last (omega arith) (omega arith) in
+        let later : NotesBetween o mid last behind =
+        notes-behind o p mid last before behind lie_before lie_wide all (omega arith) in
         let first = index mask to p k holds high
         (record {
           code_stands = standing-first code rest stands;
-          noted = notes-within o p (p + length (code ++ rest)) p mid (expr_notes f mask to p i) (omega arith)
-              (omega arith) between;
+          noted = notes-before o p mid last before behind lie_before lie_wide all (omega arith);
           behind = omega arith;
         }) here carries leaves in
-        let l = numbered o to low f.profile.block_log h mid first.last first.kept.carries.registers in
-        let quiet : (r : ℕ) → mid ≤ r → r < mid + length rest → claimed_at o r ≡ None = (λ r above below.
-        between r (omega arith) (omega arith)
-        ∙ ap (option_map note_known) (no_note-behind p mid r (expr_notes f mask to p i) lie above)) in
-        let second : Passes o mid first.last
-        (mid + length rest) l.after = passes-goes o mid rest first.last l.after l.goes
-        (standing-rest code rest stands) quiet (omega arith) in
+        let stands_rest = standing-rest code rest stands in
+        let second = numbered_at h (label_of (context_of f.decls) i) mask to low mid first.last holds leaves first.kept
+        first.labelled (no_note-there o p mid last before behind lie_before lie_wide all (omega arith) (omega arith))
+        near open_index (standing-first number shift stands_rest)
+        (notes-within o mid last mid (next + 1) behind (omega arith) (omega arith) later) (omega arith) in
+        let l = shifted-numbered o to low f.profile.block_log h next second.held second.kept.carries.registers in
+        let quiet_after : (r : ℕ) → next < r → r < last → claimed_at o r ≡ None = (λ r above below.
+        later r (omega arith) below
+        ∙ ap (option_map note_known) (no_note-behind mid (next + 1) r behind lie_behind (omega arith))) in
+        let third : Passes o next second.last (next + length shift) l.after =
+        passes-noted o next _ _ second.last second.held l.after second.here l.goes
+        (standing-rest number shift stands_rest) (λ r above below. quiet_after r above (omega arith)) (omega arith) in
         record {
           last = l.after;
           passes
-              = passes-to o p k (mid + length rest) (p + length (code ++ rest)) l.after (omega arith)
-              (passes-then o p k mid first.last first.passes (mid + length rest) l.after second);
-          kept = kept-same f mask to holds first.last l.after first.kept l.same;
-          word = λ cached. l.word_is ∙ first.labelled ∙ ap secret_label (public cached);
-          block = λ cached. l.block_is ∙ first.labelled ∙ ap secret_label (public cached);
+              = passes-to o p k (next + length shift) last l.after (omega arith)
+              (passes-then o p k mid first.last first.passes (next + length shift) l.after
+              (passes-then o mid first.last next second.last second.passes (next + length shift) l.after third));
+          kept = kept-same f mask to holds second.held l.after second.kept l.same;
+          word = λ cached. l.word_is ∙ second.word (public cached);
+          block = λ cached. l.block_is ∙ second.word (public cached);
         }
 
     -- the load: one that may be skipped is followed by a note
@@ -256,95 +369,6 @@ module _ (o : Parts) (f : Setting) (homes : HasHomes o f) (once : DeclaredOnce f
       loaded_if true is stands size between = loaded_claimed (ltb-true (home_of f x).bank 2 is) size between stands
       loaded_if false is stands size between = loaded_plainly (ltb-false (home_of f x).bank 2 is) size between stands
 
-  -- The number of a word of a resident array is found, after the code of the index.
-  module _ (h : Home) (l : Label) (mask to : ℕ) (low : to + 2 < 32) (p : ℕ) (k holds : Known)
-      (leaves : LeavesPublic mask to holds) (kept : KeptBelow f mask to holds k) (labelled : HasLabel k to l)
-      (none : claimed_at o p ≡ None) where
-    -- the mask leaves the registers below and the number of the word public
-    leaves_number : (m : Known) → SameBelow to k m → is_secret m to ≡ false
-        → LeavesPublic (unmarked mask to) (to + 1) m
-    leaves_number m same word =
-        leaves-without mask to to (to + 1) m
-        (leaves-later mask to holds m leaves (λ s lt unmarks. same.registers s lt ∙ kept.publics s lt unmarks))
-        (omega arith) (omega arith) (omega arith) word
-
-    compared_at : l ≡ label.Public → StandsAt o p (compared_code h to)
-        → NotesBetween o p (p + 6 + 1) (note_of f (unmarked mask to) (p + 6) ∷ []) → p + 6 < length o.code
-        → NumberedAt o f l mask to p k holds (p + 6)
-    compared_at public stands between inside =
-        let r = p + 6 in
-        let note = note_of f (unmarked mask to) r in
-        let claim = note_known note in
-        let sized = kept.carries.registers in
-        let open_index : is_secret k to ≡ false = labelled ∙ ap secret_label public in
-        let one = compared_known o to low h k sized open_index in
-        let near = compared_same o to low h k sized open_index in
-        let same_one : SameBelow to k one = record {
-          sized = near.sized;
-          count = near.count;
-          registers = λ s lt. near.registers s (omega arith);
-          slots = near.slots;
-        } in
-        let last = divided_known o to low h k sized open_index in
-        let same = divided_same o to low h k sized open_index in
-        let fit_one : FitsClaim one claim = note-fits o f homes once (unmarked mask to) r (to + 1) one
-        (carries-same f to k one kept.carries same_one)
-        (leaves_number one same_one (compared_word o to low h k sized open_index)) in
-        let fit : FitsClaim last claim = note-fits o f homes once (unmarked mask to) r (to + 1) last
-        (carries-same f to k last kept.carries same)
-        (leaves_number last same (divided_word o to low h k sized open_index)) in
-        let at : claimed_at o r ≡ Some claim = noted o p (r + 1) note between (omega arith) (omega arith) in
-        let goes = compared-by o to low h k sized open_index p claim inside at fit_one in
-        record {
-          last = last;
-          held = claim;
-          passes = passes-goes o p (compared_code h to) k last goes stands
-              (λ s above below. quiet_before s above below between)
-              inside;
-          here = AsClaimed last claim at fit;
-          kept = record {
-            carries = note-carries o f homes once (unmarked mask to) r;
-            publics = λ s lt unmarks. claimed-register f (unmarked mask to) r s (omega arith)
-                ∙ unmarked-other mask to s (omega arith) (omega arith) (λ e. absurd (omega arith)) ∙ unmarks;
-            secrets = λ s lt secret. fit.registers s (same.registers s lt ∙ kept.secrets s lt secret);
-          };
-          word = λ e. claimed-register f (unmarked mask to) r to (omega arith) ∙ unmarked-same mask to (omega arith);
-        }
-      where
-        quiet_before : (s : ℕ) → p ≤ s → s < p + 6
-            → NotesBetween o p (p + 6 + 1) (note_of f (unmarked mask to) (p + 6) ∷ []) → claimed_at o s ≡ None
-        quiet_before s above below between =
-            ⊎_elim
-            (λ (lt : p < s). between s lt (omega arith)
-            ∙ ap (option_map note_known) (no_note-before (p + 5) (p + 7) s (note_of f (unmarked mask to) (p + 6) ∷ [])
-            ((omega arith, omega arith), tt) (omega arith)))
-            (λ (le : s ≤ p). let e : p ≡ s = omega arith in subst (λ (t : ℕ). claimed_at o t ≡ None) e none)
-            (cases_lt p s)
-
-    numbered_at : (near : Bool) → (near ≡ true → l ≡ label.Public) → StandsAt o p (numbered_code near h to)
-        → NotesBetween o p (p + length (numbered_code near h to) + 1)
-        (compared_notes near None f mask to (p + length (numbered_code near h to)))
-        → p + length (numbered_code near h to) < length o.code
-        → NumberedAt o f l mask to p k holds (p + length (numbered_code near h to))
-    numbered_at true public stands between inside = compared_at (public refl) stands between inside
-    numbered_at false public stands between inside =
-        let found = reduced-numbered o to low h p k kept.carries.registers in
-        let some = numbered_some false h to in
-        record {
-          last = found.after;
-          held = found.after;
-          passes = passes-goes o p (reduced_code h to) k found.after found.goes stands
-              (λ s above below.
-              ⊎_elim
-              (λ (lt : p < s). between s lt (omega arith))
-              (λ (le : s ≤ p). let e : p ≡ s = omega arith in subst (λ (t : ℕ). claimed_at o t ≡ None) e none)
-              (cases_lt p s))
-              inside;
-          here = AsItComes found.after (between (p + length (reduced_code h to)) (omega arith) (omega arith));
-          kept = kept-same f mask to holds k found.after kept found.same;
-          word = λ e. found.word_is ∙ labelled ∙ ap secret_label e;
-        }
-
   -- The place of a resident array's word is found.
   module _ (h : Home) (i : Tree) (mask to : ℕ) (low : to + 2 < 32) (p : ℕ) (k holds : Known)
       (here : HoldsAt o p k holds) (carries : Carries f holds) (leaves : LeavesPublic mask to holds) (near : Bool)
@@ -404,7 +428,8 @@ module _ (o : Parts) (f : Setting) (homes : HasHomes o f) (once : DeclaredOnce f
         }) here carries leaves in
         let stands_rest = standing-rest code rest stands in
         let second = numbered_at h (label_of (context_of f.decls) i) mask to low mid first.last holds leaves first.kept
-        first.labelled (no_note-there o p mid (last + 1) before behind lie_before lie_wide all (omega arith) (omega arith))
+        first.labelled (no_note-there o p mid (last + 1) before behind lie_before lie_wide all (omega arith)
+        (omega arith))
         near open_index (standing-first number offset stands_rest)
         (notes-within o mid (last + 1) mid (next + 1) behind (omega arith) (omega arith) later) (omega arith) in
         let l = offset-numbered o to low h next second.held second.kept.carries.registers in
@@ -446,7 +471,8 @@ module _ (o : Parts) (f : Setting) (homes : HasHomes o f) (once : DeclaredOnce f
   passes_by x l i mask to p k holds declared true near is open_index public index high low stands between inside here
       carries leaves =
       let h = home_of f x in
-      let found = placed_by h i mask to low p k holds here carries leaves near open_index (fixed_index h i) stands between
+      let found = placed_by h i mask to low p k holds here carries leaves near open_index
+      (fixed_index h i) stands between
       inside high index public in
       let home = homes.residents x l Array declared is in
       let pin = homes.pins h.slot (pin_of h) home.pinned in
@@ -464,27 +490,40 @@ module _ (o : Parts) (f : Setting) (homes : HasHomes o f) (once : DeclaredOnce f
       let h = home_of f x in
       let fixed = fixed_index h i in
       let code = expr_code f Public to i in
-      let first = located_code f.profile.block_log h to fixed code in
+      let shift = shift_code f.profile.block_log h to in
+      let first = located_code near f.profile.block_log h to fixed code in
       let load = load_code (is_cached h) h to in
       let q = p + length first in
       let r = p + length (first ++ load) in
       let size : length (first ++ load) ≡ length first + length load = length-append first load in
-      let longer = located-longer f.profile.block_log h to fixed code in
-      let more = access-longer f.profile.block_log h to fixed code in
-      let before = index_notes fixed (expr_notes f mask to p i) in
-      let behind = loaded_notes false near fixed f h mask to r in
-      let lie_before : LieBetween p q before = lie_wider p (p + index_length fixed code) p q before (omega arith)
-      (omega arith) (index-lie fixed p code (expr_notes f mask to p i) (expression-lies f i mask to p)) in
+      let longer = located-longer near f.profile.block_log h to fixed code in
+      let more = access-longer near f.profile.block_log h to fixed code in
+      let notes = index_notes fixed (expr_notes f mask to p i) in
+      let compared = compared_notes near fixed f mask to (q - length shift) in
+      let before = notes ++ compared in
+      let behind = if is_cached h then note_of f (access_mask mask to) r ∷ [] else [] in
+      let place : r - length (loading_code f h to) ≡ q - length shift =
+      omega (arith, size, length-append shift load) in
+      let all : NotesBetween o p (r + 1) (before ++ behind) =
+      subst (NotesBetween o p (r + 1))
+      (ap (λ (n : ℕ). notes ++ (compared_notes near fixed f mask to n ++ behind)) place
+      ∙ sym (append_assoc notes compared behind))
+      between in
+      let lie_before : LieBetween p q before = lie_both p q notes compared
+      (lie_wider p (p + index_length fixed code) p q notes (omega arith) (omega arith)
+      (index-lie fixed p code (expr_notes f mask to p i) (expression-lies f i mask to p)))
+      (located-lie f h mask to p near fixed code) in
       let lie_behind : LieBetween q (r + 1) behind = load-lies f h mask to r q (r + 1) (is_cached h) (omega arith)
       (omega arith) in
-      let found = located_by h i mask to low p k holds here carries leaves fixed (standing-first first load stands)
-      (notes-before o p q (r + 1) before behind lie_before lie_behind between (omega arith))
+      let found = located_by h i mask to low p k holds here carries leaves near open_index fixed
+      (standing-first first load stands)
+      (notes-before o p q (r + 1) before behind lie_before lie_behind all (omega arith))
       (omega arith) high index (λ low_bank. public (shows-cached h turn low_bank)) in
       let held = loaded_if h i mask to low p k holds here carries leaves x l declared turn q r found.last found.kept
       found.word
-      found.block (no_note-there o p q (r + 1) before behind lie_before lie_behind between (omega arith) (omega arith))
+      found.block (no_note-there o p q (r + 1) before behind lie_before lie_behind all (omega arith) (omega arith))
       inside (is_cached h) refl (standing-rest first load stands) (omega arith)
-      (notes-behind o p q (r + 1) before behind lie_before lie_behind between (omega arith)) in
+      (notes-behind o p q (r + 1) before behind lie_before lie_behind all (omega arith)) in
       record {
         last = held.last;
         held = held.held;

@@ -144,7 +144,8 @@ module _ (o : Parts) (f : Setting) (homes : HasHomes o f) (once : DeclaredOnce f
       let before = expr_notes f all_marked 0 p e in
       let later = array_notes f mask 1 mid x i in
       let lie_before : LieBetween p mid before = expression-lies f e all_marked 0 p in
-      let lie_access : LieBetween mid (r + 1) later = access-lie f (compares f Public h i) h mask 1 mid _ (expr_code f Public 1 i)
+      let lie_access : LieBetween mid (r + 1) later = access-lie f (compares f Public h i) h mask 1 mid _
+      (expr_code f Public 1 i)
       (expr_notes f mask 1 mid i) (expression-lies f i mask 1 mid) in
       let lie_later : LieBetween mid whole later = lie_wider mid (r + 1) mid whole later (omega arith)
       (omega arith) lie_access in

@@ -24,7 +24,7 @@ use Rattle.block_cache_gen.specs.declared.frames.Mode.{Mode}
 use Rattle.block_cache_gen.specs.declared.frames.Mode.TheVariants.{Public, Real, Mirrored}
 use Rattle.block_cache_gen.specs.Homes.{Pin, pin_at, Home, Setting, home_of}
 use Rattle.block_cache_gen.specs.TreeWords.{HasWords}
-use Rattle.block_cache_gen.specs.Codes.{is_masked, compares, least_word, numbered_code, fixed_index, fixed_word, reduced_code, shift_code, fixed_code, located_code, load_code, skips, access_by, placed_code, offset_code, stored_code, access_code, expr_code, guard_code, store_code, set_code, operation_code, steps_at}
+use Rattle.block_cache_gen.specs.Codes.{is_masked, compares, least_word, numbered_code, fixed_index, fixed_word, shift_code, fixed_code, located_code, load_code, skips, access_by, placed_code, offset_code, stored_code, access_code, expr_code, guard_code, store_code, set_code, operation_code, steps_at}
 use Rattle.strength_reduction.specs.Steps.{Step, Constant, Compute, StepFits, numbered, code_of}
 use Rattle.step_code.proofs.Registers.{numbered-low}
 use Rattle.src_tree.proofs.TreeHeights.{height-some}
@@ -145,13 +145,6 @@ module _ (banks : ℕ) where
         (Before (Br Eq (to + 2) (to + 1) (pos 2)) _ (omega arith, omega arith, small_offset) rest)
     load_by false = ldb h.slot h.bank (to + 1) [] home.slot home.bank (omega arith) none
 
-    located_by : (block_log : ℕ) (fixed : Option ℤ) (index : List Instr) → block_log ≤ 9 → CodeFits banks index
-        → CodeFits banks (located_code block_log h to fixed index)
-    located_by block_log (Some z) index few fit = fixed_by block_log z
-    located_by block_log None index few fit =
-        both index (reduced_code h to ++ shift_code block_log h to) fit
-        (both (reduced_code h to) (shift_code block_log h to) (reduced_by (is_masked h)) (block_by block_log few))
-
     -- the length 2^63 less is a word
     bound-word : (n : ℕ) → n ≤ 1048576 → IsWord (least_word +ℤ pos n)
     bound-word n most =
@@ -168,6 +161,13 @@ module _ (banks : ℕ) where
         (li (to + 1) (pos h.length) _ (omega arith) (small-word h.length (omega arith))
         (alu Remu to to (to + 1) [] (omega arith) (omega arith) (omega arith) none)))))
     numbered_by false = reduced_by (is_masked h)
+
+    located_by : (near : Bool) (block_log : ℕ) (fixed : Option ℤ) (index : List Instr) → block_log ≤ 9
+        → CodeFits banks index → CodeFits banks (located_code near block_log h to fixed index)
+    located_by near block_log (Some z) index few fit = fixed_by block_log z
+    located_by near block_log None index few fit =
+        both index (numbered_code near h to ++ shift_code block_log h to) fit
+        (both (numbered_code near h to) (shift_code block_log h to) (numbered_by near) (block_by block_log few))
 
     placed_by : (near : Bool) (fixed : Option ℤ) (index : List Instr) → CodeFits banks index
         → CodeFits banks (placed_code near h to fixed index)
@@ -191,8 +191,8 @@ module _ (banks : ℕ) where
         by : (b : Bool) → CodeFits banks (access_by b near block_log mode h to fixed index)
         by true = placed_by near fixed index fit
         by false =
-            both (located_code block_log h to fixed index) (load_code (skips mode h) h to)
-            (located_by block_log fixed index few fit) (load_by (skips mode h))
+            both (located_code near block_log h to fixed index) (load_code (skips mode h) h to)
+            (located_by near block_log fixed index few fit) (load_by (skips mode h))
 
   -- steps
   steps-fit : (to : ℕ) (steps : List Step) → to + 2 < 32 → All StepFits steps → CodeFits banks (code_of to steps)

@@ -22,8 +22,8 @@ use Rattle.block_cache_gen.specs.Homes.{Pin, pin_at, Home, Setting, home_of}
 use Rattle.block_cache_gen.specs.Codes.{is_cached, compares, compared_code, offset_code, access_by, fixed_index, stored_code, access_code, operation_code, steps_at, expr_code, guard_code, set_code}
 use Rattle.gr_word.specs.declared.operations.Op.{Op}
 use Rattle.strength_reduction.specs.Steps.{Step, code_of}
-use Rattle.block_cache_gen.specs.Notes.{all_marked, unmarked, marked_by, is_used, claimed_where_used, claim_by, slot_claims, note_of, access_mask, compared_notes, loaded_notes, load_notes, index_notes, operation_notes, expr_notes, guard_notes, set_notes}
-use Rattle.block_cache_gen.proofs.NotesOfCode.{index_length, access-more, expression-longer}
+use Rattle.block_cache_gen.specs.Notes.{all_marked, unmarked, marked_by, is_used, claimed_where_used, claim_by, slot_claims, note_of, access_mask, compared_notes, loading_code, loaded_notes, load_notes, index_notes, operation_notes, expr_notes, guard_notes, set_notes}
+use Rattle.block_cache_gen.proofs.NotesOfCode.{index_length, located-longer, access-longer, access-more, loading-behind, expression-longer}
 use Rattle.block_cache_gen.proofs.PublicAccesses.{array_code, array_notes}
 
 -- Notes from one place on and before another, which rise, with masks of 32 registers, and the claims of a setting.
@@ -86,10 +86,35 @@ loaded_rises f h mask to p true true None index small =
     length-append index (compared_code h to ++ offset_code h to) in
     ((omega arith, omega arith), (unmarked_below mask to small, refl), tt)
 loaded_rises f h mask to p true false None index small = tt
-loaded_rises f h mask to p false near fixed index small =
-    let more = access-more false near f.profile.block_log h to fixed index in
-    load_rises f mask to (p + length (access_by false near f.profile.block_log Public h to fixed index)) _ _
-    (is_cached h) small (omega arith) (omega arith)
+loaded_rises f h mask to p false near fixed index small = compared near fixed
+  where
+    load : (near : Bool) (fixed : Option ℤ) (low : ℕ)
+        → low ≤ p + length (access_by false near f.profile.block_log Public h to fixed index)
+        → NotesRise f low (p + length (access_by false near f.profile.block_log Public h to fixed index) + 1)
+        (if is_cached h then note_of f (access_mask mask to)
+        (p + length (access_by false near f.profile.block_log Public h to fixed index)) ∷ [] else [])
+    load near fixed low le =
+        load_rises f mask to (p + length (access_by false near f.profile.block_log Public h to fixed index)) low _
+        (is_cached h) small le (omega arith)
+
+    compared : (near : Bool) (fixed : Option ℤ)
+        → NotesRise f (p + index_length fixed index + 1)
+        (p + length (access_by false near f.profile.block_log Public h to fixed index) + 1)
+        (loaded_notes false near fixed f h mask to
+        (p + length (access_by false near f.profile.block_log Public h to fixed index)))
+    compared near (Some z) =
+        let more = access-more false near f.profile.block_log h to (Some z) index in
+        load near (Some z) _ (omega arith)
+    compared false None =
+        let more = access-more false false f.profile.block_log h to None index in load false None _ (omega arith)
+    compared true None =
+        let place = loading-behind f h to p index in
+        let more = access-longer true f.profile.block_log h to None index in
+        let longer = located-longer true f.profile.block_log h to None index in (
+          (omega (arith, place), omega (arith, place)),
+          (unmarked_below mask to small, refl),
+          load true None _ (omega (arith, place)),
+        )
 
 index_rises : (f : Setting) (fixed : Option ℤ) (p : ℕ) (index : List Instr) (notes : List Note)
     → NotesRise f (p + 1) (p + length index) notes
@@ -143,7 +168,8 @@ expression-rises f (Element x i) mask to p small =
     let size : length (code ++ Ldw to h.slot to ∷ []) ≡ length code + 1 = length-append code (Ldw to h.slot to ∷ []) in
     rise-wider f (p + 1) (p + length code + 1) (p + 1) (p + length (code ++ Ldw to h.slot to ∷ [])) notes (omega arith)
     (omega arith)
-    (access-rises f (compares f Public h i) h mask to p (fixed_index h i) (expr_code f Public to i) (expr_notes f mask to p i) small
+    (access-rises f (compares f Public h i) h mask to p (fixed_index h i) (expr_code f Public to i)
+    (expr_notes f mask to p i) small
     (expression-rises f i mask to p small))
 expression-rises f (Operation op a b) mask to p small =
     let first = expr_code f Public to a in
@@ -200,7 +226,8 @@ set-rises f p (SetElement x i e) =
     (omega arith) (expression-rises f e all_marked 0 p all_small)
     (rise-wider f (mid + 1) (mid + length access + 1) mid whole (array_notes f mask 1 mid x i) (omega arith)
     (omega arith)
-    (access-rises f (compares f Public h i) h mask 1 mid (fixed_index h i) (expr_code f Public 1 i) (expr_notes f mask 1 mid i) small
+    (access-rises f (compares f Public h i) h mask 1 mid (fixed_index h i) (expr_code f Public 1 i)
+    (expr_notes f mask 1 mid i) small
     (expression-rises f i mask 1 mid small)))
 set-rises f p (Choice t a b) = tt
 set-rises f p (Loop t a) = tt
@@ -278,7 +305,7 @@ rise-fits f banks some pins low high before (n ∷ notes) le ge rise =
       rise-fits f banks some pins (n.pc + 1) high (before ++ n ∷ []) notes (omega (arith, next)) ge rise.2,
     )
 
--- one note a node
+-- two notes a node at most
 load_count : (f : Setting) (mask to behind : ℕ) (cached : Bool)
     → length (if cached then note_of f (access_mask mask to) behind ∷ [] else []) ≤ 1
 load_count f mask to behind true = omega arith
@@ -291,17 +318,25 @@ compared_count true None f mask to place = omega arith
 compared_count false None f mask to place = omega arith
 
 loaded_count : (f : Setting) (h : Home) (mask to behind : ℕ) (b near : Bool) (fixed : Option ℤ)
-    → length (loaded_notes b near fixed f h mask to behind) ≤ 1
+    → length (loaded_notes b near fixed f h mask to behind) ≤ 2
 loaded_count f h mask to behind true near fixed =
-    compared_count near fixed f mask to (behind - length (offset_code h to))
-loaded_count f h mask to behind false near fixed = load_count f mask to behind (is_cached h)
+    let count = compared_count near fixed f mask to (behind - length (offset_code h to)) in omega arith
+loaded_count f h mask to behind false near fixed =
+    let place = behind - length (loading_code f h to) in
+    let load = if is_cached h then note_of f (access_mask mask to) behind ∷ [] else [] in
+    omega (
+      arith,
+      length-append (compared_notes near fixed f mask to place) load,
+      compared_count near fixed f mask to place,
+      load_count f mask to behind (is_cached h),
+    )
 
 index_count : (fixed : Option ℤ) (notes : List Note) → length (index_notes fixed notes) ≤ length notes
 index_count (Some z) notes = omega arith
 index_count None notes = omega arith
 
 pub access-count : (f : Setting) (near : Bool) (h : Home) (mask to behind : ℕ) (fixed : Option ℤ) (notes : List Note)
-    → length (index_notes fixed notes ++ load_notes near fixed f h mask to behind) ≤ length notes + 1
+    → length (index_notes fixed notes ++ load_notes near fixed f h mask to behind) ≤ length notes + 2
 access-count f near h mask to behind fixed notes =
     omega (
       arith,
@@ -314,12 +349,13 @@ operation-count : (found : Option (List Step)) (notes : List Note) → length (o
 operation-count None notes = omega arith
 operation-count (Some steps) notes = omega arith
 
--- an expression has no more notes than it weighs
-pub expression-count : (f : Setting) (e : Tree) (mask to p : ℕ) → length (expr_notes f mask to p e) ≤ tree_weight e
+-- an expression has at most two notes for each unit of its weight
+pub expression-count : (f : Setting) (e : Tree) (mask to p : ℕ) → length (expr_notes f mask to p e) ≤ 2 * tree_weight e
 expression-count f (Number z) mask to p = omega arith
 expression-count f (Variable x) mask to p = omega arith
 expression-count f (Element x i) mask to p =
-    let count = access-count f (compares f Public (home_of f x) i) (home_of f x) mask to (p + length (array_code f to x i)) (fixed_index (home_of f x) i)
+    let count = access-count f (compares f Public (home_of f x) i) (home_of f x) mask to
+    (p + length (array_code f to x i)) (fixed_index (home_of f x) i)
     (expr_notes f mask to p i) in
     let index = expression-count f i mask to p in
     omega arith
@@ -333,8 +369,8 @@ expression-count f (Operation op a b) mask to p =
     let fewer = operation-count (steps_at f op b) later in
     omega arith
 
--- nor has a guard
-pub guard-count : (f : Setting) (to p : ℕ) (t : Test) → length (guard_notes f to p t) ≤ test_weight t
+-- so has a guard
+pub guard-count : (f : Setting) (to p : ℕ) (t : Test) → length (guard_notes f to p t) ≤ 2 * test_weight t
 guard-count f to p t =
     let mid = p + length (expr_code f Public to t.left) in
     let mask = marked_by (label_of (context_of f.decls) t.left) all_marked to in
@@ -343,19 +379,20 @@ guard-count f to p t =
     let second = expression-count f t.right mask (to + 1) mid in
     omega arith
 
--- nor an assignment to a variable
+-- so has an assignment to a variable
 pub set_variable-count : (f : Setting) (p : ℕ) (x : List ℕ) (e : Tree)
-    → length (set_notes f p (SetVariable x e)) ≤ tree_weight e
+    → length (set_notes f p (SetVariable x e)) ≤ 2 * tree_weight e
 set_variable-count f p x e = expression-count f e all_marked 0 p
 
--- nor one to an element
+-- and one to an element
 pub set_element-count : (f : Setting) (p : ℕ) (x : List ℕ) (i e : Tree)
-    → length (set_notes f p (SetElement x i e)) ≤ 1 + (tree_weight i + tree_weight e)
+    → length (set_notes f p (SetElement x i e)) ≤ 2 * (1 + (tree_weight i + tree_weight e))
 set_element-count f p x i e =
     let mid = p + length (expr_code f Public 0 e) in
     let mask = marked_by (label_of (context_of f.decls) e) all_marked 0 in
     let size = length-append (expr_notes f all_marked 0 p e) (array_notes f mask 1 mid x i) in
-    let count = access-count f (compares f Public (home_of f x) i) (home_of f x) mask 1 (mid + length (array_code f 1 x i)) (fixed_index (home_of f x) i)
+    let count = access-count f (compares f Public (home_of f x) i) (home_of f x) mask 1
+    (mid + length (array_code f 1 x i)) (fixed_index (home_of f x) i)
     (expr_notes f mask 1 mid i) in
     let value = expression-count f e all_marked 0 p in
     let index = expression-count f i mask 1 mid in

@@ -133,10 +133,12 @@ module _ (o : Parts) (fits : IsInRange o) (f : Setting) (homes : HasHomes o f) (
       let most = pow_below o.profile.block_log 10 (omega (arith, fits.profile.block_log)) in
       omega (arith, home.inside, resident-within index, most) in
       runs-weaker s (code ++ (numbered_code near h to ++ offset_code h to)) (seen ++ []) seen Done Done
-      (runs-append s code (numbered_code near h to ++ offset_code h to) seen [] (LeavesWord f store before to index s) Done at
+      (runs-append s code (numbered_code near h to ++ offset_code h to) seen []
+      (LeavesWord f store before to index s) Done at
       run
       (λ t shape leaves at'.
-      runs-append t (numbered_code near h to) (offset_code h to) [] [] (Reduces to (unsigned_of index % h.length) t) Done at'
+      runs-append t (numbered_code near h to) (offset_code h to) [] []
+      (Reduces to (unsigned_of index % h.length) t) Done at'
       (runs-numbered o fits near h to t index shape leaves.value small home.length.0 home.length.1)
       (λ u shape' reduces at''.
       let word : register u to ≡ pos n = reduces.word ∙ ap pos (resident_number-is index) in

@@ -28,7 +28,8 @@ access_code-mode f m n near far h to fixed one other same alike index = by h.res
     by : (b : Bool) → access_by b near f.profile.block_log m h to fixed one
         ≡ access_by b far f.profile.block_log n h to fixed other
     by true = λ i. placed_code (alike i) h to fixed (index i)
-    by false = λ i. located_code f.profile.block_log h to fixed (index i) ++ load_code (same i && is_cached h) h to
+    by false =
+        λ i. located_code (alike i) f.profile.block_log h to fixed (index i) ++ load_code (same i && is_cached h) h to
 
 compares-mode : (f : Setting) (m n : Mode) (h : Home) (i : Tree) → may_skip_loads m ≡ may_skip_loads n
     → compares f m h i ≡ compares f n h i
@@ -80,7 +81,8 @@ set_code-aside f (SetElement x i e) =
     let h = home_of f x in
     let fixed = fixed_index h i in
     let value = expr_code-mode f Real Mirrored 0 e refl in
-    let access = access_code-mode f Real Mirrored false false h 1 fixed (expr_code f Real 1 i) (expr_code f Mirrored 1 i) refl refl
+    let access = access_code-mode f Real Mirrored false false h 1 fixed (expr_code f Real 1 i)
+    (expr_code f Mirrored 1 i) refl refl
     (expr_code-mode f Real Mirrored 1 i refl) in
     element_aside (expr_code f Real 0 e) (access_code false f.profile.block_log Real h 1 fixed (expr_code f Real 1 i))
     (stored_code h.resident h.slot) (store_code Real h.slot) (store_code Mirrored h.slot) refl
@@ -102,19 +104,25 @@ reduced-stores h to = by (is_masked h)
     by true = refl
     by false = refl
 
-located-stores : (log : ℕ) (h : Home) (to : ℕ) (fixed : Option ℤ) (index : List Instr) → stored_words index ≡ 0
-    → stored_words (located_code log h to fixed index) ≡ 0
-located-stores log h to (Some z) index none = refl
-located-stores log h to None index none =
-    stored-append index (reduced_code h to ++ shift_code log h to)
-    ∙ omega (arith, none, stored-append (reduced_code h to) (shift_code log h to), reduced-stores h to, blocks)
-  where
-    blocks : stored_words (shift_code log h to) ≡ 0
-    blocks = refl
-
 numbered-stores : (near : Bool) (h : Home) (to : ℕ) → stored_words (numbered_code near h to) ≡ 0
 numbered-stores true h to = refl
 numbered-stores false h to = reduced-stores h to
+
+located-stores : (near : Bool) (log : ℕ) (h : Home) (to : ℕ) (fixed : Option ℤ) (index : List Instr)
+    → stored_words index ≡ 0 → stored_words (located_code near log h to fixed index) ≡ 0
+located-stores near log h to (Some z) index none = refl
+located-stores near log h to None index none =
+    stored-append index (numbered_code near h to ++ shift_code log h to)
+    ∙ omega (
+      arith,
+      none,
+      stored-append (numbered_code near h to) (shift_code log h to),
+      numbered-stores near h to,
+      blocks,
+    )
+  where
+    blocks : stored_words (shift_code log h to) ≡ 0
+    blocks = refl
 
 load-stores : (skips_load : Bool) (h : Home) (to : ℕ) → stored_words (load_code skips_load h to) ≡ 0
 load-stores true h to = refl
@@ -140,8 +148,8 @@ access-stores f mode near h to fixed index none = by h.resident
     by : (b : Bool) → stored_words (access_by b near f.profile.block_log mode h to fixed index) ≡ 0
     by true = placed fixed
     by false =
-        stored-append (located_code f.profile.block_log h to fixed index) (load_code (skips mode h) h to)
-        ∙ omega (arith, located-stores f.profile.block_log h to fixed index none, load-stores (skips mode h) h to)
+        stored-append (located_code near f.profile.block_log h to fixed index) (load_code (skips mode h) h to)
+        ∙ omega (arith, located-stores near f.profile.block_log h to fixed index none, load-stores (skips mode h) h to)
 
 operation-stores : (op : Op) (to : ℕ) (found : Option (List Step)) (right : List Instr) → stored_words right ≡ 0
     → stored_words (operation_code op to found right) ≡ 0
@@ -155,10 +163,12 @@ expr-stores f mode to (Number z) = refl
 expr-stores f mode to (Variable x) = refl
 expr-stores f mode to (Element x i) =
     let h = home_of f x in
-    let access = access_code (compares f mode h i) f.profile.block_log mode h to (fixed_index h i) (expr_code f mode to i) in
+    let access = access_code (compares f mode h i) f.profile.block_log mode h to (fixed_index h i)
+    (expr_code f mode to i) in
     stored-append access (Ldw to h.slot to ∷ [])
     ∙ ap (λ (n : ℕ). n + 0)
-    (access-stores f mode (compares f mode h i) h to (fixed_index h i) (expr_code f mode to i) (expr-stores f mode to i))
+    (access-stores f mode (compares f mode h i) h to (fixed_index h i) (expr_code f mode to i)
+    (expr-stores f mode to i))
 expr-stores f mode to (Operation op a b) =
     let right = expr_code f mode (to + 1) b in
     stored-append (expr_code f mode to a) (operation_code op to (steps_at f op b) right)
@@ -199,12 +209,14 @@ pub element-stores : (f : Setting) (mode : Mode) (x : List ℕ) (i e : Tree)
     → stored_words (set_code f mode (SetElement x i e)) ≡ 1
 element-stores f mode x i e =
     let h = home_of f x in
-    let access = access_code (compares f mode h i) f.profile.block_log mode h 1 (fixed_index h i) (expr_code f mode 1 i) in
+    let access = access_code (compares f mode h i) f.profile.block_log mode h 1 (fixed_index h i)
+    (expr_code f mode 1 i) in
     let store = store_code mode h.slot in
     let last = stored_code h.resident h.slot in
     stored-append (expr_code f mode 0 e) (access ++ (store ++ last))
     ∙ (λ k. expr-stores f mode 0 e k + stored-append access (store ++ last) k)
     ∙ (λ k.
-    0 + (access-stores f mode (compares f mode h i) h 1 (fixed_index h i) (expr_code f mode 1 i) (expr-stores f mode 1 i) k
+    0 + (access-stores f mode (compares f mode h i) h 1 (fixed_index h i) (expr_code f mode 1 i)
+    (expr-stores f mode 1 i) k
     + stored-append store last k))
     ∙ (λ k. 0 + (0 + (store-stores mode h.slot k + last-stores h.resident h.slot k)))

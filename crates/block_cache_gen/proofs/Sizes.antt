@@ -1,5 +1,5 @@
 -- How long the code of expressions, guards and assignments is, and how many notes it has.
-use Rattle.std.proofs.Common.{◌≡◌, ℕ, ◌+◌, ◌*◌, ◌≤◌, Bool, true, false, List, [], ◌∷◌, ◌++◌, length, Option, Some, None, ℤ, pos, refl, ap, ◌∙◌, arith, length-append}
+use Rattle.std.proofs.Common.{◌≡◌, ℕ, ◌+◌, ◌*◌, ◌≤◌, Bool, true, false, List, [], ◌∷◌, ◌++◌, length, Option, Some, None, ℤ, pos, refl, arith, length-append}
 use Rattle.std.specs.Prelude.{if◌then◌else◌}
 use Rattle.gr_word.specs.declared.variables.Label.{Label}
 use Rattle.lt_isa.specs.declared.instructions.Instr.{Instr}
@@ -18,23 +18,6 @@ two_of : (b : Bool) (p q r s : Instr) → length (if b then p ∷ q ∷ [] else 
 two_of true p q r s = refl
 two_of false p q r s = refl
 
--- six instructions make of an index the numbers of a word and a block
-pub located_length : (block_log : ℕ) (h : Home) (to : ℕ) → length (reduced_code h to ++ shift_code block_log h to) ≡ 6
-located_length block_log h to =
-    length-append (reduced_code h to) (shift_code block_log h to) ∙ ap (λ n. n + 4) (two_of (is_masked h) _ _ _ _)
-
-pub load_short : (skipped : Bool) (h : Home) (to : ℕ) → length (load_code skipped h to) ≤ 3
-load_short true h to = omega arith
-load_short false h to = omega arith
-
-pub located_short : (block_log : ℕ) (h : Home) (to : ℕ) (fixed : Option ℤ) (index : List Instr)
-    → length (located_code block_log h to fixed index) ≤ length index + 6
-located_short block_log h to (Some z) index = omega arith
-located_short block_log h to None index =
-    let e = length-append index (reduced_code h to ++ shift_code block_log h to) in
-    let l = located_length block_log h to in
-    omega arith
-
 -- a number of a word takes six instructions at most, and one at least
 pub reduced_two : (h : Home) (to : ℕ) → length (reduced_code h to) ≡ 2
 reduced_two h to = two_of (is_masked h) _ _ _ _
@@ -47,12 +30,28 @@ pub numbered_some : (near : Bool) (h : Home) (to : ℕ) → 1 ≤ length (number
 numbered_some true h to = omega arith
 numbered_some false h to = omega (arith, reduced_two h to)
 
--- an access takes at most nine instructions after the index
+pub load_short : (skipped : Bool) (h : Home) (to : ℕ) → length (load_code skipped h to) ≤ 3
+load_short true h to = omega arith
+load_short false h to = omega arith
+
+-- ten instructions at most make of an index the numbers of a word and a block
+pub located_short : (near : Bool) (block_log : ℕ) (h : Home) (to : ℕ) (fixed : Option ℤ) (index : List Instr)
+    → length (located_code near block_log h to fixed index) ≤ length index + 10
+located_short near block_log h to (Some z) index = omega arith
+located_short near block_log h to None index =
+    omega (
+      arith,
+      length-append index (numbered_code near h to ++ shift_code block_log h to),
+      length-append (numbered_code near h to) (shift_code block_log h to),
+      numbered_short near h to,
+    )
+
+-- an access takes at most 13 instructions after the index
 pub access_short : (near : Bool) (block_log : ℕ) (mode : Mode) (h : Home) (to : ℕ) (fixed : Option ℤ)
-    (index : List Instr) → length (access_code near block_log mode h to fixed index) ≤ length index + 9
+    (index : List Instr) → length (access_code near block_log mode h to fixed index) ≤ length index + 13
 access_short near block_log mode h to fixed index = by h.resident
   where
-    placed : (g : Option ℤ) → length (placed_code near h to g index) ≤ length index + 9
+    placed : (g : Option ℤ) → length (placed_code near h to g index) ≤ length index + 13
     placed (Some z) = omega arith
     placed None =
         omega (
@@ -62,26 +61,28 @@ access_short near block_log mode h to fixed index = by h.resident
           numbered_short near h to,
         )
 
-    by : (b : Bool) → length (access_by b near block_log mode h to fixed index) ≤ length index + 9
+    by : (b : Bool) → length (access_by b near block_log mode h to fixed index) ≤ length index + 13
     by true = placed fixed
     by false =
-        let e = length-append (located_code block_log h to fixed index) (load_code (skips mode h) h to) in
-        let l = located_short block_log h to fixed index in
+        let e = length-append (located_code near block_log h to fixed index) (load_code (skips mode h) h to) in
+        let l = located_short near block_log h to fixed index in
         let s = load_short (skips mode h) h to in
         omega arith
 
--- at most 12 instructions a node
+-- at most 16 instructions a node
 pub expr_code_short : (f : Setting) (mode : Mode) (to : ℕ) (e : Tree)
-    → length (expr_code f mode to e) ≤ 12 * tree_weight e
+    → length (expr_code f mode to e) ≤ 16 * tree_weight e
 expr_code_short f mode to (Number z) = omega arith
 expr_code_short f mode to (Variable x) = omega arith
 expr_code_short f mode to (Element x i) =
     let code =
-    access_code (compares f mode (home_of f x) i) f.profile.block_log mode (home_of f x) to (fixed_index (home_of f x) i)
+    access_code (compares f mode (home_of f x) i) f.profile.block_log mode (home_of f x) to
+    (fixed_index (home_of f x) i)
     (expr_code f mode to i) in
     let e = length-append code (Ldw to (home_of f x).slot to ∷ []) in
     let s =
-    access_short (compares f mode (home_of f x) i) f.profile.block_log mode (home_of f x) to (fixed_index (home_of f x) i)
+    access_short (compares f mode (home_of f x) i) f.profile.block_log mode (home_of f x) to
+    (fixed_index (home_of f x) i)
     (expr_code f mode to i) in
     let h = expr_code_short f mode to i in
     omega arith
@@ -92,9 +93,9 @@ expr_code_short f mode to (Operation op a b) =
     let k = operation-short f op to b right (expr_code_short f mode (to + 1) b) in
     omega arith
 
--- at most twelve instructions a unit of a guard's weight
+-- at most 16 instructions a unit of a guard's weight
 pub guard_code_short : (f : Setting) (mode : Mode) (to : ℕ) (t : Test)
-    → length (guard_code f mode to t) ≤ 12 * test_weight t
+    → length (guard_code f mode to t) ≤ 16 * test_weight t
 guard_code_short f mode to t =
     let e = length-append (expr_code f mode to t.left) (expr_code f mode (to + 1) t.right) in
     let h = expr_code_short f mode to t.left in
@@ -112,9 +113,9 @@ pub stored_short : (b : Bool) (slot : ℕ) → length (stored_code b slot) ≤ 1
 stored_short true slot = omega arith
 stored_short false slot = omega arith
 
--- at most 13 instructions a unit of an assignment's weight
+-- at most 17 instructions a unit of an assignment's weight
 pub set_code_short : (f : Setting) (mode : Mode) (known : Context) (code : Label) (s : Statement) → IsAssignment s
-    → length (set_code f mode s) ≤ 13 * statement_weight known code s
+    → length (set_code f mode s) ≤ 17 * statement_weight known code s
 set_code_short f mode known code (SetVariable x e) is =
     let h = home_of f x in
     let l = length-append (expr_code f mode 0 e) (Li 1 (pos h.word) ∷ store_code mode h.slot) in

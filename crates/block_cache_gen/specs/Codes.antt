@@ -52,8 +52,8 @@ reduced_code h to =
     if is_masked h then Li (to + 1) (pos (h.length - 1)) ∷ Alu And to to (to + 1) ∷ []
     else Li (to + 1) (pos h.length) ∷ Alu Remu to to (to + 1) ∷ []
 
--- Public code compares a public index with the length of a resident array before it takes the remainder, if other
--- operations by numbers are replaced by steps too. Most indexes are below the length, and a remainder takes many cycles.
+-- Public code compares a public index with the array's length before it takes the remainder, if operations by numbers
+-- are replaced by steps too. Most indexes are below the length, and a remainder takes many cycles.
 abbrev pub compares : Setting → Mode → Home → Tree → Bool
 compares f mode h i =
     may_skip_loads mode && (f.reduces && (not (is_masked h) && not (secret_label (label_of (context_of f.decls) i))))
@@ -97,9 +97,10 @@ fixed_code block_log h to z =
     Li to (pos (fixed_word h z)) ∷ Li (to + 1) (pos (h.block + fixed_word h z / 2 ^ block_log)) ∷ []
 
 -- both, by the code of the index
-abbrev pub located_code : ℕ → Home → ℕ → Option ℤ → List Instr → List Instr
-located_code block_log h to (Some z) index = fixed_code block_log h to z
-located_code block_log h to None index = index ++ (reduced_code h to ++ shift_code block_log h to)
+abbrev pub located_code : Bool → ℕ → Home → ℕ → Option ℤ → List Instr → List Instr
+located_code compared block_log h to (Some z) index = fixed_code block_log h to z
+located_code compared block_log h to None index =
+    index ++ (numbered_code compared h to ++ shift_code block_log h to)
 
 -- the block that register to + 1 names is in the home's slot; where loads are skipped, it is loaded only where it isn't
 abbrev pub load_code : Bool → Home → ℕ → List Instr
@@ -124,13 +125,13 @@ placed_code compared h to None index = index ++ (numbered_code compared h to ++ 
 abbrev pub access_by : (resident compared : Bool) → ℕ → Mode → Home → ℕ → Option ℤ → List Instr → List Instr
 access_by true compared block_log mode h to fixed index = placed_code compared h to fixed index
 access_by false compared block_log mode h to fixed index =
-    located_code block_log h to fixed index ++ load_code (skips mode h) h to
+    located_code compared block_log h to fixed index ++ load_code (skips mode h) h to
 
 -- the part of it that follows the code of the index
 abbrev pub found_by : (resident compared : Bool) → ℕ → Mode → Home → ℕ → List Instr
 found_by true compared block_log mode h to = numbered_code compared h to ++ offset_code h to
 found_by false compared block_log mode h to =
-    reduced_code h to ++ shift_code block_log h to ++ load_code (skips mode h) h to
+    numbered_code compared h to ++ shift_code block_log h to ++ load_code (skips mode h) h to
 
 abbrev pub access_code : Bool → ℕ → Mode → Home → ℕ → Option ℤ → List Instr → List Instr
 access_code compared block_log mode h to fixed index = access_by h.resident compared block_log mode h to fixed index
@@ -178,7 +179,8 @@ abbrev pub expr_code : Setting → Mode → ℕ → Tree → List Instr
 expr_code f mode to (Number z) = Li to z ∷ []
 expr_code f mode to (Variable x) = scalar_code (home_of f x) to
 expr_code f mode to (Element x i) =
-    access_code (compares f mode (home_of f x) i) f.profile.block_log mode (home_of f x) to (fixed_index (home_of f x) i)
+    access_code (compares f mode (home_of f x) i) f.profile.block_log mode (home_of f x) to
+    (fixed_index (home_of f x) i)
     (expr_code f mode to i)
     ++ Ldw to (home_of f x).slot to ∷ []
 expr_code f mode to (Operation op a b) =

@@ -7,6 +7,7 @@ use Rattle.std.specs.List.{list_any}
 use Rattle.std.specs.Int.{w32, bit_not}
 use Rattle.gr_word.specs.declared.variables.Label.{Label}
 use Rattle.gr_word.specs.declared.variables.Label.TheVariants.{Public, Secret}
+use Rattle.lt_isa.specs.declared.instructions.Instr.{Instr}
 use Rattle.lt_isa.specs.declared.symbols.Note.{Note}
 use Rattle.lt_isa.specs.Ranges.{any_bank}
 use Rattle.src_tree.specs.Contexts.{context_of}
@@ -14,7 +15,7 @@ use Rattle.src_tree.specs.Labels.{label_of}
 use Rattle.src_tree.specs.Trees.{Tree, Number, Variable, Element, Operation, Test, Statement, SetVariable, SetElement, Choice, Loop}
 use Rattle.block_cache_gen.specs.declared.frames.Mode.TheVariants as mode
 use Rattle.block_cache_gen.specs.Homes.{Home, Pin, Setting, pin_at, home_of}
-use Rattle.block_cache_gen.specs.Codes.{is_cached, fixed_index, compares, offset_code, steps_at, expr_code, access_code}
+use Rattle.block_cache_gen.specs.Codes.{is_cached, fixed_index, compares, offset_code, shift_code, load_code, steps_at, expr_code, access_code}
 use Rattle.strength_reduction.specs.Steps.{Step}
 
 -- every register may hold a secret
@@ -69,13 +70,18 @@ compared_notes compared (Some z) f mask to place = []
 compared_notes true None f mask to place = note_of f (unmarked mask to) place ∷ []
 compared_notes false None f mask to place = []
 
--- The notes of an access apart from those of its index, by the place after its code: of a resident array the note that
--- follows a comparison, of any other array the one that follows the load.
+-- the code of public code that follows the number of a word of an array that isn't resident
+abbrev pub loading_code : Setting → Home → ℕ → List Instr
+loading_code f h to = shift_code f.profile.block_log h to ++ load_code (is_cached h) h to
+
+-- The notes of an access apart from those of its index, by the place after its code: the note that follows a
+-- comparison, and if the array isn't resident the one that follows the load.
 abbrev pub loaded_notes : (resident compared : Bool) → Option ℤ → Setting → Home → (mask to behind : ℕ) → List Note
 loaded_notes true compared fixed f h mask to behind =
     compared_notes compared fixed f mask to (behind - length (offset_code h to))
 loaded_notes false compared fixed f h mask to behind =
-    if is_cached h then note_of f (access_mask mask to) behind ∷ [] else []
+    compared_notes compared fixed f mask to (behind - length (loading_code f h to))
+    ++ (if is_cached h then note_of f (access_mask mask to) behind ∷ [] else [])
 
 abbrev pub load_notes : Bool → Option ℤ → Setting → Home → (mask to behind : ℕ) → List Note
 load_notes compared fixed f h mask to behind = loaded_notes h.resident compared fixed f h mask to behind
@@ -96,7 +102,8 @@ expr_notes f mask to place (Variable x) = []
 expr_notes f mask to place (Element x i) =
     index_notes (fixed_index (home_of f x) i) (expr_notes f mask to place i)
     ++ load_notes (compares f mode.Public (home_of f x) i) (fixed_index (home_of f x) i) f (home_of f x) mask to
-    (place + length (access_code (compares f mode.Public (home_of f x) i) f.profile.block_log mode.Public (home_of f x) to
+    (place + length (access_code (compares f mode.Public (home_of f x) i) f.profile.block_log mode.Public
+    (home_of f x) to
     (fixed_index (home_of f x) i) (expr_code f mode.Public to i)))
 expr_notes f mask to place (Operation op a b) =
     expr_notes f mask to place a

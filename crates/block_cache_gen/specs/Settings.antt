@@ -33,7 +33,7 @@ homes_at pins (q ∷ places) [] = []
 homes_at pins (q ∷ places) (slot ∷ slots) = home_at pins q slot ∷ homes_at pins places slots
 
 -- what the code of a program is made for: by a plan of its memory, on a machine, and with or without steps in the place
--- of operations by numbers
+-- of operations by numbers and comparisons before remainders
 abbrev pub setting_for : Source → Plan → Profile → Bool → Setting
 setting_for p plan profile reduces = record {
   decls = p.decls;

@@ -104,7 +104,7 @@ fn is_public_label(label: Label) -> bool
     }
 }
 
-// Whether an index of a resident array is compared with the length before the remainder is taken.
+// Whether an index is compared with the length before the remainder is taken.
 fn compares<'a>(emitter: &Emitter<'a>, mode: Mode, array: Variable, index: &'a Expr) -> bool
     ensures { result ≡ compares emitter.now mode (home_in array) (expr_tree index.now) }
 {
@@ -404,13 +404,19 @@ pub(crate) fn put_located(
     out: &mut CodeBuf,
     array: Variable,
     to: u8,
+    compared: bool,
+    mask: u32,
 ) -> Result<(), Memory>
     requires registers { to + 2 < 32 }
+    requires room { length out.old.code.items + 6 < 2 ^ 32 }
     ensures appended { OnOk result (Appended out.old out.new
-        (reduced_code (home_in array) to ++ shift_code emitter.now.profile.block_log (home_in array) to) no_notes) }
+        (numbered_code compared (home_in array) to
+        ++ shift_code emitter.now.profile.block_log (home_in array) to)
+        (λ place. compared_notes compared None emitter.now mask to
+        (place + length (numbered_code compared (home_in array) to)))) }
     ensures grows { CodeGrows out.old out.new }
 {
-    put_reduced(out, array, to)?;
+    put_numbered(emitter, out, array, to, compared, mask)?;
     put_block(emitter, out, array, to)
 }
 
@@ -507,15 +513,15 @@ pub(crate) fn put_found_access<'a>(
     mask: u32,
 ) -> Result<(), Memory>
     requires registers { to + 2 < 32 }
-    requires room { length out.old.code.items + 12 < 2 ^ 32 }
+    requires room { length out.old.code.items + 16 < 2 ^ 32 }
     ensures appended { OnOk result
         (EmitsFound emitter.now mode (home_in array) mask to (expr_tree index.now) out.old out.new) }
     ensures grows { CodeGrows out.old out.new }
 {
+    let compared = compares(emitter, mode, array, index);
     if is_resident(array) {
-        let compared = compares(emitter, mode, array, index);
         return put_placed(emitter, out, array, to, compared, mask);
     }
-    put_located(emitter, out, array, to)?;
+    put_located(emitter, out, array, to, compared, mask)?;
     put_load(emitter, out, array, to, mode, mask)
 }

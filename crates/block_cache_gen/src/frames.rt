@@ -22,7 +22,8 @@ pub struct Frame<'a> {
     /// it for these places.
     pub slots: &'a SlotPlan,
     pub profile: &'a Profile,
-    /// Whether operations by numbers are replaced by steps without products, quotients and remainders.
+    /// Whether operations by numbers are replaced by steps without products, quotients and remainders, and public code
+    /// skips the remainder of a public index that is below its array's length.
     pub reduces: bool,
 }
 

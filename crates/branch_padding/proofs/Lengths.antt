@@ -51,8 +51,8 @@ element-short f mode x i e =
       stored_short h.resident h.slot,
     )
 
--- at most twelve instructions a unit of a guard's weight
-pub guard-short : (f : Setting) (mode : Mode) (t : Test) → length (guard_code f mode 0 t) ≤ 12 * test_weight t
+-- at most 16 instructions a unit of a guard's weight
+pub guard-short : (f : Setting) (mode : Mode) (t : Test) → length (guard_code f mode 0 t) ≤ 16 * test_weight t
 guard-short f mode t =
     omega (
       arith,

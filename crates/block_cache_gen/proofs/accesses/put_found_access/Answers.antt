@@ -1,13 +1,11 @@
 use Rattle.std.proofs.Common.{sym, ◌∙◌, subst}
 use Rattle.std.proofs.lemmas.Result.{on_ok_weaker}
 use Rattle.std.proofs.Common.{Bool, length, ◌+◌, ◌++◌, None}
-use Rattle.std.specs.Prelude.{OnOk}
 use Rattle.src_tree.specs.Trees.{expr_tree}
-use Rattle.block_cache_gen.specs.Codes.{numbered_code, offset_code}
+use Rattle.block_cache_gen.specs.Codes.{numbered_code, offset_code, shift_code}
 use Rattle.block_cache_gen.specs.Emitted.{Appended}
 use Rattle.block_cache_gen.specs.Notes.{compared_notes}
 use Rattle.block_cache_gen.specs.Variables.{home_in}
-use Rattle.block_cache_gen.proofs.Emitting.{grows_then}
 use Rattle.block_cache_gen.proofs.EmittedTrees.{found_placed, found_loaded}
 use Rattle.block_cache_gen.proofs.accesses.put_found_access.Goals as goal
 
@@ -26,8 +24,13 @@ returns-then-is_resident-clause-appended c =
 
 pub returns-clause-appended : goal.returns-clause-appended
 returns-clause-appended c =
+    let h = home_in c.args.array in
     on_ok_weaker c.put_load.result
-    (found_loaded c.args.emitter.now c.args.mode (home_in c.args.array) c.args.mask c.args.to
-    (expr_tree c.args.index.now) c.args.out.now c.put_located.new.out c.put_load.new.out
-    (sym c.is_resident.ensures ∙ c.if-is_resident.false) c.in_ok-put_located.ensures.appended)
+    (found_loaded c.args.emitter.now c.args.mode h c.args.mask c.args.to (expr_tree c.args.index.now) c.args.out.now
+    c.put_located.new.out c.put_load.new.out (sym c.is_resident.ensures ∙ c.if-is_resident.false)
+    (subst (λ (near : Bool). Appended c.args.out.now c.put_located.new.out
+    (numbered_code near h c.args.to ++ shift_code c.args.emitter.now.profile.block_log h c.args.to)
+    (λ place. compared_notes near None c.args.emitter.now c.args.mask c.args.to
+    (place + length (numbered_code near h c.args.to)))) c.compares-compared.ensures
+    c.in_ok-put_located.ensures.appended))
     c.put_load.ensures.appended
