@@ -17,6 +17,13 @@
 
 enum { ALL_SECRET = -1, SCALAR_REGISTER = 0, FIRST_CODE = 1024, FIRST_NOTES = 256 };
 
+/*
+ * Registers that hold one thing for the whole run, with --fast: SECRET_ZERO holds 0, but is secret for the check, so that a
+ * sum with it copies a value and makes it secret; PUBLIC_ZERO holds the number 0; the registers from FIRST_HELD on hold
+ * scalars in order of declaration. Expressions use the registers below these.
+ */
+enum { SECRET_ZERO = 19, PUBLIC_ZERO, FIRST_HELD };
+
 /* How code is made: in public code; in an arm with its effect; in an arm without it. */
 enum mode { IN_PUBLIC, WITH_EFFECT, WITHOUT_EFFECT };
 
@@ -27,6 +34,10 @@ struct emitter {
     size_t code_room, note_room;
     /* What each note claims of the slots. */
     uint8_t claims[SLOTS];
+    /* The register that holds each variable, or 0. */
+    uint8_t *held;
+    /* The registers that may hold a secret between statements. */
+    uint32_t base_mask;
 };
 
 /* The statements of the two blocks of a branch on a secret, of which so many first ones pair. */
@@ -121,6 +132,12 @@ static bool is_oblivious(const struct variable *variable)
 
 static void put_expr(struct emitter *emitter, const struct expr *expr, unsigned to, enum mode mode, uint32_t mask);
 
+/* Copies a value of a label. */
+static void put_copy(struct emitter *emitter, unsigned to, unsigned from, bool is_secret)
+{
+    put_plain(emitter, ADD, to, from, is_secret ? SECRET_ZERO : PUBLIC_ZERO);
+}
+
 static bool is_fixed(const struct variable *array, const struct expr *index)
 {
     return !is_oblivious(array) && index->kind == CONSTANT;
@@ -194,6 +211,8 @@ static void put_resident_place(struct emitter *emitter, const struct variable *a
         return;
     }
     put_word(emitter, array, index, to, mode, mask);
+    if (symbol->word == 0)
+        return;
     put_constant(emitter, to + 1, symbol->word);
     put_plain(emitter, ADD, to, to, to + 1);
 }
@@ -242,6 +261,10 @@ static void put_expr(struct emitter *emitter, const struct expr *expr, unsigned 
         break;
     case SCALAR:
         variable = variable_of(emitter, expr->variable);
+        if (emitter->held[expr->variable] != 0) {
+            put_copy(emitter, to, emitter->held[expr->variable], false);
+            break;
+        }
         put_constant(emitter, to, variable->symbol.word);
         put_plain(emitter, LDW, to, variable->slot, to);
         break;
@@ -263,17 +286,22 @@ static void put_expr(struct emitter *emitter, const struct expr *expr, unsigned 
 /* Leaves the two sides of a guard in registers 0 and 1. */
 static void put_guard(struct emitter *emitter, const struct guard *guard, enum mode mode)
 {
-    const uint32_t mask = (uint32_t)ALL_SECRET;
+    const uint32_t mask = emitter->base_mask;
     put_expr(emitter, guard->left, SCALAR_REGISTER, mode, mask);
     put_expr(emitter, guard->right, SCALAR_REGISTER + 1, mode, mask_behind(guard->left, mask, SCALAR_REGISTER));
 }
 
-/* Puts an assignment. Without effect the old word is stored. */
+/* Puts an assignment. Without effect the old word is stored, or the register that holds a scalar copied to itself. */
 static void put_assignment(struct emitter *emitter, const struct statement *made, enum mode mode)
 {
     const struct variable *target = variable_of(emitter, made->variable);
-    const uint32_t mask = (uint32_t)ALL_SECRET;
+    const uint32_t mask = emitter->base_mask;
     put_expr(emitter, made->value, 0, mode, mask);
+    if (made->kind == SET && emitter->held[made->variable] != 0) {
+        const unsigned held = emitter->held[made->variable];
+        put_copy(emitter, held, mode == WITHOUT_EFFECT ? held : 0, target->symbol.is_secret);
+        return;
+    }
     if (made->kind == PUT)
         put_access(emitter, target, made->index, 1, mode, mask_behind(made->value, mask, 0));
     else
@@ -319,12 +347,13 @@ static bool is_by_same_number(const struct expr *one, const struct expr *other)
 static bool is_alike(const struct emitter *emitter, const struct expr *one, const struct expr *other);
 
 /* Whether accesses of two arrays show the same for any indexes that do: of one oblivious bank, or of resident arrays whose
- * indexes are reduced by the same operation. */
+ * indexes are reduced by the same operation and that are both at the beginning of a block, or neither. */
 static bool is_like(const struct variable *one, const struct variable *other)
 {
     if (is_oblivious(one))
         return one->symbol.bank == other->symbol.bank;
-    return one->is_resident && other->is_resident && is_masked(one) == is_masked(other);
+    return one->is_resident && other->is_resident && is_masked(one) == is_masked(other)
+           && (one->symbol.word == 0) == (other->symbol.word == 0);
 }
 
 /* Whether accesses of two arrays show the same. */
@@ -337,12 +366,19 @@ static bool shows_same(const struct emitter *emitter, int32_t array, const struc
     return !is_oblivious(one) && array == other_array && is_same(index, other_index);
 }
 
+/* Whether registers hold two scalars, or neither. */
+static bool is_held_alike(const struct emitter *emitter, int32_t one, int32_t other)
+{
+    return (emitter->held[one] != 0) == (emitter->held[other] != 0);
+}
+
 /* Whether two expressions show the same in secret code. */
 static bool is_alike(const struct emitter *emitter, const struct expr *one, const struct expr *other)
 {
     if (one->kind != other->kind)
         return false;
     switch (one->kind) {
+    case SCALAR: return is_held_alike(emitter, one->variable, other->variable);
     case ELEMENT: return shows_same(emitter, one->variable, one->left, other->variable, other->left);
     case OPERATION:
         if (!is_alike(emitter, one->left, other->left))
@@ -359,7 +395,9 @@ static bool is_pair(const struct emitter *emitter, const struct statement *one, 
 {
     if (one->kind != other->kind || (one->kind != SET && one->kind != PUT) || !is_alike(emitter, one->value, other->value))
         return false;
-    return one->kind == SET || shows_same(emitter, one->variable, one->index, other->variable, other->index);
+    if (one->kind == SET)
+        return is_held_alike(emitter, one->variable, other->variable);
+    return shows_same(emitter, one->variable, one->index, other->variable, other->index);
 }
 
 static size_t pairs_of(const struct emitter *emitter, const struct block *first, const struct block *second)
@@ -420,7 +458,7 @@ static void put_branch(struct emitter *emitter, const struct statement *made, en
 static void put_head_note(struct emitter *emitter, bool is_noted)
 {
     if (!is_noted)
-        put_note(emitter, (uint32_t)ALL_SECRET);
+        put_note(emitter, emitter->base_mask);
 }
 
 /* The branch whose comparison holds exactly where that of another doesn't. */
@@ -503,8 +541,35 @@ static void put_load(struct emitter *emitter, unsigned slot, unsigned bank, uint
     put_plain(emitter, LDB, slot, bank, 0);
 }
 
-/* Puts the loads of the slots that the code relies on: the scalars, and the first array of each slot that has one. Sets
- * what the notes claim. */
+/* Puts what the held registers begin with, in their order. */
+static void put_held_values(struct emitter *emitter)
+{
+    put_plain(emitter, LDW, SECRET_ZERO, SECRET_SLOT, 0);
+    put_plain(emitter, SUB, SECRET_ZERO, SECRET_ZERO, SECRET_ZERO);
+    put_constant(emitter, PUBLIC_ZERO, 0);
+    for (size_t i = 0; i < emitter->source->count; i++) {
+        if (emitter->held[i] == 0)
+            continue;
+        const struct variable *scalar = &emitter->source->variables[i];
+        put_constant(emitter, 0, scalar->symbol.word);
+        put_plain(emitter, LDW, emitter->held[i], scalar->slot, 0);
+    }
+}
+
+/* Stores the words of held scalars in their blocks. */
+static void put_held_words(struct emitter *emitter)
+{
+    for (size_t i = 0; i < emitter->source->count; i++) {
+        if (emitter->held[i] == 0)
+            continue;
+        const struct variable *scalar = &emitter->source->variables[i];
+        put_constant(emitter, 0, scalar->symbol.word);
+        put_plain(emitter, STW, emitter->held[i], scalar->slot, 0);
+    }
+}
+
+/* Puts the loads of the slots that the code relies on: the scalars, and the first array of each slot that has one; then
+ * those of the held registers. Sets what the notes claim. */
 static void put_beginning(struct emitter *emitter)
 {
     for (unsigned slot = 0; slot < SLOTS; slot++)
@@ -520,11 +585,14 @@ static void put_beginning(struct emitter *emitter)
         put_load(emitter, slot, first->symbol.bank, first->symbol.block);
         emitter->claims[slot] = first->symbol.bank;
     }
+    if (emitter->is_fast)
+        put_held_values(emitter);
 }
 
-/* Puts the stores of the blocks that slots hold for the whole run. */
+/* Puts the stores of the scalars that registers hold, and of the blocks that slots hold for the whole run. */
 static void put_end(struct emitter *emitter)
 {
+    put_held_words(emitter);
     put_plain(emitter, STB, PUBLIC_SLOT, 0, 0);
     put_plain(emitter, STB, SECRET_SLOT, 0, 0);
     for (unsigned slot = PLAIN_SLOT; slot < SLOTS; slot++) {
@@ -535,11 +603,29 @@ static void put_end(struct emitter *emitter)
     put_plain(emitter, HALT, 0, 0, 0);
 }
 
+/* Gives registers to scalars in order of declaration, as long as there are any. */
+static void hold_scalars(struct emitter *emitter)
+{
+    unsigned next = FIRST_HELD;
+    emitter->base_mask = without(emitter->base_mask, PUBLIC_ZERO);
+    for (size_t i = 0; i < emitter->source->count && next < REGISTERS; i++) {
+        const struct symbol *symbol = &emitter->source->variables[i].symbol;
+        if (symbol->is_array)
+            continue;
+        emitter->held[i] = (uint8_t)next++;
+        if (!symbol->is_secret)
+            emitter->base_mask = without(emitter->base_mask, emitter->held[i]);
+    }
+}
+
 void emit(const struct source *source, bool is_fast, struct object *object)
 {
     struct emitter emitter = {
         .source = source, .object = object, .is_fast = is_fast, .code_room = FIRST_CODE, .note_room = FIRST_NOTES,
+        .held = zeros_for(source->count + 1, sizeof *emitter.held), .base_mask = (uint32_t)ALL_SECRET,
     };
+    if (is_fast)
+        hold_scalars(&emitter);
     object->code = room_for(FIRST_CODE, sizeof object->code[0]);
     object->notes = room_for(FIRST_NOTES, sizeof object->notes[0]);
     put_beginning(&emitter);

@@ -30,7 +30,7 @@ pub record Placed (o : Parts) (p : ℕ) (code : List Instr) (to : ℕ) (before :
   pub same : SameBelow to before after
   pub word_is : is_secret after to ≡ word
 
-module _ (o : Parts) (to : ℕ) (low : to + 2 < 32) where
+module _ (o : Parts) (to : ℕ) (low : to + 2 < 19) where
   -- the number of the word, in a register: the index modulo the length
   module _ (k : Known) (sized : length k.secret ≡ 32) where
     reduced_known : Known
@@ -38,11 +38,11 @@ module _ (o : Parts) (to : ℕ) (low : to + 2 < 32) where
         let one = set_secret k (to + 1) false in set_secret one to (is_secret one to || is_secret one (to + 1))
 
     one_set : SameBelow to k (set_secret k (to + 1) false)
-    one_set = same-set to k k (to + 1) false (omega arith) (same-itself to k)
+    one_set = same-set to k k (to + 1) false (omega arith) (omega arith) (same-itself to k)
 
     reduced_same : SameBelow to k reduced_known
     unfolding reduced_known
-    reduced_same = same-set to k (set_secret k (to + 1) false) to _ (omega arith) one_set
+    reduced_same = same-set to k (set_secret k (to + 1) false) to _ (omega arith) (omega arith) one_set
 
     reduced_word : is_secret reduced_known to ≡ is_secret k to
     unfolding reduced_known
@@ -83,9 +83,9 @@ module _ (o : Parts) (to : ℕ) (low : to + 2 < 32) where
         let one = set_secret k (to + 1) false in
         let two = set_secret one (to + 1) (is_secret one to || is_secret one (to + 1)) in
         let three = set_secret two (to + 2) false in
-        same-set to k three (to + 1) _ (omega arith)
-        (same-set to k two (to + 2) false (omega arith)
-        (same-set to k one (to + 1) _ (omega arith) one_set))
+        same-set to k three (to + 1) _ (omega arith) (omega arith)
+        (same-set to k two (to + 2) false (omega arith) (omega arith)
+        (same-set to k one (to + 1) _ (omega arith) (omega arith) one_set))
 
     block_word : is_secret block_known to ≡ is_secret k to
     unfolding block_known
@@ -105,8 +105,8 @@ module _ (o : Parts) (to : ℕ) (low : to + 2 < 32) where
         let one = set_secret k (to + 1) false in
         let two = set_secret one (to + 1) (is_secret one to || is_secret one (to + 1)) in
         let three = set_secret two (to + 2) false in
-        let first = same-set to k one (to + 1) (is_secret one to || is_secret one (to + 1)) (omega arith) one_set in
-        let second = same-set to k two (to + 2) false (omega arith) first in
+        let first = same-set to k one (to + 1) (is_secret one to || is_secret one (to + 1)) (omega arith) (omega arith) one_set in
+        let second = same-set to k two (to + 2) false (omega arith) (omega arith) first in
         let size1 : length one.secret ≡ 32 = one_set.sized ∙ sized in
         let size2 : length two.secret ≡ 32 = first.sized ∙ sized in
         let size3 : length three.secret ≡ 32 = second.sized ∙ sized in
@@ -131,22 +131,24 @@ module _ (o : Parts) (to : ℕ) (low : to + 2 < 32) where
         (One (p + 1 + 1 + 1) _ _ three _ _ (rules-alu o (p + 1 + 1 + 1) three Add (to + 1) (to + 1) (to + 2))
         (NoMore (p + 1 + 1 + 1 + 1) _))))
 
+  -- the number of the array's first word is added, unless that is 0
+  pub offset_by : (h : Home) (p : ℕ) (k : Known) → length k.secret ≡ 32 → (first : Bool)
+      → Placed o p (if first then [] else Li (to + 1) (pos h.word) ∷ Alu Add to to (to + 1) ∷ []) to k (is_secret k to)
+  offset_by h p k sized true =
+      record { after = k; goes = NoMore p k; same = same-itself to k; word_is = refl }
+  offset_by h p k sized false = record {
+    after = reduced_known k sized;
+    goes = applied_by k sized Add (pos h.word) p;
+    same = reduced_same k sized;
+    word_is = reduced_word k sized;
+  }
+
   -- without a comparison
   pub reduced-numbered : (h : Home) (p : ℕ) (k : Known) → length k.secret ≡ 32
       → Placed o p (reduced_code h to) to k (is_secret k to)
   reduced-numbered h p k sized = record {
     after = reduced_known k sized;
     goes = reduced_by k sized h p (is_masked h);
-    same = reduced_same k sized;
-    word_is = reduced_word k sized;
-  }
-
-  -- the number of a resident array's first word is added
-  pub offset-numbered : (h : Home) (p : ℕ) (k : Known) → length k.secret ≡ 32
-      → Placed o p (offset_code h to) to k (is_secret k to)
-  offset-numbered h p k sized = record {
-    after = reduced_known k sized;
-    goes = applied_by k sized Add (pos h.word) p;
     same = reduced_same k sized;
     word_is = reduced_word k sized;
   }
@@ -166,9 +168,9 @@ module _ (o : Parts) (to : ℕ) (low : to + 2 < 32) where
     compared_same =
         let one = set_secret k (to + 1) false in
         let two = set_secret one (to + 1) (is_secret one (to + 1) || is_secret one to) in
-        same-set (to + 1) k two (to + 2) false (omega arith)
-        (same-set (to + 1) k one (to + 1) _ (omega arith)
-        (same-set (to + 1) k k (to + 1) false (omega arith) (same-itself (to + 1) k)))
+        same-set (to + 1) k two (to + 2) false (omega arith) (omega arith)
+        (same-set (to + 1) k one (to + 1) _ (omega arith) (omega arith)
+        (same-set (to + 1) k k (to + 1) false (omega arith) (omega arith) (same-itself (to + 1) k)))
 
     pub compared_word : is_secret compared_known to ≡ false
     compared_word = compared_same.registers to (omega arith) ∙ public
@@ -181,7 +183,7 @@ module _ (o : Parts) (to : ℕ) (low : to + 2 < 32) where
         let sum = is_secret one (to + 1) || is_secret one to in
         let two = set_secret one (to + 1) sum in
         let size : length one.secret ≡ 32 =
-        (same-set to k k (to + 1) false (omega arith) (same-itself to k)).sized ∙ sized in
+        (same-set to k k (to + 1) false (omega arith) (omega arith) (same-itself to k)).sized ∙ sized in
         secret-other two (to + 2) (to + 1) false (λ e. absurd (omega arith))
         ∙ secret-same one (to + 1) sum (omega arith)
         ∙ ap (λ (b : Bool). b || is_secret one to) (secret-same k (to + 1) false (omega arith))
@@ -194,8 +196,8 @@ module _ (o : Parts) (to : ℕ) (low : to + 2 < 32) where
         let one = set_secret k (to + 1) false in
         let sum = is_secret one (to + 1) || is_secret one to in
         let two = set_secret one (to + 1) sum in
-        let first = same-set to k k (to + 1) false (omega arith) (same-itself to k) in
-        let second = same-set to k one (to + 1) sum (omega arith) first in
+        let first = same-set to k k (to + 1) false (omega arith) (omega arith) (same-itself to k) in
+        let second = same-set to k one (to + 1) sum (omega arith) (omega arith) first in
         let size : length two.secret ≡ 32 = second.sized ∙ sized in
         secret-same two (to + 2) false (omega arith)
 
@@ -214,6 +216,7 @@ module _ (o : Parts) (to : ℕ) (low : to + 2 < 32) where
           sized = compared_same.sized;
           count = compared_same.count;
           registers = λ r lt. compared_same.registers r (omega arith);
+          above = compared_same.above;
           slots = compared_same.slots;
         })
         (reduced_same compared_known compared_sized)
@@ -256,14 +259,14 @@ module _ (o : Parts) (to : ℕ) (low : to + 2 < 32) where
       → Labelled o p (fixed_code block_log h to z) to k false false
   fixed-numbered block_log h z p k sized =
       let one = set_secret k to false in
-      let first = same-set to k k to false (omega arith) (same-itself to k) in
+      let first = same-set to k k to false (omega arith) (omega arith) (same-itself to k) in
       let size : length one.secret ≡ 32 = first.sized ∙ sized in
       record {
         after = set_secret one (to + 1) false;
         goes
             = One p _ _ k one _ (rules-li o p k to _)
             (One (p + 1) _ _ one _ _ (rules-li o (p + 1) one (to + 1) _) (NoMore (p + 1 + 1) _));
-        same = same-set to k one (to + 1) false (omega arith) first;
+        same = same-set to k one (to + 1) false (omega arith) (omega arith) first;
         word_is = secret-other one (to + 1) to false (λ e. absurd (omega arith)) ∙ secret-same k to false (omega arith);
         block_is = secret-same one (to + 1) false (omega arith);
       }
@@ -287,7 +290,7 @@ module _ (o : Parts) (to : ℕ) (low : to + 2 < 32) where
     -- the lower registers are as before
     pub asked_same : SameBelow (to + 2) k asked_known
     unfolding asked_known
-    asked_same = same-set (to + 2) k k (to + 2) false (omega arith) (same-itself (to + 2) k)
+    asked_same = same-set (to + 2) k k (to + 2) false (omega arith) (omega arith) (same-itself (to + 2) k)
 
     -- the number of the slot's block is public
     pub asked_block : is_secret asked_known (to + 2) ≡ false

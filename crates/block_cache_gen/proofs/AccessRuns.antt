@@ -14,10 +14,10 @@ use Rattle.lt_isa.specs.Machine.{State, Slot, Unbound, Bound, register, slot, se
 use Rattle.lt_isa.specs.Shape.{IsShaped}
 use Rattle.lt_isa.specs.Step.{block_named}
 use Rattle.stretches.specs.Standing.{StandsAt, greatest_costs}
-use Rattle.stretches.specs.Coming.{RunsThrough, Sets, Keeps}
+use Rattle.stretches.specs.Coming.{RunsThrough, Sets}
 use Rattle.stretches.proofs.Standing.{standing-head}
 use Rattle.stretches.proofs.Coming.{comes-ldb, comes-br_taken, comes-br_on, comes-weaker}
-use Rattle.stretches.proofs.RunningThrough.{runs-cons, runs-one, runs-append, runs-weaker, sets-idb, keeps-set}
+use Rattle.stretches.proofs.RunningThrough.{runs-cons, runs-one, runs-append, runs-weaker, sets-idb}
 use Rattle.src_tree.specs.Contexts.{context_of}
 use Rattle.src_tree.specs.Meaning.{Store, evaluated}
 use Rattle.src_tree.specs.Trees.{Tree, Number, Variable, Element, Operation}
@@ -33,16 +33,19 @@ use Rattle.block_cache_gen.proofs.AccessLaws.{slots_after-append, seen_of_all-ap
 use Rattle.block_cache_gen.proofs.HomeFacts.{serves-cached, block-of, block-exists, block-small, profile-fits}
 use Rattle.block_cache_gen.proofs.Stands.{stands-like, stands-loaded}
 use Rattle.block_cache_gen.proofs.IndexRuns.{Locates, Reduces, runs-numbered, runs-block, runs-fixed}
+use Rattle.block_cache_gen.proofs.Kept.{Keeps, keeps-set}
 
--- the block of an access is loaded; the registers up to `to` and the banks are as before
+-- the block of an access is loaded; the registers up to `to` and from 19 on and the banks are as before
 pub record Loads (a : ArrayAccess) (to : ℕ) (s t : State) : Type 0 where
   pub below : (r : ℕ) → r ≤ to → register t r ≡ register s r
+  pub above : (r : ℕ) → 19 ≤ r → register t r ≡ register s r
   pub banks : t.banks ≡ s.banks
   pub slots : t.slots ≡ slots_after s.banks s.slots (a ∷ [])
 
 loads-after : (a : ArrayAccess) (to : ℕ) (s t u : State) → Keeps (to + 1) s t → Loads a to t u → Loads a to s u
 loads-after a to s t u keeps loads = record {
   below = λ r under. loads.below r under ∙ keeps.below r (omega arith);
+  above = λ r over. loads.above r over ∙ keeps.above r over;
   banks = loads.banks ∙ keeps.banks;
   slots =
       loads.slots
@@ -116,11 +119,11 @@ module _ (o : Parts) (fits : IsInRange o) (f : Setting) (homes : HasHomes o f) (
       runs-one s (Ldb h.slot h.bank (to + 1)) (read_event h.bank b (block_in s.banks h.bank b) ∷ [])
       (Loads (record { home = h; block = b }) to s) at
       (λ stands. comes-ldb o fits s shaped h.slot h.bank (to + 1) b (Loads (record { home = h; block = b }) to s) stands
-      named (record { below = λ r under. refl; banks = refl; slots = refl }))
+      named (record { below = λ r under. refl; above = λ r over. refl; banks = refl; slots = refl }))
 
   -- the load, where it may be skipped and where it may not
   runs-skipping : (mode : Mode) (to n : ℕ) (s : State) → IsShaped o s → StandsFor f s store → n < (home_of f x).length
-      → to + 2 < 32 → register s (to + 1) ≡ pos ((home_of f x).block + n / words_a_block f)
+      → to + 2 < 19 → register s (to + 1) ≡ pos ((home_of f x).block + n / words_a_block f)
       → may_skip mode (home_of f x) ≡ true → (home_of f x).bank < 2
       → StandsAt o s.place (load_code true (home_of f x) to)
       → RunsThrough o s (load_code true (home_of f x) to)
@@ -139,7 +142,7 @@ module _ (o : Parts) (fits : IsInRange o) (f : Setting) (homes : HasHomes o f) (
       (Sets s (to + 2) (pos c)) (Loads a to s) at
       (sets-idb o fits s shaped (to + 2) h.slot h.bank c bound.words (omega arith) bound.holds)
       (λ t shape sets at'.
-      let keeps : Keeps (to + 1) s t = keeps-set (to + 1) sets (omega arith) in
+      let keeps : Keeps (to + 1) s t = keeps-set (to + 1) sets (omega arith) (omega arith) in
       let has' : register t (to + 1) ≡ pos b = sets.others (to + 1) (λ same. absurd (omega arith)) ∙ has in
       let test : compared Eq (register t (to + 2)) (register t (to + 1)) ≡ (c == b) =
       ap (λ v. compared Eq v (register t (to + 1))) sets.value ∙ ap (λ v. compared Eq (pos c) v) has' in
@@ -162,7 +165,12 @@ module _ (o : Parts) (fits : IsInRange o) (f : Setting) (homes : HasHomes o f) (
       (greatest_costs o (branch ∷ load ∷ [])) (Loads a to s)
       (comes-br_taken o fits t shape Eq (to + 2) (to + 1) (pos 2) (Loads a to s) (standing-head branch (load ∷ []) at')
       (test ∙ hit)
-      (record { below = λ r under. keeps.below r (omega arith); banks = sets.banks; slots = unchanged }))
+      (record {
+        below = λ r under. keeps.below r (omega arith);
+        above = keeps.above;
+        banks = sets.banks;
+        slots = unchanged;
+      }))
       (sym skipped) refl (omega arith) (λ u shape' loads. loads))
       (λ miss.
       let seen : seen_of mode s.banks s.slots a ≡ read_event h.bank b (block_in s.banks h.bank b) ∷ [] =
@@ -172,10 +180,11 @@ module _ (o : Parts) (fits : IsInRange o) (f : Setting) (homes : HasHomes o f) (
       (and_right (may_skip mode h) ((h.bank == h.bank) && (c == b)) (and_right (h.bank == h.bank) (c == b) miss)) in
       runs-cons t branch (load ∷ []) [] (seen_of mode s.banks s.slots a) (Keeps (to + 2) t) (Loads a to s) at'
       (λ stands'. comes-br_on o fits t shape Eq (to + 2) (to + 1) (pos 2) (Keeps (to + 2) t) stands' (test ∙ miss)
-      (record { below = λ r under. refl; slots = refl; banks = refl }))
+      (record { below = λ r under. refl; above = λ r over. refl; slots = refl; banks = refl }))
       (λ u shape' keeps' at''.
       let all : Keeps (to + 1) s u = record {
         below = λ r under. keeps'.below r (omega arith) ∙ keeps.below r under;
+        above = λ r over. keeps'.above r over ∙ keeps.above r over;
         slots = keeps'.slots ∙ keeps.slots;
         banks = keeps'.banks ∙ keeps.banks;
       } in
@@ -187,7 +196,7 @@ module _ (o : Parts) (fits : IsInRange o) (f : Setting) (homes : HasHomes o f) (
       (cases_Bool (c == b)))
 
   runs-load : (mode : Mode) (to n : ℕ) (s : State) → IsShaped o s → StandsFor f s store → n < (home_of f x).length
-      → to + 2 < 32 → register s (to + 1) ≡ pos ((home_of f x).block + n / words_a_block f)
+      → to + 2 < 19 → register s (to + 1) ≡ pos ((home_of f x).block + n / words_a_block f)
       → (skip : Bool) → may_skip mode (home_of f x) ≡ skip → (skip ≡ true → (home_of f x).bank < 2)
       → StandsAt o s.place (load_code skip (home_of f x) to)
       → RunsThrough o s (load_code skip (home_of f x) to)
@@ -213,7 +222,7 @@ module _ (o : Parts) (fits : IsInRange o) (f : Setting) (homes : HasHomes o f) (
       (LeavesWord f store (accesses f store i) to (evaluated f.decls store i) s)
 
   -- the word and the block are found
-  runs-located : (mode : Mode) (to : ℕ) (i : Tree) (s : State) → IsShaped o s → StandsFor f s store → to + 2 < 32
+  runs-located : (mode : Mode) (to : ℕ) (i : Tree) (s : State) → IsShaped o s → StandsFor f s store → to + 2 < 19
       → RunsIndex mode to i s → (near : Bool) (fixed : Option ℤ) → fixed_index (home_of f x) i ≡ fixed
       → StandsAt o s.place (located_code near f.profile.block_log (home_of f x) to fixed (expr_code f mode to i))
       → RunsThrough o s (located_code near f.profile.block_log (home_of f x) to fixed (expr_code f mode to i))
@@ -242,7 +251,7 @@ module _ (o : Parts) (fits : IsInRange o) (f : Setting) (homes : HasHomes o f) (
         below = locates.keeps.below;
         banks = locates.keeps.banks;
         slots = locates.keeps.slots;
-        stands = stands-like f s t store locates.keeps.slots locates.keeps.banks stands;
+        stands = stands-like f s t store locates.keeps.slots locates.keeps.banks locates.keeps.above stands;
       }))
   runs-located mode to i s shaped stands small run near None is at =
       let h = home_of f x in
@@ -279,14 +288,16 @@ module _ (o : Parts) (fits : IsInRange o) (f : Setting) (homes : HasHomes o f) (
         below = λ r under. locates.keeps.below r under ∙ reduces.keeps.below r under ∙ leaves.below r under;
         banks = banks ∙ leaves.banks;
         slots = slots ∙ leaves.slots;
-        stands = stands-like f t v store slots banks leaves.stands;
+        stands =
+            stands-like f t v store slots banks
+            (λ r over. locates.keeps.above r over ∙ reduces.keeps.above r over) leaves.stands;
       }))))
       (append-nil seen)
       (λ t shape found. found)
 
   -- the whole access
   pub runs-access : (near : Bool) (mode : Mode) (to : ℕ) (i : Tree) (s : State) → IsShaped o s
-      → StandsFor f s store → to + 2 < 32
+      → StandsFor f s store → to + 2 < 19
       → RunsIndex mode to i s → StandsAt o s.place
       (access_by false near f.profile.block_log mode (home_of f x) to (fixed_index (home_of f x) i)
       (expr_code f mode to i))
@@ -337,7 +348,7 @@ module _ (o : Parts) (fits : IsInRange o) (f : Setting) (homes : HasHomes o f) (
           banks = loads.banks ∙ finds.banks;
           slots = slots;
           stands =
-              stands-like f (set_slot t h.slot found) u store loads.slots loads.banks
+              stands-like f (set_slot t h.slot found) u store loads.slots loads.banks loads.above
               (stands-loaded o f homes t shape.slot_count store finds.stands x label known turn a.block);
         };
         held =

@@ -1,5 +1,5 @@
 -- Alike expressions, and assignments that pair, show the same in secret code and leave the same in the slots.
-use Rattle.std.proofs.Common.{◌≡◌, ℕ, ◌≤◌, Bool, true, false, ◌&&◌, ℤ, List, [], ◌∷◌, ◌++◌, Option, Some, None, refl, sym, ap, ◌∙◌, arith}
+use Rattle.std.proofs.Common.{◌≡◌, ℕ, ◌≤◌, ◌==◌, Bool, true, false, ◌&&◌, ℤ, List, [], ◌∷◌, ◌++◌, Option, Some, None, refl, sym, ap, ◌∙◌, arith}
 use Rattle.std.specs.Prelude.{if◌then◌else◌, is_some}
 use Rattle.std.proofs.lemmas.Bool.{le-ltb, ne_eqb}
 use Rattle.gr_word.specs.declared.operations.Op.{Op}
@@ -16,11 +16,11 @@ use Rattle.src_tree.specs.Typing.{UsedAs, TypedTree, TypedStatement}
 use Rattle.trace_patterns.specs.Events.{Oram}
 use Rattle.stretches.specs.Shows.{Show, Gap, Seen, pattern_of}
 use Rattle.trace_patterns.specs.SymStates.{SymSlot, OramSlot}
-use Rattle.block_cache_gen.specs.Homes.{Home, Setting, home_of, HasHomes}
+use Rattle.block_cache_gen.specs.Homes.{Home, Setting, home_of, register_for, HasHomes}
 use Rattle.block_cache_gen.specs.Codes.{is_cached, is_masked, is_power, literal, fixed_index, steps_at}
 use Rattle.strength_reduction.specs.Steps.{Step}
 use Rattle.block_cache_gen.proofs.StepsAt.{not-stepped}
-use Rattle.block_cache_gen.specs.PatternsOf.{operation_gap, word_gap, reducing, block_tree, found_shows, plain_loaded, encrypted_loaded, block_loaded, load_shows, placed_shows, shows_by, loads_by, stored_by, Loads, then_loads, one_load, index_loads, no_loads, operation_shows, operation_loads, element_slot, access_shows, access_loads, tree_of_expr, shows_of_expr, slots_of_expr, shows_of_set, slots_of_set, pattern_of_expr, pattern_of_set}
+use Rattle.block_cache_gen.specs.PatternsOf.{scalar_shows, write_shows, operation_gap, word_gap, reducing, block_tree, found_shows, plain_loaded, encrypted_loaded, block_loaded, load_shows, placed_shows, shows_by, loads_by, stored_by, Loads, then_loads, one_load, index_loads, no_loads, operation_shows, operation_loads, element_slot, access_shows, access_loads, tree_of_expr, shows_of_expr, slots_of_expr, shows_of_set, slots_of_set, pattern_of_expr, pattern_of_set}
 use Rattle.block_cache_gen.specs.Alike.{is_product, InOneBank, AreReducedAlike, Residents, ToResidents, Alike, Numbers, Scalars, Oblivious, Same, Operations, ByNumber, Pair, ToScalars, ToOblivious, ToSame}
 use Rattle.bank_alloc.proofs.Apart.{scalar_bank-lt}
 use Rattle.block_cache_gen.proofs.HomeFacts.{serves-oblivious}
@@ -96,7 +96,7 @@ module _ (f : Setting) (h : Home) (oblivious : 2 ≤ h.bank) where
 -- only numbers are alike to a number
 alike-literal : (f : Setting) (i j : Tree) → Alike f i j → is_some (literal i) ≡ is_some (literal j)
 alike-literal f i j (Numbers y z) = refl
-alike-literal f i j (Scalars x y) = refl
+alike-literal f i j (Scalars x y one) = refl
 alike-literal f i j (Oblivious x y k l one alike) = refl
 alike-literal f i j (Residents x y k l one alike) = refl
 alike-literal f i j (Same x k cached) = refl
@@ -114,13 +114,31 @@ alike-fixed f h g i j low alike =
 
 -- the places of words of two resident arrays are found alike
 placed-alike : (f : Setting) (h g : Home) (one other : Option ℤ) (shows more : List Show) → is_masked h ≡ is_masked g
-    → is_some one ≡ is_some other → shows ≡ more → placed_shows f h one shows ≡ placed_shows f g other more
-placed-alike f h g (Some y) (Some z) shows more masked fixed same = refl
-placed-alike f h g None None shows more masked fixed same =
+    → (h.word == 0) ≡ (g.word == 0) → is_some one ≡ is_some other → shows ≡ more
+    → placed_shows f h one shows ≡ placed_shows f g other more
+placed-alike f h g (Some y) (Some z) shows more masked first fixed same = refl
+placed-alike f h g None None shows more masked first fixed same =
     λ k. same k
-    ++ (Gap 1 ∷ operation_gap f (if masked k then And else Remu) ∷ Gap 1 ∷ operation_gap f Add ∷ [])
-placed-alike f h g (Some y) None shows more masked fixed same = absurd (let e : true ≡ false = fixed in cc)
-placed-alike f h g None (Some z) shows more masked fixed same = absurd (let e : false ≡ true = fixed in cc)
+    ++ (Gap 1
+    ∷ operation_gap f (if masked k then And else Remu)
+    ∷ (if first k then [] else Gap 1 ∷ operation_gap f Add ∷ []))
+placed-alike f h g (Some y) None shows more masked first fixed same = absurd (let e : true ≡ false = fixed in cc)
+placed-alike f h g None (Some z) shows more masked first fixed same = absurd (let e : false ≡ true = fixed in cc)
+
+-- so are two scalars, and the writes to them, if registers hold both or neither
+scalar-alike : (f : Setting) (one other : Option ℕ) → is_some one ≡ is_some other
+    → scalar_shows f one ≡ scalar_shows f other
+scalar-alike f (Some r) (Some q) same = refl
+scalar-alike f None None same = refl
+scalar-alike f (Some r) None same = absurd (let e : true ≡ false = same in cc)
+scalar-alike f None (Some q) same = absurd (let e : false ≡ true = same in cc)
+
+write-alike : (f : Setting) (one other : Option ℕ) → is_some one ≡ is_some other
+    → write_shows f one ≡ write_shows f other
+write-alike f (Some r) (Some q) same = refl
+write-alike f None None same = refl
+write-alike f (Some r) None same = absurd (let e : true ≡ false = same in cc)
+write-alike f None (Some q) same = absurd (let e : false ≡ true = same in cc)
 
 loads-alike : (one other : Option ℤ) (loads more : Loads) → is_some one ≡ is_some other → loads ≡ more
     → index_loads one loads ≡ index_loads other more
@@ -188,7 +206,7 @@ module _ (o : Parts) (f : Setting) (homes : HasHomes o f) where
       let h = home_of f y in
       ap (λ (b : Bool). shows_by b f g (fixed_index g i) (tree_of_expr f i) (shows_of_expr f i)) one.first
       ∙ placed-alike f g h (fixed_index g i) (fixed_index h j) (shows_of_expr f i) (shows_of_expr f j) one.masked
-      (alike-fixed f g h i j one.low alike) same
+      one.offset (alike-fixed f g h i j one.low alike) same
       ∙ sym (ap (λ (b : Bool). shows_by b f h (fixed_index h j) (tree_of_expr f j) (shows_of_expr f j)) one.second)
 
   resident-loads : (x y : List ℕ) (i j : Tree) → AreReducedAlike f x y → Alike f i j
@@ -207,7 +225,7 @@ module _ (o : Parts) (f : Setting) (homes : HasHomes o f) where
   pub alike-shows : (a b : Tree) → Alike f a b → TypedTree (context_of f.decls) a → TypedTree (context_of f.decls) b
       → shows_of_expr f a ≡ shows_of_expr f b
   alike-shows a b (Numbers y z) left right = refl
-  alike-shows a b (Scalars x y) left right = refl
+  alike-shows a b (Scalars x y one) left right = scalar-alike f (register_for f x) (register_for f y) one
   alike-shows a b (Oblivious x y i j one alike) left right =
       ap (λ (shows : List Show). shows ++ word_gap f ∷ [])
       (both-shows x y i j one left.0 right.0 (alike-shows i j alike left.1.0 right.1.0))
@@ -232,7 +250,7 @@ module _ (o : Parts) (f : Setting) (homes : HasHomes o f) where
   pub alike-slots : (a b : Tree) → Alike f a b → TypedTree (context_of f.decls) a → TypedTree (context_of f.decls) b
       → slots_of_expr f a ≡ slots_of_expr f b
   alike-slots a b (Numbers y z) left right = refl
-  alike-slots a b (Scalars x y) left right = refl
+  alike-slots a b (Scalars x y one) left right = refl
   alike-slots a b (Oblivious x y i j one alike) left right =
       both-loads x y i j one left.0 right.0 (alike-slots i j alike left.1.0 right.1.0)
   alike-slots a b (Residents x y i j one alike) left right =
@@ -258,9 +276,10 @@ module _ (o : Parts) (f : Setting) (homes : HasHomes o f) where
   -- assignments that pair
   pub pair-shows : (s t : Statement) → Pair f s t → TypedStatement (context_of f.decls) Secret s
       → TypedStatement (context_of f.decls) Secret t → shows_of_set f s ≡ shows_of_set f t
-  pair-shows s t (ToScalars x y e g alike) left right =
-      ap (λ (shows : List Show). shows ++ (Gap 1 ∷ word_gap f ∷ word_gap f ∷ []))
-      (alike-shows e g alike left.1.0 right.1.0)
+  pair-shows s t (ToScalars x y e g one alike) left right =
+      let first = alike-shows e g alike left.1.0 right.1.0 in
+      let last = write-alike f (register_for f x) (register_for f y) one in
+      λ k. first k ++ last k
   pair-shows s t (ToResidents x y i j e g one index value) left right =
       let first = alike-shows e g value left.1.0 right.1.0 in
       let second = resident-shows x y i j one index (alike-shows i j index left.0.1.0 right.0.1.0) in
@@ -294,7 +313,7 @@ module _ (o : Parts) (f : Setting) (homes : HasHomes o f) where
   -- two statements that pair leave the slots alike
   pub pair-slots : (s t : Statement) → Pair f s t → TypedStatement (context_of f.decls) Secret s
       → TypedStatement (context_of f.decls) Secret t → slots_of_set f s ≡ slots_of_set f t
-  pair-slots s t (ToScalars x y e g alike) left right = alike-slots e g alike left.1.0 right.1.0
+  pair-slots s t (ToScalars x y e g one alike) left right = alike-slots e g alike left.1.0 right.1.0
   pair-slots s t (ToOblivious x y i j e g one index value) left right =
       let first = alike-slots e g value left.1.0 right.1.0 in
       let second = both-loads x y i j one left.0.0 right.0.0 (alike-slots i j index left.0.1.0 right.0.1.0) in

@@ -1,17 +1,17 @@
 -- The tests of alike expressions and of assignments that pair say what the relations say, and the count is that of the
 -- most statements that pair.
 use Rattle.std.proofs.Common.{◌≡◌, ℕ, ◌+◌, ◌≤◌, ◌==◌, Bool, true, false, not, ◌&&◌, ◌||◌, nat_lt, nat_le, ℤ, List, refl, sym, ap, ◌∙◌, subst, ◌⊎◌, ⊎_elim, arith}
-use Rattle.std.specs.Prelude.{◌↔◌, if◌then◌else◌, bytes_eq}
+use Rattle.std.specs.Prelude.{◌↔◌, if◌then◌else◌, is_some, bytes_eq}
 use Rattle.std.proofs.lemmas.Bool.{and_parts, and_from, or_cases, eqb-true, eq-eqb, ltb-true, lt-ltb, leb-true, le-leb, or_left, or_right}
 use Rattle.std.proofs.lemmas.Bool.Decides.{Decides-int_eq}
 use Rattle.std.proofs.lemmas.Slice.Eq.{bytes_eq-Decides}
 use Rattle.symbolic_values.specs.Sameness.{same_op}
 use Rattle.symbolic_values.proofs.TreeEquality.{same_op-true, same_op-own}
 use Rattle.src_tree.specs.Trees.{Tree, Number, Variable, Element, Operation, Statement, SetVariable, SetElement, Block, Nothing, Then}
-use Rattle.block_cache_gen.specs.Homes.{Setting, home_of}
+use Rattle.block_cache_gen.specs.Homes.{Setting, home_of, register_for}
 use Rattle.block_cache_gen.specs.Codes.{is_cached, is_masked, may_step}
 use Rattle.gr_word.specs.declared.operations.Op.{Op}
-use Rattle.block_cache_gen.specs.Alike.{is_product, InOneBank, AreReducedAlike, Residents, ToResidents, same_flag, reduced_alike, Alike, Numbers, Scalars, Oblivious, Same, Operations, ByNumber, Pair, ToScalars, ToOblivious, ToSame, StartsPaired, NonePaired, OnePaired, IsPairCount, is_same, in_one_bank, both_products, are_plain, is_same_number, by_same_number, is_alike, is_pair, pair_count}
+use Rattle.block_cache_gen.specs.Alike.{is_product, AreHeldAlike, held_alike, InOneBank, AreReducedAlike, Residents, ToResidents, same_flag, reduced_alike, Alike, Numbers, Scalars, Oblivious, Same, Operations, ByNumber, Pair, ToScalars, ToOblivious, ToSame, StartsPaired, NonePaired, OnePaired, IsPairCount, is_same, in_one_bank, both_products, are_plain, is_same_number, by_same_number, is_alike, is_pair, pair_count}
 
 -- expressions as they stand
 same-true : (a b : Tree) → is_same a b ≡ true → a ≡ b
@@ -70,24 +70,36 @@ module _ (f : Setting) where
   reduced-true x y e =
       let low = same_flag (is_cached (home_of f x)) (is_cached (home_of f y)) in
       let masked = same_flag (is_masked (home_of f x)) (is_masked (home_of f y)) in
-      let one = and_parts (home_of f x).resident ((home_of f y).resident && (low && masked)) e in
-      let two = and_parts (home_of f y).resident (low && masked) one.1 in
-      let both = and_parts low masked two.1 in
+      let offset = same_flag ((home_of f x).word == 0) ((home_of f y).word == 0) in
+      let one = and_parts (home_of f x).resident ((home_of f y).resident && (low && (masked && offset))) e in
+      let two = and_parts (home_of f y).resident (low && (masked && offset)) one.1 in
+      let three = and_parts low (masked && offset) two.1 in
+      let four = and_parts masked offset three.1 in
       record {
         first = one.0;
         second = two.0;
-        low = kinds-true (is_cached (home_of f x)) (is_cached (home_of f y)) both.0;
-        masked = kinds-true (is_masked (home_of f x)) (is_masked (home_of f y)) both.1;
+        low = kinds-true (is_cached (home_of f x)) (is_cached (home_of f y)) three.0;
+        masked = kinds-true (is_masked (home_of f x)) (is_masked (home_of f y)) four.0;
+        offset = kinds-true ((home_of f x).word == 0) ((home_of f y).word == 0) four.1;
       }
 
   reduced-own : (x y : List ℕ) → AreReducedAlike f x y → reduced_alike f x y ≡ true
   reduced-own x y one =
       let low = same_flag (is_cached (home_of f x)) (is_cached (home_of f y)) in
       let masked = same_flag (is_masked (home_of f x)) (is_masked (home_of f y)) in
-      and_from (home_of f x).resident ((home_of f y).resident && (low && masked)) one.first
-      (and_from (home_of f y).resident (low && masked) one.second
-      (and_from low masked (kinds-own (is_cached (home_of f x)) (is_cached (home_of f y)) one.low)
-      (kinds-own (is_masked (home_of f x)) (is_masked (home_of f y)) one.masked)))
+      let offset = same_flag ((home_of f x).word == 0) ((home_of f y).word == 0) in
+      and_from (home_of f x).resident ((home_of f y).resident && (low && (masked && offset))) one.first
+      (and_from (home_of f y).resident (low && (masked && offset)) one.second
+      (and_from low (masked && offset) (kinds-own (is_cached (home_of f x)) (is_cached (home_of f y)) one.low)
+      (and_from masked offset (kinds-own (is_masked (home_of f x)) (is_masked (home_of f y)) one.masked)
+      (kinds-own ((home_of f x).word == 0) ((home_of f y).word == 0) one.offset))))
+
+  -- two scalars that registers hold, or neither
+  held-true : (x y : List ℕ) → held_alike f x y ≡ true → AreHeldAlike f x y
+  held-true x y e = kinds-true (is_some (register_for f x)) (is_some (register_for f y)) e
+
+  held-own : (x y : List ℕ) → AreHeldAlike f x y → held_alike f x y ≡ true
+  held-own x y one = kinds-own (is_some (register_for f x)) (is_some (register_for f y)) one
 
   -- one array and one index
   record OneElement (x y : List ℕ) (i j : Tree) : Type 0 where
@@ -138,7 +150,7 @@ module _ (f : Setting) where
   -- alike expressions
   alike-true : (a b : Tree) → is_alike f a b ≡ true → Alike f a b
   alike-true (Number y) (Number z) e = Numbers y z
-  alike-true (Variable x) (Variable y) e = Scalars x y
+  alike-true (Variable x) (Variable y) e = Scalars x y (held-true x y e)
   alike-true (Element x i) (Element y j) e =
       let held = or_cases ((in_one_bank f x y || reduced_alike f x y) && is_alike f i j)
       (nat_lt (home_of f x).bank 2 && (bytes_eq x y && is_same i j)) e in
@@ -171,7 +183,7 @@ module _ (f : Setting) where
 
   alike-own : (a b : Tree) → Alike f a b → is_alike f a b ≡ true
   alike-own a b (Numbers y z) = refl
-  alike-own a b (Scalars x y) = refl
+  alike-own a b (Scalars x y one) = held-own x y one
   alike-own a b (Oblivious x y i j one alike) =
       or_left ((in_one_bank f x y || reduced_alike f x y) && is_alike f i j)
       (nat_lt (home_of f x).bank 2 && (bytes_eq x y && is_same i j))
@@ -206,7 +218,9 @@ module _ (f : Setting) where
 
   -- assignments that pair
   pair-true : (s t : Statement) → is_pair f s t ≡ true → Pair f s t
-  pair-true (SetVariable x e) (SetVariable y g) held = ToScalars x y e g (alike-true e g held)
+  pair-true (SetVariable x e) (SetVariable y g) held =
+      let parts = and_parts (held_alike f x y) (is_alike f e g) held in
+      ToScalars x y e g (held-true x y parts.0) (alike-true e g parts.1)
   pair-true (SetElement x i e) (SetElement y j g) held =
       let parts = and_parts (is_alike f e g)
       (((in_one_bank f x y || reduced_alike f x y) && is_alike f i j)
@@ -232,7 +246,8 @@ module _ (f : Setting) where
   pair-true _ _ held = absurd (let f : false ≡ true = held in cc)
 
   pair-own : (s t : Statement) → Pair f s t → is_pair f s t ≡ true
-  pair-own s t (ToScalars x y e g alike) = alike-own e g alike
+  pair-own s t (ToScalars x y e g one alike) =
+      and_from (held_alike f x y) (is_alike f e g) (held-own x y one) (alike-own e g alike)
   pair-own s t (ToOblivious x y i j e g one index value) =
       and_from (is_alike f e g)
       (((in_one_bank f x y || reduced_alike f x y) && is_alike f i j)

@@ -8,6 +8,7 @@ use Rattle.gr_word.specs.declared.variables.Shape.{Shape}
 use Rattle.gr_word.specs.declared.variables.Shape.TheVariants.{Scalar, Array}
 use Rattle.lt_isa.specs.declared.instructions.Instr.{Instr}
 use Rattle.lt_isa.specs.declared.instructions.Instr.TheVariants.{Li, Ldw, Stw, Stb}
+use Rattle.gr_word.specs.declared.operations.Op.TheVariants.{Add}
 use Rattle.lt_isa.specs.Object.{Parts}
 use Rattle.symbolic_values.specs.Trees.{Value, Const}
 use Rattle.src_tree.specs.Contexts.{context_of}
@@ -20,15 +21,18 @@ use Rattle.trace_patterns.specs.SymStates.{SymSlot, AnySlot, RamSlot, EramSlot, 
 use Rattle.stretches.proofs.ArmCode.{Walked, walked-none, walked-then}
 use Rattle.block_cache_gen.specs.declared.frames.Mode.{Mode}
 use Rattle.block_cache_gen.specs.declared.frames.Mode.TheVariants as modes
-use Rattle.block_cache_gen.specs.Homes.{Setting, home_of, pin_of, HasHomes}
-use Rattle.block_cache_gen.specs.Codes.{may_skip_loads, fixed_index, expr_code, access_by, placed_code, store_code, stored_code, set_code, access_code}
+use Rattle.block_cache_gen.specs.Homes.{Setting, home_of, pin_of, HasHomes, register_for}
+use Rattle.block_cache_gen.specs.Codes.{may_skip_loads, fixed_index, expr_code, access_by, placed_code, store_code, stored_code, set_code, access_code, write_code, copied_from}
 use Rattle.block_cache_gen.specs.Carries.{CarriesInArm}
 use Rattle.block_cache_gen.specs.PublicIndexes.{SetHasPublicIndexes}
-use Rattle.block_cache_gen.specs.PatternsOf.{word_gap, block_tree, number_tree, store_shows, Loads, no_loads, then_loads, element_slot, placed_shows, placed_tree, index_loads, shows_by, loads_by, stored_by, tree_of_expr, shows_of_expr, slots_of_expr, shows_of_set, slots_of_set}
+use Rattle.block_cache_gen.specs.PatternsOf.{write_shows, word_gap, block_tree, number_tree, store_shows, Loads, no_loads, then_loads, element_slot, placed_shows, placed_tree, index_loads, shows_by, loads_by, stored_by, tree_of_expr, shows_of_expr, slots_of_expr, shows_of_set, slots_of_set}
 use Rattle.lt_checker.proofs.Singles.{IsKnown, IsHidden}
 use Rattle.block_cache_gen.proofs.SomeCode.{compares-secret}
-use Rattle.block_cache_gen.proofs.ArmInstructions.{loaded-bank, sets-ldw, walked-stw, walked-stb}
-use Rattle.block_cache_gen.proofs.ArmStates.{LeavesTree, then_loads-held, carries-same}
+use Rattle.block_cache_gen.proofs.ArmInstructions.{loaded-bank, sets-ldw, walked-stw, walked-stb, sets-alu}
+use Rattle.block_cache_gen.proofs.ArmStates.{LeavesTree, then_loads-held, carries-same, carries-copied}
+use Rattle.held_registers.specs.Held.{secret_zero}
+use Rattle.held_registers.proofs.Copies.{hidden_copy}
+use Rattle.block_cache_gen.proofs.HeldLabels.{register-label, register-low, zero-label}
 use Rattle.block_cache_gen.proofs.HomeFacts.{shows-cached}
 use Rattle.block_cache_gen.proofs.PublicTrees.{block-seen, public-tree}
 use Rattle.block_cache_gen.proofs.ArmExpressions.{access-leaves, placed-leaves, number-leaves, expr-leaves}
@@ -112,7 +116,8 @@ module _ (o : Parts) (f : Setting) (homes : HasHomes o f) (depth : ℕ) where
         walked = walked-then o depth s (Ldw 2 slot 1 ∷ []) (word_gap f ∷ []) read.state (Stw rs slot 1 ∷ [])
             (word_gap f ∷ []) read.state read.walked
             (walked-stw o depth f homes.profile read.state rs slot 1 (subst IsHidden (sym kept) stored));
-        carries = carries-same f s read.state carries read.slots read.registers;
+        carries = carries-same f s read.state carries read.slots (λ r high. read.other r (λ e. absurd (omega (arith, e))))
+            read.registers;
         slots = λ k. ap (λ (slots : List SymSlot). get_or slots k AnySlot) read.slots;
       }
 
@@ -143,6 +148,43 @@ module _ (o : Parts) (f : Setting) (homes : HasHomes o f) (depth : ℕ) where
           slots = word.slots;
         }
 
+    -- a value is written to a secret scalar, by the register that holds it
+    word-goes : (s : SymState) (x : List ℕ) → context_of f.decls x ≡ Some (Secret, Scalar) → CarriesInArm f s
+        → Goes o f depth s (write_code None Secret mode (home_of f x)) (write_shows f None) no_loads
+    word-goes s x declared carries =
+        let h = home_of f x in
+        let scalar = homes.scalars x Secret declared in
+        let place = number-leaves o f homes depth s 1 (pos h.word) carries (omega arith) in
+        let stored = resident-hidden o f homes place.state x Scalar place.carries declared scalar.resident in
+        goes-then o f depth s (Li 1 (pos h.word) ∷ []) (Gap 1 ∷ []) no_loads
+        (goes-leaves o f depth s (Li 1 (pos h.word) ∷ []) (Gap 1 ∷ []) 1 (Some (Const (pos h.word))) no_loads place)
+        (store_code mode h.slot) (word_gap f ∷ word_gap f ∷ []) no_loads
+        (store-goes place.state h.slot place.carries stored)
+
+    copy-goes : (s : SymState) (x : List ℕ) → context_of f.decls x ≡ Some (Secret, Scalar) → (r : ℕ)
+        → register_for f x ≡ Some r → CarriesInArm f s
+        → Goes o f depth s (write_code (Some r) Secret mode (home_of f x)) (write_shows f (Some r)) no_loads
+    copy-goes s x declared r is carries =
+        let from = copied_from mode r in
+        let zero = zero-label f homes.held x Secret Scalar declared r is Secret in
+        let copied = sets-alu o depth f homes.profile s Add r from secret_zero (tree_held s from) None carries.registers
+        (register-low f homes.held x Secret Scalar declared r is) refl (carries.held secret_zero Secret zero) in
+        record {
+          state = copied.state;
+          walked = copied.walked;
+          carries
+              = carries-copied f s copied.state r Secret carries copied.slots copied.other copied.registers
+              (register-label f homes.held x Secret Scalar declared r is)
+              (copied.held ∙ hidden_copy (tree_held s from));
+          slots = λ k. ap (λ (slots : List SymSlot). get_or slots k AnySlot) copied.slots;
+        }
+
+    write-goes : (s : SymState) (x : List ℕ) → context_of f.decls x ≡ Some (Secret, Scalar) → (found : Option ℕ)
+        → register_for f x ≡ found → CarriesInArm f s
+        → Goes o f depth s (write_code found Secret mode (home_of f x)) (write_shows f found) no_loads
+    write-goes s x declared None is carries = word-goes s x declared carries
+    write-goes s x declared (Some r) is carries = copy-goes s x declared r is carries
+
     -- an assignment to a scalar
     variable-goes : (s : SymState) (x : List ℕ) (e : Tree)
         → TypedStatement (context_of f.decls) Secret (SetVariable x e) → SetHasPublicIndexes f (SetVariable x e)
@@ -150,23 +192,19 @@ module _ (o : Parts) (f : Setting) (homes : HasHomes o f) (depth : ℕ) where
         → Goes o f depth s (set_code f mode (SetVariable x e)) (shows_of_set f (SetVariable x e))
         (slots_of_set f (SetVariable x e))
     variable-goes s x e typed public low carries =
-        let h = home_of f x in
+        let found = register_for f x in
+        let own = flows-secret (label_at (context_of f.decls) x) typed.1.1 in
         let same : label_at (context_of f.decls) x ≡ typed.0.0 = ap label_or_public typed.0.1 in
-        let label = sym same ∙ flows-secret (label_at (context_of f.decls) x) typed.1.1 in
-        let declared = subst (λ (l : Label). context_of f.decls x ≡ Some (l, Scalar)) label typed.0.1 in
-        let scalar = homes.scalars x Secret declared in
+        let declared = subst (λ (l : Label). context_of f.decls x ≡ Some (l, Scalar)) (sym same ∙ own) typed.0.1 in
         let value = expr-leaves o f homes depth mode secret e s 0 typed.1.0 public (omega arith) carries in
-        let place = (number-leaves o f homes depth value.state 1 (pos h.word) value.carries (omega arith)) in
-        let stored = resident-hidden o f homes place.state x Scalar place.carries declared scalar.resident in
         let one = goes-leaves o f depth s (expr_code f mode 0 e) (shows_of_expr f e) 0 (tree_of_expr f e)
         (slots_of_expr f e) value in
-        let two = goes-leaves o f depth value.state (Li 1 (pos h.word) ∷ []) (Gap 1 ∷ []) 1
-        (Some (Const (pos h.word))) no_loads place in
-        let three = store-goes place.state h.slot place.carries stored in
+        let two = subst
+        (λ (l : Label).
+        Goes o f depth value.state (write_code found l mode (home_of f x)) (write_shows f found) no_loads) (sym own)
+        (write-goes value.state x declared found refl value.carries) in
         goes-then o f depth s (expr_code f mode 0 e) (shows_of_expr f e) (slots_of_expr f e) one
-        (Li 1 (pos h.word) ∷ store_code mode h.slot) (Gap 1 ∷ word_gap f ∷ word_gap f ∷ []) no_loads
-        (goes-then o f depth value.state (Li 1 (pos h.word) ∷ []) (Gap 1 ∷ []) no_loads two (store_code mode h.slot)
-        (word_gap f ∷ word_gap f ∷ []) no_loads three)
+        (write_code found (label_at (context_of f.decls) x) mode (home_of f x)) (write_shows f found) no_loads two
 
     -- an assignment to an element
     element_by-goes : (b : Bool) (s : SymState) (x : List ℕ) (i e : Tree) → (home_of f x).resident ≡ b

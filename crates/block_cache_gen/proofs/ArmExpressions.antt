@@ -5,11 +5,12 @@ use Rattle.std.specs.Option.{unwrap_or}
 use Rattle.std.proofs.lemmas.Bool.{eq-eqb}
 use Rattle.gr_word.specs.declared.operations.Op.{Op}
 use Rattle.gr_word.specs.declared.operations.Op.TheVariants.{Add, Remu, And, Shr}
+use Rattle.gr_word.specs.declared.variables.Label.TheVariants.{Public}
 use Rattle.gr_word.specs.declared.variables.Shape.TheVariants.{Scalar, Array}
 use Rattle.lt_isa.specs.declared.instructions.Instr.{Instr}
 use Rattle.lt_isa.specs.declared.instructions.Instr.TheVariants.{Li, Alu, Ldw}
 use Rattle.lt_isa.specs.Object.{Parts, blocks_of}
-use Rattle.symbolic_values.specs.Trees.{Value, Const}
+use Rattle.symbolic_values.specs.Trees.{Value, Const, Reg}
 use Rattle.src_tree.specs.Contexts.{context_of}
 use Rattle.src_tree.specs.Heights.{height_of}
 use Rattle.src_tree.specs.Trees.{Tree, Number, Variable, Element, Operation, Test}
@@ -17,9 +18,9 @@ use Rattle.src_tree.specs.Typing.{UsedAs, TypedTree, TypedTest}
 use Rattle.stretches.specs.Shows.{Show, Gap}
 use Rattle.trace_patterns.specs.SymStates.{SymSlot, AnySlot, SymState, tree_held, slot_held, hold_slot}
 use Rattle.trace_patterns.specs.Single.{applied_trees}
-use Rattle.stretches.proofs.ArmCode.{Walked, walked-then}
+use Rattle.stretches.proofs.ArmCode.{Walked, walked-none, walked-then}
 use Rattle.block_cache_gen.specs.declared.frames.Mode.{Mode}
-use Rattle.block_cache_gen.specs.Homes.{Home, Setting, home_of, words_a_block, blocks_set, HasHomes}
+use Rattle.block_cache_gen.specs.Homes.{Home, Setting, home_of, words_a_block, blocks_set, HasHomes, held_label, register_for}
 use Rattle.block_cache_gen.specs.Codes.{may_skip_loads, is_cached, is_masked, fixed_index, fixed_word, scalar_code, reduced_code, shift_code, offset_code, placed_code, fixed_code, located_code, load_code, skips, access_by, operation_code, steps_at, expr_code, guard_code, access_code}
 use Rattle.lt_isa.specs.declared.profiles.Profile.{Profile}
 use Rattle.strength_reduction.specs.Steps.{Step, Constant, Compute, StepFits, reads_known, numbered, code_of}
@@ -30,9 +31,11 @@ use Rattle.block_cache_gen.proofs.SomeCode.{compares-secret}
 use Rattle.block_cache_gen.proofs.StepsAt.{steps-of}
 use Rattle.block_cache_gen.specs.Carries.{CarriesInArm}
 use Rattle.block_cache_gen.specs.PublicIndexes.{shows_index, HasPublicIndexes, TestHasPublicIndexes}
-use Rattle.block_cache_gen.specs.PatternsOf.{operation_gap, word_gap, word_read, scalar_tree, reduced_tree, number_tree, shifted_tree, block_tree, reducing, placed_shows, placed_tree, shows_by, loads_by, element_by, found_shows, load_shows, Loads, no_loads, then_loads, one_load, index_loads, element_slot, step_gap, steps_tree, operation_tree, operation_shows, operation_loads, tree_of_expr, shows_of_expr, slots_of_expr, shows_of_test, slots_of_test}
+use Rattle.block_cache_gen.specs.PatternsOf.{operation_gap, word_gap, word_read, tree_by, scalar_shows, offset_shows, scalar_tree, reduced_tree, number_tree, shifted_tree, block_tree, reducing, placed_shows, placed_tree, shows_by, loads_by, element_by, found_shows, load_shows, Loads, no_loads, then_loads, one_load, index_loads, element_slot, step_gap, steps_tree, operation_tree, operation_shows, operation_loads, tree_of_expr, shows_of_expr, slots_of_expr, shows_of_test, slots_of_test}
 use Rattle.block_cache_gen.proofs.ArmInstructions.{IsSeen, Sets, loaded-bank, sets-li, sets-alu, sets-ldw, walked-ldb}
 use Rattle.block_cache_gen.proofs.ArmStates.{LeavesTree, bound-of_bank, then_loads-held, one_load-held, serves-within, carries-same, carries-load, resident-read}
+use Rattle.held_registers.specs.Held.{public_zero}
+use Rattle.block_cache_gen.proofs.HeldLabels.{register-label, zero-label}
 use Rattle.block_cache_gen.proofs.HomeFacts.{shows-cached}
 use Rattle.block_cache_gen.proofs.PublicTrees.{IsKnown, block-seen, public-tree}
 
@@ -56,11 +59,13 @@ shows-same f (Compute op to left right ∷ steps) = ap (λ xs. operation_gap f o
 module _ (o : Parts) (f : Setting) (homes : HasHomes o f) (depth : ℕ) where
   -- code that sets a register, by itself and after other code
   pub leaves-sets : (s : SymState) (code : List Instr) (shows : List Show) (to : ℕ) (tree : Option Value)
-      → CarriesInArm f s → Sets o depth s code shows to tree → LeavesTree o f depth s code shows to tree no_loads
-  leaves-sets s code shows to tree carries sets = record {
+      → CarriesInArm f s → to < 19 → Sets o depth s code shows to tree
+      → LeavesTree o f depth s code shows to tree no_loads
+  leaves-sets s code shows to tree carries inside sets = record {
     state = sets.state;
     walked = sets.walked;
-    carries = carries-same f s sets.state carries sets.slots sets.registers;
+    carries = carries-same f s sets.state carries sets.slots (λ r high. sets.other r (λ e. absurd (omega (arith, e))))
+        sets.registers;
     held = sets.held;
     below = λ r lt. sets.other r (λ e. absurd (omega arith));
     slots = λ k. ap (λ (slots : List SymSlot). get_or slots k AnySlot) sets.slots;
@@ -69,40 +74,63 @@ module _ (o : Parts) (f : Setting) (homes : HasHomes o f) (depth : ℕ) where
   pub leaves-then_sets : (s : SymState) (code : List Instr) (shows : List Show) (from : ℕ) (old : Option Value)
       (loads : Loads) (first : LeavesTree o f depth s code shows from old loads) (rest : List Instr) (more : List Show)
       (to : ℕ) (tree : Option Value)
-      → to ≤ from → Sets o depth first.state rest more to tree
+      → to ≤ from → to < 19 → Sets o depth first.state rest more to tree
       → LeavesTree o f depth s (code ++ rest) (shows ++ more) to tree loads
-  leaves-then_sets s code shows from old loads first rest more to tree le sets = record {
+  leaves-then_sets s code shows from old loads first rest more to tree le inside sets = record {
     state = sets.state;
     walked = walked-then o depth s code shows first.state rest more sets.state first.walked sets.walked;
-    carries = carries-same f first.state sets.state first.carries sets.slots sets.registers;
+    carries = carries-same f first.state sets.state first.carries sets.slots
+        (λ r high. sets.other r (λ e. absurd (omega (arith, e)))) sets.registers;
     held = sets.held;
     below = λ r lt. sets.other r (λ e. absurd (omega arith)) ∙ first.below r (omega arith);
     slots = λ k. ap (λ (slots : List SymSlot). get_or slots k AnySlot) sets.slots ∙ first.slots k;
   }
 
-  -- a number, and a scalar
-  pub number-leaves : (s : SymState) (to : ℕ) (z : ℤ) → CarriesInArm f s → to < 32
+  -- a number
+  pub number-leaves : (s : SymState) (to : ℕ) (z : ℤ) → CarriesInArm f s → to < 19
       → LeavesTree o f depth s (Li to z ∷ []) (Gap 1 ∷ []) to (Some (Const z)) no_loads
   number-leaves s to z carries inside =
-      leaves-sets s (Li to z ∷ []) (Gap 1 ∷ []) to (Some (Const z)) carries
-      (sets-li o depth s to z carries.registers inside)
+      leaves-sets s (Li to z ∷ []) (Gap 1 ∷ []) to (Some (Const z)) carries inside
+      (sets-li o depth s to z carries.registers (omega arith))
 
-  scalar-leaves : (s : SymState) (to : ℕ) (x : List ℕ) → CarriesInArm f s → to < 32
+  -- a scalar, by the register that holds it
+  word-leaves : (s : SymState) (to : ℕ) (x : List ℕ) → CarriesInArm f s → to < 19
       → UsedAs (context_of f.decls) x Scalar
-      → LeavesTree o f depth s (scalar_code (home_of f x) to) (Gap 1 ∷ word_gap f ∷ []) to (scalar_tree f (home_of f x))
-      no_loads
-  scalar-leaves s to x carries inside used =
+      → LeavesTree o f depth s (scalar_code None (home_of f x) to) (scalar_shows f None) to
+      (scalar_tree f None (home_of f x)) no_loads
+  word-leaves s to x carries inside used =
       let h = home_of f x in
       let place : Option Value = Some (Const (pos h.word)) in
       let one = number-leaves s to (pos h.word) carries inside in
       let scalar = homes.scalars x used.0 used.1 in
       let read = resident-read o f homes one.state x used.0 Scalar one.carries used.1 scalar.resident in
       let two = sets-ldw o depth f homes.profile one.state to h.slot to (slot_held one.state h.slot) place
-      one.carries.registers inside refl read.bound one.held in
+      one.carries.registers (omega arith) refl read.bound one.held in
       let whole = leaves-then_sets s (Li to (pos h.word) ∷ []) (Gap 1 ∷ []) to place no_loads one
-      (Ldw to h.slot to ∷ []) (word_gap f ∷ []) to (word_read f (slot_held one.state h.slot) place) (omega arith) two in
-      subst (λ (v : Option Value). LeavesTree o f depth s (scalar_code h to) (Gap 1 ∷ word_gap f ∷ []) to v no_loads)
+      (Ldw to h.slot to ∷ []) (word_gap f ∷ []) to (word_read f (slot_held one.state h.slot) place) (omega arith)
+      inside two in
+      subst (λ (v : Option Value). LeavesTree o f depth s (scalar_code None h to) (scalar_shows f None) to v no_loads)
       (read.word place) whole
+
+  copy-leaves : (s : SymState) (to : ℕ) (x : List ℕ) → CarriesInArm f s → to < 19
+      → UsedAs (context_of f.decls) x Scalar → (r : ℕ) → register_for f x ≡ Some r
+      → LeavesTree o f depth s (scalar_code (Some r) (home_of f x) to) (scalar_shows f (Some r)) to
+      (scalar_tree f (Some r) (home_of f x)) no_loads
+  copy-leaves s to x carries inside used r is =
+      let own = register-label f homes.held x used.0 Scalar used.1 r is in
+      let zero = zero-label f homes.held x used.0 Scalar used.1 r is Public in
+      leaves-sets s (scalar_code (Some r) (home_of f x) to) (scalar_shows f (Some r)) to
+      (scalar_tree f (Some r) (home_of f x)) carries inside
+      (sets-alu o depth f homes.profile s Add to r public_zero (tree_by r (held_label f r)) (Some (Reg public_zero))
+      carries.registers (omega arith) (carries.held r used.0 own ∙ sym (ap (tree_by r) own))
+      (carries.held public_zero Public zero))
+
+  scalar-leaves : (s : SymState) (to : ℕ) (x : List ℕ) → CarriesInArm f s → to < 19
+      → UsedAs (context_of f.decls) x Scalar → (found : Option ℕ) → register_for f x ≡ found
+      → LeavesTree o f depth s (scalar_code found (home_of f x) to) (scalar_shows f found) to
+      (scalar_tree f found (home_of f x)) no_loads
+  scalar-leaves s to x carries inside used None is = word-leaves s to x carries inside used
+  scalar-leaves s to x carries inside used (Some r) is = copy-leaves s to x carries inside used r is
 
   -- code after other code, to a register that isn't above the first's
   abbrev pub leaves-then : (s : SymState) (code : List Instr) (shows : List Show) (from : ℕ) (old : Option Value)
@@ -140,17 +168,18 @@ module _ (o : Parts) (f : Setting) (homes : HasHomes o f) (depth : ℕ) where
   }
 
   -- steps
-  steps-leave : (s : SymState) (to : ℕ) (steps : List Step) (value : Option Value) → CarriesInArm f s → to + 2 < 32
+  steps-leave : (s : SymState) (to : ℕ) (steps : List Step) (value : Option Value) → CarriesInArm f s → to + 2 < 19
       → All StepFits steps → IsTrue (reads_known (λ i. i == 0) steps) → tree_held s to ≡ value
       → LeavesTree o f depth s (code_of to steps) (map (step_gap f) steps) to (steps_tree steps value) no_loads
   steps-leave s to steps value carries inside fits reads held =
+      let room : to + 2 < 32 = omega arith in
       let trees : ℕ → Option Value = λ i. tree_held s (numbered to i) in
-      let walk = walks-steps o depth to inside steps trees s fits carries.registers (λ i low. refl) in
+      let walk = walks-steps o depth to room steps trees s fits carries.registers (λ i low. refl) in
       let shown = ap (λ (profile : Profile). steps_show profile steps) homes.profile ∙ shows-same f steps in
       record {
         state = walk.state;
         walked = subst (λ (xs : List Show). Walked o depth s (code_of to steps) xs walk.state) shown walk.walked;
-        carries = carries-same f s walk.state carries walk.slots walk.registers;
+        carries = carries-same f s walk.state carries walk.slots (λ r high. walk.above r (omega arith)) walk.registers;
         held =
             walk.own 0 (omega arith)
             ∙ result-alike (λ z. Some (Const z)) applied_trees steps trees (λ i. if i == 0 then value else None) reads
@@ -160,7 +189,7 @@ module _ (o : Parts) (f : Setting) (homes : HasHomes o f) (depth : ℕ) where
       }
 
   -- the place of an element, by an index that is a number
-  fixed-located : (s : SymState) (to : ℕ) (h : Home) (z : ℤ) → CarriesInArm f s → to + 2 < 32
+  fixed-located : (s : SymState) (to : ℕ) (h : Home) (z : ℤ) → CarriesInArm f s → to + 2 < 19
       → LeavesTwo o f depth s (fixed_code f.profile.block_log h to z) (Gap 1 ∷ Gap 1 ∷ []) to
       (Some (Const (pos (fixed_word h z)))) (Some (Const (pos (h.block + fixed_word h z / words_a_block f)))) no_loads
   fixed-located s to h z carries inside =
@@ -171,7 +200,7 @@ module _ (o : Parts) (f : Setting) (homes : HasHomes o f) (depth : ℕ) where
       (Gap 1 ∷ []) no_loads no_loads one (number-leaves one.state (to + 1) block one.carries (omega arith))
 
   -- an operation on a register below and a number, in the number's register or below
-  number-applied : (s : SymState) (op : Op) (to ra rb : ℕ) (z : ℤ) (left : Option Value) → CarriesInArm f s → rb < 32
+  number-applied : (s : SymState) (op : Op) (to ra rb : ℕ) (z : ℤ) (left : Option Value) → CarriesInArm f s → rb < 19
       → to ≤ rb → ra < rb → tree_held s ra ≡ left
       → LeavesTree o f depth s (Li rb z ∷ Alu op to ra rb ∷ []) (Gap 1 ∷ operation_gap f op ∷ []) to
       (applied_trees op left (Some (Const z))) no_loads
@@ -179,12 +208,12 @@ module _ (o : Parts) (f : Setting) (homes : HasHomes o f) (depth : ℕ) where
       let right : Option Value = Some (Const z) in
       let one = number-leaves s rb z carries inside in
       leaves-then_sets s (Li rb z ∷ []) (Gap 1 ∷ []) rb right no_loads one (Alu op to ra rb ∷ [])
-      (operation_gap f op ∷ []) to (applied_trees op left right) le
+      (operation_gap f op ∷ []) to (applied_trees op left right) le (omega arith)
       (sets-alu o depth f homes.profile one.state op to ra rb left right one.carries.registers (omega arith)
       (one.below ra lt ∙ held) one.held)
 
   -- the number of a block, by a shift and a sum
-  block-leaves : (s : SymState) (to : ℕ) (h : Home) (number : Option Value) → CarriesInArm f s → to + 2 < 32
+  block-leaves : (s : SymState) (to : ℕ) (h : Home) (number : Option Value) → CarriesInArm f s → to + 2 < 19
       → tree_held s to ≡ number
       → LeavesTree o f depth s (shift_code f.profile.block_log h to)
       (Gap 1 ∷ operation_gap f Shr ∷ Gap 1 ∷ operation_gap f Add ∷ []) (to + 1) (shifted_tree f h number) no_loads
@@ -206,7 +235,7 @@ module _ (o : Parts) (f : Setting) (homes : HasHomes o f) (depth : ℕ) where
       Gap 1 ∷ operation_gap f op ∷ Gap 1 ∷ operation_gap f Shr ∷ Gap 1 ∷ operation_gap f Add ∷ []
 
   finding-located : (s : SymState) (to : ℕ) (h : Home) (index : Option Value) (op : Op) (z : ℤ) → CarriesInArm f s
-      → to + 2 < 32 → tree_held s to ≡ index
+      → to + 2 < 19 → tree_held s to ≡ index
       → LeavesTwo o f depth s ((Li (to + 1) z ∷ Alu op to to (to + 1) ∷ []) ++ shift_code f.profile.block_log h to)
       (finding_shows op) to (applied_trees op index (Some (Const z)))
       (shifted_tree f h (applied_trees op index (Some (Const z)))) no_loads
@@ -219,7 +248,7 @@ module _ (o : Parts) (f : Setting) (homes : HasHomes o f) (depth : ℕ) where
       (block-leaves one.state to h number one.carries inside one.held)
 
   -- by a mask or a remainder, after the code of the index
-  reduced-located : (s : SymState) (to : ℕ) (h : Home) (index : Option Value) → CarriesInArm f s → to + 2 < 32
+  reduced-located : (s : SymState) (to : ℕ) (h : Home) (index : Option Value) → CarriesInArm f s → to + 2 < 19
       → tree_held s to ≡ index
       → LeavesTwo o f depth s (reduced_code h to ++ shift_code f.profile.block_log h to) (finding_shows (reducing h)) to
       (reduced_tree h index) (shifted_tree f h (reduced_tree h index)) no_loads
@@ -242,7 +271,7 @@ module _ (o : Parts) (f : Setting) (homes : HasHomes o f) (depth : ℕ) where
       by false = finding-located s to h index Remu (pos h.length) carries inside held
 
   index-located : (s : SymState) (to : ℕ) (h : Home) (index : Option Value) (code : List Instr) (shows : List Show)
-      (loads : Loads) → LeavesTree o f depth s code shows to index loads → to + 2 < 32
+      (loads : Loads) → LeavesTree o f depth s code shows to index loads → to + 2 < 19
       → LeavesTwo o f depth s (code ++ (reduced_code h to ++ shift_code f.profile.block_log h to))
       (shows ++ finding_shows (reducing h)) to (reduced_tree h index) (shifted_tree f h (reduced_tree h index)) loads
   index-located s to h index code shows loads first inside =
@@ -256,7 +285,7 @@ module _ (o : Parts) (f : Setting) (homes : HasHomes o f) (depth : ℕ) where
 
   located : (s : SymState) (to : ℕ) (h : Home) (fixed : Option ℤ) (index : Option Value) (code : List Instr)
       (shows : List Show) (loads : Loads) → CarriesInArm f s → LeavesTree o f depth s code shows to index loads
-      → to + 2 < 32
+      → to + 2 < 19
       → LeavesTwo o f depth s (located_code false f.profile.block_log h to fixed code) (found_shows f h fixed shows) to
       (number_tree h fixed index) (block_tree f h fixed index) (index_loads fixed loads)
   located s to h (Some z) index code shows loads carries first inside = fixed-located s to h z carries inside
@@ -264,7 +293,7 @@ module _ (o : Parts) (f : Setting) (homes : HasHomes o f) (depth : ℕ) where
       index-located s to h index code shows loads first inside
 
   -- it is reduced by a mask or by a remainder
-  reduced-leaves : (s : SymState) (to : ℕ) (h : Home) (index : Option Value) → CarriesInArm f s → to + 2 < 32
+  reduced-leaves : (s : SymState) (to : ℕ) (h : Home) (index : Option Value) → CarriesInArm f s → to + 2 < 19
       → tree_held s to ≡ index
       → LeavesTree o f depth s (reduced_code h to) (Gap 1 ∷ operation_gap f (reducing h) ∷ []) to (reduced_tree h index)
       no_loads
@@ -288,25 +317,40 @@ module _ (o : Parts) (f : Setting) (homes : HasHomes o f) (depth : ℕ) where
       by false = number-applied s Remu to to (to + 1) (pos h.length) index carries (omega arith) (omega arith)
           (omega arith) held
 
+  -- the number of the array's first word is added, unless that is 0
+  offset-leaves : (s : SymState) (to : ℕ) (h : Home) (tree : Option Value) → CarriesInArm f s → to + 2 < 19
+      → tree_held s to ≡ tree → (first : Bool)
+      → LeavesTree o f depth s (if first then [] else Li (to + 1) (pos h.word) ∷ Alu Add to to (to + 1) ∷ [])
+      (if first then [] else Gap 1 ∷ operation_gap f Add ∷ []) to
+      (if first then tree else applied_trees Add tree (Some (Const (pos h.word)))) no_loads
+  offset-leaves s to h tree carries inside held true = record {
+    state = s;
+    walked = walked-none o depth s;
+    carries = carries;
+    held = held;
+    below = λ r lt. refl;
+    slots = λ k. refl;
+  }
+  offset-leaves s to h tree carries inside held false =
+      number-applied s Add to to (to + 1) (pos h.word) tree carries (omega arith) (omega arith) (omega arith) held
+
   -- the place of a resident array's word in its block
   pub placed-leaves : (s : SymState) (to : ℕ) (h : Home) (fixed : Option ℤ) (index : Option Value) (code : List Instr)
       (shows : List Show) (loads : Loads) → CarriesInArm f s → LeavesTree o f depth s code shows to index loads
-      → to + 2 < 32
+      → to + 2 < 19
       → LeavesTree o f depth s (placed_code false h to fixed code) (placed_shows f h fixed shows) to
       (placed_tree h fixed index) (index_loads fixed loads)
   placed-leaves s to h (Some z) index code shows loads carries first inside =
       number-leaves s to (pos (h.word + fixed_word h z)) carries (omega arith)
   placed-leaves s to h None index code shows loads carries first inside =
       let one = reduced-leaves first.state to h index first.carries inside first.held in
-      let two = number-applied one.state Add to to (to + 1) (pos h.word) (reduced_tree h index) one.carries
-      (omega arith) (omega arith) (omega arith) one.held in
-      let tree = applied_trees Add (reduced_tree h index) (Some (Const (pos h.word))) in
+      let two = offset-leaves one.state to h (reduced_tree h index) one.carries inside one.held (h.word == 0) in
+      let tree = placed_tree h None index in
       let reduced = Gap 1 ∷ operation_gap f (reducing h) ∷ [] in
-      let added = Gap 1 ∷ operation_gap f Add ∷ [] in
-      leaves-then s code shows to index loads first (reduced_code h to ++ offset_code h to) (reduced ++ added) to tree
-      no_loads (omega arith)
+      leaves-then s code shows to index loads first (reduced_code h to ++ offset_code h to)
+      (reduced ++ offset_shows f h) to tree no_loads (omega arith)
       (leaves-then first.state (reduced_code h to) reduced to (reduced_tree h index) no_loads one (offset_code h to)
-      added to tree no_loads (omega arith) two)
+      (offset_shows f h) to tree no_loads (omega arith) two)
 
   module _ (mode : Mode) (secret : may_skip_loads mode ≡ false) where
     -- an access: its block is in the slot of its array
@@ -318,7 +362,7 @@ module _ (o : Parts) (f : Setting) (homes : HasHomes o f) (depth : ℕ) where
     -- an access leaves the number of the word, and its block in the array's slot
     pub access-leaves : (s : SymState) (to : ℕ) (x : List ℕ) (fixed : Option ℤ) (index : Option Value)
         (code : List Instr) (shows : List Show) (loads : Loads) → CarriesInArm f s
-        → LeavesTree o f depth s code shows to index loads → to + 2 < 32 → (used : UsedAs (context_of f.decls) x Array)
+        → LeavesTree o f depth s code shows to index loads → to + 2 < 19 → (used : UsedAs (context_of f.decls) x Array)
         → (home_of f x).resident ≡ false
         → IsSeen (home_of f x).bank (block_tree f (home_of f x) fixed index)
         → Accessed s (access_by false false f.profile.block_log mode (home_of f x) to fixed code)
@@ -365,7 +409,7 @@ module _ (o : Parts) (f : Setting) (homes : HasHomes o f) (depth : ℕ) where
     element_by-leaves : (b : Bool) (s : SymState) (to : ℕ) (x : List ℕ) (i : Tree) → (home_of f x).resident ≡ b
         → CarriesInArm f s
         → LeavesTree o f depth s (expr_code f mode to i) (shows_of_expr f i) to (tree_of_expr f i) (slots_of_expr f i)
-        → to + 2 < 32 → UsedAs (context_of f.decls) x Array
+        → to + 2 < 19 → UsedAs (context_of f.decls) x Array
         → (shows_index (home_of f x) ≡ true → IsKnown (tree_of_expr f i))
         → LeavesTree o f depth s
         (access_by b false f.profile.block_log mode (home_of f x) to (fixed_index (home_of f x) i)
@@ -392,7 +436,7 @@ module _ (o : Parts) (f : Setting) (homes : HasHomes o f) (depth : ℕ) where
         LeavesTree o f depth s (code ++ Ldw to h.slot to ∷ []) (shown ++ word_gap f ∷ []) to v loads)
         (read.word place)
         (leaves-then_sets s code shown to place loads there (Ldw to h.slot to ∷ []) (word_gap f ∷ []) to
-        (word_read f (slot_held there.state h.slot) place) (omega arith) word)
+        (word_read f (slot_held there.state h.slot) place) (omega arith) (omega arith) word)
     element_by-leaves false s to x i is carries first inside used known =
         let h = home_of f x in
         let fixed = fixed_index h i in
@@ -409,11 +453,11 @@ module _ (o : Parts) (f : Setting) (homes : HasHomes o f) (depth : ℕ) where
         leaves-then_sets s (access_by false false f.profile.block_log mode h to fixed (expr_code f mode to i))
         (shows_by false f h fixed index (shows_of_expr f i)) to number
         (loads_by false f h fixed index (slots_of_expr f i))
-        there (Ldw to h.slot to ∷ []) (word_gap f ∷ []) to (word_read f bound number) (omega arith) word
+        there (Ldw to h.slot to ∷ []) (word_gap f ∷ []) to (word_read f bound number) (omega arith) (omega arith) word
 
     element-leaves : (s : SymState) (to : ℕ) (x : List ℕ) (i : Tree) → CarriesInArm f s
         → LeavesTree o f depth s (expr_code f mode to i) (shows_of_expr f i) to (tree_of_expr f i) (slots_of_expr f i)
-        → to + 2 < 32 → UsedAs (context_of f.decls) x Array
+        → to + 2 < 19 → UsedAs (context_of f.decls) x Array
         → (shows_index (home_of f x) ≡ true → IsKnown (tree_of_expr f i))
         → LeavesTree o f depth s (expr_code f mode to (Element x i)) (shows_of_expr f (Element x i)) to
         (tree_of_expr f (Element x i)) (slots_of_expr f (Element x i))
@@ -429,7 +473,7 @@ module _ (o : Parts) (f : Setting) (homes : HasHomes o f) (depth : ℕ) where
     -- an operation on both
     operation-leaves : (s : SymState) (to : ℕ) (op : Op) (left right : Option Value) (code rest : List Instr)
         (shows more : List Show) (loads : Loads)
-        → LeavesTwo o f depth s (code ++ rest) (shows ++ more) to left right loads → to + 2 < 32
+        → LeavesTwo o f depth s (code ++ rest) (shows ++ more) to left right loads → to + 2 < 19
         → LeavesTree o f depth s (code ++ (rest ++ Alu op to to (to + 1) ∷ []))
         (shows ++ (more ++ operation_gap f op ∷ [])) to (applied_trees op left right) loads
     operation-leaves s to op left right code rest shows more loads both inside =
@@ -439,7 +483,7 @@ module _ (o : Parts) (f : Setting) (homes : HasHomes o f) (depth : ℕ) where
         let sets = sets-alu o depth f homes.profile there.state op to to (to + 1) left right there.carries.registers
         (omega arith) there.held both.next in
         let whole = leaves-then_sets s (code ++ rest) (shows ++ more) to left loads there last gaps to
-        (applied_trees op left right) (omega arith) sets in
+        (applied_trees op left right) (omega arith) (omega arith) sets in
         subst (λ (c : List Instr).
         LeavesTree o f depth s c (shows ++ (more ++ gaps)) to (applied_trees op left right) loads)
         (append_assoc code rest last)
@@ -448,7 +492,7 @@ module _ (o : Parts) (f : Setting) (homes : HasHomes o f) (depth : ℕ) where
         (append_assoc shows more gaps) whole)
 
     -- an operation, or the steps that replace it
-    either-leaves : (op : Op) (a b : Tree) (s : SymState) (to : ℕ) → to + 2 < 32
+    either-leaves : (op : Op) (a b : Tree) (s : SymState) (to : ℕ) → to + 2 < 19
         → (first : LeavesTree o f depth s (expr_code f mode to a) (shows_of_expr f a) to (tree_of_expr f a)
         (slots_of_expr f a))
         → LeavesTree o f depth first.state (expr_code f mode (to + 1) b) (shows_of_expr f b) (to + 1) (tree_of_expr f b)
@@ -474,13 +518,14 @@ module _ (o : Parts) (f : Setting) (homes : HasHomes o f) (depth : ℕ) where
 
     -- the code of an expression
     pub expr-leaves : (e : Tree) (s : SymState) (to : ℕ) → TypedTree (context_of f.decls) e → HasPublicIndexes f e
-        → to + height_of e ≤ 26 → CarriesInArm f s
+        → to + height_of e ≤ 18 → CarriesInArm f s
         → LeavesTree o f depth s (expr_code f mode to e) (shows_of_expr f e) to (tree_of_expr f e) (slots_of_expr f e)
     expr-leaves (Number z) s to typed public low carries = number-leaves s to z carries (omega arith)
-    expr-leaves (Variable x) s to typed public low carries = scalar-leaves s to x carries (omega arith) typed
+    expr-leaves (Variable x) s to typed public low carries =
+        scalar-leaves s to x carries (omega arith) typed (register_for f x) refl
     expr-leaves (Element x i) s to typed public low carries =
-        element-leaves s to x i carries (expr-leaves i s to typed.1.0 public.1 (omega arith) carries) (omega arith)
-        typed.0 (λ cached. public-tree o f homes i typed.1.0 (public.0 cached))
+        element-leaves s to x i carries (expr-leaves i s to typed.1.0 public.1 (omega arith) carries)
+        (omega (arith, height-some i)) typed.0 (λ cached. public-tree o f homes i typed.1.0 (public.0 cached))
     expr-leaves (Operation op a b) s to typed public low carries =
         let first = expr-leaves a s to typed.0 public.0 (omega arith) carries in
         either-leaves op a b s to (omega (arith, height-some b)) first
@@ -488,7 +533,7 @@ module _ (o : Parts) (f : Setting) (homes : HasHomes o f) (depth : ℕ) where
 
     -- the code of a guard
     pub guard-leaves : (t : Test) (s : SymState) (to : ℕ) → TypedTest (context_of f.decls) t
-        → TestHasPublicIndexes f t → to + height_of t.left ≤ 26 → to + 1 + height_of t.right ≤ 26 → CarriesInArm f s
+        → TestHasPublicIndexes f t → to + height_of t.left ≤ 18 → to + 1 + height_of t.right ≤ 18 → CarriesInArm f s
         → LeavesTwo o f depth s (guard_code f mode to t) (shows_of_test f t) to (tree_of_expr f t.left)
         (tree_of_expr f t.right) (slots_of_test f t)
     guard-leaves t s to typed public low next carries =

@@ -15,10 +15,11 @@ use Rattle.src_tree.specs.Contexts.{context_of}
 use Rattle.stretches.specs.Shows.{Show}
 use Rattle.trace_patterns.specs.SymStates.{Entry, SymSlot, AnySlot, RamSlot, EramSlot, OramSlot, SymState, tree_held, slot_held, hold_slot, slot_bank}
 use Rattle.stretches.proofs.ArmCode.{Walked}
-use Rattle.block_cache_gen.specs.Homes.{Home, Setting, home_of, pin_of, IsPin, IsResidentHome, Serves, PlainSlot, EncryptedSlot, ObliviousSlot, HasHomes}
-use Rattle.block_cache_gen.specs.Carries.{CarriesInArm}
+use Rattle.block_cache_gen.specs.Homes.{Home, Setting, held_label, home_of, pin_of, IsPin, IsResidentHome, Serves, PlainSlot, EncryptedSlot, ObliviousSlot, HasHomes}
+use Rattle.block_cache_gen.specs.Carries.{CarriesInArm, held_tree}
 use Rattle.block_cache_gen.specs.PatternsOf.{Loads, then_loads, one_load, word_read, pinned_slot}
 use Rattle.bank_alloc.specs.Apart.{scalar_bank}
+use Rattle.block_cache_gen.proofs.HeldLabels.{label-high, one-label}
 use Rattle.block_cache_gen.proofs.HomeFacts.{pinned-apart}
 use Rattle.block_cache_gen.proofs.PublicTrees.{pinned-ram}
 use Rattle.lt_checker.proofs.Singles.{IsKnown}
@@ -79,24 +80,50 @@ serves-bank one other slot (ObliviousSlot b some) y le = absurd (omega arith)
 serves-bank one other slot (PlainSlot k inside) (ObliviousSlot b some) le = absurd (omega arith)
 serves-bank one other slot (EncryptedSlot k inside) (ObliviousSlot b some) le = absurd (omega arith)
 
--- no slot changes
+-- no slot changes, and no register that holds something for the whole run
 pub carries-slots : (f : Setting) (s t : SymState) → CarriesInArm f s → ((k : ℕ) → slot_held t k ≡ slot_held s k)
+    → ((r : ℕ) (label : Label) → held_label f r ≡ Some label → tree_held t r ≡ tree_held s r)
     → length t.registers ≡ 32 → length t.slots ≡ 8 → CarriesInArm f t
-carries-slots f s t carries kept registers slots = record {
+carries-slots f s t carries kept same registers slots = record {
   registers = registers;
   slots = slots;
   plain = λ k p pinned few apart zero. kept k ∙ carries.plain k p pinned few apart zero;
   pinned = λ k p pinned few apart. ap slot_bank (kept k) ∙ carries.pinned k p pinned few apart;
   arrays = λ x label declared turn served.
       ap slot_bank (kept (home_of f x).slot) ∙ carries.arrays x label declared turn served;
+  held = λ r label is. same r label is ∙ carries.held r label is;
 }
 
--- what the setting relies on depends only on the slots
-pub carries-same : (f : Setting) (s t : SymState) → CarriesInArm f s → t.slots ≡ s.slots → length t.registers ≡ 32
-    → CarriesInArm f t
-carries-same f s t carries same sized =
-    carries-slots f s t carries (λ k. ap (λ (slots : List SymSlot). get_or slots k AnySlot) same) sized
+-- what the setting relies on depends only on the slots and on those registers
+pub carries-same : (f : Setting) (s t : SymState) → CarriesInArm f s → t.slots ≡ s.slots
+    → ((r : ℕ) → 19 ≤ r → tree_held t r ≡ tree_held s r) → length t.registers ≡ 32 → CarriesInArm f t
+carries-same f s t carries same above sized =
+    carries-slots f s t carries (λ k. ap (λ (slots : List SymSlot). get_or slots k AnySlot) same)
+    (λ r label is. above r (label-high f r label is)) sized
     (ap length same ∙ carries.slots)
+
+-- a register that holds something for the whole run has what it should again
+pub carries-copied : (f : Setting) (s t : SymState) (r : ℕ) (label : Label) → CarriesInArm f s → t.slots ≡ s.slots
+    → ((q : ℕ) → (q ≡ r → ⊥) → tree_held t q ≡ tree_held s q) → length t.registers ≡ 32
+    → held_label f r ≡ Some label → tree_held t r ≡ held_tree r label → CarriesInArm f t
+carries-copied f s t r label carries same other sized is copied =
+    let kept : (k : ℕ) → slot_held t k ≡ slot_held s k =
+    λ k. ap (λ (slots : List SymSlot). get_or slots k AnySlot) same in
+    record {
+      registers = sized;
+      slots = ap length same ∙ carries.slots;
+      plain = λ k p pinned few apart zero. kept k ∙ carries.plain k p pinned few apart zero;
+      pinned = λ k p pinned few apart. ap slot_bank (kept k) ∙ carries.pinned k p pinned few apart;
+      arrays = λ x l declared turn served.
+          ap slot_bank (kept (home_of f x).slot) ∙ carries.arrays x l declared turn served;
+      held = λ q l holds.
+          ⊎_elim
+          (λ (e : q ≡ r).
+          let one : label ≡ l = one-label (held_label f q) label l (ap (held_label f) e ∙ is) holds in
+          subst (λ (j : ℕ). tree_held t j ≡ held_tree j label) (sym e) copied ∙ ap (held_tree q) one)
+          (λ (ne : q ≡ r → ⊥). other q ne ∙ carries.held q l holds)
+          (cases_eq q r);
+    }
 
 module _ (o : Parts) (f : Setting) (homes : HasHomes o f) where
   -- a block of an array is loaded to its slot
@@ -132,6 +159,7 @@ module _ (o : Parts) (f : Setting) (homes : HasHomes o f) where
             (λ (ne : (home_of f y).slot ≡ h.slot → ⊥).
             ap slot_bank (kept (home_of f y).slot ne) ∙ carries.arrays y other known turn' served)
             (cases_eq (home_of f y).slot h.slot);
+        held = carries.held;
       }
 
   -- a word of a resident variable, wherever it is

@@ -1,5 +1,5 @@
 -- The code of an assignment, run, leaves the store that it means, or the same store in a mirrored arm.
-use Rattle.std.proofs.Common.{◌≡◌, ℕ, ◌+◌, ◌%◌, ◌<◌, ◌≤◌, Bool, true, false, ℤ, pos, List, [], ◌∷◌, ◌++◌, length, get_or, set, append_assoc, append-nil, Some, refl, sym, ap, ◌∙◌, subst, arith, mod-eq_of_lt}
+use Rattle.std.proofs.Common.{◌≡◌, ℕ, ◌+◌, ◌%◌, ◌<◌, ◌≤◌, Bool, true, false, ℤ, pos, List, [], ◌∷◌, ◌++◌, length, get_or, set, append_assoc, append-nil, Option, Some, None, refl, sym, ap, ◌∙◌, subst, arith, mod-eq_of_lt}
 use Rattle.std.proofs.lemmas.List.{get_or-set_same}
 use Rattle.gr_word.specs.Words.{IsWord}
 use Rattle.gr_word.specs.declared.variables.Label.{Label}
@@ -19,21 +19,25 @@ use Rattle.stretches.proofs.Coming.{comes-stw, comes-stb}
 use Rattle.stretches.proofs.RunningThrough.{runs-cons, runs-one, runs-append, runs-weaker, sets-li, sets-ldw}
 use Rattle.src_tree.specs.Contexts.{context_of}
 use Rattle.src_tree.specs.Heights.{height_of}
-use Rattle.src_tree.specs.Meaning.{Store, variable_number, words_of_number, evaluated, with_word}
-use Rattle.src_tree.specs.Trees.{Tree, SetVariable, SetElement}
+use Rattle.src_tree.specs.Labels.{label_of}
+use Rattle.src_tree.specs.Meaning.{Store, variable_number, words_of_number, scalar, evaluated, with_word}
+use Rattle.src_tree.specs.Trees.{Tree, Variable, SetVariable, SetElement}
 use Rattle.src_tree.specs.Typing.{TypedTree}
 use Rattle.scratch_alloc.proofs.Serving.{serves-within}
 use Rattle.block_cache_gen.specs.declared.frames.Mode.{Mode}
 use Rattle.block_cache_gen.specs.declared.frames.Mode.TheVariants.{Public, Real, Mirrored}
-use Rattle.block_cache_gen.specs.Homes.{Setting, HasHomes, home_of, words_a_block}
-use Rattle.block_cache_gen.specs.Codes.{fixed_index, access_by, placed_code, expr_code, store_code, stored_code, set_code, compares}
+use Rattle.block_cache_gen.specs.Homes.{Setting, HasHomes, home_of, words_a_block, register_for}
+use Rattle.block_cache_gen.specs.Codes.{fixed_index, access_by, placed_code, expr_code, store_code, stored_code, set_code, compares, zero_of, copy_code, copied_from, write_code}
 use Rattle.block_cache_gen.specs.StandsFor.{StandsFor, FitsHomes}
 use Rattle.block_cache_gen.specs.Accesses.{access_of, accessed_by, accesses, word_number, block_in, slots_after, seen_of_all}
 use Rattle.block_cache_gen.specs.Assignments.{Assigns, assigned, by_mode, words_written, write_by, seen_of_set}
 use Rattle.block_cache_gen.specs.LeavesWord.{LeavesWord}
 use Rattle.block_cache_gen.proofs.AccessLaws.{seen_of_all-append}
 use Rattle.block_cache_gen.proofs.HomeFacts.{block_words-is}
-use Rattle.block_cache_gen.proofs.Stands.{stands-like}
+use Rattle.held_registers.proofs.Copies.{runs-copy}
+use Rattle.block_cache_gen.proofs.HeldScalars.{array-free}
+use Rattle.block_cache_gen.proofs.RegisterWrites.{register-inside, register-word, zero-word, stands-scalar_set}
+use Rattle.block_cache_gen.proofs.Stands.{stands-like, stands-set}
 use Rattle.block_cache_gen.proofs.Stores.{fits-with_word, with_word-by_mode}
 use Rattle.block_cache_gen.proofs.ResidentStores.{stands-resident_set}
 use Rattle.block_cache_gen.proofs.ResidentRuns.{resident-held, resident-within, runs-placed}
@@ -41,8 +45,9 @@ use Rattle.block_cache_gen.proofs.ElementStores.{stands-element_set}
 use Rattle.block_cache_gen.proofs.AccessRuns.{Accesses, runs-access, word-within}
 use Rattle.block_cache_gen.proofs.ExpressionRuns.{runs-expression, element-word}
 
--- a slot was bound anew, and the banks are as before
+-- a slot was bound anew, and the banks and the registers from 19 on are as before
 record Binds (k : ℕ) (found : Slot) (s t : State) : Type 0 where
+  pub above : (r : ℕ) → 19 ≤ r → register t r ≡ register s r
   pub slots : t.slots ≡ set s.slots k found
   pub banks : t.banks ≡ s.banks
 
@@ -64,6 +69,7 @@ module _ (o : Parts) (fits : IsInRange o) where
       comes-stw o fits s shaped rs k 1 b a words
       (Binds k (Bound b a (set words (n % block_words o) value)) s) stands held
       (record {
+        above = λ r over. refl;
         slots =
             ap (λ i. set s.slots k (Bound b a (set words i (register s rs)))) named
             ∙ ap (λ word. set s.slots k (Bound b a (set words (n % block_words o) word))) has;
@@ -87,6 +93,7 @@ module _ (o : Parts) (fits : IsInRange o) where
       (sets.others 1 (λ same. absurd (omega arith)) ∙ place) at')
       refl
       (λ u shape' binds. record {
+        above = λ r over. binds.above r over ∙ sets.others r (λ same. absurd (omega (arith, over, same)));
         slots = binds.slots ∙ ap (λ l. set l k found) sets.slots;
         banks = binds.banks ∙ sets.banks;
       }))
@@ -107,12 +114,12 @@ module _ (o : Parts) (fits : IsInRange o) (f : Setting) (homes : HasHomes o f) (
     (store_fits : FitsHomes f store) where
   -- a word of a resident variable is written
   runs-put : (mode : Mode) (x : List ℕ) (label : Label) (shape : Shape) → context_of f.decls x ≡ Some (label, shape)
-      → (home_of f x).resident ≡ true → (n : ℕ) → n < (home_of f x).length → (value : ℤ) → IsWord value → (u : State)
-      → IsShaped o u → StandsFor f u store → register u 0 ≡ value → register u 1 ≡ pos ((home_of f x).word + n)
+      → (home_of f x).resident ≡ true → register_for f x ≡ None → (n : ℕ) → n < (home_of f x).length → (value : ℤ)
+      → IsWord value → (u : State) → IsShaped o u → StandsFor f u store → register u 0 ≡ value → register u 1 ≡ pos ((home_of f x).word + n)
       → StandsAt o u.place (store_code mode (home_of f x).slot)
       → RunsThrough o u (store_code mode (home_of f x).slot) []
       (Assigns f (by_mode mode (with_word store (variable_number f.decls x) n value) store))
-  runs-put mode x label shape known resident n within value is u shaped stands has place at =
+  runs-put mode x label shape known resident free n within value is u shaped stands has place at =
       let h = home_of f x in
       let home = homes.residents x label shape known resident in
       let k = variable_number f.decls x in
@@ -124,7 +131,7 @@ module _ (o : Parts) (fits : IsInRange o) (f : Setting) (homes : HasHomes o f) (
       (bound-fits o u shaped h.slot h.bank h.block words held.holds).holds_block.size in
       let reads : word_in words at_word ≡ old =
       ap (λ b. word_in (slot_words b) at_word) (sym held.holds)
-      ∙ stands.residents x label shape n known resident within in
+      ∙ stands.residents x label shape n known resident free within in
       let found = Bound h.bank h.block (words_written mode words (at_word % block_words o) value) in
       let word = by_mode mode value old in
       let same_words : words_written mode words (at_word % block_words o) value ≡ set words at_word word =
@@ -141,44 +148,93 @@ module _ (o : Parts) (fits : IsInRange o) (f : Setting) (homes : HasHomes o f) (
         stands =
             subst (StandsFor f v) (with_word-by_mode mode store k n value)
             (stands-like f (set_slot u h.slot (Bound h.bank h.block (set words at_word word))) v
-            (with_word store k n word) slots binds.banks
-            (stands-resident_set o f homes u shaped.slot_count store store_fits stands x label shape known resident n
+            (with_word store k n word) slots binds.banks binds.above
+            (stands-resident_set o f homes u shaped.slot_count store store_fits stands x label shape known resident free n
             within words held.holds size word));
         fits = by_mode-fits mode f (with_word store k n value) store
             (fits-with_word f store k n value is store_fits) store_fits;
       })
 
+  -- a register that holds a scalar is written
+  runs-copied : (mode : Mode) (x : List ℕ) (label : Label) → context_of f.decls x ≡ Some (label, Scalar) → (r : ℕ)
+      → register_for f x ≡ Some r → (l : Label) (value : ℤ) (u : State) → IsShaped o u → StandsFor f u store
+      → register u 0 ≡ value → StandsAt o u.place (copy_code l r (copied_from mode r))
+      → RunsThrough o u (copy_code l r (copied_from mode r)) []
+      (Assigns f (by_mode mode (with_word store (variable_number f.decls x) 0 value) store))
+  runs-copied mode x label known r held l value u shaped stands first at =
+      let k = variable_number f.decls x in
+      let old = scalar store k in
+      let word = by_mode mode value old in
+      let has : register u (copied_from mode r) ≡ word =
+      copied mode old first (register-word f homes.held u store stands x r held) in
+      let is : IsWord word = subst IsWord has (IsWord-register o u shaped (copied_from mode r)) in
+      runs-weaker u (copy_code l r (copied_from mode r)) [] [] (Sets u r word)
+      (Assigns f (by_mode mode (with_word store k 0 value) store))
+      (runs-copy o fits r (copied_from mode r) (zero_of l) word u shaped
+      (register-inside f homes.held u store stands x r held) is has
+      (zero-word f homes.held u store stands x r held l) at)
+      refl
+      (λ v shape sets. record {
+        stands =
+            subst (StandsFor f v) (with_word-by_mode mode store k 0 value)
+            (stands-scalar_set f homes.held u store stands x r held store_fits o homes label known word v sets);
+        fits =
+            let fits = subst IsWord first (IsWord-register o u shaped 0) in
+            by_mode-fits mode f (with_word store k 0 value) store (fits-with_word f store k 0 value fits store_fits)
+            store_fits;
+      })
+    where
+      copied : (mode : Mode) (old : ℤ) → register u 0 ≡ value → register u r ≡ old
+          → register u (copied_from mode r) ≡ by_mode mode value old
+      copied Public old first kept = first
+      copied Real old first kept = first
+      copied Mirrored old first kept = kept
+
+  -- a scalar is written
+  runs-written : (mode : Mode) (x : List ℕ) (label : Label) → context_of f.decls x ≡ Some (label, Scalar) → (l : Label)
+      (value : ℤ) (t : State) → IsShaped o t → StandsFor f t store → register t 0 ≡ value → (found : Option ℕ)
+      → register_for f x ≡ found → StandsAt o t.place (write_code found l mode (home_of f x))
+      → RunsThrough o t (write_code found l mode (home_of f x)) []
+      (Assigns f (by_mode mode (with_word store (variable_number f.decls x) 0 value) store))
+  runs-written mode x label known l value t shaped stands first (Some r) held at =
+      runs-copied mode x label known r held l value t shaped stands first at
+  runs-written mode x label known l value t shaped stands first None free at =
+      let h = home_of f x in
+      let home = homes.scalars x label known in
+      let base = Li 1 (pos h.word) in
+      let is : IsWord value = subst IsWord first (IsWord-register o t shaped 0) in
+      runs-cons t base (store_code mode h.slot) [] [] (Sets t 1 (pos h.word))
+      (Assigns f (by_mode mode (with_word store (variable_number f.decls x) 0 value) store)) at
+      (sets-li o fits t shaped 1 (pos h.word) (omega arith))
+      (λ u shape sets at'.
+      runs-put mode x label Scalar known home.resident free 0 (omega (arith, home.length)) value is u shape
+      (stands-set sets (omega arith) stands) (sets.others 0 (λ same. absurd (omega arith)) ∙ first)
+      (sets.value ∙ ap pos (omega arith)) at')
+
   -- an assignment to a scalar
   pub runs-set_variable : (mode : Mode) (x : List ℕ) (label : Label) → context_of f.decls x ≡ Some (label, Scalar)
-      → (e : Tree) → TypedTree (context_of f.decls) e → height_of e ≤ 26 → (s : State) → IsShaped o s
+      → (e : Tree) → TypedTree (context_of f.decls) e → height_of e ≤ 18 → (s : State) → IsShaped o s
       → StandsFor f s store → StandsAt o s.place (set_code f mode (SetVariable x e))
       → RunsThrough o s (set_code f mode (SetVariable x e)) (seen_of_set f mode s.banks s.slots store (SetVariable x e))
       (Assigns f (by_mode mode (assigned f.decls (SetVariable x e) store) store))
   runs-set_variable mode x label known e typed room s shaped stands at =
       let h = home_of f x in
-      let home = homes.scalars x label known in
-      let k = variable_number f.decls x in
+      let l = label_of (context_of f.decls) (Variable x) in
       let value = evaluated f.decls store e in
       let before = accesses f store e in
-      let seen = seen_of_all mode s.banks s.slots before in
-      let base = Li 1 (pos h.word) in
-      let Done : State → Type 0 = Assigns f (by_mode mode (with_word store k 0 value) store) in
-      runs-append s (expr_code f mode 0 e) (base ∷ store_code mode h.slot) seen []
+      let write = write_code (register_for f x) l mode h in
+      let Done : State → Type 0 =
+      Assigns f (by_mode mode (with_word store (variable_number f.decls x) 0 value) store) in
+      runs-append s (expr_code f mode 0 e) write (seen_of_all mode s.banks s.slots before) []
       (LeavesWord f store before 0 value s) Done at
       (runs-expression o fits f homes store store_fits mode e typed 0 (omega arith) s shaped stands)
       (λ t shape leaves at'.
-      let is : IsWord value = subst IsWord leaves.value (IsWord-register o t shape 0) in
-      runs-cons t base (store_code mode h.slot) [] [] (Sets t 1 (pos h.word)) Done at'
-      (sets-li o fits t shape 1 (pos h.word) (omega arith))
-      (λ u shape' sets at''.
-      runs-put mode x label Scalar known home.resident 0 (omega (arith, home.length)) value is u shape'
-      (stands-like f t u store sets.slots sets.banks leaves.stands)
-      (sets.others 0 (λ same. absurd (omega arith)) ∙ leaves.value) (sets.value ∙ ap pos (omega arith)) at''))
+      runs-written mode x label known l value t shape leaves.stands leaves.value (register_for f x) refl at')
 
   -- the same where the array is resident or isn't
   runs-set_by : (mode : Mode) (x : List ℕ) (label : Label) → context_of f.decls x ≡ Some (label, Array)
-      → (i e : Tree) → TypedTree (context_of f.decls) i → TypedTree (context_of f.decls) e → 1 + height_of i ≤ 26
-      → height_of e ≤ 26 → (s : State) → IsShaped o s → StandsFor f s store
+      → (i e : Tree) → TypedTree (context_of f.decls) i → TypedTree (context_of f.decls) e → 1 + height_of i ≤ 18
+      → height_of e ≤ 18 → (s : State) → IsShaped o s → StandsFor f s store
       → (near resident : Bool) → (home_of f x).resident ≡ resident
       → StandsAt o s.place
       (expr_code f mode 0 e
@@ -239,7 +295,8 @@ module _ (o : Parts) (fits : IsInRange o) (f : Setting) (homes : HasHomes o f) (
       (λ u shape' done. done))
       (λ u shape' placed at''.
       subst (λ code. StandsAt o u.place code → RunsThrough o u code [] Done) (sym (append-nil store_word))
-      (runs-put mode x label Array known resident n within value is u shape' placed.stands
+      (runs-put mode x label Array known resident (array-free f homes.held x label known) n within value is u shape'
+      placed.stands
       (placed.below 0 (omega arith) ∙ leaves.value) placed.value)
       at'')))
       shown
@@ -322,7 +379,7 @@ module _ (o : Parts) (fits : IsInRange o) (f : Setting) (homes : HasHomes o f) (
         stands =
             subst (StandsFor f _) (with_word-by_mode mode store k n value)
             (stands-element_set o fits f homes u shape' store store_fits accessed.leaves.stands x label known turn n
-            (word-within o fits f homes store store_fits x label known turn index) word _ slots banks);
+            (word-within o fits f homes store store_fits x label known turn index) word _ slots banks binds.above);
         fits = by_mode-fits mode f (with_word store k n value) store
             (fits-with_word f store k n value is store_fits) store_fits;
       })))
@@ -333,8 +390,8 @@ module _ (o : Parts) (fits : IsInRange o) (f : Setting) (homes : HasHomes o f) (
 
   -- an assignment to an element
   pub runs-set_element : (mode : Mode) (x : List ℕ) (label : Label) → context_of f.decls x ≡ Some (label, Array)
-      → (i e : Tree) → TypedTree (context_of f.decls) i → TypedTree (context_of f.decls) e → 1 + height_of i ≤ 26
-      → height_of e ≤ 26
+      → (i e : Tree) → TypedTree (context_of f.decls) i → TypedTree (context_of f.decls) e → 1 + height_of i ≤ 18
+      → height_of e ≤ 18
       → (s : State) → IsShaped o s → StandsFor f s store → StandsAt o s.place (set_code f mode (SetElement x i e))
       → RunsThrough o s (set_code f mode (SetElement x i e))
       (seen_of_set f mode s.banks s.slots store (SetElement x i e))

@@ -1,12 +1,12 @@
 -- A state represents a store in which one element is changed, if its block is written in its slot and in its bank.
-use Rattle.std.proofs.Common.{◌≡◌, ◌≢◌, ℕ, ◌+◌, ◌*◌, ◌/◌, ◌%◌, ◌<◌, ◌≤◌, false, ℤ, pos, List, [], length, get_or, set, Some, sym, ap, ◌∙◌, subst, ⊎_elim, arith, mul-le-mul_right, div-add-mod', mod-lt}
+use Rattle.std.proofs.Common.{◌≡◌, ◌≢◌, ℕ, ◌+◌, ◌*◌, ◌/◌, ◌%◌, ◌<◌, ◌≤◌, false, ℤ, pos, List, [], length, get_or, set, Some, refl, sym, ap, ◌∙◌, subst, ⊎_elim, arith, mul-le-mul_right, div-add-mod', mod-lt}
 use Rattle.std.proofs.lemmas.Bool.{cases_eq, true≢false}
 use Rattle.std.proofs.lemmas.List.{get_or-set_same, get_or-set_other}
 use Rattle.gr_word.specs.declared.variables.Label.{Label}
 use Rattle.gr_word.specs.declared.variables.Shape.TheVariants.{Array}
 use Rattle.lt_isa.specs.Object.{Parts}
 use Rattle.lt_isa.specs.Ranges.{IsInRange}
-use Rattle.lt_isa.specs.Machine.{Unbound, Bound, State, bank_blocks, block_at, word_in, set_slot, set_block}
+use Rattle.lt_isa.specs.Machine.{Unbound, Bound, State, register, bank_blocks, block_at, word_in, set_slot, set_block}
 use Rattle.lt_isa.specs.Outputs.{bank_word_numbered}
 use Rattle.lt_isa.specs.Shape.{IsShaped}
 use Rattle.src_tree.specs.Contexts.{context_of}
@@ -16,6 +16,7 @@ use Rattle.scratch_alloc.proofs.Serving.{serves-within}
 use Rattle.block_cache_gen.specs.Homes.{Home, Setting, HasHomes, HomesApart, no_home, home_of, words_a_block, start_of_home}
 use Rattle.block_cache_gen.specs.StandsFor.{StandsFor, FitsHomes, IsBlockOf}
 use Rattle.block_cache_gen.proofs.HomeFacts.{block_words-is, block_words-least, block-exists, word-split, word-block, word-place}
+use Rattle.block_cache_gen.proofs.HeldScalars.{array-free, held-words}
 use Rattle.block_cache_gen.proofs.Stands.{stands-like, stands-bound}
 use Rattle.block_cache_gen.proofs.Stores.{words-other, words-same}
 
@@ -168,12 +169,13 @@ module _ (o : Parts) (fits : IsInRange o) (f : Setting) (homes : HasHomes o f) (
       stands-bound o f homes s store stands written x label known turn block_here words_here
       (get_or-set_same s.slots h.slot found Unbound (omega (arith, shaped.slot_count)))
       (λ j other. get_or-set_other s.slots h.slot j found Unbound other)
-      (sym written-block) (with_word store k n word)
+      (sym written-block) (λ r over. refl) (with_word store k n word)
       (λ y label' shape i known' resident.
       ap (λ l. get_or l i (pos 0)) (sym
       (words-other store k n (variable_number f.decls y) word
       (λ same. true≢false
       (sym resident ∙ ap (λ v. (get_or f.homes v no_home).resident) same ∙ turn)))))
+      (held-words f x (array-free f homes.held x label known) store n word)
       (λ y label' i known' turn' inside.
       let g = home_of f y in
       let m = variable_number f.decls y in
@@ -213,6 +215,7 @@ module _ (o : Parts) (fits : IsInRange o) (f : Setting) (homes : HasHomes o f) (
 
   -- with an element set the machine represents the store with it
   pub stands-element_set : (t : State) → t.slots ≡ written.slots → t.banks ≡ written.banks
+      → ((r : ℕ) → 19 ≤ r → register t r ≡ register s r)
       → StandsFor f t (with_word store (variable_number f.decls x) n word)
-  stands-element_set t slots banks =
-      stands-like f written t (with_word store (variable_number f.decls x) n word) slots banks stands-written
+  stands-element_set t slots banks kept =
+      stands-like f written t (with_word store (variable_number f.decls x) n word) slots banks kept stands-written

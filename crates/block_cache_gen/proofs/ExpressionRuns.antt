@@ -1,7 +1,8 @@
 -- The code of an expression, run, leaves its value, and is seen to make its accesses.
 use Rattle.std.proofs.Common.{◌≡◌, ℕ, ◌+◌, ◌/◌, ◌%◌, ◌<◌, ◌≤◌, Bool, true, false, ℤ, pos, List, [], ◌∷◌, ◌++◌, append-nil, Option, Some, None, refl, sym, ap, ◌∙◌, subst, arith}
-use Rattle.gr_word.specs.Words.{applied}
+use Rattle.gr_word.specs.Words.{applied, IsWord}
 use Rattle.gr_word.specs.declared.variables.Label.{Label}
+use Rattle.gr_word.specs.declared.variables.Label.TheVariants.{Public}
 use Rattle.gr_word.specs.declared.variables.Shape.TheVariants.{Scalar, Array}
 use Rattle.lt_isa.specs.declared.instructions.Instr.TheVariants.{Li, Alu, Ldw}
 use Rattle.lt_isa.specs.Object.{Parts}
@@ -20,52 +21,70 @@ use Rattle.src_tree.specs.Trees.{Tree, Number, Variable, Element, Operation}
 use Rattle.src_tree.specs.Typing.{TypedTree}
 use Rattle.src_tree.proofs.TreeHeights.{height-some}
 use Rattle.block_cache_gen.specs.declared.frames.Mode.{Mode}
-use Rattle.block_cache_gen.specs.Homes.{Setting, HasHomes, home_of, words_a_block, start_of_home}
-use Rattle.block_cache_gen.specs.Codes.{fixed_index, scalar_code, access_by, placed_code, operation_code, steps_at, expr_code, compares}
+use Rattle.block_cache_gen.specs.Homes.{Setting, HasHomes, home_of, words_a_block, start_of_home, register_for}
+use Rattle.block_cache_gen.specs.Codes.{fixed_index, scalar_code, access_by, placed_code, operation_code, steps_at, expr_code, compares, copy_code}
 use Rattle.gr_word.specs.declared.operations.Op.{Op}
 use Rattle.strength_reduction.specs.Steps.{Step, numbered, words_after, code_of}
 use Rattle.step_code.proofs.StepRuns.{Leaves, runs-steps}
+use Rattle.held_registers.specs.Held.{public_zero}
+use Rattle.held_registers.proofs.Copies.{runs-copy}
 use Rattle.block_cache_gen.proofs.StepsAt.{StepsOf, steps-of}
 use Rattle.block_cache_gen.specs.StandsFor.{StandsFor, FitsHomes}
 use Rattle.block_cache_gen.specs.Accesses.{access_of, accessed_by, accesses, word_number, block_in, slots_after, seen_of_all}
 use Rattle.block_cache_gen.specs.LeavesWord.{LeavesWord}
 use Rattle.block_cache_gen.proofs.AccessLaws.{slots_after-append, seen_of_all-append}
 use Rattle.block_cache_gen.proofs.HomeFacts.{block_words-is, word-block, word-place}
-use Rattle.block_cache_gen.proofs.Stands.{stands-like}
+use Rattle.block_cache_gen.proofs.HeldScalars.{array-free}
+use Rattle.block_cache_gen.proofs.RegisterWrites.{register-word, zero-word}
+use Rattle.block_cache_gen.proofs.Stands.{stands-like, stands-set}
 use Rattle.block_cache_gen.proofs.ResidentRuns.{runs-placed, runs-read, resident-within}
 use Rattle.block_cache_gen.proofs.AccessRuns.{Accesses, runs-access, word-within}
 
 -- where one register was set, a word is left and nothing was accessed
-leaves-set : {f : Setting} {store : Store} {to : ℕ} {word : ℤ} {s t : State} → StandsFor f s store → Sets s to word t
-    → LeavesWord f store [] to word s t
-leaves-set {f = f} {store = store} {to = to} {s = s} {t = t} stands sets = record {
+leaves-set : {f : Setting} {store : Store} {to : ℕ} {word : ℤ} {s t : State} → to < 19 → StandsFor f s store
+    → Sets s to word t → LeavesWord f store [] to word s t
+leaves-set low stands sets = record {
   value = sets.value;
   below = λ r under. sets.others r (λ same. absurd (omega arith));
   banks = sets.banks;
   slots = sets.slots;
-  stands = stands-like f s t store sets.slots sets.banks stands;
+  stands = stands-set sets low stands;
 }
 
 module _ (o : Parts) (fits : IsInRange o) (f : Setting) (homes : HasHomes o f) (store : Store)
     (store_fits : FitsHomes f store) where
-  -- a scalar
-  runs-scalar : (x : List ℕ) (label : Label) → context_of f.decls x ≡ Some (label, Scalar) → (to : ℕ) → to < 32
-      → (s : State) → IsShaped o s → StandsFor f s store → StandsAt o s.place (scalar_code (home_of f x) to)
-      → RunsThrough o s (scalar_code (home_of f x) to) []
+  -- a scalar that a register holds
+  runs-held : (x : List ℕ) (r : ℕ) → register_for f x ≡ Some r → (to : ℕ) → to < 19 → (s : State) → IsShaped o s
+      → StandsFor f s store → StandsAt o s.place (copy_code Public to r)
+      → RunsThrough o s (copy_code Public to r) [] (LeavesWord f store [] to (scalar store (variable_number f.decls x)) s)
+  runs-held x r held to small s shaped stands at =
+      let value = scalar store (variable_number f.decls x) in
+      let has = register-word f homes.held s store stands x r held in
+      runs-weaker s (copy_code Public to r) [] [] (Sets s to value) (LeavesWord f store [] to value s)
+      (runs-copy o fits to r public_zero value s shaped (omega arith) (subst IsWord has (IsWord-register o s shaped r))
+      has (zero-word f homes.held s store stands x r held Public) at)
+      refl
+      (λ t shape sets. leaves-set small stands sets)
+
+  -- a scalar that is read in its slot
+  runs-loaded : (x : List ℕ) (label : Label) → context_of f.decls x ≡ Some (label, Scalar) → register_for f x ≡ None
+      → (to : ℕ) → to < 19 → (s : State) → IsShaped o s → StandsFor f s store
+      → StandsAt o s.place (Li to (pos (home_of f x).word) ∷ Ldw to (home_of f x).slot to ∷ [])
+      → RunsThrough o s (Li to (pos (home_of f x).word) ∷ Ldw to (home_of f x).slot to ∷ []) []
       (LeavesWord f store [] to (scalar store (variable_number f.decls x)) s)
-  runs-scalar x label known to small s shaped stands at =
+  runs-loaded x label known free to small s shaped stands at =
       let h = home_of f x in
       let home = homes.scalars x label known in
       let value = scalar store (variable_number f.decls x) in
       let load = Ldw to h.slot to in
       runs-cons s (Li to (pos h.word)) (load ∷ []) [] [] (Sets s to (pos h.word)) (LeavesWord f store [] to value s) at
-      (sets-li o fits s shaped to (pos h.word) small)
+      (sets-li o fits s shaped to (pos h.word) (omega arith))
       (λ t shape sets at'.
-      let stands' = stands-like f s t store sets.slots sets.banks stands in
+      let stands' = stands-set sets small stands in
       let place : register t to ≡ pos (h.word + 0) = sets.value ∙ ap pos (omega arith) in
       runs-weaker t (load ∷ []) [] [] (Sets t to value) (LeavesWord f store [] to value s)
       (runs-read o fits f homes store store_fits x label Scalar known home.resident to 0 t shape stands'
-      (omega (arith, home.length)) small place at')
+      (omega (arith, home.length)) free small place at')
       refl
       (λ u shape' sets'. record {
         value = sets'.value;
@@ -73,8 +92,18 @@ module _ (o : Parts) (fits : IsInRange o) (f : Setting) (homes : HasHomes o f) (
             sets'.others r (λ same. absurd (omega arith)) ∙ sets.others r (λ same. absurd (omega arith));
         banks = sets'.banks ∙ sets.banks;
         slots = sets'.slots ∙ sets.slots;
-        stands = stands-like f s u store (sets'.slots ∙ sets.slots) (sets'.banks ∙ sets.banks) stands;
+        stands = stands-set sets' small stands';
       }))
+
+  -- a scalar
+  runs-scalar : (x : List ℕ) (label : Label) → context_of f.decls x ≡ Some (label, Scalar) → (to : ℕ) → to < 19
+      → (s : State) → IsShaped o s → StandsFor f s store → (found : Option ℕ) → register_for f x ≡ found
+      → StandsAt o s.place (scalar_code found (home_of f x) to)
+      → RunsThrough o s (scalar_code found (home_of f x) to) []
+      (LeavesWord f store [] to (scalar store (variable_number f.decls x)) s)
+  runs-scalar x label known to small s shaped stands (Some r) held at = runs-held x r held to small s shaped stands at
+  runs-scalar x label known to small s shaped stands None free at =
+      runs-loaded x label known free to small s shaped stands at
 
   -- the word of an element, in the block that an access leaves
   pub element-word : (x : List ℕ) (label : Label) → context_of f.decls x ≡ Some (label, Array)
@@ -95,7 +124,7 @@ module _ (o : Parts) (fits : IsInRange o) (f : Setting) (homes : HasHomes o f) (
 
   -- an element, where what the code of its index does is known
   runs-element : (mode : Mode) (x : List ℕ) (i : Tree) (label : Label) → context_of f.decls x ≡ Some (label, Array)
-      → (to : ℕ) → to + 2 < 32 → (s : State) → IsShaped o s → StandsFor f s store
+      → (to : ℕ) → to + 2 < 19 → (s : State) → IsShaped o s → StandsFor f s store
       → (StandsAt o s.place (expr_code f mode to i)
       → RunsThrough o s (expr_code f mode to i) (seen_of_all mode s.banks s.slots (accesses f store i))
       (LeavesWord f store (accesses f store i) to (evaluated f.decls store i) s))
@@ -135,14 +164,14 @@ module _ (o : Parts) (fits : IsInRange o) (f : Setting) (homes : HasHomes o f) (
       runs-weaker t (load ∷ []) [] [] (Sets t to value) Done
       (runs-read o fits f homes store store_fits x label Array known resident to n t shape placed.stands
       (resident-within o fits f homes store store_fits x label Array known resident index)
-      (omega arith) placed.value at')
+      (array-free f homes.held x label known) (omega arith) placed.value at')
       refl
       (λ u shape' sets. record {
         value = sets.value;
         below = λ r under. sets.others r (λ same. absurd (omega arith)) ∙ placed.below r under;
         banks = sets.banks ∙ placed.banks;
         slots = sets.slots ∙ placed.slots;
-        stands = stands-like f t u store sets.slots sets.banks placed.stands;
+        stands = stands-set sets (omega arith) placed.stands;
       })))
       (append-nil seen)
       (λ t shape done. done))
@@ -175,13 +204,13 @@ module _ (o : Parts) (fits : IsInRange o) (f : Setting) (homes : HasHomes o f) (
         below = λ r under. sets.others r (λ same. absurd (omega arith)) ∙ accessed.leaves.below r under;
         banks = sets.banks ∙ accessed.leaves.banks;
         slots = sets.slots ∙ accessed.leaves.slots;
-        stands = stands-like f t u store sets.slots sets.banks accessed.leaves.stands;
+        stands = stands-set sets (omega arith) accessed.leaves.stands;
       })))
       (append-nil seen)
       (λ t shape done. done)
 
   -- an operation on two expressions, where what the code of each does is known
-  runs-operation : (mode : Mode) (op : Op) (left right : Tree) (to : ℕ) → to + 2 < 32 → (s : State) → IsShaped o s
+  runs-operation : (mode : Mode) (op : Op) (left right : Tree) (to : ℕ) → to + 2 < 19 → (s : State) → IsShaped o s
       → StandsFor f s store
       → (StandsAt o s.place (expr_code f mode to left)
       → RunsThrough o s (expr_code f mode to left) (seen_of_all mode s.banks s.slots (accesses f store left))
@@ -236,14 +265,14 @@ module _ (o : Parts) (fits : IsInRange o) (f : Setting) (homes : HasHomes o f) (
             ∙ ap (λ l. slots_after l t.slots then) leaves.banks
             ∙ ap (λ l. slots_after s.banks l then) leaves.slots
             ∙ sym (slots_after-append s.banks s.slots before then);
-        stands = stands-like f u v store sets.slots sets.banks leaves'.stands;
+        stands = stands-set sets (omega arith) leaves'.stands;
       }))))
       (ap (λ l. seen_first ++ l) (append-nil seen_then) ∙ sym (seen_of_all-append mode s.banks s.slots before then))
       (λ t shape done. done)
 
   -- an operation that steps replace
   runs-stepped : (mode : Mode) (op : Op) (left right : Tree) (steps : List Step) → StepsOf op right steps → (to : ℕ)
-      → to + 2 < 32 → (s : State) → IsShaped o s → StandsFor f s store
+      → to + 2 < 19 → (s : State) → IsShaped o s → StandsFor f s store
       → (StandsAt o s.place (expr_code f mode to left)
       → RunsThrough o s (expr_code f mode to left) (seen_of_all mode s.banks s.slots (accesses f store left))
       (LeavesWord f store (accesses f store left) to (evaluated f.decls store left) s))
@@ -268,7 +297,7 @@ module _ (o : Parts) (fits : IsInRange o) (f : Setting) (homes : HasHomes o f) (
       (λ t shape leaves at'.
       let words : ℕ → ℤ = λ i. register t (numbered to i) in
       runs-weaker t (code_of to steps) [] [] (Leaves to (words_after steps words) t) Done
-      (runs-steps o fits to room steps words t replaces.fits shape (λ i low. refl) at')
+      (runs-steps o fits to (omega (arith, room)) steps words t replaces.fits shape (λ i low. refl) at')
       refl
       (λ u shape' stepped. record {
         value = stepped.own 0 (omega arith) ∙ replaces.result words (IsWord-register o t shape to)
@@ -276,7 +305,9 @@ module _ (o : Parts) (fits : IsInRange o) (f : Setting) (homes : HasHomes o f) (
         below = λ r under. stepped.below r under ∙ leaves.below r under;
         banks = stepped.banks ∙ leaves.banks;
         slots = stepped.slots ∙ leaves.slots;
-        stands = stands-like f t u store stepped.slots stepped.banks leaves.stands;
+        stands =
+            stands-like f t u store stepped.slots stepped.banks
+            (λ r over. stepped.above r (omega (arith, room, over))) leaves.stands;
       })))
       (append-nil seen)
       (λ t shape done. done) in
@@ -288,7 +319,7 @@ module _ (o : Parts) (fits : IsInRange o) (f : Setting) (homes : HasHomes o f) (
       (LeavesWord f store l to result s)) same runs)
 
   -- an operation
-  runs-either : (mode : Mode) (op : Op) (left right : Tree) (to : ℕ) → to + 2 < 32 → (s : State) → IsShaped o s
+  runs-either : (mode : Mode) (op : Op) (left right : Tree) (to : ℕ) → to + 2 < 19 → (s : State) → IsShaped o s
       → StandsFor f s store
       → (StandsAt o s.place (expr_code f mode to left)
       → RunsThrough o s (expr_code f mode to left) (seen_of_all mode s.banks s.slots (accesses f store left))
@@ -308,7 +339,7 @@ module _ (o : Parts) (fits : IsInRange o) (f : Setting) (homes : HasHomes o f) (
       runs-stepped mode op left right steps (steps-of f op right steps e) to room s shaped stands run at
 
   -- an expression
-  pub runs-expression : (mode : Mode) (e : Tree) → TypedTree (context_of f.decls) e → (to : ℕ) → to + height_of e ≤ 26
+  pub runs-expression : (mode : Mode) (e : Tree) → TypedTree (context_of f.decls) e → (to : ℕ) → to + height_of e ≤ 18
       → (s : State) → IsShaped o s → StandsFor f s store → StandsAt o s.place (expr_code f mode to e)
       → RunsThrough o s (expr_code f mode to e) (seen_of_all mode s.banks s.slots (accesses f store e))
       (LeavesWord f store (accesses f store e) to (evaluated f.decls store e) s)
@@ -316,9 +347,9 @@ module _ (o : Parts) (fits : IsInRange o) (f : Setting) (homes : HasHomes o f) (
       runs-weaker s (Li to z ∷ []) [] [] (Sets s to z) (LeavesWord f store [] to z s)
       (runs-one s (Li to z) [] (Sets s to z) at (sets-li o fits s shaped to z (omega arith)))
       refl
-      (λ t shape sets. leaves-set stands sets)
+      (λ t shape sets. leaves-set (omega arith) stands sets)
   runs-expression mode (Variable x) typed to room s shaped stands at =
-      runs-scalar x typed.0 typed.1 to (omega arith) s shaped stands at
+      runs-scalar x typed.0 typed.1 to (omega arith) s shaped stands (register_for f x) refl at
   runs-expression mode (Element x i) typed to room s shaped stands at =
       runs-element mode x i typed.0.0 typed.0.1 to (omega (arith, height-some i)) s shaped stands
       (runs-expression mode i typed.1.0 to (omega arith) s shaped stands) (compares f mode (home_of f x) i)

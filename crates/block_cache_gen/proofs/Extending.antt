@@ -19,11 +19,11 @@ use Rattle.block_cache_gen.specs.Homes.{Setting}
 use Rattle.block_cache_gen.specs.Codes.{expr_code, guard_code, set_code}
 use Rattle.block_cache_gen.specs.Emitted.{Appended, notes_in, EmitsExpr, EmitsGuard, EmitsSet}
 use Rattle.block_cache_gen.specs.Extends.{Extends}
-use Rattle.block_cache_gen.specs.Notes.{all_marked, expr_notes, guard_notes, set_notes}
+use Rattle.block_cache_gen.specs.Notes.{base_mask, expr_notes, guard_notes, set_notes}
 use Rattle.block_cache_gen.specs.TreeWords.{HasWords, TestHasWords, SetHasWords}
 use Rattle.block_cache_gen.proofs.Emitting.{appended_length}
 use Rattle.block_cache_gen.proofs.RangesOfCode.{CodeFits, HomesFit, code-all, expression-fits, guard-fits, set_variable-fits, set_element-fits}
-use Rattle.block_cache_gen.proofs.RangesOfNotes.{PinsLow, NotesRise, rise-fits, expression-rises, guard-rises, set-rises, expression-count, guard-count, set_variable-count, set_element-count}
+use Rattle.block_cache_gen.proofs.RangesOfNotes.{PinsLow, NotesRise, base_mask-below, rise-fits, expression-rises, guard-rises, set-rises, expression-count, guard-count, set_variable-count, set_element-count}
 use Rattle.block_cache_gen.proofs.Sizes.{expr_code_short, guard_code_short, set_code_short}
 
 -- notes that rise are between their bounds
@@ -85,21 +85,21 @@ extends f banks mode weight code noted a b some pins x few few_notes fits rise r
 
 -- so does the code of an expression
 pub expr_extends : (f : Setting) (banks : ℕ) (mode : Mode) (to : ℕ) (e : Tree) (a b : CodeBuf)
-    → 2 ≤ banks → HomesFit banks f → TypedTree (context_of f.decls) e → to + height_of e ≤ 26 → HasWords e
-    → length a.code.items + 120 * tree_weight e ≤ most_instructions → EmitsExpr f mode all_marked to e a b
+    → 2 ≤ banks → HomesFit banks f → TypedTree (context_of f.decls) e → to + height_of e ≤ 18 → HasWords e
+    → length a.code.items + 120 * tree_weight e ≤ most_instructions → EmitsExpr f mode (base_mask f) to e a b
     → Extends banks mode (tree_weight e) a b
 expr_extends f banks mode to e a b some homes typed low words room x =
     let short = expr_code_short f mode to e in
-    let count = expression-count f e all_marked to (length a.code.items) in
+    let count = expression-count f e (base_mask f) to (length a.code.items) in
     extends f banks mode (tree_weight e) (λ m. expr_code f m to e)
-    (λ place. expr_notes f all_marked to place e) a b some homes.pins x
+    (λ place. expr_notes f (base_mask f) to place e) a b some homes.pins x
     (omega arith) (omega arith) (expression-fits banks f mode homes to e typed words low)
-    (expression-rises f e all_marked to (length a.code.items) (omega arith)) room
+    (expression-rises f e (base_mask f) to (length a.code.items) (base_mask-below f)) room
 
 -- that of a guard
 pub guard_extends : (f : Setting) (banks : ℕ) (mode : Mode) (to : ℕ) (t : Test) (a b : CodeBuf)
     → 2 ≤ banks → HomesFit banks f
-    → TypedTest (context_of f.decls) t → to + height_of t.left ≤ 26 → to + 1 + height_of t.right ≤ 26 → TestHasWords t
+    → TypedTest (context_of f.decls) t → to + height_of t.left ≤ 18 → to + 1 + height_of t.right ≤ 18 → TestHasWords t
     → length a.code.items + 120 * test_weight t ≤ most_instructions → EmitsGuard f mode to t a b
     → Extends banks mode (test_weight t) a b
 guard_extends f banks mode to t a b some homes typed low lower words room x =

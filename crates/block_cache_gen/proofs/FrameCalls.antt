@@ -16,7 +16,7 @@ use Rattle.block_cache_gen.specs.Conditions.{IsStatementFor}
 use Rattle.block_cache_gen.specs.Emitted.{EmitsExpr, EmitsGuard, EmitsSet}
 use Rattle.block_cache_gen.specs.Extends.{Extends}
 use Rattle.block_cache_gen.specs.Homes.{Setting}
-use Rattle.block_cache_gen.specs.Notes.{all_marked}
+use Rattle.block_cache_gen.specs.Notes.{base_mask}
 use Rattle.block_cache_gen.specs.Settings.{IsFrame, setting_of}
 use Rattle.block_cache_gen.specs.TreeWords.{HasWords, TestHasWords, SetHasWords}
 use Rattle.block_cache_gen.proofs.Extending.{expr_extends, guard_extends, set_extends}
@@ -33,17 +33,17 @@ banks_of f = length f.places.now.blocks.items
 
 -- the code of an expression extends what was there
 pub frame_expr : (f : Frame) (s : Setting) (mode : Mode) (to : ℕ) (e : Tree) (a b : CodeBuf)
-    → IsFrame f → s ≡ setting_of f → TypedTree (context_of f.program.now.decls.items) e → to + height_of e ≤ 26
-    → length a.code.items + 120 * tree_weight e ≤ most_instructions → EmitsExpr s mode all_marked to e a b → HasWords e
+    → IsFrame f → s ≡ setting_of f → TypedTree (context_of f.program.now.decls.items) e → to + height_of e ≤ 18
+    → length a.code.items + 120 * tree_weight e ≤ most_instructions → EmitsExpr s mode (base_mask s) to e a b → HasWords e
     → Extends (banks_of f) mode (tree_weight e) a b
 frame_expr f s mode to e a b is same typed low room x words =
     expr_extends (setting_of f) (banks_of f) mode to e a b (frame_banks f is) (homes_fit f is) typed low words room
-    (let P : Setting → Type 0 = λ t. EmitsExpr t mode all_marked to e a b in subst P same x)
+    (let P : Setting → Type 0 = λ t. EmitsExpr t mode (base_mask t) to e a b in subst P same x)
 
 -- so does that of a guard
 pub frame_guard : (f : Frame) (s : Setting) (mode : Mode) (to : ℕ) (t : Test) (a b : CodeBuf)
     → IsFrame f → s ≡ setting_of f
-    → TypedTest (context_of f.program.now.decls.items) t → to + height_of t.left ≤ 26 → to + 1 + height_of t.right ≤ 26
+    → TypedTest (context_of f.program.now.decls.items) t → to + height_of t.left ≤ 18 → to + 1 + height_of t.right ≤ 18
     → length a.code.items + 120 * test_weight t ≤ most_instructions → EmitsGuard s mode to t a b → TestHasWords t
     → Extends (banks_of f) mode (test_weight t) a b
 frame_guard f s mode to t a b is same typed low lower room x words =

@@ -10,6 +10,7 @@ use Rattle.src_tree.specs.Heights.{height_of}
 use Rattle.src_tree.specs.Limits.{LowStatement}
 use Rattle.src_tree.specs.Trees.{Tree, Test, Statement, SetVariable, SetElement, Choice, Loop, Source, source_of}
 use Rattle.src_tree.specs.Typing.{TypedTree, TypedTest, TypedStatement, DeclaredOnce}
+use Rattle.held_registers.specs.Held.{IsSoundHeld}
 use Rattle.block_cache_gen.specs.declared.frames.CodeBuf.{CodeBuf}
 use Rattle.block_cache_gen.specs.declared.frames.Frame.{Frame}
 use Rattle.block_cache_gen.specs.declared.frames.Mode.{Mode}
@@ -21,19 +22,21 @@ use Rattle.block_cache_gen.specs.Conditions.{IsStatementFor}
 use Rattle.block_cache_gen.specs.Emitted.{Appended, notes_in, EmitsExpr, EmitsGuard, EmitsSet}
 use Rattle.block_cache_gen.specs.Homes.{Setting}
 use Rattle.block_cache_gen.specs.InstructionsOf.{instructions_of_set}
-use Rattle.block_cache_gen.specs.Notes.{all_marked, expr_notes, guard_notes, set_notes}
+use Rattle.block_cache_gen.specs.Notes.{base_mask, expr_notes, guard_notes, set_notes}
 use Rattle.block_cache_gen.specs.PublicCode.{IsPassedAsExpr, IsPassedAsTest, IsPassedAsSet}
 use Rattle.block_cache_gen.specs.PublicIndexes.{HasPublicIndexes, TestHasPublicIndexes, SetHasPublicIndexes}
 use Rattle.block_cache_gen.specs.RunsOf.{Evaluates, EvaluatesTest, Performs}
 use Rattle.block_cache_gen.specs.SecretCode.{IsWalkedAsExpr, IsWalkedAsTest, IsWalkedAsSet}
 use Rattle.block_cache_gen.specs.Settings.{IsFrame, setting_of}
-use Rattle.block_cache_gen.specs.StoredWords.{stored_words, registers_aside}
+use Rattle.block_cache_gen.specs.StoredWords.{stored_words, written_words, set_stores, registers_aside}
 use Rattle.block_cache_gen.specs.Twins.{HasTwin, other_mode}
+use Rattle.block_cache_gen.proofs.WrittenWords.{set-writes}
 use Rattle.block_cache_gen.proofs.FrameIndexes.{frame_public, set_of_statement}
 use Rattle.src_tree.proofs.ProgramStatements.{statement_typed, statement_low}
 use Rattle.block_cache_gen.proofs.PublicAssignments.{set_variable-passes, set_element-passes}
 use Rattle.block_cache_gen.proofs.PublicExpressions.{expression-passes}
-use Rattle.block_cache_gen.proofs.PublicGuards.{leaves-none, guard-passes}
+use Rattle.block_cache_gen.proofs.NoteClaims.{leaves-base}
+use Rattle.block_cache_gen.proofs.PublicGuards.{guard-passes}
 use Rattle.block_cache_gen.proofs.RunsOf.{expression-evaluates, guard-evaluates, assignment-performs}
 use Rattle.block_cache_gen.proofs.SecretCodes.{expr-stores, guard-stores, variable-stores, element-stores, set_code-aside}
 use Rattle.block_cache_gen.proofs.SecretWalks.{expr-walked, guard-walked, set-walked}
@@ -62,12 +65,12 @@ other_secret Mirrored secret = refl
 
 -- an expression
 module _ (f : Setting) (once : DeclaredOnce f.decls) (to : ℕ) (e : Tree) (typed : TypedTree (context_of f.decls) e)
-    (public : HasPublicIndexes f e) (low : to + height_of e ≤ 26) where
+    (public : HasPublicIndexes f e) (low : to + height_of e ≤ 18) where
   expr-passed : (place : ℕ)
-      → IsPassedAsExpr f to e place (expr_code f Public to e) (expr_notes f all_marked to place e)
+      → IsPassedAsExpr f to e place (expr_code f Public to e) (expr_notes f (base_mask f) to place e)
   expr-passed place o comes holds homes stands here carries =
-      let v = expression-passes o f homes once e typed public all_marked to place comes holds low stands here carries
-      (leaves-none to holds) in
+      let v = expression-passes o f homes once e typed public (base_mask f) to place comes holds low stands here carries
+      (leaves-base f to holds) in
       record { last = v.last; passes = v.passes; carries = v.kept.carries; value = v.labelled }
 
 -- The clauses for the code and the notes that a call made of an expression, with `place` instructions before them.
@@ -81,20 +84,20 @@ pub record ExprPromises (f : Setting) (mode : Mode) (to : ℕ) (e : Tree) (place
 -- what was appended for an expression does what is promised
 pub frame-expr_promises : (f : Frame) (s : Setting) (mode : Mode) (to : ℕ) (e : Tree) (a b : CodeBuf) → IsFrame f
     → s ≡ setting_of f → TypedTree (context_of f.program.now.decls.items) e → HasPublicIndexes (setting_of f) e
-    → to + height_of e ≤ 26 → EmitsExpr s mode all_marked to e a b
+    → to + height_of e ≤ 18 → EmitsExpr s mode (base_mask s) to e a b
     → ExprPromises (setting_of f) mode to e (length a.code.items) (code_behind a b) (notes_behind a b)
 frame-expr_promises f s mode to e a b is same typed public low x =
     let g = setting_of f in
     let place = length a.code.items in
-    let y : EmitsExpr g mode all_marked to e a b =
-    let P : Setting → Type 0 = λ t. EmitsExpr t mode all_marked to e a b in subst P same x in
-    behind-holds a b (expr_code g mode to e) (λ p. notes_in mode (expr_notes g all_marked to p e)) y
+    let y : EmitsExpr g mode (base_mask g) to e a b =
+    let P : Setting → Type 0 = λ t. EmitsExpr t mode (base_mask t) to e a b in subst P same x in
+    behind-holds a b (expr_code g mode to e) (λ p. notes_in mode (expr_notes g (base_mask g) to p e)) y
     (λ code notes. ExprPromises g mode to e place code notes)
     (record {
       runs = expression-evaluates g mode to e typed low;
       passes = λ public_mode.
           let P : Mode → Type 0 =
-          λ m. IsPassedAsExpr g to e place (expr_code g m to e) (notes_in m (expr_notes g all_marked to place e)) in
+          λ m. IsPassedAsExpr g to e place (expr_code g m to e) (notes_in m (expr_notes g (base_mask g) to place e)) in
           subst P (sym public_mode) (expr-passed g is.typed.once to e typed public low place);
       walked = λ secret. expr-walked g mode (secret_mode mode secret) to e typed public low;
       stores = expr-stores g mode to e;
@@ -111,7 +114,7 @@ pub record TestPromises (f : Setting) (mode : Mode) (to : ℕ) (t : Test) (place
 -- and what was appended for a guard
 pub frame-test_promises : (f : Frame) (s : Setting) (mode : Mode) (to : ℕ) (t : Test) (a b : CodeBuf) → IsFrame f
     → s ≡ setting_of f → TypedTest (context_of f.program.now.decls.items) t → TestHasPublicIndexes (setting_of f) t
-    → to + height_of t.left ≤ 26 → to + 1 + height_of t.right ≤ 26 → EmitsGuard s mode to t a b
+    → to + height_of t.left ≤ 18 → to + 1 + height_of t.right ≤ 18 → EmitsGuard s mode to t a b
     → TestPromises (setting_of f) mode to t (length a.code.items) (code_behind a b) (notes_behind a b)
 frame-test_promises f s mode to t a b is same typed public low lower x =
     let g = setting_of f in
@@ -138,11 +141,13 @@ pub record SetPromises (f : Setting) (mode : Mode) (t : Statement) (place : ℕ)
   pub runs : Performs f mode t code
   pub passes : mode ≡ Public → IsPassedAsSet f place code notes
   pub walked : ¬ (mode ≡ Public) → IsWalkedAsSet f t code
-  pub stores : stored_words code ≡ 1
+  pub stores : stored_words code ≡ set_stores f t
+  pub writes : written_words code ≡ 1
   pub instructions : ¬ (mode ≡ Public) → registers_aside code ≡ instructions_of_set f t
   pub twin : ¬ (mode ≡ Public) → HasTwin f mode t code
 
-set-stores : (f : Setting) (mode : Mode) (t : Statement) → IsAssignment t → stored_words (set_code f mode t) ≡ 1
+set-stores : (f : Setting) (mode : Mode) (t : Statement) → IsAssignment t
+    → stored_words (set_code f mode t) ≡ set_stores f t
 set-stores f mode (SetVariable x e) is = variable-stores f mode x e
 set-stores f mode (SetElement x i e) is = element-stores f mode x i e
 set-stores f mode (Choice t a b) is = absurd is
@@ -159,18 +164,18 @@ set-passed f once code (SetElement x i e) is typed public low place o comes hold
 set-passed f once code (Choice t a b) is typed public low place o comes holds homes stands here carries = absurd is
 set-passed f once code (Loop t a) is typed public low place o comes holds homes stands here carries = absurd is
 
-own-aside : (f : Setting) (mode : Mode) (t : Statement)
+own-aside : (f : Setting) → IsSoundHeld f.decls f.held → (mode : Mode) (t : Statement)
     → ¬ (mode ≡ Public) → registers_aside (set_code f mode t) ≡ instructions_of_set f t
-own-aside f Public t secret = absurd (secret refl)
-own-aside f Real t secret = refl
-own-aside f Mirrored t secret = sym (set_code-aside f t)
+own-aside f sound Public t secret = absurd (secret refl)
+own-aside f sound Real t secret = refl
+own-aside f sound Mirrored t secret = sym (set_code-aside f sound t)
 
-other-aside : (f : Setting) (mode : Mode) (t : Statement)
+other-aside : (f : Setting) → IsSoundHeld f.decls f.held → (mode : Mode) (t : Statement)
     → ¬ (mode ≡ Public)
     → registers_aside (set_code f (other_mode mode) t) ≡ registers_aside (set_code f mode t)
-other-aside f Public t secret = absurd (secret refl)
-other-aside f Real t secret = sym (set_code-aside f t)
-other-aside f Mirrored t secret = set_code-aside f t
+other-aside f sound Public t secret = absurd (secret refl)
+other-aside f sound Real t secret = sym (set_code-aside f sound t)
+other-aside f sound Mirrored t secret = set_code-aside f sound t
 
 -- an assignment for which secret code is made is in secret code
 secret_code : (p : Source) (mode : Mode) (t : Statement) (stands : IsStatementFor p mode t) → ¬ (mode ≡ Public)
@@ -203,10 +208,11 @@ frame-set_promises f s mode t a b is same assigns stands x =
           subst P (sym public_mode) (set-passed g is.typed.once stands.code t assigns typed public low place);
       walked = λ secret. set-walked g mode (secret_mode mode secret) t (inside secret) public low;
       stores = set-stores g mode t assigns;
-      instructions = own-aside g mode t;
+      writes = set-writes g is.held mode t assigns low;
+      instructions = own-aside g is.held mode t;
       twin = λ secret. record {
         twin = set_code g (other_mode mode) t;
-        same = other-aside g mode t secret;
+        same = other-aside g is.held mode t secret;
         performs = assignment-performs g (other_mode mode) stands.code t assigns typed low;
         walked = set-walked g (other_mode mode) (other_secret mode secret) t (inside secret) public low;
       };

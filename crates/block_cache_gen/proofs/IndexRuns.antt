@@ -14,16 +14,17 @@ use Rattle.lt_isa.specs.Machine.{State, register}
 use Rattle.lt_isa.specs.Shape.{IsShaped}
 use Rattle.lt_isa.proofs.Shapes.{IsWord-register}
 use Rattle.stretches.specs.Standing.{StandsAt, greatest_costs}
-use Rattle.stretches.specs.Coming.{RunsThrough, Sets, Keeps}
+use Rattle.stretches.specs.Coming.{RunsThrough, Sets}
 use Rattle.stretches.proofs.Standing.{standing-head}
 use Rattle.stretches.proofs.Coming.{comes-br_taken, comes-br_on, comes-weaker}
-use Rattle.stretches.proofs.RunningThrough.{runs-cons, runs-one, runs-weaker, sets-li, sets-alu, keeps-set, keeps-on}
+use Rattle.stretches.proofs.RunningThrough.{runs-cons, runs-one, runs-weaker, sets-li, sets-alu}
 use Rattle.block_cache_gen.specs.Homes.{Home}
 use Rattle.block_cache_gen.specs.Codes.{is_power, is_masked, is_cached, reduced_code, least_word, compared_code, numbered_code, shift_code, fixed_code, fixed_word}
 use Rattle.block_cache_gen.proofs.NearIndexes.{near-index}
+use Rattle.block_cache_gen.proofs.Kept.{Keeps, keeps-set, keeps-on}
 
--- The number of a word is in register `to`, and that of its block in the next one; the registers below, the slots and
--- the banks are as before.
+-- The number of a word is in register `to`, and that of its block in the next one; the registers below and those
+-- from 19 on, the slots and the banks are as before.
 pub record Locates (to n a : ℕ) (s t : State) : Type 0 where
   pub word : register t to ≡ pos n
   pub block : register t (to + 1) ≡ pos a
@@ -51,7 +52,7 @@ power-of n is = found 0 21 is
 module _ (o : Parts) (fits : IsInRange o) where
   -- an index modulo the length, by an operation that reduces it
   runs-reducing : (op : Op) (by : ℤ) (h : Home) (to : ℕ) (s : State) (index : ℤ)
-      → IsShaped o s → register s to ≡ index → to + 2 < 32 → applied op index by ≡ pos (unsigned_of index % h.length)
+      → IsShaped o s → register s to ≡ index → to + 2 < 19 → applied op index by ≡ pos (unsigned_of index % h.length)
       → StandsAt o s.place (Li (to + 1) by ∷ Alu op to to (to + 1) ∷ []) → RunsThrough o s
       (Li (to + 1) by ∷ Alu op to to (to + 1) ∷ []) [] (Reduces to (unsigned_of index % h.length) s)
   runs-reducing op by h to s index shaped has below reduces at =
@@ -69,7 +70,7 @@ module _ (o : Parts) (fits : IsInRange o) where
       refl
       (λ u shape' sets'. record {
         word = sets'.value;
-        keeps = keeps-on (keeps-set to sets (omega arith)) (keeps-set to sets' (omega arith));
+        keeps = keeps-on (keeps-set to sets (omega arith) (omega arith)) (keeps-set to sets' (omega arith) (omega arith));
       }))
 
   masks : (h : Home) (index : ℤ) → is_power h.length ≡ true
@@ -80,7 +81,7 @@ module _ (o : Parts) (fits : IsInRange o) where
       ∙ ap (λ n. pos (unsigned_of index % n)) is
 
   -- an index becomes a number of the array's words
-  pub runs-reduced : (h : Home) (to : ℕ) (s : State) (index : ℤ) → IsShaped o s → register s to ≡ index → to + 2 < 32
+  pub runs-reduced : (h : Home) (to : ℕ) (s : State) (index : ℤ) → IsShaped o s → register s to ≡ index → to + 2 < 19
       → 1 ≤ h.length → h.length ≤ 1048576 → StandsAt o s.place (reduced_code h to)
       → RunsThrough o s (reduced_code h to) [] (Reduces to (unsigned_of index % h.length) s)
   runs-reduced h to s index shaped has below least most =
@@ -96,7 +97,7 @@ module _ (o : Parts) (fits : IsInRange o) where
   -- The branch over the remainder is taken if the index is below the length, and then the index is the number of the
   -- word.
   runs-branch : (h : Home) (to : ℕ) (s t : State) (index : ℤ) → IsShaped o t → register t to ≡ index → Keeps to s t
-      → to + 2 < 32 → 1 ≤ h.length → h.length ≤ 1048576
+      → to + 2 < 19 → 1 ≤ h.length → h.length ≤ 1048576
       → (near : Bool) → compared Lt (register t (to + 1)) (register t (to + 2)) ≡ near
       → (near ≡ true → pos (unsigned_of index % h.length) ≡ index)
       → StandsAt o t.place
@@ -112,7 +113,7 @@ module _ (o : Parts) (fits : IsInRange o) where
       (comes-br_taken o fits t shaped Lt (to + 1) (to + 2) (pos 3) Done (standing-head branch rest at) is
       (record {
         word = has ∙ sym (itself refl);
-        keeps = record { below = keeps.below; slots = keeps.slots; banks = keeps.banks };
+        keeps = record { below = keeps.below; above = keeps.above; slots = keeps.slots; banks = keeps.banks };
       }))
       refl refl (omega arith) (λ u shape done. done)
   runs-branch h to s t index shaped has keeps below least most false is itself at =
@@ -121,10 +122,10 @@ module _ (o : Parts) (fits : IsInRange o) where
       let word = unsigned_of index % h.length in
       runs-cons t branch rest [] [] (Keeps (to + 1) t) (Reduces to word s) at
       (λ stands. comes-br_on o fits t shaped Lt (to + 1) (to + 2) (pos 3) (Keeps (to + 1) t) stands is
-      (record { below = λ r under. refl; slots = refl; banks = refl }))
+      (record { below = λ r under. refl; above = λ r over. refl; slots = refl; banks = refl }))
       (λ u shape on at'.
       let same : Keeps to t u =
-      record { below = λ r under. on.below r (omega arith); slots = on.slots; banks = on.banks } in
+      record { below = λ r under. on.below r (omega arith); above = on.above; slots = on.slots; banks = on.banks } in
       runs-weaker u rest [] [] (Reduces to word u) (Reduces to word s)
       (runs-reducing Remu (pos h.length) h to u index shape (on.below to (omega arith) ∙ has) below
       (remu_small index h.length least (omega arith)) at')
@@ -135,7 +136,7 @@ module _ (o : Parts) (fits : IsInRange o) where
       }))
 
   -- an index is compared with the length first
-  runs-compared : (h : Home) (to : ℕ) (s : State) (index : ℤ) → IsShaped o s → register s to ≡ index → to + 2 < 32
+  runs-compared : (h : Home) (to : ℕ) (s : State) (index : ℤ) → IsShaped o s → register s to ≡ index → to + 2 < 19
       → 1 ≤ h.length → h.length ≤ 1048576 → StandsAt o s.place (compared_code h to)
       → RunsThrough o s (compared_code h to) [] (Reduces to (unsigned_of index % h.length) s)
   runs-compared h to s index shaped has below least most at =
@@ -163,13 +164,13 @@ module _ (o : Parts) (fits : IsInRange o) where
       let test : compared Lt (register t3 (to + 1)) (register t3 (to + 2)) ≡ compared Lt sum bound =
       ap (λ a. compared Lt a (register t3 (to + 2))) left ∙ ap (compared Lt sum) sets3.value in
       runs-branch h to s t3 index shape3 has3
-      (keeps-on (keeps-set to sets1 (omega arith))
-      (keeps-on (keeps-set to sets2 (omega arith)) (keeps-set to sets3 (omega arith))))
+      (keeps-on (keeps-set to sets1 (omega arith) (omega arith))
+      (keeps-on (keeps-set to sets2 (omega arith) (omega arith)) (keeps-set to sets3 (omega arith) (omega arith))))
       below least most (compared Lt sum bound) test (near-index index h.length word (omega arith)) at3)))
 
   -- with a comparison or without one
   pub runs-numbered : (near : Bool) (h : Home) (to : ℕ) (s : State) (index : ℤ) → IsShaped o s → register s to ≡ index
-      → to + 2 < 32 → 1 ≤ h.length → h.length ≤ 1048576 → StandsAt o s.place (numbered_code near h to)
+      → to + 2 < 19 → 1 ≤ h.length → h.length ≤ 1048576 → StandsAt o s.place (numbered_code near h to)
       → RunsThrough o s (numbered_code near h to) [] (Reduces to (unsigned_of index % h.length) s)
   runs-numbered true h to s index shaped has below least most at =
       runs-compared h to s index shaped has below least most at
@@ -178,7 +179,7 @@ module _ (o : Parts) (fits : IsInRange o) where
 
   -- the block, from the word
   pub runs-block : (block_log : ℕ) (h : Home) (to : ℕ) (s : State) (word : ℕ)
-      → IsShaped o s → register s to ≡ pos word → to + 2 < 32
+      → IsShaped o s → register s to ≡ pos word → to + 2 < 19
       → block_log < 64 → h.block + word / 2 ^ block_log < 2 ^ 63 → StandsAt o s.place (shift_code block_log h to)
       → RunsThrough o s (shift_code block_log h to) [] (Locates to word (h.block + word / 2 ^ block_log) s)
   runs-block block_log h to s word shaped has below log small at =
@@ -217,13 +218,13 @@ module _ (o : Parts) (fits : IsInRange o) where
         word = sets4.others to (λ same. absurd (omega arith)) ∙ has3;
         block = sets4.value;
         keeps =
-            keeps-on (keeps-set to sets1 (omega arith))
-            (keeps-on (keeps-set to sets2 (omega arith))
-            (keeps-on (keeps-set to sets3 (omega arith)) (keeps-set to sets4 (omega arith))));
+            keeps-on (keeps-set to sets1 (omega arith) (omega arith))
+            (keeps-on (keeps-set to sets2 (omega arith) (omega arith))
+            (keeps-on (keeps-set to sets3 (omega arith) (omega arith)) (keeps-set to sets4 (omega arith) (omega arith))));
       }))))
 
   -- both, where the index is a number
-  pub runs-fixed : (block_log : ℕ) (h : Home) (to : ℕ) (z : ℤ) (s : State) → IsShaped o s → to + 2 < 32
+  pub runs-fixed : (block_log : ℕ) (h : Home) (to : ℕ) (z : ℤ) (s : State) → IsShaped o s → to + 2 < 19
       → StandsAt o s.place (fixed_code block_log h to z) → RunsThrough o s (fixed_code block_log h to z) []
       (Locates to (fixed_word h z) (h.block + fixed_word h z / 2 ^ block_log) s)
   runs-fixed block_log h to z s shaped below at =
@@ -239,5 +240,5 @@ module _ (o : Parts) (fits : IsInRange o) where
       (λ u shape' sets'. record {
         word = sets'.others to (λ same. absurd (omega arith)) ∙ sets.value;
         block = sets'.value;
-        keeps = keeps-on (keeps-set to sets (omega arith)) (keeps-set to sets' (omega arith));
+        keeps = keeps-on (keeps-set to sets (omega arith) (omega arith)) (keeps-set to sets' (omega arith) (omega arith));
       }))

@@ -1,5 +1,5 @@
 -- What is known after public code of an expression that writes no register below one.
-use Rattle.std.proofs.Common.{◌≡◌, ℕ, ◌+◌, ◌<◌, true, false, length}
+use Rattle.std.proofs.Common.{◌≡◌, ℕ, ◌+◌, ◌<◌, ◌≤◌, true, false, length}
 use Rattle.lt_isa.specs.Object.{Parts}
 use Rattle.src_tree.specs.Contexts.{context_of}
 use Rattle.src_tree.specs.Labels.{label_of}
@@ -10,11 +10,14 @@ use Rattle.block_cache_gen.specs.declared.frames.Mode.TheVariants.{Public}
 use Rattle.block_cache_gen.specs.Homes.{Setting}
 use Rattle.block_cache_gen.specs.Codes.{expr_code}
 use Rattle.block_cache_gen.specs.Carries.{Carries}
+use Rattle.block_cache_gen.specs.Notes.{base_mask}
 use Rattle.block_cache_gen.specs.PublicCode.{HasLabel}
 
--- each register that a mask doesn't mark is below a register, and is public
-abbrev pub LeavesPublic : ℕ → ℕ → Known → Type 0
-LeavesPublic mask to k = (r : ℕ) → r < 32 → is_marked mask r ≡ false → (r < to) × (is_secret k r ≡ false)
+-- Each register of expressions that a mask doesn't mark is below a register, and is public; of those that hold something
+-- for the whole run the mask says what notes between statements say.
+pub record LeavesPublic (f : Setting) (mask to : ℕ) (k : Known) : Type 0 where
+  pub lower : (r : ℕ) → r < 19 → is_marked mask r ≡ false → (r < to) × (is_secret k r ≡ false)
+  pub held : (r : ℕ) → 19 ≤ r → r < 32 → is_marked mask r ≡ is_marked (base_mask f) r
 
 -- What is known after code that writes no register below `to`: the setting is carried; a register below is public if a
 -- mask doesn't mark it, and one that may hold a secret still may.

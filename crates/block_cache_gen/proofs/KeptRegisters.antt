@@ -1,28 +1,33 @@
--- What straight code leaves of what is known: registers below some and all slots.
-use Rattle.std.proofs.Common.{◌≡◌, ◌≢◌, ℕ, ◌<◌, ◌≤◌, Bool, true, false, ◌||◌, length, Some, refl, sym, ◌∙◌, subst, ⊎_elim, arith, length-set}
+-- What straight code leaves of what is known: registers below some, those that hold something for the whole run, and
+-- all slots.
+use Rattle.std.proofs.Common.{◌≡◌, ◌≢◌, ℕ, ◌<◌, ◌≤◌, Bool, true, false, ◌||◌, length, Some, refl, sym, ap, ◌∙◌, subst, ⊎_elim, arith, length-set}
 use Rattle.std.proofs.lemmas.Bool.{cases_eq}
 use Rattle.trace_patterns.specs.Known.{Known, is_secret, bank_known, is_marked, set_secret, set_bank}
-use Rattle.stretches.proofs.Passed.{secret-other, bank-same, bank-other}
-use Rattle.block_cache_gen.specs.Homes.{Setting}
+use Rattle.stretches.proofs.Passed.{secret-same, secret-other, bank-same, bank-other}
+use Rattle.gr_word.specs.declared.variables.Label.{Label}
+use Rattle.src_tree.specs.Labels.{secret_label}
+use Rattle.block_cache_gen.specs.Homes.{Setting, held_label}
 use Rattle.block_cache_gen.specs.Carries.{Carries}
 use Rattle.block_cache_gen.proofs.KeptBelow.{KeptBelow}
+use Rattle.block_cache_gen.proofs.HeldLabels.{label-high, one-label}
 
 -- a label that is joined with public stays
 pub or_false : (b : Bool) → (b || false) ≡ b
 or_false true = refl
 or_false false = refl
 
--- registers below one stay as they were, and so do all slots
+-- registers below one stay as they were, and so do those from 19 on and all slots
 pub record SameBelow (to : ℕ) (k l : Known) : Type 0 where
   pub sized : length l.secret ≡ length k.secret
   pub count : length l.banks ≡ length k.banks
   pub registers : (r : ℕ) → r < to → is_secret l r ≡ is_secret k r
+  pub above : (r : ℕ) → 19 ≤ r → is_secret l r ≡ is_secret k r
   pub slots : (slot : ℕ) → slot ≢ 6 → bank_known l slot ≡ bank_known k slot
 
 -- what is as before is as before
 pub same-itself : (to : ℕ) (k : Known) → SameBelow to k k
 same-itself to k =
-    record { sized = refl; count = refl; registers = λ r lt. refl; slots = λ slot lt. refl }
+    record { sized = refl; count = refl; registers = λ r lt. refl; above = λ r le. refl; slots = λ slot lt. refl }
 
 -- twice as before
 pub same-then : (to : ℕ) (k l m : Known) → SameBelow to k l → SameBelow to l m → SameBelow to k m
@@ -30,16 +35,18 @@ same-then to k l m first second = record {
   sized = second.sized ∙ first.sized;
   count = second.count ∙ first.count;
   registers = λ r lt. second.registers r lt ∙ first.registers r lt;
+  above = λ r le. second.above r le ∙ first.above r le;
   slots = λ slot lt. second.slots slot lt ∙ first.slots slot lt;
 }
 
--- a higher register was set
-pub same-set : (to : ℕ) (k l : Known) (r : ℕ) (label : Bool) → to ≤ r → SameBelow to k l
+-- a higher register of expressions was set
+pub same-set : (to : ℕ) (k l : Known) (r : ℕ) (label : Bool) → to ≤ r → r < 19 → SameBelow to k l
     → SameBelow to k (set_secret l r label)
-same-set to k l r label le h = record {
+same-set to k l r label le low h = record {
   sized = length-set l.secret r label ∙ h.sized;
   count = h.count;
   registers = λ s lt. secret-other l r s label (λ e. absurd (omega arith)) ∙ h.registers s lt;
+  above = λ s over. secret-other l r s label (λ e. absurd (omega (arith, e))) ∙ h.above s over;
   slots = h.slots;
 }
 
@@ -50,6 +57,7 @@ same-bound to k l slot bank h inside same = record {
   sized = h.sized;
   count = length-set l.banks slot (Some bank) ∙ h.count;
   registers = h.registers;
+  above = h.above;
   slots = λ s lt.
       ⊎_elim
       (λ (e : s ≡ slot).
@@ -70,6 +78,25 @@ carries-same f to k l carries h = record {
   arrays = λ x label declared turn range.
       let high = range.1 in
       h.slots _ (λ six. absurd (omega (arith, six))) ∙ carries.arrays x label declared turn range;
+  held = λ r label is. h.above r (label-high f r label is) ∙ carries.held r label is;
+}
+
+-- so it is where a register that holds a scalar gets a value of the scalar's label
+pub carries-copied : (f : Setting) (k : Known) (r : ℕ) (l : Label) (label : Bool) → Carries f k
+    → held_label f r ≡ Some l → r < 32 → label ≡ secret_label l → Carries f (set_secret k r label)
+carries-copied f k r l label carries is inside labelled = record {
+  registers = length-set k.secret r label ∙ carries.registers;
+  slots = carries.slots;
+  pinned = carries.pinned;
+  arrays = carries.arrays;
+  held = λ q m holds.
+      ⊎_elim
+      (λ (e : q ≡ r).
+      let same : l ≡ m = one-label (held_label f q) l m (ap (held_label f) e ∙ is) holds in
+      let sized = carries.registers in
+      ap (is_secret (set_secret k r label)) e ∙ secret-same k r label (omega arith) ∙ labelled ∙ ap secret_label same)
+      (λ (ne : q ≡ r → ⊥). secret-other k r q label ne ∙ carries.held q m holds)
+      (cases_eq q r);
 }
 
 -- the lower registers stayed, and so what an expression keeps

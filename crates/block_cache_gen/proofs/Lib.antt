@@ -1,3 +1,6 @@
+pub mod BaseMask
+pub mod BaseMarks
+pub mod HeldLabels
 pub mod KnownNames
 pub mod ServedBlocks
 pub mod FrameParts
@@ -9,12 +12,16 @@ pub mod EmittedStatements
 pub mod AccessLaws
 pub mod HomeFacts
 pub mod Settled
+pub mod Stores
+pub mod Kept
+pub mod HeldScalars
 pub mod Stands
 pub mod NearIndexes
+pub mod RegisterWrites
+pub mod HeldBeginning
 pub mod IndexRuns
 pub mod AccessRuns
 pub mod ExpressionRuns
-pub mod Stores
 pub mod ResidentStores
 pub mod ResidentRuns
 pub mod ElementStores
@@ -43,6 +50,7 @@ pub mod AlikeTests
 pub mod RunsOf
 pub mod SecretWalks
 pub mod SecretCodes
+pub mod WrittenWords
 pub mod SecretRegions
 pub mod StepsAt
 pub mod SomeCode

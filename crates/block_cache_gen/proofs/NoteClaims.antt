@@ -1,52 +1,62 @@
 -- What the notes of a setting claim: a mask without a register; that what is known fits them; and what they carry.
-use Rattle.std.proofs.Common.{◌≡◌, ◌≢◌, ℕ, zero, suc, ◌<◌, ◌≤◌, ◌==◌, Bool, true, false, get_or, inl, inr, Option, Some, None, refl, sym, ap, ◌∙◌, ⊎_elim, arith, w32}
+use Rattle.std.proofs.Common.{◌≡◌, ◌≢◌, ℕ, zero, suc, ◌<◌, ◌≤◌, Bool, true, false, get_or, inl, inr, Option, Some, None, refl, sym, ap, ◌∙◌, ⊎_elim, arith}
 use Rattle.std.specs.Prelude.{if◌then◌else◌}
 use Rattle.std.proofs.lemmas.Bool.{cases_eq, cases_lt, true≢false, false≢true}
 use Rattle.std.proofs.lemmas.List.{get_or_past}
-use Rattle.std.proofs.lemmas.Nat.Bits.{bit_at_clear_same, bit_at_clear_other}
 use Rattle.gr_base.specs.Lists.{Within}
+use Rattle.gr_word.specs.declared.variables.Label.TheVariants.{Public}
 use Rattle.lt_isa.specs.Object.{Parts}
 use Rattle.src_tree.specs.Typing.{DeclaredOnce}
 use Rattle.trace_patterns.specs.Known.{Known, is_secret, bank_known, is_marked, claimed_bank, marks, claims, FitsClaim, note_known}
 use Rattle.trace_patterns.proofs.Masks.{length-marks, get_or-marks, length-claims, get_or-claims}
 use Rattle.block_cache_gen.specs.Homes.{Pin, Setting, HasHomes, home_of, pin_at}
-use Rattle.block_cache_gen.specs.Notes.{unmarked, is_used, claimed_where_used, claim_by, slot_claims, note_of}
+use Rattle.block_cache_gen.specs.Notes.{base_mask, unmarked, is_used, claimed_where_used, claim_by, slot_claims, note_of}
 use Rattle.block_cache_gen.specs.Carries.{Carries}
+use Rattle.block_cache_gen.proofs.BaseMarks.{base-held, base-public, unmarked-other}
+use Rattle.block_cache_gen.proofs.HeldLabels.{label-high, label-low}
 use Rattle.block_cache_gen.proofs.KeptBelow.{LeavesPublic}
 use Rattle.block_cache_gen.proofs.HomeFacts.{bank_served, served-one}
 use Rattle.block_cache_gen.proofs.NamesOfHomes.{array-used, array-served, used-bank}
 
--- a mask without a register marks all others that it did
-pub unmarked-same : (mask r : ℕ) → r < 32 → is_marked (unmarked mask r) r ≡ false
-unmarked-same mask r inside = ap (λ (n : ℕ). n == 1) (bit_at_clear_same w32 mask r inside)
-
--- the mark of another register stays
-pub unmarked-other : (mask r s : ℕ) → r < 32 → s < 32 → (s ≡ r → ⊥) → is_marked (unmarked mask r) s ≡ is_marked mask s
-unmarked-other mask r s inside within apart =
-    ap (λ (n : ℕ). n == 1) (bit_at_clear_other w32 mask r inside s within apart)
+-- the mask of notes between statements marks each register of expressions
+pub leaves-base : (f : Setting) (to : ℕ) (k : Known) → LeavesPublic f (base_mask f) to k
+leaves-base f to k = record {
+  lower = λ r low unmarks.
+      let high : 19 ≤ r = label-high f r Public (base-public f r (omega arith) unmarks) in absurd (omega arith);
+  held = λ r high low. refl;
+}
 
 -- a mask that is true of what is known stays so where a register that is left out is public
-pub leaves-without : (mask to r more : ℕ) (k : Known) → LeavesPublic mask to k → to ≤ more → r < more → r < 32
-    → is_secret k r ≡ false → LeavesPublic (unmarked mask r) more k
-leaves-without mask to r more k leaves le lt inside public s within unmarks =
-    ⊎_elim
-    (λ (e : s ≡ r). (omega arith, ap (is_secret k) e ∙ public))
-    (λ (ne : s ≡ r → ⊥).
-    let h = leaves s within (sym (unmarked-other mask r s inside within ne) ∙ unmarks) in
-    let low = h.0 in
-    (omega arith, h.1))
-    (cases_eq s r)
+pub leaves-without : (f : Setting) (mask to r more : ℕ) (k : Known) → LeavesPublic f mask to k → to ≤ more → r < more
+    → r < 19 → is_secret k r ≡ false → LeavesPublic f (unmarked mask r) more k
+leaves-without f mask to r more k leaves le lt inside public = record {
+  lower = λ s within unmarks.
+      ⊎_elim
+      (λ (e : s ≡ r). (omega arith, ap (is_secret k) e ∙ public))
+      (λ (ne : s ≡ r → ⊥).
+      let h = leaves.lower s within (sym (unmarked-other mask r s (omega arith) (omega arith) ne) ∙ unmarks) in
+      let low = h.0 in
+      (omega arith, h.1))
+      (cases_eq s r);
+  held = λ s high low.
+      unmarked-other mask r s (omega arith) low (λ e. absurd (omega (arith, e))) ∙ leaves.held s high low;
+}
 
 -- it is true of what is known later too
-pub leaves-later : (mask to : ℕ) (k l : Known) → LeavesPublic mask to k
-    → ((r : ℕ) → r < to → is_marked mask r ≡ false → is_secret l r ≡ false) → LeavesPublic mask to l
-leaves-later mask to k l leaves kept r inside unmarks =
-    let h = leaves r inside unmarks in (h.0, kept r h.0 unmarks)
+pub leaves-later : (f : Setting) (mask to : ℕ) (k l : Known) → LeavesPublic f mask to k
+    → ((r : ℕ) → r < to → is_marked mask r ≡ false → is_secret l r ≡ false) → LeavesPublic f mask to l
+leaves-later f mask to k l leaves kept = record {
+  lower = λ r inside unmarks. let h = leaves.lower r inside unmarks in (h.0, kept r h.0 unmarks);
+  held = leaves.held;
+}
 
 -- what leaves the registers below one public does so below a higher one
-pub leaves-higher : (mask to more : ℕ) (k : Known) → to ≤ more → LeavesPublic mask to k → LeavesPublic mask more k
-leaves-higher mask to more k le leaves r inside unmarks =
-    let h = leaves r inside unmarks in let low = h.0 in (omega arith, h.1)
+pub leaves-higher : (f : Setting) (mask to more : ℕ) (k : Known) → to ≤ more → LeavesPublic f mask to k
+    → LeavesPublic f mask more k
+leaves-higher f mask to more k le leaves = record {
+  lower = λ r inside unmarks. let h = leaves.lower r inside unmarks in let low = h.0 in (omega arith, h.1);
+  held = leaves.held;
+}
 
 -- what a note claims about a register and about a slot
 pub claimed-register : (f : Setting) (mask place r : ℕ) → r < 32
@@ -130,7 +140,7 @@ module _ (o : Parts) (f : Setting) (homes : HasHomes o f) (once : DeclaredOnce f
   slot_fits (suc (suc (suc (suc (suc (suc (suc (suc n)))))))) claim k carries lt e = absurd (omega arith)
 
   -- what is known where a setting is carried fits a note, where the registers that it doesn't mark are public
-  pub note-fits : (mask place to : ℕ) (k : Known) → Carries f k → LeavesPublic mask to k
+  pub note-fits : (mask place to : ℕ) (k : Known) → Carries f k → LeavesPublic f mask to k
       → FitsClaim k (note_known (note_of f mask place))
   note-fits mask place to k carries leaves = record {
     registers = λ r secret.
@@ -149,7 +159,14 @@ module _ (o : Parts) (f : Setting) (homes : HasHomes o f) (once : DeclaredOnce f
     where
       marked : (r : ℕ) → r < 32 → is_secret k r ≡ true → (b : Bool) → is_marked mask r ≡ b → b ≡ true
       marked r lt secret true is = refl
-      marked r lt secret false is = let h = leaves r lt is in absurd (true≢false (sym secret ∙ h.1))
+      marked r lt secret false is =
+          absurd
+          (true≢false
+          (sym secret
+          ∙ ⊎_elim
+          (λ (low : r < 19). let h = leaves.lower r low is in h.1)
+          (λ (high : 19 ≤ r). carries.held r Public (base-public f r lt (sym (leaves.held r high lt) ∙ is)))
+          (cases_lt r 19)))
 
   claimed_used : (used : Bool) (bank : ℕ) → bank < 2 → used ≡ true
       → claimed_bank (if used then bank else 255) ≡ Some bank
@@ -211,9 +228,11 @@ module _ (o : Parts) (f : Setting) (homes : HasHomes o f) (once : DeclaredOnce f
       ap (λ (q : Option Pin). claimed_bank (claim_by q 255)) pinned
   pinned_claim (suc (suc (suc (suc (suc (suc (suc (suc n)))))))) p pinned few apart = absurd (omega arith)
 
-  -- and a note carries the setting
-  pub note-carries : (mask place : ℕ) → Carries f (note_known (note_of f mask place))
-  note-carries mask place = record {
+  -- and a note carries the setting, if its mask says of the registers from 19 on what notes between statements say
+  pub note-carries : (mask place : ℕ)
+      → ((r : ℕ) → 19 ≤ r → r < 32 → is_marked mask r ≡ is_marked (base_mask f) r)
+      → Carries f (note_known (note_of f mask place))
+  note-carries mask place based = record {
     registers = length-marks 32 mask;
     slots = length-claims 8 (slot_claims f);
     pinned = λ slot p pinned few apart.
@@ -221,4 +240,7 @@ module _ (o : Parts) (f : Setting) (homes : HasHomes o f) (once : DeclaredOnce f
     arrays = λ x label declared turn range.
         served_claimed (home_of f x).slot (home_of f x).bank mask place (homes.arrays x label declared turn).unpinned
         (array-used o f homes x label declared) (array-served o f homes x label declared turn range);
+    held = λ r l is.
+        let low = label-low f homes.held r l is in
+        claimed-register f mask place r low ∙ based r (label-high f r l is) low ∙ base-held f r l low is;
   }

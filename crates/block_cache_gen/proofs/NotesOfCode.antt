@@ -1,19 +1,23 @@
 -- The places of the notes of public code: after its first instruction, each at one of its instructions.
-use Rattle.std.proofs.Common.{◌≡◌, ℕ, ◌+◌, ◌-◌, ◌<◌, ◌≤◌, Bool, true, false, ℤ, List, [], ◌∷◌, ◌++◌, length, length-append, Option, Some, None, ap, ◌∙◌, arith}
+use Rattle.std.proofs.Common.{◌≡◌, ℕ, ◌+◌, ◌-◌, ◌<◌, ◌≤◌, Bool, true, false, ℤ, List, [], ◌∷◌, ◌++◌, length, length-append, Option, Some, None, ap, ◌∙◌, arith, pos}
 use Rattle.std.specs.Prelude.{if◌then◌else◌}
 use Rattle.lt_isa.specs.declared.symbols.Note.{Note}
 use Rattle.lt_isa.specs.declared.instructions.Instr.{Instr}
-use Rattle.lt_isa.specs.declared.instructions.Instr.TheVariants.{Alu, Ldw}
+use Rattle.lt_isa.specs.declared.instructions.Instr.TheVariants.{Li, Alu, Ldw}
 use Rattle.src_tree.specs.Contexts.{context_of}
 use Rattle.src_tree.specs.Labels.{label_of}
 use Rattle.src_tree.specs.Trees.{Tree, Number, Variable, Element, Operation}
 use Rattle.stretches.proofs.Passed.{LieBetween, lie_wider, lie_both}
-use Rattle.block_cache_gen.specs.declared.frames.Mode.TheVariants.{Public}
-use Rattle.block_cache_gen.specs.Homes.{Home, Setting, home_of}
-use Rattle.block_cache_gen.specs.Codes.{is_cached, compares, compared_code, numbered_code, fixed_index, shift_code, offset_code, located_code, load_code, skips, access_by, access_code, operation_code, steps_at, expr_code}
+use Rattle.block_cache_gen.specs.declared.frames.Mode.TheVariants.{Public, Real, Mirrored}
+use Rattle.block_cache_gen.specs.Homes.{Home, Setting, home_of, register_for}
+use Rattle.block_cache_gen.specs.Codes.{is_cached, compares, compared_code, numbered_code, fixed_index, shift_code, offset_code, located_code, load_code, skips, access_by, access_code, operation_code, steps_at, expr_code, is_masked, scalar_code, write_code}
+use Rattle.gr_word.specs.declared.variables.Label.{Label}
+use Rattle.block_cache_gen.specs.declared.frames.Mode.{Mode}
 use Rattle.gr_word.specs.declared.operations.Op.{Op}
+use Rattle.gr_word.specs.declared.operations.Op.TheVariants.{And, Remu}
 use Rattle.strength_reduction.specs.Steps.{Step, code_of}
 use Rattle.block_cache_gen.specs.Notes.{marked_by, access_mask, note_of, compared_notes, loading_code, loaded_notes, load_notes, index_notes, operation_notes, expr_notes}
+use Rattle.block_cache_gen.proofs.Sizes.{numbered_some}
 
 -- a located word takes two instructions at least, and more than its index
 abbrev pub index_length : Option ℤ → List Instr → ℕ
@@ -55,6 +59,7 @@ access-more true near block_log h to None index =
       arith,
       length-append index (numbered_code near h to ++ offset_code h to),
       length-append (numbered_code near h to) (offset_code h to),
+      numbered_some near h to,
     )
 access-more false near block_log h to fixed index =
     let longer = located-longer near block_log h to fixed index in
@@ -109,9 +114,9 @@ pub loaded-lie : (f : Setting) (h : Home) (mask to p : ℕ) (resident near : Boo
     (p + length (access_by resident near f.profile.block_log Public h to fixed index)))
 loaded-lie f h mask to p true near (Some z) index = tt
 loaded-lie f h mask to p true true None index =
-    let size : length (index ++ (compared_code h to ++ offset_code h to)) ≡ length index + 8 =
-    length-append index (compared_code h to ++ offset_code h to) in
-    ((omega arith, omega arith), tt)
+    let size = length-append index (compared_code h to ++ offset_code h to) in
+    let rest = length-append (compared_code h to) (offset_code h to) in
+    ((omega (arith, size, rest), omega (arith, size, rest)), tt)
 loaded-lie f h mask to p true false None index = tt
 loaded-lie f h mask to p false near fixed index =
     let code = access_by false near f.profile.block_log Public h to fixed index in
@@ -151,10 +156,14 @@ access-lie f near h mask to p fixed index notes lie =
     (omega arith) (index-lie fixed p index notes lie))
     (loaded-lie f h mask to p h.resident near fixed index)
 
+scalar_longer : (r : Option ℕ) (h : Home) (to : ℕ) → 1 ≤ length (scalar_code r h to)
+scalar_longer None h to = omega arith
+scalar_longer (Some r) h to = omega arith
+
 -- an expression has some code
 pub expression-longer : (f : Setting) (e : Tree) (to : ℕ) → 1 ≤ length (expr_code f Public to e)
 expression-longer f (Number z) to = omega arith
-expression-longer f (Variable x) to = omega arith
+expression-longer f (Variable x) to = scalar_longer (register_for f x) (home_of f x) to
 expression-longer f (Element x i) to =
     let h = home_of f x in
     omega (
@@ -170,6 +179,13 @@ expression-longer f (Operation op a b) to =
       length-append (expr_code f Public to a) (operation_code op to (steps_at f op b) (expr_code f Public (to + 1) b)),
       expression-longer f a to,
     )
+
+-- so has what writes a scalar
+pub write-longer : (r : Option ℕ) (l : Label) (mode : Mode) (h : Home) → 1 ≤ length (write_code r l mode h)
+write-longer (Some r) l mode h = omega arith
+write-longer None l Public h = omega arith
+write-longer None l Real h = omega arith
+write-longer None l Mirrored h = omega arith
 
 -- the notes of an operation, by those of its sides
 operation-lie : (f : Setting) (op : Op) (to p : ℕ) (first : List Instr) (before : List Note) (second : List Instr)

@@ -1,6 +1,8 @@
 -- The public code of an access is passed: the word of an array, with its block in the array's slot.
-use Rattle.std.proofs.Common.{◌≡◌, ℕ, ◌+◌, ◌-◌, ◌<◌, ◌≤◌, Bool, true, false, not, ◌&&◌, ℤ, List, [], ◌∷◌, ◌++◌, length, length-append, append_assoc, Option, Some, None, refl, sym, ap, ◌∙◌, subst, ⊎_elim, arith}
+use Rattle.std.proofs.Common.{pos, ◌==◌, ◌≡◌, ℕ, ◌+◌, ◌-◌, ◌<◌, ◌≤◌, Bool, true, false, not, ◌&&◌, ℤ, List, [], ◌∷◌, ◌++◌, length, length-append, append_assoc, Option, Some, None, refl, sym, ap, ◌∙◌, subst, ⊎_elim, arith}
 use Rattle.std.specs.Prelude.{if◌then◌else◌}
+use Rattle.lt_isa.specs.declared.instructions.Instr.TheVariants.{Li, Alu}
+use Rattle.gr_word.specs.declared.operations.Op.TheVariants.{Add}
 use Rattle.std.specs.Option.{option_map}
 use Rattle.std.proofs.lemmas.Bool.{cases_lt, ltb-true, ltb-false, and_parts, false≢true}
 use Rattle.gr_word.specs.declared.variables.Label.{Label}
@@ -17,7 +19,7 @@ use Rattle.src_tree.specs.Typing.{DeclaredOnce}
 use Rattle.trace_patterns.specs.Known.{Known, is_secret, bank_known, set_bank, set_secret, FitsClaim, note_known}
 use Rattle.trace_patterns.specs.Rules.{claimed_at}
 use Rattle.stretches.specs.Standing.{StandsAt}
-use Rattle.stretches.specs.Passing.{HoldsAt, AsItComes, AsClaimed, Passes, NotesBetween}
+use Rattle.stretches.specs.Passing.{HoldsAt, AsItComes, AsClaimed, Passes, Done, NotesBetween}
 use Rattle.stretches.proofs.Standing.{standing-first, standing-rest}
 use Rattle.stretches.proofs.Passed.{passes-then, passes-to, passes-goes, passes-noted, no_note-before, no_note-behind, notes-before, notes-behind, no_note-there, notes-within, noted, bank-same, secret-same, rules-li, One, NoMore, LieBetween, lie_wider, lie_both}
 use Rattle.block_cache_gen.specs.declared.frames.Mode.TheVariants.{Public}
@@ -28,19 +30,20 @@ use Rattle.block_cache_gen.specs.Carries.{Carries}
 use Rattle.block_cache_gen.specs.PublicCode.{StandsNoted, HasLabel}
 use Rattle.block_cache_gen.specs.PublicIndexes.{shows_index, IndexIsPublic}
 use Rattle.block_cache_gen.proofs.KeptBelow.{LeavesPublic, KeptBelow, PassedBelow}
-use Rattle.block_cache_gen.proofs.NoteClaims.{unmarked-same, unmarked-other, leaves-without, leaves-later, claimed-register, note-fits, note-carries}
+use Rattle.block_cache_gen.proofs.NoteClaims.{leaves-without, leaves-later, claimed-register, note-fits, note-carries}
 use Rattle.block_cache_gen.proofs.NotesOfCode.{compared-lie, located-lie, index_length, located-longer, access-longer, load-lies, index-lie, expression-longer, expression-lies}
+use Rattle.block_cache_gen.proofs.BaseMarks.{unmarked-same, unmarked-other}
 use Rattle.block_cache_gen.proofs.KeptRegisters.{SameBelow, same-itself, same-set, same-bound, carries-same, kept-same, kept-itself}
-use Rattle.block_cache_gen.proofs.AccessLabels.{shifted-numbered, reduced-numbered, offset-numbered, compared_known, compared_same, compared_word, divided_known, divided_same, divided_word, compared-by, fixed-numbered, asked_known, asked_same, asked_block, skipped_by, loaded-by}
+use Rattle.block_cache_gen.proofs.AccessLabels.{shifted-numbered, reduced-numbered, offset_by, compared_known, compared_same, compared_word, divided_known, divided_same, divided_word, compared-by, fixed-numbered, asked_known, asked_same, asked_block, skipped_by, loaded-by}
 use Rattle.block_cache_gen.proofs.Sizes.{numbered_some}
 use Rattle.block_cache_gen.proofs.HomeFacts.{serves-oblivious, serves-cached, shows-cached, shown-low}
 
 -- what passing the code of an expression means, at any place
 abbrev pub ExprPasses : Parts → Setting → Tree → Type 0
 ExprPasses o f e =
-    (mask to p : ℕ) (k holds : Known) → to + height_of e ≤ 26
+    (mask to p : ℕ) (k holds : Known) → to + height_of e ≤ 18
     → StandsNoted o p (expr_code f Public to e) (expr_notes f mask to p e) → HoldsAt o p k holds → Carries f holds
-    → LeavesPublic mask to holds → PassedBelow o f mask to p e k holds
+    → LeavesPublic f mask to holds → PassedBelow o f mask to p e k holds
 
 -- the code of an access, and its notes
 abbrev pub array_code : Setting → ℕ → List ℕ → Tree → List Instr
@@ -66,10 +69,11 @@ record LocatedAt (o : Parts) (f : Setting) (h : Home) (mask to : ℕ) (p : ℕ) 
 -- the place of a resident array's word is found: its number is public where it shows
 record PlacedAt (o : Parts) (f : Setting) (h : Home) (mask to : ℕ) (p : ℕ) (k holds : Known) (q : ℕ) : Type 0 where
   last : Known
+  held : Known
   passes : Passes o p k q last
-  kept : KeptBelow f mask to holds last
-  word : shows_index h ≡ true → is_secret last to ≡ false
-  none : claimed_at o q ≡ None
+  here : HoldsAt o q last held
+  kept : KeptBelow f mask to holds held
+  word : shows_index h ≡ true → is_secret held to ≡ false
 
 -- the number of a word is found, from an index of a label
 record NumberedAt (o : Parts) (f : Setting) (l : Label) (mask to : ℕ) (p : ℕ) (k holds : Known) (q : ℕ) : Type 0 where
@@ -93,15 +97,15 @@ pub record AccessPassed (o : Parts) (f : Setting) (h : Home) (mask to : ℕ) (p 
 
 module _ (o : Parts) (f : Setting) (homes : HasHomes o f) (once : DeclaredOnce f.decls) where
   -- The number of a word is found, after the code of the index.
-  module _ (h : Home) (l : Label) (mask to : ℕ) (low : to + 2 < 32) (p : ℕ) (k holds : Known)
-      (leaves : LeavesPublic mask to holds) (kept : KeptBelow f mask to holds k) (labelled : HasLabel k to l)
+  module _ (h : Home) (l : Label) (mask to : ℕ) (low : to + 2 < 19) (p : ℕ) (k holds : Known)
+      (leaves : LeavesPublic f mask to holds) (kept : KeptBelow f mask to holds k) (labelled : HasLabel k to l)
       (none : claimed_at o p ≡ None) where
     -- the mask leaves the registers below and the number of the word public
     leaves_number : (m : Known) → SameBelow to k m → is_secret m to ≡ false
-        → LeavesPublic (unmarked mask to) (to + 1) m
+        → LeavesPublic f (unmarked mask to) (to + 1) m
     leaves_number m same word =
-        leaves-without mask to to (to + 1) m
-        (leaves-later mask to holds m leaves (λ s lt unmarks. same.registers s lt ∙ kept.publics s lt unmarks))
+        leaves-without f mask to to (to + 1) m
+        (leaves-later f mask to holds m leaves (λ s lt unmarks. same.registers s lt ∙ kept.publics s lt unmarks))
         (omega arith) (omega arith) (omega arith) word
 
     compared_at : l ≡ label.Public → StandsAt o p (compared_code h to)
@@ -119,13 +123,15 @@ module _ (o : Parts) (f : Setting) (homes : HasHomes o f) (once : DeclaredOnce f
           sized = near.sized;
           count = near.count;
           registers = λ s lt. near.registers s (omega arith);
+          above = near.above;
           slots = near.slots;
         } in
         let last = divided_known o to low h k sized open_index in
         let same = divided_same o to low h k sized open_index in
+        let left = leaves_number one same_one (compared_word o to low h k sized open_index) in
         let fit_one : FitsClaim one claim = note-fits o f homes once (unmarked mask to) r (to + 1) one
         (carries-same f to k one kept.carries same_one)
-        (leaves_number one same_one (compared_word o to low h k sized open_index)) in
+        left in
         let fit : FitsClaim last claim = note-fits o f homes once (unmarked mask to) r (to + 1) last
         (carries-same f to k last kept.carries same)
         (leaves_number last same (divided_word o to low h k sized open_index)) in
@@ -139,7 +145,7 @@ module _ (o : Parts) (f : Setting) (homes : HasHomes o f) (once : DeclaredOnce f
               inside;
           here = AsClaimed last claim at fit;
           kept = record {
-            carries = note-carries o f homes once (unmarked mask to) r;
+            carries = note-carries o f homes once (unmarked mask to) r left.held;
             publics = λ s lt unmarks. claimed-register f (unmarked mask to) r s (omega arith)
                 ∙ unmarked-other mask to s (omega arith) (omega arith) (λ e. absurd (omega arith)) ∙ unmarks;
             secrets = λ s lt secret. fit.registers s (same.registers s lt ∙ kept.secrets s lt secret);
@@ -181,11 +187,11 @@ module _ (o : Parts) (f : Setting) (homes : HasHomes o f) (once : DeclaredOnce f
           word = λ e. found.word_is ∙ labelled ∙ ap secret_label e;
         }
 
-  module _ (h : Home) (i : Tree) (mask to : ℕ) (low : to + 2 < 32) (p : ℕ) (k holds : Known)
+  module _ (h : Home) (i : Tree) (mask to : ℕ) (low : to + 2 < 19) (p : ℕ) (k holds : Known)
       (here : HoldsAt o p k holds)
-      (carries : Carries f holds) (leaves : LeavesPublic mask to holds) where
+      (carries : Carries f holds) (leaves : LeavesPublic f mask to holds) where
     held_kept : KeptBelow f mask to holds holds
-    held_kept = kept-itself f mask to holds carries (λ r lt unmarks. let h = leaves r (omega arith) unmarks in h.1)
+    held_kept = kept-itself f mask to holds carries (λ r lt unmarks. let h = leaves.lower r (omega arith) unmarks in h.1)
 
     -- by the code of the index, or as a number
     located_by : (near : Bool) → (near ≡ true → label_of (context_of f.decls) i ≡ label.Public) → (fixed : Option ℤ)
@@ -196,7 +202,7 @@ module _ (o : Parts) (f : Setting) (homes : HasHomes o f) (once : DeclaredOnce f
         (p + length (located_code near f.profile.block_log h to fixed (expr_code f Public to i))
         - length (shift_code f.profile.block_log h to)))
         → p + length (located_code near f.profile.block_log h to fixed (expr_code f Public to i)) < length o.code
-        → to + height_of i ≤ 26 → ExprPasses o f i → (h.bank < 2 → label_of (context_of f.decls) i ≡ label.Public)
+        → to + height_of i ≤ 18 → ExprPasses o f i → (h.bank < 2 → label_of (context_of f.decls) i ≡ label.Public)
         → LocatedAt o f h mask to p k holds
         (p + length (located_code near f.profile.block_log h to fixed (expr_code f Public to i)))
     located_by near open_index (Some z) stands between inside high index public =
@@ -289,18 +295,18 @@ module _ (o : Parts) (f : Setting) (homes : HasHomes o f) (once : DeclaredOnce f
           let slots = carried.slots in
           let carried_two : Carries f two = carries-same f (to + 2) one two carried
           (same-bound (to + 2) one one h.slot h.bank (same-itself (to + 2) one) (omega arith) (λ lt. bound_one)) in
-          let later : LeavesPublic mask to one = leaves-later mask to holds one leaves
+          let later : LeavesPublic f mask to one = leaves-later f mask to holds one leaves
           (λ s lt unmarks. same.registers s (omega arith) ∙ kept.publics s lt unmarks) in
-          let first = leaves-without mask to to (to + 1) one later (omega arith) (omega arith) (omega arith)
+          let first = leaves-without f mask to to (to + 1) one later (omega arith) (omega arith) (omega arith)
           (same.registers to (omega arith) ∙ word cached) in
-          let second = leaves-without (unmarked mask to) (to + 1) (to + 1) (to + 2) one first (omega arith)
+          let second = leaves-without f (unmarked mask to) (to + 1) (to + 1) (to + 2) one first (omega arith)
           (omega arith)
           (omega arith) (same.registers (to + 1) (omega arith) ∙ block cached) in
-          let third = leaves-without (unmarked (unmarked mask to) (to + 1)) (to + 2) (to + 2) (to + 3) one second
+          let third = leaves-without f (unmarked (unmarked mask to) (to + 1)) (to + 2) (to + 2) (to + 3) one second
           (omega arith) (omega arith) (omega arith) (asked_block o to low h found sized) in
           let fit : FitsClaim one claim = note-fits o f homes once (access_mask mask to) r (to + 3) one carried third in
           let fit_two : FitsClaim two claim = note-fits o f homes once (access_mask mask to) r
-          (to + 3) two carried_two third in
+          (to + 3) two carried_two (record { lower = third.lower; held = third.held }) in
           let at : claimed_at o r ≡ Some claim = noted o q (r + 1) (note_of f (access_mask mask to) r) between
           (omega arith)
           (omega arith) in
@@ -321,7 +327,7 @@ module _ (o : Parts) (f : Setting) (homes : HasHomes o f) (once : DeclaredOnce f
             here = AsClaimed two claim at fit_two;
             kept
                 = record {
-                  carries = note-carries o f homes once (access_mask mask to) r;
+                  carries = note-carries o f homes once (access_mask mask to) r third.held;
                   publics = λ s lt unmarks. claimed-register f (access_mask mask to) r s (omega arith)
                       ∙ unmarked-other (unmarked (unmarked mask to) (to + 1)) (to + 2) s (omega arith) (omega arith)
                       (λ e. absurd (omega arith))
@@ -330,7 +336,7 @@ module _ (o : Parts) (f : Setting) (homes : HasHomes o f) (once : DeclaredOnce f
                       ∙ unmarked-other mask to s (omega arith) (omega arith) (λ e. absurd (omega arith)) ∙ unmarks;
                   secrets = λ s lt secret. fit.registers s (same.registers s (omega arith) ∙ kept.secrets s lt secret);
                 };
-            bound = let c = note-carries o f homes once (access_mask mask to) r in c.arrays x l declared turn range;
+            bound = let c = note-carries o f homes once (access_mask mask to) r third.held in c.arrays x l declared turn range;
             word = λ shows. claimed-register f (access_mask mask to) r to (omega arith)
                 ∙ unmarked-other (unmarked (unmarked mask to) (to + 1)) (to + 2) to (omega arith) (omega arith)
                 (λ e. absurd (omega arith))
@@ -370,16 +376,49 @@ module _ (o : Parts) (f : Setting) (homes : HasHomes o f) (once : DeclaredOnce f
       loaded_if false is stands size between = loaded_plainly (ltb-false (home_of f x).bank 2 is) size between stands
 
   -- The place of a resident array's word is found.
-  module _ (h : Home) (i : Tree) (mask to : ℕ) (low : to + 2 < 32) (p : ℕ) (k holds : Known)
-      (here : HoldsAt o p k holds) (carries : Carries f holds) (leaves : LeavesPublic mask to holds) (near : Bool)
+  module _ (h : Home) (i : Tree) (mask to : ℕ) (low : to + 2 < 19) (p : ℕ) (k holds : Known)
+      (here : HoldsAt o p k holds) (carries : Carries f holds) (leaves : LeavesPublic f mask to holds) (near : Bool)
       (open_index : near ≡ true → label_of (context_of f.decls) i ≡ label.Public) where
+    -- the number of the first word is added, unless that is 0
+    offset_at : (q : ℕ) (comes found : Known) → HoldsAt o q comes found → KeptBelow f mask to holds found
+        → (shows_index h ≡ true → is_secret found to ≡ false) → (first : Bool)
+        → StandsAt o q (if first then [] else Li (to + 1) (pos h.word) ∷ Alu Add to to (to + 1) ∷ [])
+        → ((r : ℕ) → q < r
+        → r < q + length (if first then [] else Li (to + 1) (pos h.word) ∷ Alu Add to to (to + 1) ∷ []) + 1
+        → claimed_at o r ≡ None)
+        → q + length (if first then [] else Li (to + 1) (pos h.word) ∷ Alu Add to to (to + 1) ∷ []) < length o.code
+        → PlacedAt o f h mask to q comes holds
+        (q + length (if first then [] else Li (to + 1) (pos h.word) ∷ Alu Add to to (to + 1) ∷ []))
+    offset_at q comes found here kept word true stands quiet inside =
+        let empty : q ≡ q + 0 = omega arith in
+        subst (PlacedAt o f h mask to q comes holds) empty
+        (record {
+          last = comes;
+          held = found;
+          passes = Done q comes;
+          here = here;
+          kept = kept;
+          word = word;
+        })
+    offset_at q comes found here kept word false stands quiet inside =
+        let l = offset_by o to low h q found kept.carries.registers false in
+        record {
+          last = l.after;
+          held = l.after;
+          passes = passes-noted o q _ _ comes found l.after here l.goes stands
+              (λ r above below. quiet r above (omega arith)) inside;
+          here = AsItComes l.after (quiet (q + 2) (omega arith) (omega arith));
+          kept = kept-same f mask to holds found l.after kept l.same;
+          word = λ shows. l.word_is ∙ word shows;
+        }
+
     placed_by : (fixed : Option ℤ) → StandsAt o p (placed_code near h to fixed (expr_code f Public to i))
         → NotesBetween o p (p + length (placed_code near h to fixed (expr_code f Public to i)) + 1)
         (index_notes fixed (expr_notes f mask to p i)
         ++ compared_notes near fixed f mask to
         (p + length (placed_code near h to fixed (expr_code f Public to i)) - length (offset_code h to)))
         → p + length (placed_code near h to fixed (expr_code f Public to i)) < length o.code
-        → to + height_of i ≤ 26 → ExprPasses o f i
+        → to + height_of i ≤ 18 → ExprPasses o f i
         → (shows_index h ≡ true → label_of (context_of f.decls) i ≡ label.Public)
         → PlacedAt o f h mask to p k holds (p + length (placed_code near h to fixed (expr_code f Public to i)))
     placed_by (Some z) stands between inside high index public =
@@ -387,14 +426,15 @@ module _ (o : Parts) (f : Setting) (homes : HasHomes o f) (once : DeclaredOnce f
         let sized = carries.registers in
         record {
           last = one;
+          held = one;
           passes = passes-noted o p _ _ k holds one here
               (One p _ _ holds one one (rules-li o p holds to _) (NoMore (p + 1) one)) stands
               (λ s above below. between s above (omega arith)) inside;
           kept = kept-same f mask to holds holds one
-              (kept-itself f mask to holds carries (λ r lt unmarks. let h = leaves r (omega arith) unmarks in h.1))
-              (same-set to holds holds to false (omega arith) (same-itself to holds));
+              (kept-itself f mask to holds carries (λ r lt unmarks. let h = leaves.lower r (omega arith) unmarks in h.1))
+              (same-set to holds holds to false (omega arith) (omega arith) (same-itself to holds));
           word = λ shows. secret-same holds to false (omega arith);
-          none = between (p + 1) (omega arith) (omega arith);
+          here = AsItComes one (between (p + 1) (omega arith) (omega arith));
         }
     placed_by None stands between inside high index public =
         let code = expr_code f Public to i in
@@ -432,23 +472,25 @@ module _ (o : Parts) (f : Setting) (homes : HasHomes o f) (once : DeclaredOnce f
         (omega arith))
         near open_index (standing-first number offset stands_rest)
         (notes-within o mid (last + 1) mid (next + 1) behind (omega arith) (omega arith) later) (omega arith) in
-        let l = offset-numbered o to low h next second.held second.kept.carries.registers in
         let quiet_after : (r : ℕ) → next < r → r < last + 1 → claimed_at o r ≡ None = (λ r above below.
         later r (omega arith) below
         ∙ ap (option_map note_known) (no_note-behind mid (next + 1) r behind lie_behind (omega arith))) in
-        let third : Passes o next second.last (next + length offset) l.after =
-        passes-noted o next _ _ second.last second.held l.after second.here l.goes
-        (standing-rest number offset stands_rest) (λ r above below. quiet_after r above (omega arith)) (omega arith) in
-        record {
-          last = l.after;
+        let third = offset_at next second.last second.held second.here second.kept
+        (λ shows. second.word (public shows)) (h.word == 0) (standing-rest number offset stands_rest)
+        (λ r above below. quiet_after r above (omega arith)) (omega arith) in
+        let place_of_end : next + length offset ≡ last = omega arith in
+        subst (PlacedAt o f h mask to p k holds) place_of_end
+        (record {
+          last = third.last;
+          held = third.held;
           passes
-              = passes-to o p k (next + length offset) last l.after (omega arith)
-              (passes-then o p k mid first.last first.passes (next + length offset) l.after
-              (passes-then o mid first.last next second.last second.passes (next + length offset) l.after third));
-          kept = kept-same f mask to holds second.held l.after second.kept l.same;
-          word = λ shows. l.word_is ∙ second.word (public shows);
-          none = quiet_after last (omega arith) (omega arith);
-        }
+              = passes-then o p k mid first.last first.passes (next + length offset) third.last
+              (passes-then o mid first.last next second.last second.passes (next + length offset) third.last
+              third.passes);
+          here = third.here;
+          kept = third.kept;
+          word = third.word;
+        })
 
   -- a whole access, of an array that is resident or isn't
   abbrev code_by : (resident near : Bool) → ℕ → List ℕ → Tree → List Instr
@@ -460,13 +502,13 @@ module _ (o : Parts) (f : Setting) (homes : HasHomes o f) (once : DeclaredOnce f
       → context_of f.decls x ≡ Some (l, Array) → (b near : Bool) → (home_of f x).resident ≡ b
       → (near ≡ true → label_of (context_of f.decls) i ≡ label.Public)
       → (shows_index (home_of f x) ≡ true → label_of (context_of f.decls) i ≡ label.Public)
-      → ExprPasses o f i → to + height_of i ≤ 26 → to + 2 < 32
+      → ExprPasses o f i → to + height_of i ≤ 18 → to + 2 < 19
       → StandsAt o p (code_by b near to x i)
       → NotesBetween o p (p + length (code_by b near to x i) + 1)
       (index_notes (fixed_index (home_of f x) i) (expr_notes f mask to p i)
       ++ loaded_notes b near (fixed_index (home_of f x) i) f (home_of f x) mask to (p + length (code_by b near to x i)))
       → p + length (code_by b near to x i) < length o.code → HoldsAt o p k holds → Carries f holds
-      → LeavesPublic mask to holds
+      → LeavesPublic f mask to holds
       → AccessPassed o f (home_of f x) mask to p k holds (p + length (code_by b near to x i))
   passes_by x l i mask to p k holds declared true near is open_index public index high low stands between inside here
       carries leaves =
@@ -478,9 +520,9 @@ module _ (o : Parts) (f : Setting) (homes : HasHomes o f) (once : DeclaredOnce f
       let pin = homes.pins h.slot (pin_of h) home.pinned in
       record {
         last = found.last;
-        held = found.last;
+        held = found.held;
         passes = found.passes;
-        here = AsItComes found.last found.none;
+        here = found.here;
         kept = found.kept;
         bound = found.kept.carries.pinned h.slot (pin_of h) home.pinned pin.few pin.apart;
         word = found.word;
@@ -549,11 +591,11 @@ module _ (o : Parts) (f : Setting) (homes : HasHomes o f) (once : DeclaredOnce f
 
   pub access-passes : (x : List ℕ) (l : Label) (i : Tree) (mask to p : ℕ) (k holds : Known)
       → context_of f.decls x ≡ Some (l, Array) → IndexIsPublic f x i
-      → ExprPasses o f i → to + height_of i ≤ 26 → to + 2 < 32
+      → ExprPasses o f i → to + height_of i ≤ 18 → to + 2 < 19
       → StandsAt o p (array_code f to x i)
       → NotesBetween o p (p + length (array_code f to x i) + 1) (array_notes f mask to p x i)
       → p + length (array_code f to x i) < length o.code → HoldsAt o p k holds → Carries f holds
-      → LeavesPublic mask to holds
+      → LeavesPublic f mask to holds
       → AccessPassed o f (home_of f x) mask to p k holds (p + length (array_code f to x i))
   access-passes x l i mask to p k holds declared public index high low stands between inside here carries leaves =
       passes_by x l i mask to p k holds declared (home_of f x).resident (compares f Public (home_of f x) i) refl

@@ -1,36 +1,40 @@
 -- The public code of an assignment is passed, at any place.
-use Rattle.std.proofs.Common.{◌≡◌, ℕ, ◌+◌, ◌<◌, ◌≤◌, Bool, true, false, ◌||◌, ◌&&◌, pos, List, [], ◌∷◌, ◌++◌, length, length-append, Some, None, refl, sym, ap, ◌∙◌, subst, arith}
+use Rattle.std.proofs.Common.{◌≡◌, ℕ, ◌+◌, ◌<◌, ◌≤◌, Bool, true, false, ◌||◌, ◌&&◌, pos, List, [], ◌∷◌, ◌++◌, length, length-append, Option, Some, None, refl, sym, ap, ◌∙◌, subst, arith}
 use Rattle.std.specs.Option.{option_map}
 use Rattle.std.proofs.lemmas.Bool.{eqb-true}
 use Rattle.gr_word.specs.declared.variables.Label.{Label}
 use Rattle.gr_word.specs.declared.variables.Label.TheVariants as label
 use Rattle.gr_word.specs.declared.variables.Shape.TheVariants.{Scalar, Array}
-use Rattle.lt_isa.specs.declared.instructions.Instr.TheVariants.{Li, Stw}
+use Rattle.gr_word.specs.declared.operations.Op.TheVariants.{Add}
+use Rattle.lt_isa.specs.declared.instructions.Instr.{Instr}
+use Rattle.lt_isa.specs.declared.instructions.Instr.TheVariants.{Stw}
 use Rattle.lt_isa.specs.Object.{Parts, is_ram}
 use Rattle.src_tree.specs.Contexts.{context_of}
 use Rattle.src_tree.specs.Heights.{height_of}
 use Rattle.src_tree.specs.Labels.{higher, label_or_public, label_at, label_of, secret_label}
-use Rattle.src_tree.specs.Trees.{Tree, SetVariable, SetElement}
+use Rattle.src_tree.specs.Trees.{Tree, Variable, SetVariable, SetElement}
 use Rattle.src_tree.specs.Typing.{TypedStatement, Flows, DeclaredOnce}
 use Rattle.bank_alloc.specs.Apart.{scalar_bank}
 use Rattle.trace_patterns.specs.Known.{Known, is_secret, bank_known, set_secret, note_known}
 use Rattle.trace_patterns.specs.Rules.{claimed_at}
 use Rattle.stretches.specs.Passing.{HoldsAt, AsItComes, Passes}
 use Rattle.stretches.proofs.Standing.{standing-first, standing-rest}
-use Rattle.stretches.proofs.Passed.{passes-then, passes-to, passes-goes, passes-noted, GoesOn, NoMore, One, rules-li, rules-stw, rules-stb, secret-same, secret-other, notes-before, notes-behind, no_note-there, notes-within, no_note-behind, LieBetween, lie_wider, lie_both}
+use Rattle.stretches.proofs.Passed.{passes-then, passes-to, passes-goes, passes-noted, GoesOn, NoMore, One, rules-li, rules-alu, rules-stw, rules-stb, secret-same, secret-other, notes-before, notes-behind, no_note-there, notes-within, no_note-behind, LieBetween, lie_wider, lie_both}
 use Rattle.block_cache_gen.specs.declared.frames.Mode.TheVariants.{Public}
-use Rattle.block_cache_gen.specs.Homes.{Setting, HasHomes, home_of}
-use Rattle.block_cache_gen.specs.Codes.{compares, stored_code, expr_code, set_code}
-use Rattle.block_cache_gen.specs.Notes.{all_marked, marked_by, expr_notes, set_notes}
+use Rattle.block_cache_gen.specs.Homes.{Setting, HasHomes, home_of, register_for}
+use Rattle.block_cache_gen.specs.Codes.{compares, stored_code, expr_code, set_code, zero_of, write_code}
+use Rattle.block_cache_gen.specs.Notes.{marked_by, expr_notes, set_notes, base_mask}
 use Rattle.block_cache_gen.specs.Carries.{Carries}
 use Rattle.block_cache_gen.specs.PublicIndexes.{SetHasPublicIndexes}
-use Rattle.block_cache_gen.specs.PublicCode.{StandsNoted, PassedSet}
-use Rattle.block_cache_gen.proofs.NotesOfCode.{expression-longer, expression-lies, access-lie}
-use Rattle.block_cache_gen.proofs.KeptRegisters.{same-itself, same-set, carries-same}
+use Rattle.block_cache_gen.specs.PublicCode.{HasLabel, StandsNoted, PassedSet}
+use Rattle.block_cache_gen.proofs.NotesOfCode.{write-longer, expression-longer, expression-lies, access-lie}
+use Rattle.block_cache_gen.proofs.KeptRegisters.{same-itself, same-set, carries-same, carries-copied}
+use Rattle.block_cache_gen.proofs.HeldLabels.{register-label, register-low, zero-label}
+use Rattle.held_registers.proofs.Copies.{secret_copy}
 use Rattle.block_cache_gen.proofs.PublicAccesses.{array_code, array_notes, access-passes}
 use Rattle.block_cache_gen.proofs.PublicExpressions.{expression-passes, resident_bound, leaves-labelled, label-kept}
 use Rattle.block_cache_gen.proofs.HomeFacts.{shows-plain, plain-array}
-use Rattle.block_cache_gen.proofs.PublicGuards.{leaves-none}
+use Rattle.block_cache_gen.proofs.NoteClaims.{leaves-base}
 
 -- what flows to a public variable is public
 flows_public : (code l : Label) → Flows (higher code l) label.Public → secret_label l ≡ false
@@ -59,69 +63,122 @@ low_label : (l : Label) → scalar_bank l ≡ 0 → l ≡ label.Public
 low_label label.Public e = refl
 low_label label.Secret e = absurd (omega arith)
 
+-- a value that is copied by the zero of a scalar's label has that label if it may flow to the scalar
+copied_label : (code value l : Label) → Flows (higher code value) l
+    → (secret_label value || secret_label l) ≡ secret_label l
+copied_label code value label.Public flows = ap (λ (b : Bool). b || false) (flows_public code value flows)
+copied_label code value label.Secret flows = secret_copy (secret_label value)
+
+-- code that follows the value of an assignment is passed, and the setting is carried after it
+record WritePassed (o : Parts) (f : Setting) (p : ℕ) (code : List Instr) (k : Known) : Type 0 where
+  last : Known
+  goes : GoesOn o p code k last
+  carries : Carries f last
+
 module _ (o : Parts) (f : Setting) (homes : HasHomes o f) (once : DeclaredOnce f.decls) where
+  -- a value is written to a scalar, by the register that holds it
+  abbrev WritePasses : List ℕ → Option ℕ → Label → Type 0
+  WritePasses x found value =
+      (p : ℕ) (k : Known) → Carries f k → HasLabel k 0 value
+      → WritePassed o f p
+      (write_code found (label_of (context_of f.decls) (Variable x)) Public (home_of f x)) k
+
+  module _ (code : Label) (x : List ℕ) (l value : Label) (declared : context_of f.decls x ≡ Some (l, Scalar))
+      (flows : Flows (higher code value) (label_at (context_of f.decls) x)) where
+    label_is : label_at (context_of f.decls) x ≡ l
+    label_is = ap label_or_public declared
+
+    copy_passes : (r : ℕ) → register_for f x ≡ Some r → WritePasses x (Some r) value
+    copy_passes r is p k carries labelled =
+        let own = label_at (context_of f.decls) x in
+        let joined = is_secret k 0 || is_secret k (zero_of own) in
+        let zero = carries.held (zero_of own) own (zero-label f homes.held x l Scalar declared r is own) in
+        let last = set_secret k r joined in
+        record {
+          last = last;
+          goes = One p _ [] k last last (rules-alu o p k Add r 0 (zero_of own)) (NoMore (p + 1) last);
+          carries
+              = carries-copied f k r l joined carries (register-label f homes.held x l Scalar declared r is)
+              (register-low f homes.held x l Scalar declared r is)
+              (ap (λ (b : Bool). b || is_secret k (zero_of own)) labelled
+              ∙ ap (λ (b : Bool). secret_label value || b) zero
+              ∙ copied_label code value own flows
+              ∙ ap secret_label label_is);
+        }
+
+    word_passes : WritePasses x None value
+    word_passes p k carries labelled =
+        let h = home_of f x in
+        let scalar = homes.scalars x l declared in
+        let home = homes.residents x l Scalar declared scalar.resident in
+        let sized = carries.registers in
+        let one = set_secret k 1 false in
+        let carried : Carries f one = carries-same f 1 k one carries
+        (same-set 1 k k 1 false (omega arith) (omega arith) (same-itself 1 k)) in
+        let bound : bank_known one h.slot ≡ Some h.bank =
+        resident_bound o f homes one x l Scalar declared scalar.resident carried in
+        let public : h.bank ≡ 0 → is_secret one 0 ≡ false = (λ zero.
+        let plain : l ≡ label.Public = low_label l (sym home.bank ∙ zero) in
+        secret-other k 1 0 false (λ e. absurd (omega arith)) ∙ labelled
+        ∙ flows_public code value (subst (Flows (higher code value)) (label_is ∙ plain) flows)) in
+        record {
+          last = one;
+          goes
+              = One p _ _ k one one (rules-li o p k 1 (pos h.word))
+              (One (p + 1) _ _ one one one
+              (rules-stw o (p + 1) one 0 h.slot 1 h.bank bound
+              (stored h.bank (is_secret one 0) (is_secret one 1) public (λ zero. secret-same k 1 false (omega arith))))
+              (NoMore (p + 1 + 1) one));
+          carries = carried;
+        }
+
+    write_passes : (found : Option ℕ) → register_for f x ≡ found → WritePasses x found value
+    write_passes None is = word_passes
+    write_passes (Some r) is = copy_passes r is
+
   -- an assignment to a variable is passed in public code
   pub set_variable-passes : (code : Label) (x : List ℕ) (e : Tree)
       → TypedStatement (context_of f.decls) code (SetVariable x e)
-      → SetHasPublicIndexes f (SetVariable x e) → height_of e ≤ 25 → (p : ℕ) (k holds : Known)
+      → SetHasPublicIndexes f (SetVariable x e) → height_of e ≤ 17 → (p : ℕ) (k holds : Known)
       → StandsNoted o p (set_code f Public (SetVariable x e)) (set_notes f p (SetVariable x e)) → HoldsAt o p k holds
       → Carries f holds → PassedSet o f p (set_code f Public (SetVariable x e)) k
   set_variable-passes code x e typed public low p k holds stands here carries =
       let known = context_of f.decls in
-      let h = home_of f x in
-      let l = typed.0.0 in
-      let declared : known x ≡ Some (l, Scalar) = typed.0.1 in
-      let scalar = homes.scalars x l declared in
-      let home = homes.residents x l Scalar declared scalar.resident in
       let first = expr_code f Public 0 e in
-      let store = Li 1 (pos h.word) ∷ Stw 0 h.slot 1 ∷ [] in
-      let notes = expr_notes f all_marked 0 p e in
-      let size : length (first ++ store) ≡ length first + 2 = length-append first store in
+      let store = write_code (register_for f x) (label_of known (Variable x)) Public (home_of f x) in
+      let notes = expr_notes f (base_mask f) 0 p e in
+      let size : length (first ++ store) ≡ length first + length store = length-append first store in
       let inside = stands.behind in
       let mid = p + length first in
       let whole = p + length (first ++ store) in
       let some = expression-longer f e 0 in
-      let lie = expression-lies f e all_marked 0 p in
-      let v = expression-passes o f homes once e typed.1.0 public all_marked 0 p k holds (omega arith)
+      let more = write-longer (register_for f x) (label_of known (Variable x)) Public (home_of f x) in
+      let lie = expression-lies f e (base_mask f) 0 p in
+      let v = expression-passes o f homes once e typed.1.0 public (base_mask f) 0 p k holds (omega arith)
       (record {
         code_stands = standing-first first store stands.code_stands;
         noted = notes-within o p whole p mid notes (omega arith) (omega arith) stands.noted;
         behind = omega arith;
-      }) here carries (leaves-none 0 holds) in
-      let sized = v.kept.carries.registers in
-      let one = set_secret v.last 1 false in
-      let carried : Carries f one = carries-same f 1 v.last one v.kept.carries
-      (same-set 1 v.last v.last 1 false (omega arith) (same-itself 1 v.last)) in
-      let bound : bank_known one h.slot ≡ Some h.bank =
-      resident_bound o f homes one x l Scalar declared scalar.resident carried in
-      let label_is : label_at known x ≡ l = ap label_or_public declared in
-      let value : h.bank ≡ 0 → is_secret one 0 ≡ false = (λ zero.
-      let plain : l ≡ label.Public = low_label l (sym home.bank ∙ zero) in
-      secret-other v.last 1 0 false (λ e. absurd (omega arith)) ∙ v.labelled
-      ∙ flows_public code (label_of known e) (subst (Flows (higher code (label_of known e))) (label_is
-      ∙ plain) typed.1.1)) in
-      let goes : GoesOn o mid store v.last one = One mid _ _ v.last one one (rules-li o mid v.last 1 (pos h.word))
-      (One (mid + 1) _ _ one one one
-      (rules-stw o (mid + 1) one 0 h.slot 1 h.bank bound
-      (stored h.bank (is_secret one 0) (is_secret one 1) value (λ zero. secret-same v.last 1 false (omega arith))))
-      (NoMore (mid + 1 + 1) one)) in
+      }) here carries (leaves-base f 0 holds) in
+      let w = write_passes code x typed.0.0 (label_of known e) typed.0.1 typed.1.1 (register_for f x) refl mid v.last
+      v.kept.carries v.labelled in
       let quiet : (r : ℕ) → mid ≤ r → r < mid + length store → claimed_at o r ≡ None = (λ r above below.
       stands.noted r (omega arith) (omega arith)
       ∙ ap (option_map note_known) (no_note-behind p mid r notes lie above)) in
-      let behind : Passes o mid v.last (mid + length store) one = passes-goes o mid store v.last one goes
+      let behind : Passes o mid v.last (mid + length store) w.last = passes-goes o mid store v.last w.last w.goes
       (standing-rest first store stands.code_stands) quiet (omega arith) in
       record {
-        last = one;
+        last = w.last;
         passes
-            = passes-to o p k (mid + length store) whole one (omega arith)
-            (passes-then o p k mid v.last v.passes (mid + length store) one behind);
-        carries = carried;
+            = passes-to o p k (mid + length store) whole w.last (omega arith)
+            (passes-then o p k mid v.last v.passes (mid + length store) w.last behind);
+        carries = w.carries;
       }
 
   -- an assignment to an element is passed in public code
   pub set_element-passes : (code : Label) (x : List ℕ) (i e : Tree)
       → TypedStatement (context_of f.decls) code (SetElement x i e) → SetHasPublicIndexes f (SetElement x i e)
-      → height_of i ≤ 25 → height_of e ≤ 25 → (p : ℕ) (k holds : Known)
+      → height_of i ≤ 17 → height_of e ≤ 17 → (p : ℕ) (k holds : Known)
       → StandsNoted o p (set_code f Public (SetElement x i e)) (set_notes f p (SetElement x i e)) → HoldsAt o p k holds
       → Carries f holds → PassedSet o f p (set_code f Public (SetElement x i e)) k
   set_element-passes code x i e typed public low_index low p k holds stands here carries =
@@ -133,7 +190,7 @@ module _ (o : Parts) (f : Setting) (homes : HasHomes o f) (once : DeclaredOnce f
       let first = expr_code f Public 0 e in
       let access = array_code f 1 x i in
       let store = Stw 0 h.slot 1 ∷ stored_code h.resident h.slot in
-      let mask = marked_by (label_of known e) all_marked 0 in
+      let mask = marked_by (label_of known e) (base_mask f) 0 in
       let size : length (first ++ (access ++ store)) ≡ length first + (length access + length store) =
       length-append first (access ++ store) ∙ ap (λ (n : ℕ). length first + n) (length-append access store) in
       let inside = stands.behind in
@@ -141,21 +198,21 @@ module _ (o : Parts) (f : Setting) (homes : HasHomes o f) (once : DeclaredOnce f
       let r = mid + length access in
       let whole = p + length (first ++ (access ++ store)) in
       let some = expression-longer f e 0 in
-      let before = expr_notes f all_marked 0 p e in
+      let before = expr_notes f (base_mask f) 0 p e in
       let later = array_notes f mask 1 mid x i in
-      let lie_before : LieBetween p mid before = expression-lies f e all_marked 0 p in
+      let lie_before : LieBetween p mid before = expression-lies f e (base_mask f) 0 p in
       let lie_access : LieBetween mid (r + 1) later = access-lie f (compares f Public h i) h mask 1 mid _
       (expr_code f Public 1 i)
       (expr_notes f mask 1 mid i) (expression-lies f i mask 1 mid) in
       let lie_later : LieBetween mid whole later = lie_wider mid (r + 1) mid whole later (omega arith)
       (omega arith) lie_access in
       let rest = standing-rest first (access ++ store) stands.code_stands in
-      let v = expression-passes o f homes once e typed.1.0 public.1 all_marked 0 p k holds (omega arith)
+      let v = expression-passes o f homes once e typed.1.0 public.1 (base_mask f) 0 p k holds (omega arith)
       (record {
         code_stands = standing-first first (access ++ store) stands.code_stands;
         noted = notes-before o p mid whole before later lie_before lie_later stands.noted (omega arith);
         behind = omega arith;
-      }) here carries (leaves-none 0 holds) in
+      }) here carries (leaves-base f 0 holds) in
       let there : HoldsAt o mid v.last v.last = AsItComes v.last
       (no_note-there o p mid whole before later lie_before lie_later stands.noted (omega arith) (omega arith)) in
       let a = access-passes o f homes once x l i mask 1 mid v.last v.last declared public.0.0
@@ -164,11 +221,11 @@ module _ (o : Parts) (f : Setting) (homes : HasHomes o f) (once : DeclaredOnce f
       (notes-within o mid whole mid (r + 1) later (omega arith) (omega arith)
       (notes-behind o p mid whole before later lie_before lie_later stands.noted (omega arith)))
       (omega arith) there v.kept.carries
-      (leaves-labelled (label_of known e) all_marked 0 v.last (omega arith) (leaves-none 0 v.last) v.labelled) in
+      (leaves-labelled f (label_of known e) (base_mask f) 0 v.last (omega arith) (leaves-base f 0 v.last) v.labelled) in
       let label_is : label_at known x ≡ l = ap label_or_public declared in
       let value : h.bank ≡ 0 → is_secret a.held 0 ≡ false = (λ zero.
       let public_l : l ≡ label.Public = plain.0 zero in
-      label-kept f (label_of known e) all_marked 0 1 v.last a.held (omega arith) (omega arith) v.labelled a.kept
+      label-kept f (label_of known e) (base_mask f) 0 1 v.last a.held (omega arith) (omega arith) v.labelled a.kept
       ∙ flows_public code (label_of known e) (subst (Flows (higher code (label_of known e))) (label_is
       ∙ public_l) typed.1.1)) in
       let goes : GoesOn o r store a.held a.held = One r _ _ a.held a.held a.held

@@ -7,6 +7,7 @@ use Rattle.gr_word.specs.declared.variables.Label.TheVariants as label
 use Rattle.gr_word.specs.declared.variables.Shape.{Shape}
 use Rattle.gr_word.specs.declared.variables.Shape.TheVariants.{Scalar, Array}
 use Rattle.gr_word.specs.declared.operations.Op.{Op}
+use Rattle.gr_word.specs.declared.operations.Op.TheVariants.{Add}
 use Rattle.lt_isa.specs.declared.instructions.Instr.{Instr}
 use Rattle.lt_isa.specs.declared.instructions.Instr.TheVariants.{Li, Alu, Ldw}
 use Rattle.lt_isa.specs.Object.{Parts, is_ram}
@@ -21,8 +22,8 @@ use Rattle.stretches.specs.Passing.{HoldsAt, AsItComes, Passes}
 use Rattle.stretches.proofs.Standing.{standing-first, standing-rest, standing-head}
 use Rattle.stretches.proofs.Passed.{passes-then, passes-to, passes-one, passes-goes, passes-noted, NoMore, One, rules-li, rules-alu, rules-ldw, secret-same, notes-before, notes-behind, no_note-there, notes-within, no_note-behind, LieBetween, lie_wider, lie_both}
 use Rattle.block_cache_gen.specs.declared.frames.Mode.TheVariants.{Public}
-use Rattle.block_cache_gen.specs.Homes.{Setting, HasHomes, home_of, pin_of}
-use Rattle.block_cache_gen.specs.Codes.{operation_code, steps_at, expr_code}
+use Rattle.block_cache_gen.specs.Homes.{Setting, HasHomes, home_of, pin_of, register_for}
+use Rattle.block_cache_gen.specs.Codes.{scalar_code, operation_code, steps_at, expr_code}
 use Rattle.strength_reduction.specs.Steps.{Step, numbered, code_of}
 use Rattle.step_code.proofs.StepPasses.{passes-steps}
 use Rattle.block_cache_gen.proofs.StepsAt.{StepsOf, steps-of}
@@ -32,18 +33,21 @@ use Rattle.block_cache_gen.specs.Notes.{marked_by, operation_notes, expr_notes}
 use Rattle.block_cache_gen.specs.Carries.{Carries}
 use Rattle.block_cache_gen.specs.PublicIndexes.{IndexIsPublic, HasPublicIndexes}
 use Rattle.block_cache_gen.specs.PublicCode.{HasLabel, StandsNoted}
+use Rattle.held_registers.specs.Held.{public_zero}
+use Rattle.block_cache_gen.proofs.HeldLabels.{register-label, zero-label}
 use Rattle.block_cache_gen.proofs.KeptBelow.{LeavesPublic, KeptBelow}
-use Rattle.block_cache_gen.proofs.NoteClaims.{unmarked-same, unmarked-other, leaves-without, leaves-later, leaves-higher}
+use Rattle.block_cache_gen.proofs.BaseMarks.{unmarked-same, unmarked-other}
+use Rattle.block_cache_gen.proofs.NoteClaims.{leaves-without, leaves-later, leaves-higher}
 use Rattle.block_cache_gen.proofs.NotesOfCode.{expression-longer, expression-lies}
-use Rattle.block_cache_gen.proofs.KeptRegisters.{SameBelow, same-itself, same-set, kept-same, kept-itself}
+use Rattle.block_cache_gen.proofs.KeptRegisters.{SameBelow, same-itself, same-set, kept-same, kept-itself, or_false}
 use Rattle.block_cache_gen.proofs.HomeFacts.{shows-plain, plain-array}
 use Rattle.block_cache_gen.proofs.PublicAccesses.{ExprPasses, array_code, array_notes, access-passes}
 
 -- what is known where a setting is carried keeps itself
-pub kept-here : (f : Setting) (mask to : ℕ) (k : Known) → to < 32 → Carries f k → LeavesPublic mask to k
+pub kept-here : (f : Setting) (mask to : ℕ) (k : Known) → to < 19 → Carries f k → LeavesPublic f mask to k
     → KeptBelow f mask to k k
 kept-here f mask to k low carries leaves =
-    kept-itself f mask to k carries (λ r lt unmarks. let h = leaves r (omega arith) unmarks in h.1)
+    kept-itself f mask to k carries (λ r lt unmarks. let h = leaves.lower r (omega arith) unmarks in h.1)
 
 -- the bank of a resident variable
 pub resident_bound : (o : Parts) (f : Setting) → HasHomes o f → (k : Known) (x : List ℕ) (l : Label) (shape : Shape)
@@ -96,11 +100,11 @@ marks_before label.Public mask to r low lt unmarks =
 marks_before label.Secret mask to r low lt unmarks = unmarks
 
 -- after a value the mask of its label says which registers are public
-pub leaves-labelled : (l : Label) (mask to : ℕ) (k : Known) → to < 32 → LeavesPublic mask to k → HasLabel k to l
-    → LeavesPublic (marked_by l mask to) (to + 1) k
-leaves-labelled label.Public mask to k low leaves labelled =
-    leaves-without mask to to (to + 1) k leaves (omega arith) (omega arith) low labelled
-leaves-labelled label.Secret mask to k low leaves labelled = leaves-higher mask to (to + 1) k (omega arith) leaves
+pub leaves-labelled : (f : Setting) (l : Label) (mask to : ℕ) (k : Known) → to < 19 → LeavesPublic f mask to k → HasLabel k to l
+    → LeavesPublic f (marked_by l mask to) (to + 1) k
+leaves-labelled f label.Public mask to k low leaves labelled =
+    leaves-without f mask to to (to + 1) k leaves (omega arith) (omega arith) low labelled
+leaves-labelled f label.Secret mask to k low leaves labelled = leaves-higher f mask to (to + 1) k (omega arith) leaves
 
 -- a register keeps its label where the mask says it
 pub label-kept : (f : Setting) (l : Label) (mask to more : ℕ) (k m : Known) → to < 32 → to < more → HasLabel k to l
@@ -130,19 +134,51 @@ module _ (o : Parts) (f : Setting) (homes : HasHomes o f) (once : DeclaredOnce f
         kept
             = kept-same f mask to holds holds (set_secret holds to false)
             (kept-here f mask to holds (omega arith) carries leaves)
-            (same-set to holds holds to false (omega arith) (same-itself to holds));
+            (same-set to holds holds to false (omega arith) (omega arith) (same-itself to holds));
         labelled = secret-same holds to false (omega arith);
       }
 
-  scalar_passes : (x : List ℕ) (l : Label) → context_of f.decls x ≡ Some (l, Scalar) → ExprPasses o f (Variable x)
-  scalar_passes x l declared mask to p k holds high stands here carries leaves =
+  -- the code of a scalar, by the register that holds it
+  abbrev ScalarPasses : List ℕ → Option ℕ → Type 0
+  ScalarPasses x found =
+      (mask to p : ℕ) (k holds : Known) → to < 19
+      → StandsNoted o p (scalar_code found (home_of f x) to) [] → HoldsAt o p k holds → Carries f holds
+      → LeavesPublic f mask to holds
+      → PassedCode o f mask to p (scalar_code found (home_of f x) to) (label_of (context_of f.decls) (Variable x)) k holds
+
+  copy_passes : (x : List ℕ) (l : Label) → context_of f.decls x ≡ Some (l, Scalar) → (r : ℕ)
+      → register_for f x ≡ Some r → ScalarPasses x (Some r)
+  copy_passes x l declared r is mask to p k holds low stands here carries leaves =
+      let sized = carries.registers in
+      let held = register-label f homes.held x l Scalar declared r is in
+      let zero = zero-label f homes.held x l Scalar declared r is label.Public in
+      let last = set_secret holds to (is_secret holds r || is_secret holds public_zero) in
+      record {
+        last = last;
+        passes
+            = passes-noted o p (Alu Add to r public_zero) [] k holds last here
+            (One p _ [] holds last last (rules-alu o p holds Add to r public_zero) (NoMore (p + 1) last))
+            stands.code_stands stands.noted stands.behind;
+        kept
+            = kept-same f mask to holds holds last (kept-here f mask to holds low carries leaves)
+            (same-set to holds holds to _ (omega arith) low (same-itself to holds));
+        labelled
+            = secret-same holds to (is_secret holds r || is_secret holds public_zero) (omega arith)
+            ∙ ap (λ (b : Bool). is_secret holds r || b) (carries.held public_zero label.Public zero)
+            ∙ or_false (is_secret holds r)
+            ∙ carries.held r l held
+            ∙ ap (λ (q : Option (Label × Shape)). secret_label (label_or_public q)) (sym declared);
+      }
+
+  word_passes : (x : List ℕ) (l : Label) → context_of f.decls x ≡ Some (l, Scalar) → ScalarPasses x None
+  word_passes x l declared mask to p k holds low stands here carries leaves =
       let h = home_of f x in
       let scalar = homes.scalars x l declared in
       let home = homes.residents x l Scalar declared scalar.resident in
       let sized = carries.registers in
       let one = set_secret holds to false in
       let two = set_secret one to (not (is_ram h.bank) || is_secret one to) in
-      let first = same-set to holds holds to false (omega arith) (same-itself to holds) in
+      let first = same-set to holds holds to false (omega arith) (omega arith) (same-itself to holds) in
       let size : length one.secret ≡ 32 = first.sized ∙ sized in
       let bound : bank_known one h.slot ≡ Some h.bank =
       resident_bound o f homes holds x l Scalar declared scalar.resident carries in
@@ -155,13 +191,24 @@ module _ (o : Parts) (f : Setting) (homes : HasHomes o f) (once : DeclaredOnce f
             stands.code_stands stands.noted stands.behind;
         kept
             = kept-same f mask to holds holds two (kept-here f mask to holds (omega arith) carries leaves)
-            (same-set to holds one to _ (omega arith) first);
+            (same-set to holds one to _ (omega arith) (omega arith) first);
         labelled
             = secret-same one to (not (is_ram h.bank) || is_secret one to) (omega arith)
             ∙ ap (λ (b : Bool). not (is_ram h.bank) || b) (secret-same holds to false (omega arith))
             ∙ ap (λ (b : ℕ). not (is_ram b) || false) home.bank ∙ ram_scalar l
             ∙ ap (λ (q : Option (Label × Shape)). secret_label (label_or_public q)) (sym declared);
       }
+
+  scalar_by : (x : List ℕ) (l : Label) → context_of f.decls x ≡ Some (l, Scalar) → (found : Option ℕ)
+      → register_for f x ≡ found → ScalarPasses x found
+  scalar_by x l declared None is = word_passes x l declared
+  scalar_by x l declared (Some r) is = copy_passes x l declared r is
+
+  scalar_passes : (x : List ℕ) (l : Label) → context_of f.decls x ≡ Some (l, Scalar) → ExprPasses o f (Variable x)
+  scalar_passes x l declared mask to p k holds high stands here carries leaves =
+      let passed = scalar_by x l declared (register_for f x) refl mask to p k holds (omega arith) stands here carries
+      leaves in
+      record { last = passed.last; passes = passed.passes; kept = passed.kept; labelled = passed.labelled }
 
   element_passes : (x : List ℕ) (l : Label) (i : Tree) → context_of f.decls x ≡ Some (l, Array)
       → IndexIsPublic f x i → ExprPasses o f i
@@ -173,7 +220,8 @@ module _ (o : Parts) (f : Setting) (homes : HasHomes o f) (once : DeclaredOnce f
       let size : length (code ++ read) ≡ length code + 1 = length-append code read in
       let behind = stands.behind in
       let r = p + length code in
-      let a = access-passes o f homes once x l i mask to p k holds declared public index (omega arith) (omega arith)
+      let a = access-passes o f homes once x l i mask to p k holds declared public index (omega arith)
+      (omega (arith, height-some i))
       (standing-first code read stands.code_stands)
       (notes-within o p (p + length (code ++ read)) p (r + 1) (array_notes f mask to p x i) (omega arith)
       (omega arith) stands.noted)
@@ -189,7 +237,7 @@ module _ (o : Parts) (f : Setting) (homes : HasHomes o f) (once : DeclaredOnce f
         passes
             = passes-to o p k (r + 1) (p + length (code ++ read)) last (omega arith)
             (passes-then o p k r a.last a.passes (r + 1) last step);
-        kept = kept-same f mask to holds a.held last a.kept (same-set to a.held a.held to _ (omega arith)
+        kept = kept-same f mask to holds a.held last a.kept (same-set to a.held a.held to _ (omega arith) (omega arith)
             (same-itself to a.held));
         labelled
             = secret-same a.held to (not (is_ram h.bank) || is_secret a.held to) (omega arith)
@@ -203,12 +251,12 @@ module _ (o : Parts) (f : Setting) (homes : HasHomes o f) (once : DeclaredOnce f
   -- an operation on two expressions, by its code and its notes
   abbrev OperationPasses : Op → Tree → Tree → Option (List Step) → Type 0
   OperationPasses op a b found =
-      (mask to p : ℕ) (k holds : Known) → to + (max (height_of a) (height_of b) + 1) ≤ 26
+      (mask to p : ℕ) (k holds : Known) → to + (max (height_of a) (height_of b) + 1) ≤ 18
       → StandsNoted o p (expr_code f Public to a ++ operation_code op to found (expr_code f Public (to + 1) b))
       (expr_notes f mask to p a
       ++ operation_notes found (expr_notes f (marked_by (label_of (context_of f.decls) a) mask to) (to + 1)
       (p + length (expr_code f Public to a)) b))
-      → HoldsAt o p k holds → Carries f holds → LeavesPublic mask to holds
+      → HoldsAt o p k holds → Carries f holds → LeavesPublic f mask to holds
       → PassedCode o f mask to p (expr_code f Public to a ++ operation_code op to found (expr_code f Public (to + 1) b))
       (higher (label_of (context_of f.decls) a) (label_of (context_of f.decls) b)) k holds
 
@@ -242,8 +290,8 @@ module _ (o : Parts) (f : Setting) (homes : HasHomes o f) (once : DeclaredOnce f
       }) here carries leaves in
       let there : HoldsAt o mid l.last l.last = AsItComes l.last
       (no_note-there o p mid whole before later lie_before lie_later stands.noted (omega arith) (omega arith)) in
-      let leaves' : LeavesPublic mask' (to + 1) l.last = leaves-labelled (label_of known a) mask to l.last (omega arith)
-      (leaves-later mask to holds l.last leaves l.kept.publics) l.labelled in
+      let leaves' : LeavesPublic f mask' (to + 1) l.last = leaves-labelled f (label_of known a) mask to l.last (omega arith)
+      (leaves-later f mask to holds l.last leaves l.kept.publics) l.labelled in
       let r = right mask' (to + 1) mid l.last l.last (omega arith)
       (record {
         code_stands = standing-first second join rest;
@@ -269,7 +317,7 @@ module _ (o : Parts) (f : Setting) (homes : HasHomes o f) (once : DeclaredOnce f
         kept
             = kept-same f mask to holds r.last last
             (kept-then f (label_of known a) mask to holds l.last r.last (omega arith) l.kept r.kept)
-            (same-set to r.last r.last to _ (omega arith) (same-itself to r.last));
+            (same-set to r.last r.last to _ (omega arith) (omega arith) (same-itself to r.last));
         labelled
             = secret-same r.last to (is_secret r.last to || is_secret r.last (to + 1)) (omega arith)
             ∙ ap (λ (b : Bool). b || is_secret r.last (to + 1)) (label-kept f (label_of known a) mask to
@@ -301,9 +349,10 @@ module _ (o : Parts) (f : Setting) (homes : HasHomes o f) (once : DeclaredOnce f
         behind = omega arith;
       }) here carries leaves in
       let sized = l.kept.carries.registers in
-      let room : to + 2 < 32 = omega (arith, height-some b) in
+      let room : to + 2 < 19 = omega (arith, height-some b) in
+      let inside : to + 2 < 32 = omega arith in
       let secret : ℕ → Bool = λ i. is_secret l.last (numbered to i) in
-      let s = passes-steps o to room steps secret mid l.last replaces.fits sized (λ i low. refl) in
+      let s = passes-steps o to inside steps secret mid l.last replaces.fits sized (λ i low. refl) in
       let quiet : (r : ℕ) → mid ≤ r → r < mid + length rest → claimed_at o r ≡ None = (λ r above below.
       stands.noted r (omega arith) (omega arith)
       ∙ ap (option_map note_known) (no_note-behind p mid r (before ++ [])
@@ -314,6 +363,7 @@ module _ (o : Parts) (f : Setting) (homes : HasHomes o f) (once : DeclaredOnce f
         sized = s.count;
         count = ap length s.banks;
         registers = s.below;
+        above = λ r high. s.above r (omega arith);
         slots = λ slot apart. ap (λ banks. get_or banks slot None) s.banks;
       } in
       record {

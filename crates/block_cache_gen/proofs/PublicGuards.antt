@@ -1,39 +1,25 @@
 -- The public code of a guard is passed, at any place.
-use Rattle.std.proofs.Common.{◌≡◌, ℕ, ◌+◌, ◌<◌, ◌≤◌, true, ◌++◌, length, length-append, sym, ◌∙◌, subst, arith, w32}
-use Rattle.std.specs.Int.{bit_at, bit_not}
-use Rattle.std.proofs.lemmas.Bool.{true≢false, eq-eqb}
-use Rattle.std.proofs.lemmas.Nat.Bits.{bit_at_not, bit_at-zero}
+use Rattle.std.proofs.Common.{◌≡◌, ℕ, ◌+◌, ◌≤◌, ◌++◌, length, length-append, subst, arith}
 use Rattle.lt_isa.specs.Object.{Parts}
 use Rattle.src_tree.specs.Contexts.{context_of}
 use Rattle.src_tree.specs.Heights.{height_of}
 use Rattle.src_tree.specs.Labels.{label_of}
 use Rattle.src_tree.specs.Trees.{Test}
 use Rattle.src_tree.specs.Typing.{TypedTest, DeclaredOnce}
-use Rattle.trace_patterns.specs.Known.{Known, is_marked}
+use Rattle.trace_patterns.specs.Known.{Known}
 use Rattle.stretches.specs.Passing.{HoldsAt, AsItComes}
 use Rattle.stretches.proofs.Standing.{standing-first, standing-rest}
 use Rattle.stretches.proofs.Passed.{passes-then, passes-to, notes-before, notes-behind, no_note-there, notes-within, LieBetween, lie_wider, lie_both}
 use Rattle.block_cache_gen.specs.declared.frames.Mode.TheVariants.{Public}
 use Rattle.block_cache_gen.specs.Homes.{Setting, HasHomes}
 use Rattle.block_cache_gen.specs.Codes.{expr_code, guard_code}
-use Rattle.block_cache_gen.specs.Notes.{all_marked, marked_by, expr_notes, guard_notes}
+use Rattle.block_cache_gen.specs.Notes.{base_mask, marked_by, expr_notes, guard_notes}
 use Rattle.block_cache_gen.specs.Carries.{Carries}
 use Rattle.block_cache_gen.specs.PublicIndexes.{TestHasPublicIndexes}
 use Rattle.block_cache_gen.specs.PublicCode.{StandsNoted, PassedTest}
-use Rattle.block_cache_gen.proofs.KeptBelow.{LeavesPublic}
+use Rattle.block_cache_gen.proofs.NoteClaims.{leaves-base}
 use Rattle.block_cache_gen.proofs.NotesOfCode.{expression-longer, expression-lies}
 use Rattle.block_cache_gen.proofs.PublicExpressions.{expression-passes, leaves-labelled, label-kept}
-
--- a mask that marks every register says nothing
-all_bits : (r : ℕ) → r < 32 → bit_at (bit_not w32 0) r ≡ 1
-all_bits r inside = omega (arith, bit_at_not w32 0 r (omega arith) inside, bit_at-zero r)
-
-pub all-marked : (r : ℕ) → r < 32 → is_marked all_marked r ≡ true
-all-marked r inside = eq-eqb (bit_at all_marked r) 1 (all_bits r inside)
-
--- where every register is marked none has to be public
-pub leaves-none : (to : ℕ) (k : Known) → LeavesPublic all_marked to k
-leaves-none to k r inside unmarks = absurd (true≢false (sym (all-marked r inside) ∙ unmarks))
 
 -- a guard's notes
 pub guard-lie : (f : Setting) (to p : ℕ) (t : Test)
@@ -41,20 +27,20 @@ pub guard-lie : (f : Setting) (to p : ℕ) (t : Test)
 guard-lie f to p t =
     let first = expr_code f Public to t.left in
     let second = expr_code f Public (to + 1) t.right in
-    let mask = marked_by (label_of (context_of f.decls) t.left) all_marked to in
+    let mask = marked_by (label_of (context_of f.decls) t.left) (base_mask f) to in
     let mid = p + length first in
     let whole = p + length (first ++ second) in
     let size : length (first ++ second) ≡ length first + length second = length-append first second in
-    lie_both p whole (expr_notes f all_marked to p t.left) (expr_notes f mask (to + 1) mid t.right)
-    (lie_wider p mid p whole (expr_notes f all_marked to p t.left) (omega arith) (omega arith)
-    (expression-lies f t.left all_marked to p))
+    lie_both p whole (expr_notes f (base_mask f) to p t.left) (expr_notes f mask (to + 1) mid t.right)
+    (lie_wider p mid p whole (expr_notes f (base_mask f) to p t.left) (omega arith) (omega arith)
+    (expression-lies f t.left (base_mask f) to p))
     (lie_wider mid (mid + length second) p whole (expr_notes f mask (to + 1) mid t.right) (omega arith) (omega arith)
     (expression-lies f t.right mask (to + 1) mid))
 
 -- the code of a guard is passed in public code
 pub guard-passes : (o : Parts) (f : Setting) → HasHomes o f → DeclaredOnce f.decls → (t : Test)
     → TypedTest (context_of f.decls) t → TestHasPublicIndexes f t → (to p : ℕ) (k holds : Known)
-    → to + height_of t.left ≤ 26 → to + 1 + height_of t.right ≤ 26
+    → to + height_of t.left ≤ 18 → to + 1 + height_of t.right ≤ 18
     → StandsNoted o p (guard_code f Public to t) (guard_notes f to p t) → HoldsAt o p k holds → Carries f holds
     → PassedTest o f to p (guard_code f Public to t) t k
 guard-passes o f homes once t typed public to p k holds high higher stands here carries =
@@ -65,21 +51,21 @@ guard-passes o f homes once t typed public to p k holds high higher stands here 
     let inside = stands.behind in
     let mid = p + length first in
     let whole = p + length (first ++ second) in
-    let mask = marked_by (label_of known t.left) all_marked to in
+    let mask = marked_by (label_of known t.left) (base_mask f) to in
     let some = expression-longer f t.left to in
     let more = expression-longer f t.right (to + 1) in
-    let before = expr_notes f all_marked to p t.left in
+    let before = expr_notes f (base_mask f) to p t.left in
     let later = expr_notes f mask (to + 1) mid t.right in
     let same : mid + length second ≡ whole = omega arith in
-    let lie_before : LieBetween p mid before = expression-lies f t.left all_marked to p in
+    let lie_before : LieBetween p mid before = expression-lies f t.left (base_mask f) to p in
     let lie_later : LieBetween mid whole later = subst (λ (q : ℕ). LieBetween mid q later) same
     (expression-lies f t.right mask (to + 1) mid) in
-    let l = expression-passes o f homes once t.left typed.0 public.0 all_marked to p k holds high
+    let l = expression-passes o f homes once t.left typed.0 public.0 (base_mask f) to p k holds high
     (record {
       code_stands = standing-first first second stands.code_stands;
       noted = notes-before o p mid whole before later lie_before lie_later stands.noted (omega arith);
       behind = omega arith;
-    }) here carries (leaves-none to holds) in
+    }) here carries (leaves-base f to holds) in
     let there : HoldsAt o mid l.last l.last = AsItComes l.last
     (no_note-there o p mid whole before later lie_before lie_later stands.noted (omega arith) (omega arith)) in
     let r = expression-passes o f homes once t.right typed.1 public.1 mask (to + 1) mid l.last l.last higher
@@ -89,7 +75,7 @@ guard-passes o f homes once t typed public to p k holds high higher stands here 
           (notes-behind o p mid whole before later lie_before lie_later stands.noted (omega arith));
       behind = omega arith;
     }) there l.kept.carries
-    (leaves-labelled (label_of known t.left) all_marked to l.last (omega arith) (leaves-none to l.last) l.labelled) in
+    (leaves-labelled f (label_of known t.left) (base_mask f) to l.last (omega arith) (leaves-base f to l.last) l.labelled) in
     record {
       last = r.last;
       passes
@@ -97,7 +83,7 @@ guard-passes o f homes once t typed public to p k holds high higher stands here 
           (passes-then o p k mid l.last l.passes (mid + length second) r.last r.passes);
       carries = r.kept.carries;
       left
-          = label-kept f (label_of known t.left) all_marked to (to + 1) l.last r.last (omega arith) (omega arith)
+          = label-kept f (label_of known t.left) (base_mask f) to (to + 1) l.last r.last (omega arith) (omega arith)
           l.labelled r.kept;
       right = r.labelled;
     }

@@ -7,18 +7,20 @@ use Rattle.gr_word.specs.declared.variables.Label.{Label}
 use Rattle.gr_word.specs.declared.variables.Label.TheVariants.{Public, Secret}
 use Rattle.gr_word.specs.declared.variables.Shape.TheVariants.{Scalar}
 use Rattle.lt_isa.specs.Object.{Parts, is_ram}
-use Rattle.symbolic_values.specs.Trees.{Value, Const, SlotAt, Apply}
+use Rattle.symbolic_values.specs.Trees.{Value, Const, Reg, SlotAt, Apply}
 use Rattle.src_tree.specs.Contexts.{context_of}
 use Rattle.src_tree.specs.Labels.{higher, label_or_public, label_at, label_of}
 use Rattle.src_tree.specs.Trees.{Tree, Number, Variable, Element, Operation}
 use Rattle.src_tree.specs.Typing.{TypedTree}
 use Rattle.trace_patterns.specs.SymStates.{SymSlot, AnySlot, RamSlot, Entry, Loaded}
 use Rattle.trace_patterns.specs.Single.{applied_trees, word_tree}
-use Rattle.block_cache_gen.specs.Homes.{Home, Setting, home_of, words_a_block, HasHomes}
+use Rattle.block_cache_gen.specs.Homes.{Home, Setting, held_label, home_of, register_for, words_a_block, HasHomes}
 use Rattle.block_cache_gen.specs.Codes.{is_masked, fixed_index, fixed_word, steps_at}
 use Rattle.strength_reduction.specs.Steps.{Step, Constant, Compute, left_by, reads_known, replaced}
-use Rattle.block_cache_gen.specs.PatternsOf.{word_named_by, word_read, scalar_tree, pinned_slot, placed_tree, element_by, block_named_by, number_tree, reduced_tree, block_tree, block_loaded, element_slot, steps_tree, operation_tree, tree_of_expr}
+use Rattle.block_cache_gen.specs.PatternsOf.{word_named_by, word_read, tree_by, scalar_tree, pinned_slot, placed_tree, element_by, block_named_by, number_tree, reduced_tree, block_tree, block_loaded, element_slot, steps_tree, operation_tree, tree_of_expr}
 use Rattle.block_cache_gen.proofs.StepsAt.{steps-of}
+use Rattle.held_registers.specs.Held.{public_zero}
+use Rattle.block_cache_gen.proofs.HeldLabels.{register-label}
 use Rattle.block_cache_gen.proofs.HomeFacts.{plain-array}
 use Rattle.block_cache_gen.proofs.ArmInstructions.{IsSeen}
 
@@ -55,8 +57,10 @@ pub placed-known : (h : Home) (fixed : Option ℤ) (index : Option Value) → Is
     → IsKnown (placed_tree h fixed index)
 placed-known h (Some z) index known = const-known (pos (h.word + fixed_word h z))
 placed-known h None index known =
-    applied-known Add (reduced_tree h index) (Some (Const (pos h.word))) (reduced-known h index known)
-    (const-known (pos h.word))
+    let first = reduced-known h index known in
+    let word : Option Value = Some (Const (pos h.word)) in
+    either-known (h.word == 0) (reduced_tree h index) (applied_trees Add (reduced_tree h index) word) first
+    (applied-known Add (reduced_tree h index) word first (const-known (pos h.word)))
 
 -- a slot of plain memory holds what it held at the entry
 pub pinned-ram : (h : Home) → h.bank ≡ 0 → pinned_slot h ≡ RamSlot (SlotAt h.slot) (Entry h.slot)
@@ -139,8 +143,17 @@ steps-known steps value reads known =
     at i e = subst (λ (c : Bool). IsKnown (if c then value else None)) (sym e) known
 
 module _ (o : Parts) (f : Setting) (homes : HasHomes o f) where
-  scalar-known : (h : Home) → h.bank ≡ 0 → IsKnown (scalar_tree f h)
-  scalar-known h at = read-known f h (Some (Const (pos h.word))) at (const-known (pos h.word))
+  -- a scalar that is public, by the register that holds it
+  scalar-known : (x : List ℕ) → context_of f.decls x ≡ Some (Public, Scalar) → (found : Option ℕ)
+      → register_for f x ≡ found → IsKnown (scalar_tree f found (home_of f x))
+  scalar-known x declared None is =
+      let h = home_of f x in
+      let scalar = homes.scalars x Public declared in
+      let home = homes.residents x Public Scalar declared scalar.resident in
+      read-known f h (Some (Const (pos h.word))) home.bank (const-known (pos h.word))
+  scalar-known x declared (Some r) is =
+      applied-known Add (tree_by r (held_label f r)) (Some (Reg public_zero))
+      (Reg r, ap (tree_by r) (register-label f homes.held x Public Scalar declared r is)) (Reg public_zero, refl)
 
   -- an element of plain memory
   element-known : (h : Home) (fixed : Option ℤ) (index : Option Value) → h.bank ≡ 0 → IsKnown index
@@ -167,9 +180,7 @@ module _ (o : Parts) (f : Setting) (homes : HasHomes o f) where
   public-tree (Variable x) typed public =
       let same : label_at (context_of f.decls) x ≡ typed.0 = ap label_or_public typed.1 in
       let at = subst (λ (l : Label). context_of f.decls x ≡ Some (l, Scalar)) (sym same ∙ public) typed.1 in
-      let scalar = homes.scalars x Public at in
-      let home = homes.residents x Public Scalar at scalar.resident in
-      scalar-known (home_of f x) home.bank
+      scalar-known x at (register_for f x) refl
   public-tree (Element x i) typed public =
       let known = context_of f.decls in
       let same : label_at known x ≡ typed.0.0 = ap label_or_public typed.0.1 in

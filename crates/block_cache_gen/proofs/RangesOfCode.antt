@@ -1,5 +1,5 @@
 -- The code of expressions, guards and assignments is in its ranges, in all modes.
-use Rattle.std.proofs.Common.{◌≡◌, ℕ, ◌+◌, ◌-◌, ◌/◌, ◌^◌, ◌<◌, ◌≤◌, Bool, true, false, ℤ, pos, negsuc, ◌+ℤ◌, List, [], ◌∷◌, ◌++◌, Option, Some, None, refl, sym, subst, arith}
+use Rattle.std.proofs.Common.{◌≡◌, ℕ, ◌+◌, ◌-◌, ◌/◌, ◌^◌, ◌<◌, ◌≤◌, Bool, true, false, ℤ, pos, negsuc, ◌+ℤ◌, List, [], ◌∷◌, ◌++◌, Option, Some, None, refl, sym, subst, arith, ◌==◌}
 use Rattle.std.specs.Prelude.{All, if◌then◌else◌, FitsSigned}
 use Rattle.std.specs.Int.{w32, w64}
 use Rattle.std.proofs.lemmas.Int.{ints, fits_signed_from_abs}
@@ -8,6 +8,7 @@ use Rattle.std.proofs.Math.Nat.{mod-lt, div-le_self}
 use Rattle.gr_base.specs.Lists.{Within}
 use Rattle.gr_word.specs.Words.{IsWord, unsigned_of}
 use Rattle.gr_word.specs.declared.variables.Label.{Label}
+use Rattle.gr_word.specs.declared.variables.Label.TheVariants as label
 use Rattle.gr_word.specs.declared.variables.Shape.{Shape}
 use Rattle.gr_word.specs.declared.operations.Op.{Op}
 use Rattle.gr_word.specs.declared.operations.Op.TheVariants.{Add, Remu, And, Shr}
@@ -17,14 +18,16 @@ use Rattle.lt_isa.specs.declared.instructions.Instr.TheVariants.{Li, Alu, Ldb, S
 use Rattle.lt_isa.specs.Ranges.{InstrFits}
 use Rattle.src_tree.specs.Contexts.{context_of}
 use Rattle.src_tree.specs.Heights.{height_of}
+use Rattle.src_tree.specs.Labels.{label_of}
 use Rattle.src_tree.specs.Limits.{max_length}
 use Rattle.src_tree.specs.Trees.{Tree, Number, Variable, Element, Operation, Test, SetVariable, SetElement}
 use Rattle.src_tree.specs.Typing.{TypedTree, TypedTest}
 use Rattle.block_cache_gen.specs.declared.frames.Mode.{Mode}
 use Rattle.block_cache_gen.specs.declared.frames.Mode.TheVariants.{Public, Real, Mirrored}
-use Rattle.block_cache_gen.specs.Homes.{Pin, pin_at, Home, Setting, home_of}
+use Rattle.block_cache_gen.specs.Homes.{Pin, pin_at, Home, Setting, home_of, register_for}
+use Rattle.held_registers.specs.Held.{secret_zero, public_zero}
 use Rattle.block_cache_gen.specs.TreeWords.{HasWords}
-use Rattle.block_cache_gen.specs.Codes.{is_masked, compares, least_word, numbered_code, fixed_index, fixed_word, shift_code, fixed_code, located_code, load_code, skips, access_by, placed_code, offset_code, stored_code, access_code, expr_code, guard_code, store_code, set_code, operation_code, steps_at}
+use Rattle.block_cache_gen.specs.Codes.{is_masked, compares, least_word, numbered_code, fixed_index, fixed_word, shift_code, fixed_code, located_code, load_code, skips, access_by, placed_code, offset_code, stored_code, access_code, expr_code, guard_code, store_code, set_code, operation_code, steps_at, copy_code, scalar_code, copied_from, write_code}
 use Rattle.strength_reduction.specs.Steps.{Step, Constant, Compute, StepFits, numbered, code_of}
 use Rattle.step_code.proofs.Registers.{numbered-low}
 use Rattle.src_tree.proofs.TreeHeights.{height-some}
@@ -38,9 +41,10 @@ pub record HomeFits (banks : ℕ) (h : Home) : Type 0 where
   pub length : Within 1 max_length h.length
   pub slot : h.slot < 8
 
--- so is the home of each variable, and a block has 512 words at most
+-- so is the home of each variable, a block has 512 words at most, and the machine has each register that holds a scalar
 pub record HomesFit (banks : ℕ) (f : Setting) : Type 0 where
   pub block_log : f.profile.block_log ≤ 9
+  pub registers : (x : List ℕ) (r : ℕ) → register_for f x ≡ Some r → r < 32
   pub pins : (slot : ℕ) (p : Pin) → pin_at f slot ≡ Some p → p.bank < 2
   pub homes : (x : List ℕ) (label : Label) (shape : Shape) → context_of f.decls x ≡ Some (label, shape)
       → HomeFits banks (home_of f x)
@@ -105,7 +109,7 @@ module _ (banks : ℕ) where
   both : (xs ys : List Instr) → CodeFits banks xs → CodeFits banks ys → CodeFits banks (xs ++ ys)
   both xs ys first second = code-both banks xs ys first second
 
-  module _ (h : Home) (home : HomeFits banks h) (to : ℕ) (low : to + 2 < 32) where
+  module _ (h : Home) (home : HomeFits banks h) (to : ℕ) (low : to + 2 < 19) where
     reduced_by : (masked : Bool)
         → CodeFits banks (if masked then Li (to + 1) (pos (h.length - 1)) ∷ Alu And to to (to + 1) ∷ []
         else Li (to + 1) (pos h.length) ∷ Alu Remu to to (to + 1) ∷ [])
@@ -169,6 +173,14 @@ module _ (banks : ℕ) where
         both index (numbered_code near h to ++ shift_code block_log h to) fit
         (both (numbered_code near h to) (shift_code block_log h to) (numbered_by near) (block_by block_log few))
 
+    offset_by : (first : Bool)
+        → CodeFits banks (if first then [] else Li (to + 1) (pos h.word) ∷ Alu Add to to (to + 1) ∷ [])
+    offset_by true = none
+    offset_by false =
+        let small = home.word in
+        li (to + 1) (pos h.word) _ (omega arith) (small-word h.word (omega arith))
+        (alu Add to to (to + 1) [] (omega arith) (omega arith) (omega arith) none)
+
     placed_by : (near : Bool) (fixed : Option ℤ) (index : List Instr) → CodeFits banks index
         → CodeFits banks (placed_code near h to fixed index)
     placed_by near (Some z) index fit =
@@ -178,11 +190,8 @@ module _ (banks : ℕ) where
         let below : fixed_word h z < h.length = mod-lt (unsigned_of z) (omega arith) in
         li to (pos (h.word + fixed_word h z)) [] (omega arith) (small-word (h.word + fixed_word h z) (omega arith)) none
     placed_by near None index fit =
-        let small = home.word in
         both index (numbered_code near h to ++ offset_code h to) fit
-        (both (numbered_code near h to) (offset_code h to) (numbered_by near)
-        (li (to + 1) (pos h.word) _ (omega arith) (small-word h.word (omega arith))
-        (alu Add to to (to + 1) [] (omega arith) (omega arith) (omega arith) none)))
+        (both (numbered_code near h to) (offset_code h to) (numbered_by near) (offset_by (h.word == 0)))
 
     pub access-fits : (near : Bool) (block_log : ℕ) (mode : Mode) (fixed : Option ℤ) (index : List Instr)
         → block_log ≤ 9 → CodeFits banks index → CodeFits banks (access_code near block_log mode h to fixed index)
@@ -195,19 +204,19 @@ module _ (banks : ℕ) where
             (located_by near block_log fixed index few fit) (load_by (skips mode h))
 
   -- steps
-  steps-fit : (to : ℕ) (steps : List Step) → to + 2 < 32 → All StepFits steps → CodeFits banks (code_of to steps)
+  steps-fit : (to : ℕ) (steps : List Step) → to + 2 < 19 → All StepFits steps → CodeFits banks (code_of to steps)
   steps-fit to [] room fit = none
   steps-fit to (Constant rd value ∷ steps) room fit =
       let first = All-head StepFits (Constant rd value) steps fit in
-      li (numbered to rd) value (code_of to steps) (numbered-low to rd first.0 room) first.1
+      li (numbered to rd) value (code_of to steps) (numbered-low to rd first.0 (omega arith)) first.1
       (steps-fit to steps room (All-tail StepFits (Constant rd value) steps fit))
   steps-fit to (Compute op rd left right ∷ steps) room fit =
       let first = All-head StepFits (Compute op rd left right) steps fit in
       alu op (numbered to rd) (numbered to left) (numbered to right) (code_of to steps)
-      (numbered-low to rd first.0 room) (numbered-low to left first.1 room) (numbered-low to right first.2 room)
+      (numbered-low to rd first.0 (omega arith)) (numbered-low to left first.1 (omega arith)) (numbered-low to right first.2 (omega arith))
       (steps-fit to steps room (All-tail StepFits (Compute op rd left right) steps fit))
 
-  operation-fits : (f : Setting) (op : Op) (to : ℕ) (b : Tree) (right : List Instr) → to + 2 < 32
+  operation-fits : (f : Setting) (op : Op) (to : ℕ) (b : Tree) (right : List Instr) → to + 2 < 19
       → CodeFits banks right → CodeFits banks (operation_code op to (steps_at f op b) right)
   operation-fits f op to b right room fit = by (steps_at f op b) refl
     where
@@ -218,21 +227,31 @@ module _ (banks : ℕ) where
           let replaces = known.replaces in
           steps-fit to steps room replaces.fits
 
+  -- a copy
+  copy-fits : (l : Label) (to from : ℕ) → to < 32 → from < 32 → CodeFits banks (copy_code l to from)
+  copy-fits label.Public to from low register = alu Add to from public_zero [] low register (omega arith) none
+  copy-fits label.Secret to from low register = alu Add to from secret_zero [] low register (omega arith) none
+
+  -- a scalar
+  scalar-fits : (h : Home) → HomeFits banks h → (to : ℕ) → to < 32 → (found : Option ℕ)
+      → ((r : ℕ) → found ≡ Some r → r < 32) → CodeFits banks (scalar_code found h to)
+  scalar-fits h home to low (Some r) register = copy-fits label.Public to r low (register r refl)
+  scalar-fits h home to low None register =
+      let small = home.word in
+      li to (pos h.word) _ low (small-word h.word (omega arith)) (ldw to h.slot to [] low home.slot low none)
+
   -- an expression
   pub expression-fits : (f : Setting) (mode : Mode) → HomesFit banks f → (to : ℕ) (e : Tree)
-      → TypedTree (context_of f.decls) e → HasWords e → to + height_of e ≤ 26 → CodeFits banks (expr_code f mode to e)
+      → TypedTree (context_of f.decls) e → HasWords e → to + height_of e ≤ 18 → CodeFits banks (expr_code f mode to e)
   expression-fits f mode homes to (Number z) typed words high = li to z [] (omega arith) words none
   expression-fits f mode homes to (Variable x) typed words high =
-      let home = homes.homes x typed.0 _ typed.1 in
-      let small = home.word in
-      li to (pos (home_of f x).word) _ (omega arith) (small-word (home_of f x).word (omega arith))
-      (ldw to (home_of f x).slot to [] (omega arith) home.slot (omega arith) none)
+      scalar-fits (home_of f x) (homes.homes x typed.0 _ typed.1) to (omega arith) (register_for f x) (homes.registers x)
   expression-fits f mode homes to (Element x i) typed words high =
       let home = homes.homes x typed.0.0 _ typed.0.1 in
       both
       (access_code (compares f mode (home_of f x) i) f.profile.block_log mode (home_of f x) to
       (fixed_index (home_of f x) i) (expr_code f mode to i)) _
-      (access-fits (home_of f x) home to (omega arith) (compares f mode (home_of f x) i) f.profile.block_log mode
+      (access-fits (home_of f x) home to (omega (arith, height-some i)) (compares f mode (home_of f x) i) f.profile.block_log mode
       (fixed_index (home_of f x) i)
       (expr_code f mode to i) homes.block_log
       (expression-fits f mode homes to i typed.1.0 words (omega arith)))
@@ -244,8 +263,8 @@ module _ (banks : ℕ) where
 
   -- a guard
   pub guard-fits : (f : Setting) (mode : Mode) → HomesFit banks f → (to : ℕ) (t : Test)
-      → TypedTest (context_of f.decls) t → HasWords t.left → HasWords t.right → to + height_of t.left ≤ 26
-      → to + 1 + height_of t.right ≤ 26 → CodeFits banks (guard_code f mode to t)
+      → TypedTest (context_of f.decls) t → HasWords t.left → HasWords t.right → to + height_of t.left ≤ 18
+      → to + 1 + height_of t.right ≤ 18 → CodeFits banks (guard_code f mode to t)
   guard-fits f mode homes to t typed left right high higher =
       both (expr_code f mode to t.left) (expr_code f mode (to + 1) t.right)
       (expression-fits f mode homes to t.left typed.0 left high)
@@ -262,22 +281,33 @@ module _ (banks : ℕ) where
   stored_fits true slot low = none
   stored_fits false slot low = stb slot [] low none
 
+  write-fits : (h : Home) → HomeFits banks h → (l : Label) (mode : Mode) (found : Option ℕ)
+      → ((r : ℕ) → found ≡ Some r → r < 32) → CodeFits banks (write_code found l mode h)
+  write-fits h home l mode (Some r) register =
+      copy-fits l r (copied_from mode r) (register r refl) (from mode (register r refl))
+    where
+      from : (mode : Mode) → r < 32 → copied_from mode r < 32
+      from Public low = omega arith
+      from Real low = omega arith
+      from Mirrored low = low
+  write-fits h home l mode None register =
+      let small = home.word in
+      li 1 (pos h.word) _ (omega arith) (small-word h.word (omega arith)) (store_by mode h.slot home.slot)
+
   -- assignments
   pub set_variable-fits : (f : Setting) (mode : Mode) → HomesFit banks f → (x : List ℕ) (label : Label) (shape : Shape)
       (e : Tree)
-      → context_of f.decls x ≡ Some (label, shape) → TypedTree (context_of f.decls) e → HasWords e → height_of e ≤ 26
+      → context_of f.decls x ≡ Some (label, shape) → TypedTree (context_of f.decls) e → HasWords e → height_of e ≤ 18
       → CodeFits banks (set_code f mode (SetVariable x e))
   set_variable-fits f mode homes x label shape e declared typed words low =
-      let home = homes.homes x label shape declared in
-      let small = home.word in
       both (expr_code f mode 0 e) _ (expression-fits f mode homes 0 e typed words (omega arith))
-      (li 1 (pos (home_of f x).word) _ (omega arith) (small-word (home_of f x).word (omega arith))
-      (store_by mode (home_of f x).slot home.slot))
+      (write-fits (home_of f x) (homes.homes x label shape declared) (label_of (context_of f.decls) (Variable x)) mode
+      (register_for f x) (homes.registers x))
 
   -- the code of an assignment to an element is in its ranges
   pub set_element-fits : (f : Setting) (mode : Mode) → HomesFit banks f → (x : List ℕ) (i e : Tree)
       → TypedTree (context_of f.decls) (Element x i) → TypedTree (context_of f.decls) e → HasWords i → HasWords e
-      → height_of i ≤ 25 → height_of e ≤ 26 → CodeFits banks (set_code f mode (SetElement x i e))
+      → height_of i ≤ 17 → height_of e ≤ 18 → CodeFits banks (set_code f mode (SetElement x i e))
   set_element-fits f mode homes x i e typed value index words low_index low =
       let home = homes.homes x typed.0.0 _ typed.0.1 in
       let access = access_code (compares f mode (home_of f x) i) f.profile.block_log mode (home_of f x) 1

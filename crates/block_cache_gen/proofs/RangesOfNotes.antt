@@ -1,5 +1,5 @@
 -- The notes of public code rise in place and are in their ranges, and there is one a node at most.
-use Rattle.std.proofs.Common.{◌≡◌, ℕ, ◌+◌, ◌-◌, ◌*◌, ◌%◌, ◌^◌, ◌<◌, ◌≤◌, ◌==◌, Bool, true, false, nat_lt, ◌||◌, ℤ, pos, List, [], ◌∷◌, ◌++◌, length, length-append, Option, Some, None, refl, sym, ap, ◌∙◌, subst, arith, w32}
+use Rattle.std.proofs.Common.{◌≡◌, ℕ, ◌+◌, ◌-◌, ◌*◌, ◌%◌, ◌^◌, ◌<◌, ◌≤◌, ◌==◌, Bool, true, false, nat_lt, ◌||◌, ℤ, List, [], ◌∷◌, ◌++◌, length, length-append, Option, Some, None, refl, sym, ap, ◌∙◌, subst, arith, w32, zero, suc}
 use Rattle.std.specs.Int.{bit_not}
 use Rattle.std.specs.Prelude.{if◌then◌else◌, All, IsTrue}
 use Rattle.std.proofs.lemmas.Bool.{lt-ltb}
@@ -11,18 +11,20 @@ use Rattle.gr_word.specs.declared.variables.Label.{Label}
 use Rattle.gr_word.specs.declared.variables.Label.TheVariants as label
 use Rattle.lt_isa.specs.declared.symbols.Note.{Note}
 use Rattle.lt_isa.specs.declared.instructions.Instr.{Instr}
-use Rattle.lt_isa.specs.declared.instructions.Instr.TheVariants.{Alu, Ldw, Li, Stw}
+use Rattle.lt_isa.specs.declared.instructions.Instr.TheVariants.{Alu, Ldw, Stw}
 use Rattle.lt_isa.specs.Ranges.{NoteFits, next_place, is_slot_claim}
+use Rattle.held_registers.specs.Held.{held_at}
+use Rattle.src_tree.specs.declared.trees.Decl.{Decl}
 use Rattle.src_tree.specs.Contexts.{context_of}
 use Rattle.src_tree.specs.Labels.{label_of}
 use Rattle.src_tree.specs.Limits.{tree_weight, test_weight}
 use Rattle.src_tree.specs.Trees.{Tree, Number, Variable, Element, Operation, Test, Statement, SetVariable, SetElement, Choice, Loop}
 use Rattle.block_cache_gen.specs.declared.frames.Mode.TheVariants.{Public}
-use Rattle.block_cache_gen.specs.Homes.{Pin, pin_at, Home, Setting, home_of}
-use Rattle.block_cache_gen.specs.Codes.{is_cached, compares, compared_code, offset_code, access_by, fixed_index, stored_code, access_code, operation_code, steps_at, expr_code, guard_code, set_code}
+use Rattle.block_cache_gen.specs.Homes.{Pin, pin_at, Home, Setting, home_of, Held, label_by, register_for}
+use Rattle.block_cache_gen.specs.Codes.{is_cached, compares, compared_code, offset_code, access_by, fixed_index, stored_code, access_code, operation_code, steps_at, expr_code, guard_code, set_code, write_code}
 use Rattle.gr_word.specs.declared.operations.Op.{Op}
 use Rattle.strength_reduction.specs.Steps.{Step, code_of}
-use Rattle.block_cache_gen.specs.Notes.{all_marked, unmarked, marked_by, is_used, claimed_where_used, claim_by, slot_claims, note_of, access_mask, compared_notes, loading_code, loaded_notes, load_notes, index_notes, operation_notes, expr_notes, guard_notes, set_notes}
+use Rattle.block_cache_gen.specs.Notes.{unmarked, marked_by, is_used, claimed_where_used, claim_by, slot_claims, note_of, access_mask, compared_notes, loading_code, loaded_notes, load_notes, index_notes, operation_notes, expr_notes, guard_notes, set_notes, is_public, mask_to, base_mask}
 use Rattle.block_cache_gen.proofs.NotesOfCode.{index_length, located-longer, access-longer, access-more, loading-behind, expression-longer}
 use Rattle.block_cache_gen.proofs.PublicAccesses.{array_code, array_notes}
 
@@ -82,9 +84,9 @@ loaded_rises : (f : Setting) (h : Home) (mask to p : ℕ) (b near : Bool) (fixed
     (p + length (access_by b near f.profile.block_log Public h to fixed index)))
 loaded_rises f h mask to p true near (Some z) index small = tt
 loaded_rises f h mask to p true true None index small =
-    let size : length (index ++ (compared_code h to ++ offset_code h to)) ≡ length index + 8 =
-    length-append index (compared_code h to ++ offset_code h to) in
-    ((omega arith, omega arith), (unmarked_below mask to small, refl), tt)
+    let size = length-append index (compared_code h to ++ offset_code h to) in
+    let rest = length-append (compared_code h to) (offset_code h to) in
+    ((omega (arith, size, rest), omega (arith, size, rest)), (unmarked_below mask to small, refl), tt)
 loaded_rises f h mask to p true false None index small = tt
 loaded_rises f h mask to p false near fixed index small = compared near fixed
   where
@@ -179,8 +181,19 @@ expression-rises f (Operation op a b) mask to p small =
     (expr_notes f mask' (to + 1) mid b) (steps_at f op b) (expression-longer f a to) (expression-rises f a mask to p small)
     (expression-rises f b mask' (to + 1) mid (marked_by-below (label_of (context_of f.decls) a) mask to small))
 
-all_small : all_marked < 2 ^ 32
-all_small = omega arith
+-- the mask of notes between statements
+mask_to-below : (decls : List Decl) (held : List Held) (r : ℕ) → mask_to decls held r < 2 ^ 32
+unfolding mask_to
+mask_to-below decls held zero = omega arith
+mask_to-below decls held (suc r) =
+    below (is_public (label_by decls (held_at held r))) (mask_to decls held r) r (mask_to-below decls held r)
+  where
+    below : (public : Bool) (mask r : ℕ) → mask < 2 ^ 32 → (if public then unmarked mask r else mask) < 2 ^ 32
+    below true mask r small = unmarked_below mask r small
+    below false mask r small = small
+
+pub base_mask-below : (f : Setting) → base_mask f < 2 ^ 32
+base_mask-below f = mask_to-below f.decls f.held 32
 
 -- the notes of a guard rise
 pub guard-rises : (f : Setting) (to p : ℕ) (t : Test)
@@ -188,42 +201,41 @@ pub guard-rises : (f : Setting) (to p : ℕ) (t : Test)
 guard-rises f to p t =
     let first = expr_code f Public to t.left in
     let second = expr_code f Public (to + 1) t.right in
-    let mask = marked_by (label_of (context_of f.decls) t.left) all_marked to in
+    let mask = marked_by (label_of (context_of f.decls) t.left) (base_mask f) to in
     let mid = p + length first in
     let whole = p + length (first ++ second) in
     let some = expression-longer f t.left to in
     let size : length (first ++ second) ≡ length first + length second = length-append first second in
-    rise-then f (p + 1) mid whole (expr_notes f all_marked to p t.left) (expr_notes f mask (to + 1) mid t.right)
-    (omega arith) (omega arith) (expression-rises f t.left all_marked to p all_small)
+    rise-then f (p + 1) mid whole (expr_notes f (base_mask f) to p t.left) (expr_notes f mask (to + 1) mid t.right)
+    (omega arith) (omega arith) (expression-rises f t.left (base_mask f) to p (base_mask-below f))
     (rise-wider f (mid + 1) (mid + length second) mid whole (expr_notes f mask (to + 1) mid t.right) (omega arith)
     (omega arith)
     (expression-rises f t.right mask (to + 1) mid (marked_by-below (label_of
-    (context_of f.decls) t.left) all_marked to all_small)))
+    (context_of f.decls) t.left) (base_mask f) to (base_mask-below f))))
 
 -- the notes of an assignment rise
 pub set-rises : (f : Setting) (p : ℕ) (s : Statement)
     → NotesRise f (p + 1) (p + length (set_code f Public s)) (set_notes f p s)
 set-rises f p (SetVariable x e) =
-    let h = home_of f x in
     let first = expr_code f Public 0 e in
-    let store = Li 1 (pos h.word) ∷ Stw 0 h.slot 1 ∷ [] in
-    let size : length (first ++ store) ≡ length first + 2 = length-append first store in
-    rise-wider f (p + 1) (p + length first) (p + 1) (p + length (first ++ store)) (expr_notes f all_marked 0 p e)
-    (omega arith) (omega arith) (expression-rises f e all_marked 0 p all_small)
+    let store = write_code (register_for f x) (label_of (context_of f.decls) (Variable x)) Public (home_of f x) in
+    let size : length (first ++ store) ≡ length first + length store = length-append first store in
+    rise-wider f (p + 1) (p + length first) (p + 1) (p + length (first ++ store)) (expr_notes f (base_mask f) 0 p e)
+    (omega arith) (omega arith) (expression-rises f e (base_mask f) 0 p (base_mask-below f))
 set-rises f p (SetElement x i e) =
     let h = home_of f x in
     let first = expr_code f Public 0 e in
     let access = array_code f 1 x i in
     let store = Stw 0 h.slot 1 ∷ stored_code h.resident h.slot in
-    let mask = marked_by (label_of (context_of f.decls) e) all_marked 0 in
-    let small = marked_by-below (label_of (context_of f.decls) e) all_marked 0 all_small in
+    let mask = marked_by (label_of (context_of f.decls) e) (base_mask f) 0 in
+    let small = marked_by-below (label_of (context_of f.decls) e) (base_mask f) 0 (base_mask-below f) in
     let mid = p + length first in
     let whole = p + length (first ++ (access ++ store)) in
     let some = expression-longer f e 0 in
     let size : length (first ++ (access ++ store)) ≡ length first + (length access + length store) =
     length-append first (access ++ store) ∙ ap (λ (n : ℕ). length first + n) (length-append access store) in
-    rise-then f (p + 1) mid whole (expr_notes f all_marked 0 p e) (array_notes f mask 1 mid x i) (omega arith)
-    (omega arith) (expression-rises f e all_marked 0 p all_small)
+    rise-then f (p + 1) mid whole (expr_notes f (base_mask f) 0 p e) (array_notes f mask 1 mid x i) (omega arith)
+    (omega arith) (expression-rises f e (base_mask f) 0 p (base_mask-below f))
     (rise-wider f (mid + 1) (mid + length access + 1) mid whole (array_notes f mask 1 mid x i) (omega arith)
     (omega arith)
     (access-rises f (compares f Public h i) h mask 1 mid (fixed_index h i) (expr_code f Public 1 i)
@@ -373,27 +385,27 @@ expression-count f (Operation op a b) mask to p =
 pub guard-count : (f : Setting) (to p : ℕ) (t : Test) → length (guard_notes f to p t) ≤ 2 * test_weight t
 guard-count f to p t =
     let mid = p + length (expr_code f Public to t.left) in
-    let mask = marked_by (label_of (context_of f.decls) t.left) all_marked to in
-    let size = length-append (expr_notes f all_marked to p t.left) (expr_notes f mask (to + 1) mid t.right) in
-    let first = expression-count f t.left all_marked to p in
+    let mask = marked_by (label_of (context_of f.decls) t.left) (base_mask f) to in
+    let size = length-append (expr_notes f (base_mask f) to p t.left) (expr_notes f mask (to + 1) mid t.right) in
+    let first = expression-count f t.left (base_mask f) to p in
     let second = expression-count f t.right mask (to + 1) mid in
     omega arith
 
 -- so has an assignment to a variable
 pub set_variable-count : (f : Setting) (p : ℕ) (x : List ℕ) (e : Tree)
     → length (set_notes f p (SetVariable x e)) ≤ 2 * tree_weight e
-set_variable-count f p x e = expression-count f e all_marked 0 p
+set_variable-count f p x e = expression-count f e (base_mask f) 0 p
 
 -- and one to an element
 pub set_element-count : (f : Setting) (p : ℕ) (x : List ℕ) (i e : Tree)
     → length (set_notes f p (SetElement x i e)) ≤ 2 * (1 + (tree_weight i + tree_weight e))
 set_element-count f p x i e =
     let mid = p + length (expr_code f Public 0 e) in
-    let mask = marked_by (label_of (context_of f.decls) e) all_marked 0 in
-    let size = length-append (expr_notes f all_marked 0 p e) (array_notes f mask 1 mid x i) in
+    let mask = marked_by (label_of (context_of f.decls) e) (base_mask f) 0 in
+    let size = length-append (expr_notes f (base_mask f) 0 p e) (array_notes f mask 1 mid x i) in
     let count = access-count f (compares f Public (home_of f x) i) (home_of f x) mask 1
     (mid + length (array_code f 1 x i)) (fixed_index (home_of f x) i)
     (expr_notes f mask 1 mid i) in
-    let value = expression-count f e all_marked 0 p in
+    let value = expression-count f e (base_mask f) 0 p in
     let index = expression-count f i mask 1 mid in
     omega arith

@@ -1,5 +1,6 @@
 -- Runs of the code that finds the place of a resident variable's word in its block, and that reads it there.
-use Rattle.std.proofs.Common.{◌≡◌, ℕ, ◌+◌, ◌%◌, ◌^◌, ◌<◌, Bool, true, ℤ, pos, List, [], ◌∷◌, ◌++◌, get_or, append-nil, Option, Some, None, refl, sym, ap, ◌∙◌, subst, arith, mod-lt, mod-eq_of_lt}
+use Rattle.std.proofs.Common.{◌≡◌, ℕ, ◌+◌, ◌%◌, ◌^◌, ◌<◌, Bool, true, ℤ, pos, List, [], ◌∷◌, ◌++◌, get_or, append-nil, Option, Some, None, refl, sym, ap, ◌∙◌, subst, arith, mod-lt, mod-eq_of_lt, ◌==◌, eqb-true}
+use Rattle.std.proofs.lemmas.Bool.{cond_both}
 use Rattle.std.proofs.lemmas.Nat.{pow_below}
 use Rattle.gr_word.specs.Words.{applied, unsigned_of}
 use Rattle.gr_word.proofs.SmallNumbers.{add_small}
@@ -12,27 +13,29 @@ use Rattle.lt_isa.specs.Ranges.{IsInRange}
 use Rattle.lt_isa.specs.Machine.{State, register, slot, word_in, slot_words}
 use Rattle.lt_isa.specs.Shape.{IsShaped}
 use Rattle.lt_isa.specs.Step.{word_named}
-use Rattle.stretches.specs.Standing.{StandsAt}
-use Rattle.stretches.specs.Coming.{RunsThrough, Sets}
-use Rattle.stretches.proofs.RunningThrough.{runs-cons, runs-one, runs-append, runs-weaker, sets-li, sets-alu, sets-ldw, keeps-set, keeps-on}
+use Rattle.stretches.specs.Standing.{StandsAt, greatest_costs}
+use Rattle.stretches.specs.Coming.{Comes, RunsThrough, Sets}
+use Rattle.stretches.proofs.Coming.{comes-here}
+use Rattle.stretches.proofs.RunningThrough.{runs-cons, runs-one, runs-append, runs-weaker, sets-li, sets-alu, sets-ldw}
 use Rattle.src_tree.specs.Contexts.{context_of}
 use Rattle.src_tree.specs.Meaning.{Store, variable_number, words_of_number, evaluated}
 use Rattle.src_tree.specs.Trees.{Tree}
 use Rattle.block_cache_gen.specs.declared.frames.Mode.{Mode}
-use Rattle.block_cache_gen.specs.Homes.{Home, Setting, HasHomes, home_of, pin_of}
+use Rattle.block_cache_gen.specs.Homes.{Home, Setting, HasHomes, home_of, pin_of, register_for}
 use Rattle.block_cache_gen.specs.Codes.{fixed_index, fixed_word, numbered_code, offset_code, placed_code, expr_code}
 use Rattle.block_cache_gen.specs.StandsFor.{StandsFor, FitsHomes, HoldsBlock}
 use Rattle.block_cache_gen.specs.Accesses.{accesses, word_number, seen_of_all}
 use Rattle.block_cache_gen.specs.LeavesWord.{LeavesWord}
-use Rattle.block_cache_gen.proofs.Stands.{stands-like}
+use Rattle.block_cache_gen.proofs.Stands.{stands-like, stands-set}
 use Rattle.block_cache_gen.proofs.IndexRuns.{Reduces, runs-numbered}
+use Rattle.block_cache_gen.proofs.Kept.{keeps-set, keeps-on}
 use Rattle.block_cache_gen.proofs.AccessRuns.{fixed-is}
 
 -- the first word of a variable is added to a number
-runs-offset : (o : Parts) (fits : IsInRange o) (h : Home) (to n : ℕ) (s : State) → IsShaped o s → register s to ≡ pos n
-    → to + 2 < 32 → h.word + n < 2 ^ 63 → StandsAt o s.place (offset_code h to)
-    → RunsThrough o s (offset_code h to) [] (Reduces to (h.word + n) s)
-runs-offset o fits h to n s shaped has below small at =
+runs-adding : (o : Parts) (fits : IsInRange o) (h : Home) (to n : ℕ) (s : State) → IsShaped o s → register s to ≡ pos n
+    → to + 2 < 19 → h.word + n < 2 ^ 63 → StandsAt o s.place (Li (to + 1) (pos h.word) ∷ Alu Add to to (to + 1) ∷ [])
+    → RunsThrough o s (Li (to + 1) (pos h.word) ∷ Alu Add to to (to + 1) ∷ []) [] (Reduces to (h.word + n) s)
+runs-adding o fits h to n s shaped has below small at =
     runs-cons s (Li (to + 1) (pos h.word)) (Alu Add to to (to + 1) ∷ []) [] [] (Sets s (to + 1) (pos h.word)) _ at
     (sets-li o fits s shaped (to + 1) (pos h.word) (omega arith))
     (λ t shape sets at'.
@@ -47,8 +50,30 @@ runs-offset o fits h to n s shaped has below small at =
     refl
     (λ u shape' sets'. record {
       word = sets'.value;
-      keeps = keeps-on (keeps-set to sets (omega arith)) (keeps-set to sets' (omega arith));
+      keeps = keeps-on (keeps-set to sets (omega arith) (omega arith)) (keeps-set to sets' (omega arith) (omega arith));
     }))
+
+-- no code
+runs-nothing : {o : Parts} (s : State) (P : State → Type 0) → IsShaped o s → P s → RunsThrough o s [] [] P
+runs-nothing {o = o} s P shaped holds =
+    subst (λ p. Comes o s [] p (greatest_costs o []) P) (let e : s.place ≡ s.place + 0 = omega arith in e)
+    (comes-here s (greatest_costs o []) P shaped holds)
+
+-- so if nothing is to be added
+runs-offset : (o : Parts) (fits : IsInRange o) (h : Home) (to n : ℕ) (s : State) → IsShaped o s → register s to ≡ pos n
+    → to + 2 < 19 → h.word + n < 2 ^ 63 → StandsAt o s.place (offset_code h to)
+    → RunsThrough o s (offset_code h to) [] (Reduces to (h.word + n) s)
+runs-offset o fits h to n s shaped has below small =
+    cond_both (h.word == 0) [] (Li (to + 1) (pos h.word) ∷ Alu Add to to (to + 1) ∷ [])
+    (λ code. StandsAt o s.place code → RunsThrough o s code [] (Reduces to (h.word + n) s))
+    (λ none at.
+    let first : h.word ≡ 0 = eqb-true h.word 0 none in
+    runs-nothing s (Reduces to (h.word + n) s) shaped
+    (record {
+      word = has ∙ ap pos (let e : n ≡ h.word + n = omega arith in e);
+      keeps = record { below = λ r under. refl; above = λ r over. refl; slots = refl; banks = refl };
+    }))
+    (λ some. runs-adding o fits h to n s shaped has below small)
 
 module _ (o : Parts) (fits : IsInRange o) (f : Setting) (homes : HasHomes o f) (store : Store)
     (store_fits : FitsHomes f store) (x : List ℕ) (label : Label) (shape : Shape)
@@ -71,11 +96,11 @@ module _ (o : Parts) (fits : IsInRange o) (f : Setting) (homes : HasHomes o f) (
       stands.pinned h.slot (pin_of h) home.pinned
 
   -- the word that a register names is read
-  pub runs-read : (to n : ℕ) (s : State) → IsShaped o s → StandsFor f s store → n < (home_of f x).length → to < 32
-      → register s to ≡ pos ((home_of f x).word + n) → StandsAt o s.place (Ldw to (home_of f x).slot to ∷ [])
+  pub runs-read : (to n : ℕ) (s : State) → IsShaped o s → StandsFor f s store → n < (home_of f x).length → register_for f x ≡ None
+      → to < 19 → register s to ≡ pos ((home_of f x).word + n) → StandsAt o s.place (Ldw to (home_of f x).slot to ∷ [])
       → RunsThrough o s (Ldw to (home_of f x).slot to ∷ []) []
       (Sets s to (get_or (words_of_number store (variable_number f.decls x)) n (pos 0)))
-  runs-read to n s shaped stands within small has at =
+  runs-read to n s shaped stands within free small has at =
       let h = home_of f x in
       let home = homes.residents x label shape known resident in
       let held = resident-held s stands in
@@ -85,12 +110,12 @@ module _ (o : Parts) (fits : IsInRange o) (f : Setting) (homes : HasHomes o f) (
       let reads : word_in held.words (word_named o (register s to)) ≡ value =
       ap (λ k. word_in held.words k) named
       ∙ ap (λ b. word_in (slot_words b) (h.word + n)) (sym held.holds)
-      ∙ stands.residents x label shape n known resident within in
+      ∙ stands.residents x label shape n known resident free within in
       runs-one s (Ldw to h.slot to) [] (Sets s to value) at
-      (sets-ldw o fits s shaped to h.slot to h.bank h.block held.words value small held.holds reads)
+      (sets-ldw o fits s shaped to h.slot to h.bank h.block held.words value (omega arith) held.holds reads)
 
   -- the place of the word is found, after the code of the index
-  pub runs-placed : (mode : Mode) (to : ℕ) (i : Tree) (s : State) → IsShaped o s → StandsFor f s store → to + 2 < 32
+  pub runs-placed : (mode : Mode) (to : ℕ) (i : Tree) (s : State) → IsShaped o s → StandsFor f s store → to + 2 < 19
       → (StandsAt o s.place (expr_code f mode to i)
       → RunsThrough o s (expr_code f mode to i) (seen_of_all mode s.banks s.slots (accesses f store i))
       (LeavesWord f store (accesses f store i) to (evaluated f.decls store i) s))
@@ -118,7 +143,7 @@ module _ (o : Parts) (fits : IsInRange o) (f : Setting) (homes : HasHomes o f) (
         below = λ r under. sets.others r (λ same. absurd (omega arith));
         banks = sets.banks;
         slots = sets.slots;
-        stands = stands-like f s t store sets.slots sets.banks stands;
+        stands = stands-set sets (omega arith) stands;
       }))
   runs-placed mode to i s shaped stands small run near None is at =
       let h = home_of f x in
@@ -153,7 +178,9 @@ module _ (o : Parts) (fits : IsInRange o) (f : Setting) (homes : HasHomes o f) (
         below = λ r under. offset.keeps.below r under ∙ reduces.keeps.below r under ∙ leaves.below r under;
         banks = banks ∙ leaves.banks;
         slots = slots ∙ leaves.slots;
-        stands = stands-like f t v store slots banks leaves.stands;
+        stands =
+            stands-like f t v store slots banks
+            (λ r over. offset.keeps.above r over ∙ reduces.keeps.above r over) leaves.stands;
       }))))
       (append-nil seen)
       (λ t shape done. done)

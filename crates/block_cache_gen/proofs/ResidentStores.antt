@@ -1,5 +1,5 @@
 -- A state represents a store in which one word of a resident variable is changed, if that word is changed in its slot.
-use Rattle.std.proofs.Common.{◌≡◌, ◌≢◌, ℕ, ◌+◌, ◌*◌, ◌<◌, true, ℤ, pos, List, length, get_or, set, Option, Some, sym, ap, ◌∙◌, subst, ⊎_elim, arith}
+use Rattle.std.proofs.Common.{◌≡◌, ◌≢◌, ℕ, ◌+◌, ◌*◌, ◌<◌, true, ℤ, pos, List, length, get_or, set, Option, Some, None, sym, ap, ◌∙◌, subst, ⊎_elim, arith}
 use Rattle.std.proofs.lemmas.Bool.{cases_eq, true≢false}
 use Rattle.std.proofs.lemmas.List.{get_or-set_same, get_or-set_other}
 use Rattle.gr_word.specs.declared.variables.Label.{Label}
@@ -9,9 +9,10 @@ use Rattle.lt_isa.specs.Machine.{Unbound, Bound, State, slot, word_in, set_slot,
 use Rattle.src_tree.specs.Contexts.{context_of}
 use Rattle.src_tree.specs.Meaning.{Store, variable_number, words_of_number, with_word}
 use Rattle.src_tree.proofs.VariableNumbers.{number-below}
-use Rattle.block_cache_gen.specs.Homes.{Home, Pin, Setting, HasHomes, pin_at, pin_of, no_home, home_of}
+use Rattle.block_cache_gen.specs.Homes.{Home, Pin, Setting, HasHomes, pin_at, pin_of, no_home, home_of, register_for}
 use Rattle.block_cache_gen.specs.StandsFor.{StandsFor, FitsHomes, HoldsBlock, HoldsBank}
 use Rattle.block_cache_gen.proofs.HomeFacts.{pinned-apart}
+use Rattle.block_cache_gen.proofs.HeldScalars.{held-words}
 use Rattle.block_cache_gen.proofs.Stores.{words-other, words-same}
 
 -- two pins of one slot are one
@@ -21,7 +22,8 @@ pin-one f j k p q first second same =
 
 module _ (o : Parts) (f : Setting) (homes : HasHomes o f) (s : State) (slot_count : length s.slots ≡ 8) (store : Store)
     (store_fits : FitsHomes f store) (stands : StandsFor f s store) (x : List ℕ) (label : Label) (shape : Shape)
-    (known : context_of f.decls x ≡ Some (label, shape)) (resident : (home_of f x).resident ≡ true) (n : ℕ)
+    (known : context_of f.decls x ≡ Some (label, shape)) (resident : (home_of f x).resident ≡ true)
+    (free : register_for f x ≡ None) (n : ℕ)
     (within : n < (home_of f x).length) (words : List ℤ)
     (held : slot s (home_of f x).slot ≡ Bound (home_of f x).bank (home_of f x).block words)
     (size : length words ≡ block_words o) (word : ℤ) where
@@ -77,7 +79,7 @@ module _ (o : Parts) (f : Setting) (homes : HasHomes o f) (s : State) (slot_coun
             })
             (λ other. subst (λ b. HoldsBlock b p.bank p.block) (sym (unmoved j other)) (stands.pinned j p pinned))
             (cases_eq j h.slot);
-        residents = λ y label' shape' i known' resident' inside.
+        residents = λ y label' shape' i known' resident' free' inside.
             let g = home_of f y in
             let m = variable_number f.decls y in
             ⊎_elim
@@ -97,7 +99,7 @@ module _ (o : Parts) (f : Setting) (homes : HasHomes o f) (s : State) (slot_coun
             get_or-set_other words at (h.word + i) word (pos 0) (λ same_word. there (omega (arith, same_word)))
             ∙ ap (λ b. word_in (slot_words b) (h.word + i)) (sym held)
             ∙ ap (λ (z : Home). word_in (slot_words (slot s z.slot)) (z.word + i)) (sym home_same)
-            ∙ stands.residents y label' shape' i known' resident' inside
+            ∙ stands.residents y label' shape' i known' resident' free' inside
             ∙ ap (λ v. get_or (words_of_number store v) i (pos 0)) same
             ∙ sym (get_or-set_other (words_of_number store k) n i word (pos 0) there))
             (cases_eq i n)
@@ -112,11 +114,11 @@ module _ (o : Parts) (f : Setting) (homes : HasHomes o f) (s : State) (slot_coun
             (words-apart y label' shape' known' resident' other same_slot i inside)
             ∙ ap (λ b. word_in (slot_words b) (g.word + i)) (sym held)
             ∙ ap (λ n. word_in (slot_words (slot s n)) (g.word + i)) (sym same_slot)
-            ∙ stands.residents y label' shape' i known' resident' inside
+            ∙ stands.residents y label' shape' i known' resident' free' inside
             ∙ kept)
             (λ other_slot.
             ap (λ b. word_in (slot_words b) (g.word + i)) (unmoved g.slot other_slot)
-            ∙ stands.residents y label' shape' i known' resident' inside
+            ∙ stands.residents y label' shape' i known' resident' free' inside
             ∙ kept)
             (cases_eq g.slot h.slot))
             (cases_eq m k);
@@ -139,4 +141,5 @@ module _ (o : Parts) (f : Setting) (homes : HasHomes o f) (s : State) (slot_coun
             stands.current y label' block words' known' turn
             (sym (unmoved g.slot (λ same. pinned-apart f h.slot g.slot (pin_of h) home.pinned free (sym same))) ∙ holds)
             is_block;
+        held = λ r thing at. stands.held r thing at ∙ held-words f x free store n word r thing at;
       }

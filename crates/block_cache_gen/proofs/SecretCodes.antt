@@ -1,23 +1,27 @@
--- The codes of the two secret modes: the same but for the register that a store takes, with one store an assignment and
--- none in an expression.
-use Rattle.std.proofs.Common.{◌≡◌, ℕ, ◌+◌, ◌-◌, Bool, true, false, not, ◌&&◌, ℤ, pos, List, [], ◌∷◌, ◌++◌, Option, Some, None, refl, sym, ap, ◌∙◌, arith}
-use Rattle.std.specs.Prelude.{cond, if◌then◌else◌}
+-- The codes of the two secret modes: the same but for the register that a store or a copy to a scalar takes, with at most
+-- one store in an assignment and none in an expression.
+use Rattle.std.proofs.Common.{◌≡◌, ℕ, ◌+◌, ◌-◌, ◌==◌, Bool, true, false, not, ◌&&◌, ℤ, pos, List, [], ◌∷◌, ◌++◌, Option, Some, None, refl, sym, ap, ◌∙◌, arith}
+use Rattle.std.specs.Prelude.{cond, is_some, if◌then◌else◌}
+use Rattle.std.proofs.lemmas.Bool.{lt-ltb}
 use Rattle.std.proofs.lemmas.List.{map-append}
 use Rattle.std.proofs.lemmas.List.Sums.{sum_by-append}
-use Rattle.gr_word.specs.declared.operations.Op.TheVariants.{Remu, And}
+use Rattle.gr_word.specs.declared.operations.Op.TheVariants.{Add, Remu, And}
 use Rattle.lt_isa.specs.declared.instructions.Instr.{Instr}
 use Rattle.lt_isa.specs.declared.instructions.Instr.TheVariants.{Li, Alu, Ldw}
 use Rattle.src_tree.specs.Contexts.{context_of}
 use Rattle.src_tree.specs.Labels.{label_of, secret_label}
+use Rattle.gr_word.specs.declared.variables.Label.{Label}
+use Rattle.held_registers.specs.Held.{public_zero, IsSoundHeld}
+use Rattle.block_cache_gen.proofs.HeldLabels.{register-own}
 use Rattle.src_tree.specs.Trees.{Tree, Number, Variable, Element, Operation, Test, Statement, SetVariable, SetElement, Choice, Loop}
 use Rattle.block_cache_gen.specs.declared.frames.Mode.{Mode}
 use Rattle.block_cache_gen.specs.declared.frames.Mode.TheVariants.{Public, Real, Mirrored}
-use Rattle.block_cache_gen.specs.Homes.{Home, Setting, home_of}
-use Rattle.block_cache_gen.specs.Codes.{may_skip_loads, is_cached, is_masked, fixed_index, reduced_code, shift_code, located_code, offset_code, placed_code, stored_code, access_by, load_code, skips, access_code, expr_code, guard_code, store_code, set_code, operation_code, steps_at, compares, numbered_code}
+use Rattle.block_cache_gen.specs.Homes.{Home, Setting, home_of, register_for}
+use Rattle.block_cache_gen.specs.Codes.{may_skip_loads, is_cached, is_masked, fixed_index, reduced_code, shift_code, located_code, offset_code, placed_code, stored_code, access_by, load_code, skips, access_code, expr_code, guard_code, store_code, set_code, operation_code, steps_at, compares, numbered_code, zero_of, scalar_code, write_code}
 use Rattle.gr_word.specs.declared.operations.Op.{Op}
 use Rattle.strength_reduction.specs.Steps.{Step}
 use Rattle.block_cache_gen.proofs.StepsAt.{steps-stores}
-use Rattle.block_cache_gen.specs.StoredWords.{is_stw, stored_words, register_aside, registers_aside}
+use Rattle.block_cache_gen.specs.StoredWords.{is_held_register, set_stores, is_stw, stored_words, register_aside, registers_aside}
 
 -- an expression's code depends on the mode only in being public or secret
 access_code-mode : (f : Setting) (m n : Mode) (near far : Bool) (h : Home) (to : ℕ) (fixed : Option ℤ)
@@ -67,17 +71,32 @@ element_aside first second last one other same =
     ∙ ap (λ (code : List Instr). registers_aside first ++ code) mids
     ∙ sym (map-append register_aside first (second ++ (other ++ last)))
 
+-- what writes a scalar is the same but for the register that it stores or copies
+copy-aside : (held : Bool) (r z : ℕ) → held ≡ true
+    → (if held then Alu Add r 0 z else Alu Add r 0 z) ≡ (if held then Alu Add r 0 z else Alu Add r r z)
+copy-aside true r z is = refl
+copy-aside false r z is = absurd (let e : false ≡ true = is in cc)
+
+write-aside : (f : Setting) → IsSoundHeld f.decls f.held → (x : List ℕ) (found : Option ℕ) → register_for f x ≡ found
+    → (l : Label) (h : Home)
+    → registers_aside (write_code found l Real h) ≡ registers_aside (write_code found l Mirrored h)
+write-aside f sound x None is l h = refl
+write-aside f sound x (Some r) is l h =
+    let own : is_held_register r ≡ true = lt-ltb public_zero r (omega (arith, register-own f sound x r is)) in
+    ap (λ (i : Instr). i ∷ []) (copy-aside (is_held_register r) r (zero_of l) own)
+
 -- with and without effect the code is the same but for registers
-pub set_code-aside : (f : Setting) (a : Statement)
+pub set_code-aside : (f : Setting) → IsSoundHeld f.decls f.held → (a : Statement)
     → registers_aside (set_code f Real a) ≡ registers_aside (set_code f Mirrored a)
-set_code-aside f (SetVariable x e) =
+set_code-aside f sound (SetVariable x e) =
     let same = expr_code-mode f Real Mirrored 0 e refl in
+    let found = register_for f x in
+    let l = label_of (context_of f.decls) (Variable x) in
     let h = home_of f x in
-    map-append register_aside (expr_code f Real 0 e) (Li 1 (pos h.word) ∷ store_code Real h.slot)
-    ∙ ap (λ (code : List Instr).
-    registers_aside code ++ registers_aside (Li 1 (pos h.word) ∷ store_code Mirrored h.slot)) same
-    ∙ sym (map-append register_aside (expr_code f Mirrored 0 e) (Li 1 (pos h.word) ∷ store_code Mirrored h.slot))
-set_code-aside f (SetElement x i e) =
+    map-append register_aside (expr_code f Real 0 e) (write_code found l Real h)
+    ∙ (λ k. registers_aside (same k) ++ write-aside f sound x found refl l h k)
+    ∙ sym (map-append register_aside (expr_code f Mirrored 0 e) (write_code found l Mirrored h))
+set_code-aside f sound (SetElement x i e) =
     let h = home_of f x in
     let fixed = fixed_index h i in
     let value = expr_code-mode f Real Mirrored 0 e refl in
@@ -87,8 +106,8 @@ set_code-aside f (SetElement x i e) =
     element_aside (expr_code f Real 0 e) (access_code false f.profile.block_log Real h 1 fixed (expr_code f Real 1 i))
     (stored_code h.resident h.slot) (store_code Real h.slot) (store_code Mirrored h.slot) refl
     ∙ λ k. registers_aside (value k ++ (access k ++ (store_code Mirrored h.slot ++ stored_code h.resident h.slot)))
-set_code-aside f (Choice t a b) = refl
-set_code-aside f (Loop t a) = refl
+set_code-aside f sound (Choice t a b) = refl
+set_code-aside f sound (Loop t a) = refl
 
 -- stores of code after other code
 pub stored-append : (xs ys : List Instr) → stored_words (xs ++ ys) ≡ stored_words xs + stored_words ys
@@ -101,6 +120,14 @@ reduced-stores h to = by (is_masked h)
         → stored_words (if masked then Li (to + 1) (pos (h.length - 1)) ∷ Alu And to to (to + 1) ∷ []
         else Li (to + 1) (pos h.length) ∷ Alu Remu to to (to + 1) ∷ [])
         ≡ 0
+    by true = refl
+    by false = refl
+
+offset-stores : (h : Home) (to : ℕ) → stored_words (offset_code h to) ≡ 0
+offset-stores h to = by (h.word == 0)
+  where
+    by : (first : Bool)
+        → stored_words (if first then [] else Li (to + 1) (pos h.word) ∷ Alu Add to to (to + 1) ∷ []) ≡ 0
     by true = refl
     by false = refl
 
@@ -135,7 +162,7 @@ access-stores f mode near h to fixed index none = by h.resident
     placed : (g : Option ℤ) → stored_words (placed_code near h to g index) ≡ 0
     placed (Some z) = refl
     placed None =
-        let offset : stored_words (offset_code h to) ≡ 0 = refl in
+        let offset = offset-stores h to in
         stored-append index (numbered_code near h to ++ offset_code h to)
         ∙ omega (
           arith,
@@ -157,10 +184,14 @@ operation-stores op to None right none =
     stored-append right (Alu op to to (to + 1) ∷ []) ∙ ap (λ (n : ℕ). n + 0) none
 operation-stores op to (Some steps) right none = steps-stores to steps
 
+scalar-stores : (found : Option ℕ) (h : Home) (to : ℕ) → stored_words (scalar_code found h to) ≡ 0
+scalar-stores None h to = refl
+scalar-stores (Some r) h to = refl
+
 -- an expression stores no word
 pub expr-stores : (f : Setting) (mode : Mode) (to : ℕ) (e : Tree) → stored_words (expr_code f mode to e) ≡ 0
 expr-stores f mode to (Number z) = refl
-expr-stores f mode to (Variable x) = refl
+expr-stores f mode to (Variable x) = scalar-stores (register_for f x) (home_of f x) to
 expr-stores f mode to (Element x i) =
     let h = home_of f x in
     let access = access_code (compares f mode h i) f.profile.block_log mode h to (fixed_index h i)
@@ -187,18 +218,22 @@ store-stores Public slot = refl
 store-stores Real slot = refl
 store-stores Mirrored slot = refl
 
-placed-stores : (mode : Mode) (z : ℤ) (slot : ℕ) → stored_words (Li 1 z ∷ store_code mode slot) ≡ 1
-placed-stores Public z slot = refl
-placed-stores Real z slot = refl
-placed-stores Mirrored z slot = refl
+write-stores : (mode : Mode) (found : Option ℕ) (l : Label) (h : Home)
+    → stored_words (write_code found l mode h) ≡ (if is_some found then 0 else 1)
+write-stores mode (Some r) l h = refl
+write-stores Public None l h = refl
+write-stores Real None l h = refl
+write-stores Mirrored None l h = refl
 
--- an assignment to a variable stores one word
+-- an assignment to a variable stores one word, or none if a register holds the variable
 pub variable-stores : (f : Setting) (mode : Mode) (x : List ℕ) (e : Tree)
-    → stored_words (set_code f mode (SetVariable x e)) ≡ 1
+    → stored_words (set_code f mode (SetVariable x e)) ≡ set_stores f (SetVariable x e)
 variable-stores f mode x e =
-    let h = home_of f x in
-    stored-append (expr_code f mode 0 e) (Li 1 (pos h.word) ∷ store_code mode h.slot)
-    ∙ (λ k. expr-stores f mode 0 e k + placed-stores mode (pos h.word) h.slot k)
+    let found = register_for f x in
+    let l = label_of (context_of f.decls) (Variable x) in
+    let written = write-stores mode found l (home_of f x) in
+    stored-append (expr_code f mode 0 e) (write_code found l mode (home_of f x))
+    ∙ omega (arith, expr-stores f mode 0 e, written)
 
 -- an assignment to an element stores one word
 last-stores : (b : Bool) (slot : ℕ) → stored_words (stored_code b slot) ≡ 0

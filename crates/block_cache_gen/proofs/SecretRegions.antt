@@ -1,20 +1,21 @@
 -- A branch on a secret in an arm, whose own arms show the same and leave the same in the slots.
-use Rattle.std.proofs.Common.{◌≡◌, ℕ, ◌+◌, ◌<◌, ◌≤◌, pos, List, length, sym, ap, ◌∙◌, subst}
+use Rattle.std.proofs.Common.{◌≡◌, ℕ, ◌+◌, ◌<◌, ◌≤◌, pos, List, length, Option, sym, ap, ◌∙◌, subst}
 use Rattle.std.specs.Option.{unwrap_or}
 use Rattle.gr_word.specs.declared.operations.Cmp.{Cmp}
 use Rattle.lt_isa.specs.declared.profiles.Profile.{Profile}
 use Rattle.lt_isa.specs.declared.instructions.Instr.{Instr}
 use Rattle.lt_isa.specs.Object.{Parts}
+use Rattle.symbolic_values.specs.Trees.{Value}
 use Rattle.trace_patterns.specs.Shape.{most_regions}
 use Rattle.trace_patterns.specs.Walk.{CrossesTo}
 use Rattle.stretches.specs.Shows.{Show, pattern_of, region_shows}
 use Rattle.stretches.specs.InArms.{StandsInArm}
-use Rattle.trace_patterns.specs.SymStates.{SymSlot, SymState, slot_held, common_slot, common}
-use Rattle.trace_patterns.proofs.SymStateLaws.{IsSized, slot-common, sized-common, own_slot}
+use Rattle.trace_patterns.specs.SymStates.{SymSlot, SymState, tree_held, slot_held, common_tree, common_slot, common}
+use Rattle.trace_patterns.proofs.SymStateLaws.{IsSized, tree-common, slot-common, sized-common, own_tree, own_slot}
 use Rattle.stretches.proofs.ArmCode.{Walked}
 use Rattle.stretches.proofs.ArmRegions.{first_arm, region_code, region-crosses, walked-region}
 use Rattle.block_cache_gen.specs.Homes.{Setting}
-use Rattle.block_cache_gen.specs.Carries.{CarriesInArm}
+use Rattle.block_cache_gen.specs.Carries.{CarriesInArm, held_tree}
 use Rattle.block_cache_gen.specs.PatternsOf.{Loads}
 use Rattle.block_cache_gen.proofs.ArmStates.{carries-slots}
 use Rattle.block_cache_gen.proofs.ArmAssignments.{Goes}
@@ -28,6 +29,12 @@ common-held : (left right : SymState) (k : ℕ) (bound : SymSlot) → slot_held 
     → slot_held (common left right) k ≡ bound
 common-held left right k bound one other =
     slot-common left right k ∙ (λ i. common_slot (one i) (other i)) ∙ own_slot bound
+
+-- the same of a register
+common-tree : (left right : SymState) (r : ℕ) (tree : Option Value) → tree_held left r ≡ tree → tree_held right r ≡ tree
+    → tree_held (common left right) r ≡ tree
+common-tree left right r tree one other =
+    tree-common left right r ∙ (λ i. common_tree (one i) (other i)) ∙ own_tree tree
 
 module _ (o : Parts) (f : Setting) (profile : o.profile ≡ f.profile) (depth : ℕ) (s : SymState) (cmp : Cmp) (ra rb : ℕ)
     (first second : List Instr) (shows : List Show) (loads : Loads) (some : 1 ≤ f.profile.taken)
@@ -64,6 +71,10 @@ module _ (o : Parts) (f : Setting) (profile : o.profile ≡ f.profile) (depth : 
       let sized = sized-common one.state other.state (carries-sized f one.state one.carries)
       (carries-sized f other.state other.carries) in
       carries-slots f one.state (common one.state other.state) one.carries (λ k. joined-slots k ∙ sym (one.slots k))
+      (λ r label is.
+      common-tree one.state other.state r (held_tree r label) (one.carries.held r label is)
+      (other.carries.held r label is)
+      ∙ sym (one.carries.held r label is))
       sized.registers sized.slots
 
   -- so it continues there

@@ -21,16 +21,18 @@ use Rattle.bank_alloc.specs.Apart.{IsBankOf, scalar_bank}
 use Rattle.bank_alloc.specs.Layout.{IsLaidOut}
 use Rattle.bank_alloc.proofs.Apart.{length_at}
 use Rattle.scratch_alloc.specs.Plans.{Plan, IsSoundPlan, IsSoundByPin, pin_of_slot, no_decl, no_place}
+use Rattle.held_registers.specs.Held.{IsSoundHeld}
 use Rattle.block_cache_gen.specs.Homes.{Home, Pin, Setting, HasHomes, IsScalarHome, IsResidentHome, IsArrayHome, pin_at, HomesApart, no_home}
 use Rattle.block_cache_gen.specs.declared.frames.Frame.{Frame}
 use Rattle.block_cache_gen.specs.Settings.{home_at, homes_at, setting_of, plan_of, IsFrame}
 
--- a setting is made of a program and a plan, for an object
+-- a setting is made of a program and a plan, for an object, with registers that hold what is sound
 pub record IsSettingOf (p : Source) (plan : Plan) (o : Parts) (f : Setting) : Type 0 where
   pub decls : f.decls ≡ p.decls
   pub homes : f.homes ≡ homes_at plan.pins plan.places plan.slots
   pub blocks : f.blocks ≡ plan.blocks
   pub pins : f.pins ≡ plan.pins
+  pub held : IsSoundHeld f.decls f.held
   pub profile : o.profile ≡ f.profile
 
 -- as many homes as variables
@@ -244,6 +246,7 @@ module _ (p : Source) (w : ℕ) (plan : Plan) (limits : IsWithinLimits p) (sound
         };
     pins_apart = λ j k q r first second.
         sound.pins_apart j k q r (sym (pinned-at j) ∙ first) (sym (pinned-at k) ∙ second);
+    held = setting.held;
     apart = λ u v one two differ.
         let below : u < length p.decls = omega (arith, one, home-count) in
         let under : v < length p.decls = omega (arith, two, home-count) in
@@ -252,9 +255,16 @@ module _ (p : Source) (w : ℕ) (plan : Plan) (limits : IsWithinLimits p) (sound
   }
 
 -- the same of the setting of a frame
-pub frame-setting : (f : Frame) (o : Parts) → o.profile ≡ f.profile.now
+pub frame-setting : (f : Frame) (o : Parts) → IsFrame f → o.profile ≡ f.profile.now
     → IsSettingOf (source_of f.program.now) (plan_of f) o (setting_of f)
-frame-setting f o profile = record { decls = refl; homes = refl; blocks = refl; pins = refl; profile = profile }
+frame-setting f o frame profile = record {
+  decls = refl;
+  homes = refl;
+  blocks = refl;
+  pins = refl;
+  held = frame.held;
+  profile = profile;
+}
 
 -- an object with the variables of a frame's program at the frame's places has the homes of the frame's variables
 pub frame-has_homes : (f : Frame) (o : Parts) → IsFrame f → o.profile ≡ f.profile.now
@@ -262,4 +272,4 @@ pub frame-has_homes : (f : Frame) (o : Parts) → IsFrame f → o.profile ≡ f.
     → HasHomes o (setting_of f)
 frame-has_homes f o frame profile layout =
     has-homes (source_of f.program.now) f.profile.now.block_log (plan_of f) frame.within frame.plan o layout
-    (setting_of f) (frame-setting f o profile)
+    (setting_of f) (frame-setting f o frame profile)

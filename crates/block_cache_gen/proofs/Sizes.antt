@@ -1,17 +1,19 @@
 -- How long the code of expressions, guards and assignments is, and how many notes it has.
 use Rattle.std.proofs.Common.{◌≡◌, ℕ, ◌+◌, ◌*◌, ◌≤◌, Bool, true, false, List, [], ◌∷◌, ◌++◌, length, Option, Some, None, ℤ, pos, refl, arith, length-append}
-use Rattle.std.specs.Prelude.{if◌then◌else◌}
+use Rattle.std.specs.Prelude.{if◌then◌else◌, ◌==◌}
 use Rattle.gr_word.specs.declared.variables.Label.{Label}
 use Rattle.lt_isa.specs.declared.instructions.Instr.{Instr}
-use Rattle.lt_isa.specs.declared.instructions.Instr.TheVariants.{Li, Ldw}
-use Rattle.src_tree.specs.Contexts.{Context}
+use Rattle.lt_isa.specs.declared.instructions.Instr.TheVariants.{Li, Alu, Ldw}
+use Rattle.gr_word.specs.declared.operations.Op.TheVariants.{Add}
+use Rattle.src_tree.specs.Contexts.{Context, context_of}
+use Rattle.src_tree.specs.Labels.{label_of}
 use Rattle.src_tree.specs.Trees.{Tree, Number, Variable, Element, Operation, Test, Statement, SetVariable, SetElement, Choice, Loop}
 use Rattle.src_tree.specs.Limits.{tree_weight, test_weight, statement_weight}
 use Rattle.block_cache_gen.specs.declared.frames.Mode.{Mode}
 use Rattle.block_cache_gen.specs.declared.frames.Mode.TheVariants.{Public, Real, Mirrored}
 use Rattle.block_cache_gen.specs.Assignments.{IsAssignment}
-use Rattle.block_cache_gen.specs.Homes.{Home, Setting, home_of}
-use Rattle.block_cache_gen.specs.Codes.{is_masked, compares, numbered_code, reduced_code, shift_code, offset_code, placed_code, stored_code, located_code, load_code, skips, access_by, access_code, fixed_index, operation_code, steps_at, expr_code, guard_code, store_code, set_code}
+use Rattle.block_cache_gen.specs.Homes.{Home, Setting, home_of, register_for}
+use Rattle.block_cache_gen.specs.Codes.{is_masked, compares, numbered_code, reduced_code, shift_code, offset_code, placed_code, stored_code, located_code, load_code, skips, access_by, access_code, fixed_index, operation_code, steps_at, expr_code, guard_code, store_code, set_code, scalar_code, write_code}
 use Rattle.block_cache_gen.proofs.StepsAt.{operation-short}
 
 two_of : (b : Bool) (p q r s : Instr) → length (if b then p ∷ q ∷ [] else r ∷ s ∷ []) ≡ 2
@@ -46,6 +48,17 @@ located_short near block_log h to None index =
       numbered_short near h to,
     )
 
+pub offset_short : (h : Home) (to : ℕ) → length (offset_code h to) ≤ 2
+offset_short h to = by (h.word == 0)
+  where
+    by : (first : Bool) → length (if first then [] else Li (to + 1) (pos h.word) ∷ Alu Add to to (to + 1) ∷ []) ≤ 2
+    by true = omega arith
+    by false = omega arith
+
+pub scalar_short : (r : Option ℕ) (h : Home) (to : ℕ) → length (scalar_code r h to) ≤ 2
+scalar_short None h to = omega arith
+scalar_short (Some r) h to = omega arith
+
 -- an access takes at most 13 instructions after the index
 pub access_short : (near : Bool) (block_log : ℕ) (mode : Mode) (h : Home) (to : ℕ) (fixed : Option ℤ)
     (index : List Instr) → length (access_code near block_log mode h to fixed index) ≤ length index + 13
@@ -59,6 +72,7 @@ access_short near block_log mode h to fixed index = by h.resident
           length-append index (numbered_code near h to ++ offset_code h to),
           length-append (numbered_code near h to) (offset_code h to),
           numbered_short near h to,
+          offset_short h to,
         )
 
     by : (b : Bool) → length (access_by b near block_log mode h to fixed index) ≤ length index + 13
@@ -73,7 +87,7 @@ access_short near block_log mode h to fixed index = by h.resident
 pub expr_code_short : (f : Setting) (mode : Mode) (to : ℕ) (e : Tree)
     → length (expr_code f mode to e) ≤ 16 * tree_weight e
 expr_code_short f mode to (Number z) = omega arith
-expr_code_short f mode to (Variable x) = omega arith
+expr_code_short f mode to (Variable x) = omega (arith, scalar_short (register_for f x) (home_of f x) to)
 expr_code_short f mode to (Element x i) =
     let code =
     access_code (compares f mode (home_of f x) i) f.profile.block_log mode (home_of f x) to
@@ -113,14 +127,19 @@ pub stored_short : (b : Bool) (slot : ℕ) → length (stored_code b slot) ≤ 1
 stored_short true slot = omega arith
 stored_short false slot = omega arith
 
+pub write_short : (r : Option ℕ) (l : Label) (mode : Mode) (h : Home) → length (write_code r l mode h) ≤ 3
+write_short (Some r) l mode h = omega arith
+write_short None l mode h = omega (arith, store_short mode h.slot)
+
 -- at most 17 instructions a unit of an assignment's weight
 pub set_code_short : (f : Setting) (mode : Mode) (known : Context) (code : Label) (s : Statement) → IsAssignment s
     → length (set_code f mode s) ≤ 17 * statement_weight known code s
 set_code_short f mode known code (SetVariable x e) is =
     let h = home_of f x in
-    let l = length-append (expr_code f mode 0 e) (Li 1 (pos h.word) ∷ store_code mode h.slot) in
+    let write = write_code (register_for f x) (label_of (context_of f.decls) (Variable x)) mode h in
+    let l = length-append (expr_code f mode 0 e) write in
     let k = expr_code_short f mode 0 e in
-    let s = store_short mode h.slot in
+    let s = write_short (register_for f x) (label_of (context_of f.decls) (Variable x)) mode h in
     omega arith
 set_code_short f mode known code (SetElement x i e) is =
     let h = home_of f x in

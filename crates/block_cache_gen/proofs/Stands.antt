@@ -1,6 +1,6 @@
--- Whether a state represents a store depends only on its slots and banks, and it still does if a block of an array is
--- loaded.
-use Rattle.std.proofs.Common.{◌≡◌, ◌≢◌, ℕ, ◌+◌, ◌<◌, true, false, ℤ, pos, List, length, get_or, Some, refl, sym, ap, ◌∙◌, subst, ⊎_elim, arith}
+-- Whether a state represents a store depends only on its slots, its banks and the registers from 19 on, and it still
+-- does if a block of an array is loaded.
+use Rattle.std.proofs.Common.{◌≡◌, ◌≢◌, ℕ, ◌+◌, ◌<◌, ◌≤◌, true, false, ℤ, pos, List, length, get_or, Some, refl, sym, ap, ◌∙◌, subst, ⊎_elim, arith}
 use Rattle.std.proofs.lemmas.Bool.{cases_eq}
 use Rattle.std.proofs.lemmas.List.{get_or-set_same, get_or-set_other}
 use Rattle.gr_base.specs.Lists.{Within}
@@ -8,19 +8,22 @@ use Rattle.gr_word.specs.declared.variables.Label.{Label}
 use Rattle.gr_word.specs.declared.variables.Shape.{Shape}
 use Rattle.gr_word.specs.declared.variables.Shape.TheVariants.{Array}
 use Rattle.lt_isa.specs.Object.{Parts}
-use Rattle.lt_isa.specs.Machine.{Unbound, Bound, State, slot, block_at, word_in, set_slot, slot_words}
+use Rattle.lt_isa.specs.Machine.{Unbound, Bound, State, register, slot, block_at, word_in, set_slot, slot_words}
 use Rattle.lt_isa.specs.Outputs.{bank_word_numbered}
 use Rattle.src_tree.specs.Contexts.{context_of}
 use Rattle.src_tree.specs.Meaning.{Store, variable_number, words_of_number}
 use Rattle.scratch_alloc.proofs.Serving.{serves-within}
-use Rattle.block_cache_gen.specs.Homes.{Setting, HasHomes, pin_of, Serves, home_of, words_a_block, start_of_home}
+use Rattle.stretches.specs.Coming.{Sets}
+use Rattle.held_registers.specs.Held.{held_at, word_held}
+use Rattle.held_registers.proofs.Found.{held-high}
+use Rattle.block_cache_gen.specs.Homes.{Held, Setting, HasHomes, pin_of, Serves, home_of, words_a_block, start_of_home}
 use Rattle.block_cache_gen.specs.StandsFor.{StandsFor, HoldsBlock, HoldsBank, IsBlockOf}
 use Rattle.block_cache_gen.proofs.HomeFacts.{serves-same, pinned-apart}
 
--- by its slots and banks
+-- by these
 pub stands-like : (f : Setting) (s t : State) (store : Store) → t.slots ≡ s.slots → t.banks ≡ s.banks
-    → StandsFor f s store → StandsFor f t store
-stands-like f s t store slots banks stands =
+    → ((r : ℕ) → 19 ≤ r → register t r ≡ register s r) → StandsFor f s store → StandsFor f t store
+stands-like f s t store slots banks kept stands =
     subst (λ l. StandsFor f (record t { slots = l }) store) (sym slots)
     (subst (λ b. StandsFor f (record t { slots = s.slots; banks = b }) store) (sym banks) moved)
   where
@@ -31,7 +34,15 @@ stands-like f s t store slots banks stands =
       arrays = stands.arrays;
       bound = stands.bound;
       current = stands.current;
+      held = λ r h at. kept r (held-high f.held r h at) ∙ stands.held r h at;
     }
+
+-- where a register of an expression was set
+pub stands-set : {f : Setting} {store : Store} {to : ℕ} {word : ℤ} {s t : State} → Sets s to word t → to < 19
+    → StandsFor f s store → StandsFor f t store
+stands-set {f = f} {store = store} {s = s} {t = t} sets low stands =
+    stands-like f s t store sets.slots sets.banks
+    (λ r high. sets.others r (λ same. absurd (omega (arith, low, high, same)))) stands
 
 -- what a slot is bound to, part by part
 bound-bank : (b b' a a' : ℕ) (words words' : List ℤ) → Bound b a words ≡ Bound b' a' words' → b ≡ b'
@@ -52,12 +63,14 @@ module _ (o : Parts) (f : Setting) (homes : HasHomes o f) (s : State) (store : S
     (in_turn : (home_of f x).resident ≡ false) (a : ℕ) (words : List ℤ)
     (bound_here : slot t (home_of f x).slot ≡ Bound (home_of f x).bank a words)
     (unmoved : (j : ℕ) → j ≢ (home_of f x).slot → slot t j ≡ slot s j)
-    (here : words ≡ block_at t (home_of f x).bank a) where
+    (here : words ≡ block_at t (home_of f x).bank a)
+    (kept : (r : ℕ) → 19 ≤ r → register t r ≡ register s r) where
   pub stands-bound : (after : Store)
       → ((y : List ℕ) (label' : Label) (shape : Shape) (i : ℕ) → context_of f.decls y ≡ Some (label', shape)
       → (home_of f y).resident ≡ true
       → get_or (words_of_number store (variable_number f.decls y)) i (pos 0)
       ≡ get_or (words_of_number after (variable_number f.decls y)) i (pos 0))
+      → ((r : ℕ) (h : Held) → held_at f.held r ≡ Some h → word_held store h ≡ word_held after h)
       → ((y : List ℕ) (label' : Label) (i : ℕ) → context_of f.decls y ≡ Some (label', Array)
       → (home_of f y).resident ≡ false → i < (home_of f y).length
       → bank_word_numbered (words_a_block f) t (home_of f y).bank (start_of_home (words_a_block f) (home_of f y) + i)
@@ -67,20 +80,21 @@ module _ (o : Parts) (f : Setting) (homes : HasHomes o f) (s : State) (store : S
       → (home_of f y).slot ≢ (home_of f x).slot
       → block_at s (home_of f y).bank block ≡ block_at t (home_of f y).bank block)
       → StandsFor f t after
-  stands-bound after residents arrays others =
+  stands-bound after residents words_same arrays others =
       let h = home_of f x in
       let home = homes.arrays x label known in_turn in
       record {
         pinned = λ k p pinned.
             subst (λ b. HoldsBlock b p.bank p.block)
             (sym (unmoved k (pinned-apart f k h.slot p pinned home.unpinned))) (stands.pinned k p pinned);
-        residents = λ y label' shape i known' resident within.
+        residents = λ y label' shape i known' resident free within.
             let g = home_of f y in
             let pinned = (homes.residents y label' shape known' resident).pinned in
             ap (λ b. word_in (slot_words b) (g.word + i))
             (unmoved g.slot (pinned-apart f g.slot h.slot (pin_of g) pinned home.unpinned))
-            ∙ stands.residents y label' shape i known' resident within
+            ∙ stands.residents y label' shape i known' resident free within
             ∙ residents y label' shape i known' resident;
+        held = λ r h at. kept r (held-high f.held r h at) ∙ stands.held r h at ∙ words_same r h at;
         arrays = arrays;
         bound = λ y label' known' turn within.
             let g = home_of f y in
@@ -125,5 +139,5 @@ stands-loaded o f homes s slot_count store stands x label known turn a =
     stands-bound o f homes s store stands (set_slot s h.slot found) x label known turn a (block_at s h.bank a)
     (get_or-set_same s.slots h.slot found Unbound (omega (arith, slot_count, served)))
     (λ j other. get_or-set_other s.slots h.slot j found Unbound other)
-    refl store (λ y label' shape i known' resident. refl) stands.arrays
+    refl (λ r high. refl) store (λ y label' shape i known' resident. refl) (λ r held at. refl) stands.arrays
     (λ y label' block known' turn is_block other. refl)

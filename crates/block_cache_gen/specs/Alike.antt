@@ -1,11 +1,11 @@
 -- Which expressions and statements show the same in secret code, so that two of them may stand at one place of the two
 -- arms of a branch on a secret, and how many statements of two parts pair. (This project's own padding.)
-use Rattle.std.specs.Prelude.{◌≡◌, ℕ, ◌+◌, ◌<◌, ◌≤◌, ℤ, Bool, true, false, not, ◌&&◌, ◌||◌, ◌==◌, nat_le, nat_lt, if◌then◌else◌, List, bytes_eq}
+use Rattle.std.specs.Prelude.{◌≡◌, ℕ, ◌+◌, ◌<◌, ◌≤◌, ℤ, Bool, true, false, not, ◌&&◌, ◌||◌, ◌==◌, nat_le, nat_lt, is_some, if◌then◌else◌, List, bytes_eq}
 use Rattle.std.specs.Ordering.{int_eq}
 use Rattle.gr_word.specs.declared.operations.Op.{Op}
 use Rattle.symbolic_values.specs.Sameness.{same_op}
 use Rattle.src_tree.specs.Trees.{Tree, Number, Variable, Element, Operation, Statement, SetVariable, SetElement, Block, Then}
-use Rattle.block_cache_gen.specs.Homes.{Setting, home_of}
+use Rattle.block_cache_gen.specs.Homes.{Setting, home_of, register_for}
 use Rattle.block_cache_gen.specs.Codes.{is_cached, is_masked, may_step}
 pub use Rattle.block_cache_gen.specs.Codes.{is_product}
 
@@ -14,12 +14,17 @@ pub record InOneBank (f : Setting) (x y : List ℕ) : Type 0 where
   pub oblivious : 2 ≤ (home_of f x).bank
   pub same : (home_of f x).bank ≡ (home_of f y).bank
 
--- two resident arrays whose indexes are reduced alike
+-- registers hold two scalars for the whole run, or neither
+abbrev pub AreHeldAlike : Setting → List ℕ → List ℕ → Type 0
+AreHeldAlike f x y = is_some (register_for f x) ≡ is_some (register_for f y)
+
+-- two resident arrays whose indexes are reduced alike, and whose first words both are 0, or neither is
 pub record AreReducedAlike (f : Setting) (x y : List ℕ) : Type 0 where
   pub first : (home_of f x).resident ≡ true
   pub second : (home_of f y).resident ≡ true
   pub low : is_cached (home_of f x) ≡ is_cached (home_of f y)
   pub masked : is_masked (home_of f x) ≡ is_masked (home_of f y)
+  pub offset : ((home_of f x).word == 0) ≡ ((home_of f y).word == 0)
 
 -- Two expressions are alike if both are numbers, or scalars; or elements with alike indexes, of one oblivious bank or of
 -- resident arrays whose indexes are reduced alike; or elements of one array of plain or encrypted memory with the same
@@ -27,7 +32,7 @@ pub record AreReducedAlike (f : Setting) (x y : List ℕ) : Type 0 where
 -- the same number, on an alike left side.
 pub data Alike (f : Setting) : Tree → Tree → Type 0 where
   Numbers : (y z : ℤ) → Alike f (Number y) (Number z)
-  Scalars : (x y : List ℕ) → Alike f (Variable x) (Variable y)
+  Scalars : (x y : List ℕ) → AreHeldAlike f x y → Alike f (Variable x) (Variable y)
   Oblivious : (x y : List ℕ) (i j : Tree) → InOneBank f x y → Alike f i j → Alike f (Element x i) (Element y j)
   Residents : (x y : List ℕ) (i j : Tree) → AreReducedAlike f x y → Alike f i j → Alike f (Element x i) (Element y j)
   Same : (x : List ℕ) (i : Tree) → (home_of f x).bank < 2 → Alike f (Element x i) (Element x i)
@@ -40,7 +45,8 @@ pub data Alike (f : Setting) : Tree → Tree → Type 0 where
 -- indexes, of one oblivious bank or of resident arrays whose indexes are reduced alike; or with the same index, of one
 -- array of encrypted memory.
 pub data Pair (f : Setting) : Statement → Statement → Type 0 where
-  ToScalars : (x y : List ℕ) (e g : Tree) → Alike f e g → Pair f (SetVariable x e) (SetVariable y g)
+  ToScalars : (x y : List ℕ) (e g : Tree)
+      → AreHeldAlike f x y → Alike f e g → Pair f (SetVariable x e) (SetVariable y g)
   ToOblivious : (x y : List ℕ) (i j e g : Tree) → InOneBank f x y → Alike f i j → Alike f e g
       → Pair f (SetElement x i e) (SetElement y j g)
   ToResidents : (x y : List ℕ) (i j e g : Tree) → AreReducedAlike f x y → Alike f i j → Alike f e g
@@ -71,6 +77,9 @@ is_same _ _ = false
 abbrev pub same_flag : Bool → Bool → Bool
 same_flag a b = if a then b else not b
 
+abbrev pub held_alike : Setting → List ℕ → List ℕ → Bool
+held_alike f x y = same_flag (is_some (register_for f x)) (is_some (register_for f y))
+
 abbrev pub in_one_bank : Setting → List ℕ → List ℕ → Bool
 in_one_bank f x y = nat_le 2 (home_of f x).bank && ((home_of f x).bank == (home_of f y).bank)
 
@@ -82,7 +91,8 @@ reduced_alike f x y =
     (home_of f x).resident
     && ((home_of f y).resident
     && (same_flag (is_cached (home_of f x)) (is_cached (home_of f y))
-    && same_flag (is_masked (home_of f x)) (is_masked (home_of f y))))
+    && (same_flag (is_masked (home_of f x)) (is_masked (home_of f y))
+    && same_flag ((home_of f x).word == 0) ((home_of f y).word == 0))))
 
 -- no steps replace either of two operations
 abbrev pub are_plain : Setting → Op → Tree → Op → Tree → Bool
@@ -98,7 +108,7 @@ by_same_number op b oq d = same_op op oq && is_same_number b d
 
 abbrev pub is_alike : Setting → Tree → Tree → Bool
 is_alike f (Number y) (Number z) = true
-is_alike f (Variable x) (Variable y) = true
+is_alike f (Variable x) (Variable y) = held_alike f x y
 is_alike f (Element x i) (Element y j) =
     ((in_one_bank f x y || reduced_alike f x y) && is_alike f i j)
     || (nat_lt (home_of f x).bank 2 && (bytes_eq x y && is_same i j))
@@ -108,7 +118,7 @@ is_alike f (Operation op a b) (Operation oq c d) =
 is_alike f _ _ = false
 
 abbrev pub is_pair : Setting → Statement → Statement → Bool
-is_pair f (SetVariable x e) (SetVariable y g) = is_alike f e g
+is_pair f (SetVariable x e) (SetVariable y g) = held_alike f x y && is_alike f e g
 is_pair f (SetElement x i e) (SetElement y j g) =
     is_alike f e g
     && (((in_one_bank f x y || reduced_alike f x y) && is_alike f i j)

@@ -16,7 +16,12 @@ use Rattle.src_tree.specs.Labels.{label_of, secret_label}
 use Rattle.src_tree.specs.Trees.{Tree, Number, Variable, Element, Operation, Test, Statement, SetVariable, SetElement, Choice, Loop}
 use Rattle.block_cache_gen.specs.declared.frames.Mode.{Mode}
 use Rattle.block_cache_gen.specs.declared.frames.Mode.TheVariants.{Public, Real, Mirrored}
-use Rattle.block_cache_gen.specs.Homes.{Home, Setting, home_of}
+use Rattle.gr_word.specs.declared.variables.Label.{Label}
+use Rattle.gr_word.specs.declared.variables.Label.TheVariants as label
+use Rattle.src_tree.specs.Contexts.{context_of}
+use Rattle.src_tree.specs.Labels.{label_of}
+use Rattle.held_registers.specs.Held.{secret_zero, public_zero}
+use Rattle.block_cache_gen.specs.Homes.{Home, Setting, home_of, register_for}
 
 -- Public code may skip the load of a block of plain or encrypted memory.
 abbrev pub may_skip_loads : Mode → Bool
@@ -42,9 +47,18 @@ literal _ = None
 abbrev pub fixed_index : Home → Tree → Option ℤ
 fixed_index h i = if is_cached h then literal i else None
 
--- a scalar's word in register `to`
-abbrev pub scalar_code : Home → ℕ → List Instr
-scalar_code h to = Li to (pos h.word) ∷ Ldw to h.slot to ∷ []
+-- A value of a label is copied by a sum with the zero that has the label, so that the copy has it too.
+abbrev pub zero_of : Label → ℕ
+zero_of label.Public = public_zero
+zero_of label.Secret = secret_zero
+
+abbrev pub copy_code : Label → (to from : ℕ) → List Instr
+copy_code l to from = Alu Add to from (zero_of l) ∷ []
+
+-- a scalar's word in register `to`, if a register holds it for the whole run, or its slot
+abbrev pub scalar_code : Option ℕ → Home → ℕ → List Instr
+scalar_code (Some r) h to = copy_code label.Public to r
+scalar_code None h to = Li to (pos h.word) ∷ Ldw to h.slot to ∷ []
 
 -- the index in register `to` becomes the number of the word in the array
 abbrev pub reduced_code : Home → ℕ → List Instr
@@ -112,9 +126,9 @@ abbrev pub skips : Mode → Home → Bool
 skips mode h = may_skip_loads mode && is_cached h
 
 -- The number of a word in a resident array, in register `to`, becomes its number in the block: the number of the
--- array's first word is added.
+-- array's first word is added, unless that is 0.
 abbrev pub offset_code : Home → ℕ → List Instr
-offset_code h to = Li (to + 1) (pos h.word) ∷ Alu Add to to (to + 1) ∷ []
+offset_code h to = if h.word == 0 then [] else Li (to + 1) (pos h.word) ∷ Alu Add to to (to + 1) ∷ []
 
 -- the number of a word of a resident array in its block, in register `to`
 abbrev pub placed_code : Bool → Home → ℕ → Option ℤ → List Instr → List Instr
@@ -177,7 +191,7 @@ operation_code op to (Some steps) right = code_of to steps
 -- the value of an expression in register `to`
 abbrev pub expr_code : Setting → Mode → ℕ → Tree → List Instr
 expr_code f mode to (Number z) = Li to z ∷ []
-expr_code f mode to (Variable x) = scalar_code (home_of f x) to
+expr_code f mode to (Variable x) = scalar_code (register_for f x) (home_of f x) to
 expr_code f mode to (Element x i) =
     access_code (compares f mode (home_of f x) i) f.profile.block_log mode (home_of f x) to
     (fixed_index (home_of f x) i)
@@ -197,10 +211,22 @@ store_code Public slot = Stw 0 slot 1 ∷ []
 store_code Real slot = Ldw 2 slot 1 ∷ Stw 0 slot 1 ∷ []
 store_code Mirrored slot = Ldw 2 slot 1 ∷ Stw 2 slot 1 ∷ []
 
--- an assignment: the value in register 0, the word in register 1
+-- The value in register 0 becomes that of a scalar. A register that holds it gets a copy, in mirrored code of itself;
+-- otherwise its word is in register 1.
+abbrev pub copied_from : Mode → ℕ → ℕ
+copied_from Public r = 0
+copied_from Real r = 0
+copied_from Mirrored r = r
+
+abbrev pub write_code : Option ℕ → Label → Mode → Home → List Instr
+write_code (Some r) l mode h = copy_code l r (copied_from mode r)
+write_code None l mode h = Li 1 (pos h.word) ∷ store_code mode h.slot
+
+-- an assignment: the value in register 0, the word of an element in register 1
 abbrev pub set_code : Setting → Mode → Statement → List Instr
 set_code f mode (SetVariable x e) =
-    expr_code f mode 0 e ++ (Li 1 (pos (home_of f x).word) ∷ store_code mode (home_of f x).slot)
+    expr_code f mode 0 e
+    ++ write_code (register_for f x) (label_of (context_of f.decls) (Variable x)) mode (home_of f x)
 set_code f mode (SetElement x i e) =
     expr_code f mode 0 e
     ++ (access_code (compares f mode (home_of f x) i) f.profile.block_log mode (home_of f x) 1

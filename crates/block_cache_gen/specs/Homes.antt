@@ -13,6 +13,8 @@ use Rattle.src_tree.specs.Contexts.{context_of}
 use Rattle.src_tree.specs.Limits.{max_length}
 use Rattle.src_tree.specs.Meaning.{variable_number}
 use Rattle.bank_alloc.specs.Apart.{scalar_bank}
+use Rattle.held_registers.specs.Held.{held_at, label_held, register_of_scalar, IsSoundHeld}
+pub use Rattle.held_registers.specs.declared.registers.Held.{Held}
 pub use Rattle.scratch_alloc.specs.declared.plans.Pin.{Pin}
 pub use Rattle.scratch_alloc.specs.Plans.{Serves, PlainSlot, EncryptedSlot, ObliviousSlot}
 
@@ -33,6 +35,7 @@ pub record Setting : Type 0 where
   pub homes : List Home
   pub blocks : List ℕ
   pub pins : List (Option Pin)
+  pub held : List Held
   pub profile : Profile
   pub reduces : Bool
 
@@ -54,6 +57,18 @@ blocks_set f b = slice_index_or f.blocks b 0
 -- the block that a slot is pinned to
 abbrev pub pin_at : Setting → ℕ → Option Pin
 pin_at f slot = slice_index_or f.pins slot None
+
+-- the register that holds a scalar for the whole run, None if none does
+abbrev pub register_for : Setting → List ℕ → Option ℕ
+register_for f x = register_of_scalar f.held (variable_number f.decls x)
+
+-- the label that a register has for the whole run, None if it holds nothing for the whole run
+abbrev pub label_by : List Decl → Option Held → Option Label
+label_by decls None = None
+label_by decls (Some h) = label_held decls h
+
+abbrev pub held_label : Setting → ℕ → Option Label
+held_label f r = label_by f.decls (held_at f.held r)
 
 -- the block of a home, as a pin
 abbrev pub pin_of : Home → Pin
@@ -121,5 +136,6 @@ pub record HasHomes (o : Parts) (f : Setting) : Type 0 where
       → (home_of f x).resident ≡ false → IsArrayHome o f label (home_of f x)
   pub pins : (slot : ℕ) (p : Pin) → pin_at f slot ≡ Some p → IsPin o slot p
   pub pins_apart : PinsApart f
+  pub held : IsSoundHeld f.decls f.held
   pub apart : (u v : ℕ) → u < length f.homes → v < length f.homes → ¬ (u ≡ v)
       → HomesApart (block_words o) (slice_index_or f.homes u no_home) (slice_index_or f.homes v no_home)

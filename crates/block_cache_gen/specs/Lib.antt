@@ -1,4 +1,5 @@
 pub mod Homes
+pub mod HeldCodes
 pub mod Settings
 pub mod Codes
 pub mod Notes

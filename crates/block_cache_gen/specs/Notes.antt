@@ -2,7 +2,7 @@
 -- made of expressions, guards and assignments. A note follows each load that may be skipped, and each remainder of an
 -- index that may be skipped. It claims what a mask says of the registers below those of the access, and the bank of
 -- each slot that the program uses.
-use Rattle.std.specs.Prelude.{ℕ, ◌+◌, ◌-◌, ◌*◌, ◌%◌, ◌^◌, bit_and, ℤ, Bool, true, false, ◌==◌, if◌then◌else◌, List, [], ◌∷◌, ◌++◌, length, Option, Some, None}
+use Rattle.std.specs.Prelude.{ℕ, zero, suc, ◌+◌, ◌-◌, ◌*◌, ◌%◌, ◌^◌, bit_and, ℤ, Bool, true, false, ◌==◌, if◌then◌else◌, List, [], ◌∷◌, ◌++◌, length, Option, Some, None}
 use Rattle.std.specs.List.{list_any}
 use Rattle.std.specs.Int.{w32, bit_not}
 use Rattle.gr_word.specs.declared.variables.Label.{Label}
@@ -10,11 +10,13 @@ use Rattle.gr_word.specs.declared.variables.Label.TheVariants.{Public, Secret}
 use Rattle.lt_isa.specs.declared.instructions.Instr.{Instr}
 use Rattle.lt_isa.specs.declared.symbols.Note.{Note}
 use Rattle.lt_isa.specs.Ranges.{any_bank}
+use Rattle.held_registers.specs.Held.{held_at}
+use Rattle.src_tree.specs.declared.trees.Decl.{Decl}
 use Rattle.src_tree.specs.Contexts.{context_of}
 use Rattle.src_tree.specs.Labels.{label_of}
 use Rattle.src_tree.specs.Trees.{Tree, Number, Variable, Element, Operation, Test, Statement, SetVariable, SetElement, Choice, Loop}
 use Rattle.block_cache_gen.specs.declared.frames.Mode.TheVariants as mode
-use Rattle.block_cache_gen.specs.Homes.{Home, Pin, Setting, pin_at, home_of}
+use Rattle.block_cache_gen.specs.Homes.{Home, Pin, Setting, pin_at, home_of, Held, label_by}
 use Rattle.block_cache_gen.specs.Codes.{is_cached, fixed_index, compares, offset_code, shift_code, load_code, steps_at, expr_code, access_code}
 use Rattle.strength_reduction.specs.Steps.{Step}
 
@@ -30,6 +32,21 @@ unmarked mask r = bit_and mask (bit_not w32 (1 * 2 ^ r % 2 ^ 32))
 abbrev pub marked_by : Label → ℕ → ℕ → ℕ
 marked_by Public mask r = unmarked mask r
 marked_by Secret mask r = mask
+
+-- what a note between statements says: every register may hold a secret, but those that hold something public for the
+-- whole run
+abbrev pub is_public : Option Label → Bool
+is_public None = false
+is_public (Some Public) = true
+is_public (Some Secret) = false
+
+unfoldable pub mask_to : List Decl → List Held → ℕ → ℕ
+mask_to decls held zero = all_marked
+mask_to decls held (suc r) =
+    if is_public (label_by decls (held_at held r)) then unmarked (mask_to decls held r) r else mask_to decls held r
+
+abbrev pub base_mask : Setting → ℕ
+base_mask f = mask_to f.decls f.held 32
 
 -- A slot serves a variable. A pinned slot is claimed to have the bank of its block; of the others, slots 2 to 5 the bank
 -- that they serve if a variable uses them. Nothing is claimed of the rest.
@@ -115,21 +132,21 @@ expr_notes f mask to place (Operation op a b) =
 -- the notes of a guard
 abbrev pub guard_notes : Setting → (to place : ℕ) → Test → List Note
 guard_notes f to place t =
-    expr_notes f all_marked to place t.left
-    ++ expr_notes f (marked_by (label_of (context_of f.decls) t.left) all_marked to) (to + 1)
+    expr_notes f (base_mask f) to place t.left
+    ++ expr_notes f (marked_by (label_of (context_of f.decls) t.left) (base_mask f) to) (to + 1)
     (place + length (expr_code f mode.Public to t.left))
     t.right
 
 -- the notes of an assignment: the index of an element stands behind its value
 abbrev pub set_notes : Setting → ℕ → Statement → List Note
-set_notes f place (SetVariable x e) = expr_notes f all_marked 0 place e
+set_notes f place (SetVariable x e) = expr_notes f (base_mask f) 0 place e
 set_notes f place (SetElement x i e) =
-    expr_notes f all_marked 0 place e
+    expr_notes f (base_mask f) 0 place e
     ++ (index_notes (fixed_index (home_of f x) i)
-    (expr_notes f (marked_by (label_of (context_of f.decls) e) all_marked 0) 1
+    (expr_notes f (marked_by (label_of (context_of f.decls) e) (base_mask f) 0) 1
     (place + length (expr_code f mode.Public 0 e)) i)
     ++ load_notes (compares f mode.Public (home_of f x) i) (fixed_index (home_of f x) i) f (home_of f x)
-    (marked_by (label_of (context_of f.decls) e) all_marked 0) 1
+    (marked_by (label_of (context_of f.decls) e) (base_mask f) 0) 1
     ((place + length (expr_code f mode.Public 0 e))
     + length (access_code (compares f mode.Public (home_of f x) i) f.profile.block_log mode.Public (home_of f x) 1
     (fixed_index (home_of f x) i) (expr_code f mode.Public 1 i))))

@@ -8,14 +8,17 @@ use Rattle.gr_word.specs.declared.operations.Op.{Op}
 use Rattle.gr_word.specs.declared.operations.Op.TheVariants.{Add, Remu, And, Shr}
 use Rattle.lt_isa.specs.Object.{is_ram, is_eram}
 use Rattle.lt_isa.specs.Costs.{operation_cost}
-use Rattle.symbolic_values.specs.Trees.{Value, Const, Apply, SlotAt}
+use Rattle.gr_word.specs.declared.variables.Label.{Label}
+use Rattle.symbolic_values.specs.Trees.{Value, Const, Apply, Reg, SlotAt}
 use Rattle.src_tree.specs.Trees.{Tree, Number, Variable, Element, Operation, Test, Statement, SetVariable, SetElement, Choice, Loop}
 use Rattle.trace_patterns.specs.Patterns.{Shown}
 use Rattle.trace_patterns.specs.Events.{TreeEvent, RamRead, EncRead, EncWrite, Oram}
 use Rattle.stretches.specs.Shows.{Show, Gap, Seen, pattern_of}
 use Rattle.trace_patterns.specs.SymStates.{Loaded, Entry, SymSlot, AnySlot, RamSlot, EramSlot, OramSlot}
 use Rattle.trace_patterns.specs.Single.{applied_trees, word_tree}
-use Rattle.block_cache_gen.specs.Homes.{Home, Setting, home_of, words_a_block, blocks_set}
+use Rattle.held_registers.specs.Held.{public_zero}
+use Rattle.block_cache_gen.specs.Homes.{Home, Setting, held_label, home_of, register_for, words_a_block, blocks_set}
+use Rattle.block_cache_gen.specs.Carries.{held_tree}
 use Rattle.block_cache_gen.specs.Codes.{is_masked, fixed_index, fixed_word, steps_at}
 use Rattle.strength_reduction.specs.Steps.{Step, Constant, Compute, left_by}
 
@@ -42,9 +45,14 @@ word_read f _ _ = None
 abbrev pub pinned_slot : Home → SymSlot
 pinned_slot h = if is_ram h.bank then RamSlot (SlotAt h.slot) (Entry h.slot) else AnySlot
 
--- the word of a scalar
-abbrev pub scalar_tree : Setting → Home → Option Value
-scalar_tree f h = word_read f (pinned_slot h) (Some (Const (pos h.word)))
+-- the word of a scalar: a copy of the register that holds it for the whole run, or read from its slot
+abbrev pub tree_by : ℕ → Option Label → Option Value
+tree_by r None = None
+tree_by r (Some l) = held_tree r l
+
+abbrev pub scalar_tree : Setting → Option ℕ → Home → Option Value
+scalar_tree f (Some r) h = applied_trees Add (tree_by r (held_label f r)) (Some (Reg public_zero))
+scalar_tree f None h = word_read f (pinned_slot h) (Some (Const (pos h.word)))
 
 -- The number of an element's word in its array: the index taken modulo the length, or what an index that is a number
 -- comes to. Then the number of its block in the bank.
@@ -60,7 +68,8 @@ number_tree h None index = reduced_tree h index
 -- the number of a resident array's word in its block
 abbrev pub placed_tree : Home → Option ℤ → Option Value → Option Value
 placed_tree h (Some z) index = Some (Const (pos (h.word + fixed_word h z)))
-placed_tree h None index = applied_trees Add (reduced_tree h index) (Some (Const (pos h.word)))
+placed_tree h None index =
+    if h.word == 0 then reduced_tree h index else applied_trees Add (reduced_tree h index) (Some (Const (pos h.word)))
 
 abbrev pub shifted_tree : Setting → Home → Option Value → Option Value
 shifted_tree f h number =
@@ -86,10 +95,12 @@ found_shows f h None index =
     ∷ operation_gap f Add
     ∷ [])
 
+abbrev pub offset_shows : Setting → Home → List Show
+offset_shows f h = if h.word == 0 then [] else Gap 1 ∷ operation_gap f Add ∷ []
+
 abbrev pub placed_shows : Setting → Home → Option ℤ → List Show → List Show
 placed_shows f h (Some z) index = Gap 1 ∷ []
-placed_shows f h None index =
-    index ++ (Gap 1 ∷ operation_gap f (reducing h) ∷ Gap 1 ∷ operation_gap f Add ∷ [])
+placed_shows f h None index = index ++ (Gap 1 ∷ operation_gap f (reducing h) ∷ offset_shows f h)
 
 -- what a slot holds once a block of a bank is loaded; in plain and encrypted memory its number must be known
 abbrev pub plain_loaded : Setting → Option Value → SymSlot
@@ -190,15 +201,24 @@ operation_loads (Some steps) right = no_loads
 -- the tree of an expression, none where a secret stands in it
 abbrev pub tree_of_expr : Setting → Tree → Option Value
 tree_of_expr f (Number z) = Some (Const z)
-tree_of_expr f (Variable x) = scalar_tree f (home_of f x)
+tree_of_expr f (Variable x) = scalar_tree f (register_for f x) (home_of f x)
 tree_of_expr f (Element x i) =
     element_by (home_of f x).resident f (home_of f x) (fixed_index (home_of f x) i) (tree_of_expr f i)
 tree_of_expr f (Operation op a b) = operation_tree op (steps_at f op b) (tree_of_expr f a) (tree_of_expr f b)
 
+-- the cycles of reading and of writing a scalar in secret code
+abbrev pub scalar_shows : Setting → Option ℕ → List Show
+scalar_shows f (Some r) = operation_gap f Add ∷ []
+scalar_shows f None = Gap 1 ∷ word_gap f ∷ []
+
+abbrev pub write_shows : Setting → Option ℕ → List Show
+write_shows f (Some r) = operation_gap f Add ∷ []
+write_shows f None = Gap 1 ∷ word_gap f ∷ word_gap f ∷ []
+
 -- what its code shows
 abbrev pub shows_of_expr : Setting → Tree → List Show
 shows_of_expr f (Number z) = Gap 1 ∷ []
-shows_of_expr f (Variable x) = Gap 1 ∷ word_gap f ∷ []
+shows_of_expr f (Variable x) = scalar_shows f (register_for f x)
 shows_of_expr f (Element x i) =
     access_shows f (home_of f x) (fixed_index (home_of f x) i) (tree_of_expr f i) (shows_of_expr f i) ++ word_gap f ∷ []
 shows_of_expr f (Operation op a b) =
@@ -222,7 +242,7 @@ slots_of_test f t = then_loads (slots_of_expr f t.left) (slots_of_expr f t.right
 
 -- the same of an assignment in secret code, where an array's block is stored back
 abbrev pub shows_of_set : Setting → Statement → List Show
-shows_of_set f (SetVariable x e) = shows_of_expr f e ++ (Gap 1 ∷ word_gap f ∷ word_gap f ∷ [])
+shows_of_set f (SetVariable x e) = shows_of_expr f e ++ write_shows f (register_for f x)
 shows_of_set f (SetElement x i e) =
     shows_of_expr f e
     ++ (access_shows f (home_of f x) (fixed_index (home_of f x) i) (tree_of_expr f i) (shows_of_expr f i)

@@ -1,7 +1,11 @@
--- The instructions that store a word in a slot. (This project's own padding counts them.)
-use Rattle.std.specs.Prelude.{◌≡◌, ℕ, Bool, true, false, List, ◌∷◌, ◌++◌, count_by, map}
+-- The instructions that store a word in a slot, and those that write a scalar in its slot or its register. (This
+-- project's own padding counts them.)
+use Rattle.std.specs.Prelude.{◌≡◌, ℕ, nat_lt, is_some, Bool, true, false, if◌then◌else◌, List, ◌∷◌, ◌++◌, count_by, map}
 use Rattle.lt_isa.specs.declared.instructions.Instr.{Instr}
-use Rattle.lt_isa.specs.declared.instructions.Instr.TheVariants.{Stw}
+use Rattle.lt_isa.specs.declared.instructions.Instr.TheVariants.{Alu, Stw}
+use Rattle.src_tree.specs.Trees.{Statement, SetVariable, SetElement, Choice, Loop}
+use Rattle.held_registers.specs.Held.{public_zero}
+use Rattle.block_cache_gen.specs.Homes.{Setting, register_for}
 
 abbrev pub is_stw : Instr → Bool
 is_stw (Stw rs slot ro) = true
@@ -11,22 +15,43 @@ is_stw _ = false
 abbrev pub stored_words : List Instr → ℕ
 stored_words code = count_by is_stw code
 
--- an instruction but for the register that it stores
+-- a register that holds a scalar or a number for the whole run is written
+abbrev pub is_held_register : ℕ → Bool
+is_held_register r = nat_lt public_zero r
+
+abbrev pub is_write : Instr → Bool
+is_write (Stw rs slot ro) = true
+is_write (Alu op rd ra rb) = is_held_register rd
+is_write _ = false
+
+abbrev pub written_words : List Instr → ℕ
+written_words code = count_by is_write code
+
+-- how many words an assignment stores in a slot: none if a register holds its scalar for the whole run
+abbrev pub set_stores : Setting → Statement → ℕ
+set_stores f (SetVariable x e) = if is_some (register_for f x) then 0 else 1
+set_stores f (SetElement x i e) = 1
+set_stores f (Choice t a b) = 0
+set_stores f (Loop t a) = 0
+
+-- an instruction but for the register that it stores or copies
 abbrev pub register_aside : Instr → Instr
 register_aside (Stw rs slot ro) = Stw 0 slot ro
+register_aside (Alu op rd ra rb) = if is_held_register rd then Alu op rd 0 rb else Alu op rd ra rb
 register_aside i = i
 
 abbrev pub registers_aside : List Instr → List Instr
 registers_aside code = map register_aside code
 
--- two codes are the same but for the register of the last word that they store
+-- two codes are the same but for the register that the last instruction stores or copies that writes a scalar or an
+-- element
 pub record DifferInLastStored (one other : List Instr) : Type 0 where
   pub before : List Instr
   pub after : List Instr
-  pub slot : ℕ
-  pub at : ℕ
-  pub stored : ℕ
-  pub instead : ℕ
-  pub first : one ≡ before ++ (Stw stored slot at ∷ after)
-  pub second : other ≡ before ++ (Stw instead slot at ∷ after)
-  pub last : stored_words after ≡ 0
+  pub written : Instr
+  pub instead : Instr
+  pub write : is_write written ≡ true
+  pub alike : register_aside written ≡ register_aside instead
+  pub first : one ≡ before ++ (written ∷ after)
+  pub second : other ≡ before ++ (instead ∷ after)
+  pub last : written_words after ≡ 0

@@ -1,11 +1,12 @@
 -- For the proofs and for private clauses only: what is looked up of a variable.
-use Rattle.std.specs.Prelude.{ℕ, ◌==◌, List, [], ◌∷◌, Option, Some, None, bytes_eq, slice_index_or, if◌then◌else◌}
+use Rattle.std.specs.Prelude.{ℕ, ◌+◌, ◌==◌, List, [], ◌∷◌, Option, Some, None, bytes_eq, slice_index_or, if◌then◌else◌}
 use Rattle.std.specs.List.{list_any}
 use Rattle.lt_isa.specs.Ranges.{any_bank}
 use Rattle.src_tree.specs.declared.trees.Decl.{Decl}
 use Rattle.bank_alloc.specs.declared.places.Place.{Place}
 use Rattle.block_cache_gen.specs.declared.variables.Variable.{Variable}
-use Rattle.block_cache_gen.specs.Homes.{Home, Pin}
+use Rattle.held_registers.specs.Held.{register_of_scalar}
+use Rattle.block_cache_gen.specs.Homes.{Held, Home, Pin}
 use Rattle.block_cache_gen.specs.Notes.{claim_by}
 use Rattle.block_cache_gen.specs.Settings.{is_pinned}
 
@@ -20,16 +21,24 @@ home_in v = record {
 }
 
 -- the variable of a declaration
-abbrev pub variable_at : List (Option Pin) → Decl → Place → ℕ → Variable
-variable_at pins d q slot = record { label = d.label; place = q; slot = slot; resident = is_pinned pins slot }
+abbrev pub variable_at : List (Option Pin) → List Held → (n : ℕ) → Decl → Place → ℕ → Variable
+variable_at pins held n d q slot = record {
+  label = d.label;
+  place = q;
+  slot = slot;
+  resident = is_pinned pins slot;
+  held = register_of_scalar held n;
+}
 
 -- what the first declaration of a name says
-abbrev pub variable_of : List (Option Pin) → List Decl → List Place → List ℕ → List ℕ → Option Variable
-variable_of pins [] places slots x = None
-variable_of pins (d ∷ ds) [] slots x = None
-variable_of pins (d ∷ ds) (q ∷ places) [] x = None
-variable_of pins (d ∷ ds) (q ∷ places) (slot ∷ slots) x =
-    if bytes_eq x d.name then Some (variable_at pins d q slot) else variable_of pins ds places slots x
+abbrev pub variable_of : List (Option Pin) → List Held → (n : ℕ) → List Decl → List Place → List ℕ → List ℕ
+    → Option Variable
+variable_of pins held n [] places slots x = None
+variable_of pins held n (d ∷ ds) [] slots x = None
+variable_of pins held n (d ∷ ds) (q ∷ places) [] x = None
+variable_of pins held n (d ∷ ds) (q ∷ places) (slot ∷ slots) x =
+    if bytes_eq x d.name then Some (variable_at pins held n d q slot)
+    else variable_of pins held (n + 1) ds places slots x
 
 -- the claim for a slot that serves one bank, where a variable uses it
 abbrev pub claim_in : List ℕ → (slot bank : ℕ) → ℕ

@@ -3,7 +3,7 @@ ghost use Rattle.std.specs.List.{list_any, range_with_len};
 ghost use Rattle.gr_word.specs.Words.{unsigned_of};
 ghost use Rattle.src_tree.specs.Labels.{secret_label};
 ghost use Rattle.src_tree.specs.Trees.{expr_tree};
-ghost use Rattle.block_cache_gen.specs.Codes.{access_by, compares, compared_code, least_word, numbered_code, placed_code, offset_code, shift_code, fixed_code, fixed_index, fixed_word, is_cached, is_masked, is_power, may_skip_loads, literal, load_code, reduced_code, scalar_code, skips};
+ghost use Rattle.block_cache_gen.specs.Codes.{access_by, copy_code, compares, compared_code, least_word, numbered_code, placed_code, offset_code, shift_code, fixed_code, fixed_index, fixed_word, is_cached, is_masked, is_power, may_skip_loads, literal, load_code, reduced_code, scalar_code, skips};
 ghost use Rattle.block_cache_gen.specs.Notes.{access_mask, compared_notes, loaded_notes, marked_by, note_of, unmarked};
 ghost use Rattle.block_cache_gen.specs.Emitted.{Appended, CodeGrows, EmitsFound, no_notes, notes_in};
 ghost use Rattle.block_cache_gen.specs.TreeWords.{HasWords};
@@ -17,8 +17,8 @@ use gr_word::{Cmp, Label, Op};
 use lt_isa::{BankKind, Instr, Note, bank_kind};
 use src_tree::Expr;
 
-// The mask without a register.
-fn unmarked(mask: u32, register: u8) -> u32
+/// The mask without a register.
+pub(crate) fn unmarked(mask: u32, register: u8) -> u32
     requires { register < 32 }
     ensures { result ≡ unmarked mask register }
 {
@@ -38,7 +38,7 @@ pub(crate) fn marked_by(label: Label, mask: u32, register: u8) -> u32
 
 // The mask behind the load of an access, of which three registers are public.
 fn access_mask(mask: u32, to: u8) -> u32
-    requires { to + 2 < 32 }
+    requires { to + 2 < 19 }
     ensures { result ≡ access_mask mask to }
 {
     unmarked(unmarked(unmarked(mask, to), to + 1), to + 2)
@@ -148,11 +148,31 @@ fn fixed_word(array: Variable, index: i64) -> u64
     index.cast_unsigned() % u64::from(array.place.length)
 }
 
-/// Appends the load of a scalar's word into a register. The only error is want of memory.
-pub(crate) fn put_scalar(out: &mut CodeBuf, scalar: Variable, to: u8) -> Result<(), Memory>
-    ensures appended { OnOk result (Appended out.old out.new (scalar_code (home_in scalar) to) no_notes) }
+/// Appends the copy of a value of a label: a sum with the zero of that label. The only error is want of memory.
+pub(crate) fn put_copy(out: &mut CodeBuf, label: Label, to: u8, from: u8) -> Result<(), Memory>
+    ensures appended { OnOk result (Appended out.old out.new (copy_code label to from) no_notes) }
     ensures grows { CodeGrows out.old out.new }
 {
+    let zero = match label {
+        Label::Public => 20,
+        Label::Secret => 19,
+    };
+    out.put(&[Instr::Alu {
+        op: Op::Add,
+        rd: to,
+        ra: from,
+        rb: zero,
+    }])
+}
+
+/// Appends the load of a scalar's word into a register: a copy of the register that holds it, or a read of its slot. The only error is want of memory.
+pub(crate) fn put_scalar(out: &mut CodeBuf, scalar: Variable, to: u8) -> Result<(), Memory>
+    ensures appended { OnOk result (Appended out.old out.new (scalar_code scalar.held (home_in scalar) to) no_notes) }
+    ensures grows { CodeGrows out.old out.new }
+{
+    if let Some(register) = scalar.held {
+        return put_copy(out, Label::Public, to, register);
+    }
     out.put(&[
         Instr::Li {
             rd: to,
@@ -176,7 +196,7 @@ pub(crate) fn put_fixed(
     to: u8,
 ) -> Result<(), Memory>
     requires length { 1 ≤ array.place.length }
-    requires registers { to + 2 < 32 }
+    requires registers { to + 2 < 19 }
     ensures appended { OnOk result
         (Appended out.old out.new (fixed_code emitter.now.profile.block_log (home_in array) to index) no_notes) }
     ensures grows { CodeGrows out.old out.new }
@@ -218,10 +238,13 @@ fn put_placed_word(out: &mut CodeBuf, array: Variable, index: i64, to: u8) -> Re
 
 // The number of a resident array's first word is added to that of a word.
 fn put_offset(out: &mut CodeBuf, array: Variable, to: u8) -> Result<(), Memory>
-    requires registers { to + 2 < 32 }
+    requires registers { to + 2 < 19 }
     ensures appended { OnOk result (Appended out.old out.new (offset_code (home_in array) to) no_notes) }
     ensures grows { CodeGrows out.old out.new }
 {
+    if array.place.word == 0 {
+        return out.put(&[]);
+    }
     out.put(&[
         Instr::Li {
             rd: to + 1,
@@ -245,7 +268,7 @@ fn put_placed(
     compared: bool,
     mask: u32,
 ) -> Result<(), Memory>
-    requires registers { to + 2 < 32 }
+    requires registers { to + 2 < 19 }
     requires room { length out.old.code.items + 6 < 2 ^ 32 }
     ensures appended { OnOk result (Appended out.old out.new
         (numbered_code compared (home_in array) to ++ offset_code (home_in array) to)
@@ -266,7 +289,7 @@ fn put_numbered(
     compared: bool,
     mask: u32,
 ) -> Result<(), Memory>
-    requires registers { to + 2 < 32 }
+    requires registers { to + 2 < 19 }
     requires room { length out.old.code.items + 6 < 2 ^ 32 }
     ensures appended { OnOk result (Appended out.old out.new (numbered_code compared (home_in array) to)
         (λ place. compared_notes compared None emitter.now mask to
@@ -294,7 +317,7 @@ fn put_compared(
     to: u8,
     mask: u32,
 ) -> Result<(), Memory>
-    requires registers { to + 2 < 32 }
+    requires registers { to + 2 < 19 }
     requires room { length out.old.code.items + 6 < 2 ^ 32 }
     ensures appended { OnOk result (Appended out.old out.new (compared_code (home_in array) to)
         (λ place. note_of emitter.now (unmarked mask to) (place + 6) ∷ [])) }
@@ -337,7 +360,7 @@ fn put_compared(
 
 // The index in a register becomes the number of the word.
 fn put_reduced(out: &mut CodeBuf, array: Variable, to: u8) -> Result<(), Memory>
-    requires registers { to + 2 < 32 }
+    requires registers { to + 2 < 19 }
     ensures appended { OnOk result (Appended out.old out.new (reduced_code (home_in array) to) no_notes) }
     ensures grows { CodeGrows out.old out.new }
 {
@@ -368,7 +391,7 @@ fn put_block(
     array: Variable,
     to: u8,
 ) -> Result<(), Memory>
-    requires registers { to + 2 < 32 }
+    requires registers { to + 2 < 19 }
     ensures appended { OnOk result
         (Appended out.old out.new (shift_code emitter.now.profile.block_log (home_in array) to) no_notes) }
     ensures grows { CodeGrows out.old out.new }
@@ -407,7 +430,7 @@ pub(crate) fn put_located(
     compared: bool,
     mask: u32,
 ) -> Result<(), Memory>
-    requires registers { to + 2 < 32 }
+    requires registers { to + 2 < 19 }
     requires room { length out.old.code.items + 6 < 2 ^ 32 }
     ensures appended { OnOk result (Appended out.old out.new
         (numbered_code compared (home_in array) to
@@ -443,7 +466,7 @@ fn put_load(
     mode: Mode,
     mask: u32,
 ) -> Result<(), Memory>
-    requires registers { to + 2 < 32 }
+    requires registers { to + 2 < 19 }
     requires room { length out.old.code.items + 3 < 2 ^ 32 }
     ensures appended { OnOk result (Appended out.old out.new (load_code (skips mode (home_in array)) (home_in array) to)
         (λ place. notes_in mode (loaded_notes false false None emitter.now (home_in array) mask to
@@ -485,7 +508,7 @@ pub(crate) fn put_fixed_access(
     mask: u32,
 ) -> Result<(), Memory>
     requires length { 1 ≤ array.place.length }
-    requires registers { to + 2 < 32 }
+    requires registers { to + 2 < 19 }
     requires room { length out.old.code.items + 6 < 2 ^ 32 }
     ensures appended { OnOk result (Appended out.old out.new
         (access_by (home_in array).resident false emitter.now.profile.block_log mode (home_in array) to (Some index) [])
@@ -512,7 +535,7 @@ pub(crate) fn put_found_access<'a>(
     mode: Mode,
     mask: u32,
 ) -> Result<(), Memory>
-    requires registers { to + 2 < 32 }
+    requires registers { to + 2 < 19 }
     requires room { length out.old.code.items + 16 < 2 ^ 32 }
     ensures appended { OnOk result
         (EmitsFound emitter.now mode (home_in array) mask to (expr_tree index.now) out.old out.new) }

@@ -1,11 +1,11 @@
-ghost use Rattle.std.specs.Prelude.{◌≡◌, ◌+◌, ◌&&◌, ◌||◌, true, is_some, bytes_eq};
+ghost use Rattle.std.specs.Prelude.{◌==◌, ◌≡◌, ◌+◌, ◌&&◌, ◌||◌, true, is_some, bytes_eq};
 ghost use Rattle.gr_word.specs.declared.variables.Label.{Label};
 ghost use Rattle.lt_isa.specs.Object.{bank_kind};
 ghost use Rattle.src_tree.specs.Contexts.{context_of};
 ghost use Rattle.src_tree.specs.Trees.{block_of_all, statement_of, expr_tree};
 ghost use Rattle.src_tree.specs.Typing.{TypedBlock, TypedStatement, TypedTree};
 ghost use Rattle.symbolic_values.specs.Sameness.{same_op};
-ghost use Rattle.block_cache_gen.specs.Alike.{are_plain, by_same_number, is_same_number, same_flag, reduced_alike, both_products, in_one_bank, is_alike, is_pair, is_product, is_same, pair_count};
+ghost use Rattle.block_cache_gen.specs.Alike.{held_alike, are_plain, by_same_number, is_same_number, same_flag, reduced_alike, both_products, in_one_bank, is_alike, is_pair, is_product, is_same, pair_count};
 ghost use Rattle.block_cache_gen.specs.Codes.{is_cached, is_masked};
 ghost use Rattle.block_cache_gen.specs.Variables.{home_in};
 ghost use Rattle.block_cache_gen.specs.Homes.{home_of};
@@ -111,12 +111,14 @@ fn are_reduced_alike(one: Variable, other: Variable) -> bool
     ensures { result ≡ ((home_in one).resident
         && ((home_in other).resident
         && (same_flag (is_cached (home_in one)) (is_cached (home_in other))
-        && same_flag (is_masked (home_in one)) (is_masked (home_in other))))) }
+        && (same_flag (is_masked (home_in one)) (is_masked (home_in other))
+        && same_flag ((home_in one).word == 0) ((home_in other).word == 0))))) }
 {
     is_resident(one)
         && (is_resident(other)
             && (same_flag(is_cached(one), is_cached(other))
-                && same_flag(is_masked(one), is_masked(other))))
+                && (same_flag(is_masked(one), is_masked(other))
+                    && same_flag(one.place.word == 0, other.place.word == 0))))
 }
 
 fn reduced_alike<'a>(emitter: &Emitter<'a>, x: &'a Name, y: &'a Name) -> bool
@@ -167,6 +169,17 @@ fn are_plain<'a>(emitter: &Emitter<'a>, op: Op, right: &'a Expr, by: Op, second:
     !may_step(emitter, op, right) && !may_step(emitter, by, second)
 }
 
+// Whether registers hold two scalars for the whole run, or neither.
+fn held_alike<'a>(emitter: &Emitter<'a>, x: &'a Name, y: &'a Name) -> bool
+    requires first { is_some (context_of emitter.now.decls x.now) ≡ true }
+    requires second { is_some (context_of emitter.now.decls y.now) ≡ true }
+    ensures { result ≡ held_alike emitter.now x.now y.now }
+{
+    let one = emitter.variable(x.bytes()).held;
+    let other = emitter.variable(y.bytes()).held;
+    same_flag(one.is_some(), other.is_some())
+}
+
 // Whether two expressions show the same in secret code.
 fn is_alike<'a>(emitter: &Emitter<'a>, e: &'a Expr, other: &'a Expr) -> bool
     requires first { TypedTree (context_of emitter.now.decls) (expr_tree e.now) }
@@ -180,9 +193,9 @@ fn is_alike<'a>(emitter: &Emitter<'a>, e: &'a Expr, other: &'a Expr) -> bool
             Expr::Item(_, _) => false,
             Expr::Bin(_, _, _) => false,
         },
-        Expr::Var(_) => match other {
+        Expr::Var(x) => match other {
             Expr::Num(_) => false,
-            Expr::Var(_) => true,
+            Expr::Var(y) => held_alike(emitter, x, y),
             Expr::Item(_, _) => false,
             Expr::Bin(_, _, _) => false,
         },
@@ -217,8 +230,8 @@ fn is_pair<'a>(emitter: &Emitter<'a>, s: &'a Stmt, other: &'a Stmt) -> bool
     ensures { result ≡ is_pair emitter.now (statement_of s.now) (statement_of other.now) }
 {
     match s {
-        Stmt::Set(_, e) => match other {
-            Stmt::Set(_, g) => is_alike(emitter, e, g),
+        Stmt::Set(x, e) => match other {
+            Stmt::Set(y, g) => held_alike(emitter, x, y) && is_alike(emitter, e, g),
             Stmt::Put(_, _, _) => false,
             Stmt::If(_, _, _) => false,
             Stmt::While(_, _) => false,

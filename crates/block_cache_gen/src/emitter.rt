@@ -3,17 +3,21 @@ ghost use Rattle.std.specs.Option.{option_map};
 ghost use Rattle.src_tree.specs.Contexts.{context_of};
 ghost use Rattle.src_tree.specs.Labels.{label_at, label_of};
 ghost use Rattle.src_tree.specs.Trees.{expr_tree};
-ghost use Rattle.block_cache_gen.specs.Homes.{Pin};
+ghost use Rattle.held_registers.specs.Held.{held_at};
+ghost use Rattle.block_cache_gen.specs.Homes.{Pin, label_by};
+ghost use Rattle.block_cache_gen.specs.Notes.{is_public, mask_to};
 ghost use Rattle.block_cache_gen.specs.Settings.{IsFrame, homes_at, setting_of};
 
+use crate::accesses::unmarked;
 use crate::frames::Frame;
 use crate::pins::{claims_in, pin_at, pin_in, pin_or};
 use crate::variables::{Variable, Variables, gather, variable_at};
 use bank_alloc::Place;
 use gr_base::Memory;
 use gr_word::Label;
+use held_registers::Held;
 use scratch_alloc::Pin;
-use src_tree::{Expr, higher};
+use src_tree::{Decl, Expr, higher};
 use std::alloc::Global;
 use std::marker::Model;
 
@@ -25,12 +29,13 @@ pub struct Emitter<'a> {
     frame: Frame<'a>,
     variables: Variables<'a>,
     claims: [u8; 8],
+    mask: u32,
 }
 
 impl<'a> Model for Emitter<'a> {
     ghost use Rattle.std.specs.Prelude.{◌≡◌, ℕ, List};
     ghost use Rattle.block_cache_gen.specs.Homes.{Setting};
-    ghost use Rattle.block_cache_gen.specs.Notes.{slot_claims};
+    ghost use Rattle.block_cache_gen.specs.Notes.{base_mask, slot_claims};
     ghost use Rattle.block_cache_gen.specs.Settings.{IsFrame, setting_of};
     ghost use Rattle.gr_base.specs.NameMaps.{found_under};
     ghost use Rattle.block_cache_gen.specs.Variables.{variable_of};
@@ -40,9 +45,52 @@ impl<'a> Model for Emitter<'a> {
     ghost view = { λ e. setting_of e.frame };
 
     ghost invariant = { λ e. IsFrame e.frame
-        × ((e.claims ≡ slot_claims (setting_of e.frame)) × ((x : List ℕ) → found_under e.variables x ≡ variable_of
-        e.frame.slots.now.pins e.frame.program.now.decls.items e.frame.places.now.of_var.items
-        e.frame.slots.now.of_var.items x)) };
+        × ((e.claims ≡ slot_claims (setting_of e.frame)) × ((e.mask ≡ base_mask (setting_of e.frame))
+        × ((x : List ℕ) → found_under e.variables x ≡ variable_of
+        e.frame.slots.now.pins e.frame.held.now 0 e.frame.program.now.decls.items e.frame.places.now.of_var.items
+        e.frame.slots.now.of_var.items x))) };
+}
+
+// The label that a register has for the whole run, `None` if it holds nothing for the whole run.
+fn label_of_register(decls: &[Decl], held: &[Held], register: usize) -> Option<Label>
+    ensures { result ≡ label_by decls.now (held_at held.now register) }
+{
+    if register < 19 {
+        return None;
+    }
+    match held.get(register - 19) {
+        None => None,
+        Some(Held::SecretZero) => Some(Label::Secret),
+        Some(Held::Number(_)) => Some(Label::Public),
+        Some(Held::Scalar(number)) => match decls.get(*number as usize) {
+            None => None,
+            Some(decl) => Some(decl.label),
+        },
+    }
+}
+
+// Whether a register holds something public for the whole run.
+fn is_public(label: Option<Label>) -> bool
+    ensures { result ≡ is_public label }
+{
+    match label {
+        None => false,
+        Some(Label::Public) => true,
+        Some(Label::Secret) => false,
+    }
+}
+
+// Every register, but for those that hold something public for the whole run.
+fn mask_of_held(decls: &[Decl], held: &[Held]) -> u32
+    ensures { result ≡ mask_to decls.now held.now 32 }
+{
+    let mut mask = u32::MAX;
+    for register in 0..32 {
+        if is_public(label_of_register(decls, held, register)) {
+            mask = unmarked(mask, register as u8);
+        }
+    }
+    mask
 }
 
 // The number of the first variable that a slot serves.
@@ -65,10 +113,10 @@ fn block_of_first(places: &[Place], slots: &[u8], slot: u8) -> Option<u32>
 }
 
 impl<'a> Emitter<'a> {
-    ghost use Rattle.block_cache_gen.specs.Notes.{slot_claims};
+    ghost use Rattle.block_cache_gen.specs.Notes.{base_mask, slot_claims};
     ghost use Rattle.block_cache_gen.specs.ServedBlocks.{block_served, first_blocks};
     ghost use Rattle.block_cache_gen.specs.Variables.{home_in};
-    ghost use Rattle.block_cache_gen.specs.Homes.{home_of};
+    ghost use Rattle.block_cache_gen.specs.Homes.{home_of, register_for};
 
     /// Makes a frame ready.
     pub fn new(alloc: Global, f: &Frame<'a>) -> Result<Emitter<'a>, Memory>
@@ -82,13 +130,16 @@ impl<'a> Emitter<'a> {
             f.places.of_var.as_slice(),
             slots,
             &f.slots.pins,
+            f.held,
         )?;
         let claims = claims_in(&f.slots.pins, slots);
+        let mask = mask_of_held(f.program.decls.as_slice(), f.held);
         Ok(Emitter {
             alloc,
             frame: *f,
             variables,
             claims,
+            mask,
         })
     }
 
@@ -97,6 +148,7 @@ impl<'a> Emitter<'a> {
         requires { is_some (context_of self.now.decls name.now) ≡ true }
         ensures home { home_in result ≡ home_of self.now name.now }
         ensures label { result.label ≡ label_at (context_of self.now.decls) name.now }
+        ensures held { result.held ≡ register_for self.now name.now }
         ensures length { 1 ≤ result.place.length }
     {
         match variable_at(&self.variables, name) {
@@ -167,6 +219,20 @@ impl<'a> Emitter<'a> {
     /// The allocator for short lists of instructions.
     pub(crate) fn alloc(&self) -> Global {
         self.alloc
+    }
+
+    /// What the mask of a note between statements says. It serves `code_gen`, which makes notes of its own.
+    pub fn base_mask(&self) -> u32
+        ensures { result ≡ base_mask self.now }
+    {
+        self.mask
+    }
+
+    /// What the registers from 19 on hold for the whole run. It serves `code_gen`, which gives them their first words.
+    pub fn held(&self) -> &'a [Held]
+        ensures { result.now ≡ self.now.held }
+    {
+        self.frame.held
     }
 
     /// Whether operations by numbers are replaced by steps.

@@ -31,7 +31,7 @@ pub(crate) fn put_expr<'a>(
     mask: u32,
 ) -> Result<(), Memory>
     requires typed { TypedTree (context_of emitter.now.decls) (expr_tree e.now) }
-    requires registers { to + height_of (expr_tree e.now) ≤ 26 }
+    requires registers { to + height_of (expr_tree e.now) ≤ 18 }
     requires room { length out.old.code.items + 120 * tree_weight (expr_tree e.now) ≤ most_instructions }
     ensures emitted { OnOk result (EmitsExpr emitter.now mode mask to (expr_tree e.now) out.old out.new) }
     ensures words { OnOk result (HasWords (expr_tree e.now)) }
@@ -73,7 +73,7 @@ pub(crate) fn put_operation<'a>(
     mask: u32,
 ) -> Result<(), Memory>
     requires typed { TypedTree (context_of emitter.now.decls) (expr_tree right.now) }
-    requires registers { to + (height_of (expr_tree right.now) + 1) ≤ 26 }
+    requires registers { to + (height_of (expr_tree right.now) + 1) ≤ 18 }
     requires room { length out.old.code.items + 120 * (1 + tree_weight (expr_tree right.now)) ≤ most_instructions }
     ensures emitted { OnOk result (EmitsOperation emitter.now mode mask to op (expr_tree right.now) out.old out.new) }
     ensures words { OnOk result (HasWords (expr_tree right.now)) }
@@ -107,7 +107,7 @@ pub(crate) fn put_access<'a>(
 ) -> Result<(), Memory>
     requires length { 1 ≤ array.place.length }
     requires typed { TypedTree (context_of emitter.now.decls) (expr_tree index.now) }
-    requires registers { to + (height_of (expr_tree index.now) + 1) ≤ 26 }
+    requires registers { to + (height_of (expr_tree index.now) + 1) ≤ 18 }
     requires room { length out.old.code.items + 120 * (1 + tree_weight (expr_tree index.now)) ≤ most_instructions }
     ensures emitted { OnOk result
         (EmitsAccess emitter.now mode (home_in array) mask to (expr_tree index.now) out.old out.new) }

@@ -7,6 +7,7 @@ ghost use Rattle.block_cache_gen.specs.Emitted.{Appended, CodeGrows, no_notes};
 use bank_alloc::Places;
 use gr_base::Memory;
 use gr_word::Cmp;
+use held_registers::Held;
 use lt_isa::{Instr, Note, Profile};
 use scratch_alloc::{Pin, SlotPlan};
 use src_tree::Program;
@@ -25,6 +26,8 @@ pub struct Frame<'a> {
     /// Whether operations by numbers are replaced by steps without products, quotients and remainders, and public code
     /// skips the remainder of a public index that is below its array's length.
     pub reduces: bool,
+    /// What the registers from 19 on hold for the whole run.
+    pub held: &'a [Held],
 }
 
 impl<'a> Frame<'a> {

@@ -12,7 +12,7 @@ ghost use Rattle.block_cache_gen.specs.Homes.{HasHomes, Setting};
 ghost use Rattle.block_cache_gen.specs.InstructionsOf.{instructions_of_set};
 ghost use Rattle.block_cache_gen.specs.PatternsOf.{pattern_of_expr, pattern_of_set, slots_of_expr, slots_of_set};
 ghost use Rattle.block_cache_gen.specs.Settings.{IsFrame, setting_of};
-ghost use Rattle.block_cache_gen.specs.StoredWords.{DifferInLastStored, registers_aside, stored_words};
+ghost use Rattle.block_cache_gen.specs.StoredWords.{DifferInLastStored, registers_aside, written_words};
 
 /// Does nothing; its clause says of which objects the calls' clauses speak: each that has the profile of a frame, and its
 /// variables at the frame's places, has the homes of its variables.
@@ -43,10 +43,11 @@ pub fn pair_laws()
 {}
 
 /// Does nothing; its clause says what it means that two codes have the instructions of one assignment of secret code, as
-/// those of two calls have: they differ in the register of the last word that they store, and in nothing else.
+/// those of two calls have. Only their last instruction that writes a scalar or an element may differ, and only in the
+/// register that it stores or copies.
 pub fn twin_laws()
     ensures differ { (f : Setting) (s : Statement) (one other : List Instr)
-        → stored_words one ≡ 1
+        → written_words one ≡ 1
         → registers_aside one ≡ instructions_of_set f s
         → registers_aside other ≡ instructions_of_set f s
         → DifferInLastStored one other }

@@ -7,12 +7,12 @@ ghost use Rattle.src_tree.specs.Trees.{statement_of, test_of, expr_tree, SetVari
 ghost use Rattle.src_tree.specs.Typing.{TypedStatement, TypedTest};
 ghost use Rattle.lt_isa.specs.Limits.{most_instructions};
 ghost use Rattle.block_cache_gen.specs.Assignments.{IsAssignment};
-ghost use Rattle.block_cache_gen.specs.Codes.{store_code, stored_code};
+ghost use Rattle.block_cache_gen.specs.Codes.{copied_from, store_code, stored_code, write_code};
 ghost use Rattle.block_cache_gen.specs.Emitted.{Appended, EmitsGuard, EmitsSet, CodeGrows, no_notes};
 ghost use Rattle.block_cache_gen.specs.Variables.{home_in};
 ghost use Rattle.block_cache_gen.specs.TreeWords.{HasWords, SetHasWords, TestHasWords};
 
-use crate::accesses::{is_resident, marked_by};
+use crate::accesses::{is_resident, marked_by, put_copy};
 use crate::emitter::{Emitter, label_of};
 use crate::expressions::{put_access, put_expr};
 use crate::frames::{CodeBuf, Mode};
@@ -32,15 +32,16 @@ pub fn put_guard<'a>(
     mode: Mode,
 ) -> Result<(), Memory>
     requires typed { TypedTest (context_of emitter.now.decls) (test_of g.now) }
-    requires left { to + height_of (expr_tree g.now.left) ≤ 26 }
-    requires right { to + 1 + height_of (expr_tree g.now.right) ≤ 26 }
+    requires left { to + height_of (expr_tree g.now.left) ≤ 18 }
+    requires right { to + 1 + height_of (expr_tree g.now.right) ≤ 18 }
     requires room { length out.old.code.items + 120 * test_weight (test_of g.now) ≤ most_instructions }
     ensures emitted { OnOk result (EmitsGuard emitter.now mode to (test_of g.now) out.old out.new) }
     ensures words { OnOk result (TestHasWords (test_of g.now)) }
     ensures grows { CodeGrows out.old out.new }
 {
-    put_expr(emitter, out, &g.left, to, mode, u32::MAX)?;
-    let mask = marked_by(label_of(emitter, &g.left), u32::MAX, to);
+    let base = emitter.base_mask();
+    put_expr(emitter, out, &g.left, to, mode, base)?;
+    let mask = marked_by(label_of(emitter, &g.left), base, to);
     put_expr(emitter, out, &g.right, to + 1, mode, mask)
 }
 
@@ -84,6 +85,33 @@ fn put_block_store(out: &mut CodeBuf, array: Variable) -> Result<(), Memory>
     out.put(&[Instr::Stb { slot: array.slot }])
 }
 
+// What a register that holds a scalar is copied from: the value in register 0, or in mirrored code the register itself.
+fn copied_from(mode: Mode, register: u8) -> u8
+    ensures { result ≡ copied_from mode register }
+{
+    match mode {
+        Mode::Public => 0,
+        Mode::Real => 0,
+        Mode::Mirrored => register,
+    }
+}
+
+// Appends the write of the value in register 0 to a scalar.
+fn put_write(out: &mut CodeBuf, scalar: Variable, mode: Mode) -> Result<(), Memory>
+    ensures appended { OnOk result (Appended out.old out.new
+        (write_code scalar.held scalar.label mode (home_in scalar)) no_notes) }
+    ensures grows { CodeGrows out.old out.new }
+{
+    if let Some(register) = scalar.held {
+        return put_copy(out, scalar.label, register, copied_from(mode, register));
+    }
+    out.put(&[Instr::Li {
+        rd: 1,
+        value: i64::from(scalar.place.word),
+    }])?;
+    put_store(out, scalar.slot, mode)
+}
+
 /// Appends the code of an assignment to a variable. It serves `branch_padding` and `code_gen`: its clause names the
 /// code, and [`emit_set`](crate::emit_set) states what that code does.
 pub fn put_set_variable<'a>(
@@ -103,12 +131,9 @@ pub fn put_set_variable<'a>(
     ensures grows { CodeGrows out.old out.new }
 {
     let scalar = emitter.variable(name.bytes());
-    put_expr(emitter, out, value, 0, mode, u32::MAX)?;
-    out.put(&[Instr::Li {
-        rd: 1,
-        value: i64::from(scalar.place.word),
-    }])?;
-    put_store(out, scalar.slot, mode)
+    let base = emitter.base_mask();
+    put_expr(emitter, out, value, 0, mode, base)?;
+    put_write(out, scalar, mode)
 }
 
 /// Appends the code of an assignment to an element. The block is stored at once. It serves `branch_padding` and
@@ -132,8 +157,9 @@ pub fn put_set_element<'a>(
     ensures grows { CodeGrows out.old out.new }
 {
     let array = emitter.variable(name.bytes());
-    put_expr(emitter, out, value, 0, mode, u32::MAX)?;
-    let mask = marked_by(label_of(emitter, value), u32::MAX, 0);
+    let base = emitter.base_mask();
+    put_expr(emitter, out, value, 0, mode, base)?;
+    let mask = marked_by(label_of(emitter, value), base, 0);
     put_access(emitter, out, array, index, 1, mode, mask)?;
     put_store(out, array.slot, mode)?;
     put_block_store(out, array)

@@ -1,4 +1,4 @@
-ghost use Rattle.std.specs.Prelude.{◌≡◌, ℕ, List, Some, IfOk, OnOk, bytes_eq, if◌then◌else◌, length};
+ghost use Rattle.std.specs.Prelude.{◌≡◌, ◌≤◌, ℕ, List, Some, IfOk, OnOk, bytes_eq, if◌then◌else◌, length};
 ghost use Rattle.gr_base.specs.NameMaps.{found_under};
 ghost use Rattle.block_cache_gen.specs.Variables.{variable_of};
 
@@ -6,6 +6,7 @@ use crate::pins::is_pinned;
 use bank_alloc::Place;
 use gr_base::Memory;
 use gr_word::Label;
+use held_registers::{Held, register_of_scalar};
 use scratch_alloc::Pin;
 use src_tree::Decl;
 use std::alloc::Global;
@@ -19,6 +20,8 @@ pub(crate) struct Variable {
     pub place: Place,
     pub slot: u8,
     pub resident: bool,
+    /// The register that holds a scalar for the whole run.
+    pub held: Option<u8>,
 }
 
 /// The variable of each name that is declared.
@@ -54,11 +57,14 @@ pub(crate) fn gather<'a>(
     places: &[Place],
     slots: &[u8],
     pins: &[Option<Pin>],
+    held: &[Held],
 ) -> Result<Variables<'a>, Memory>
     requires places { length places.now ≡ length decls.now }
     requires slots { length slots.now ≡ length decls.now }
+    requires few { length decls.now ≤ 256 }
+    requires held { length held.now ≤ 13 }
     ensures { IfOk result
-        (λ variables. (x : List ℕ) → found_under variables x ≡ variable_of pins.now decls.now places.now slots.now x) }
+        (λ variables. (x : List ℕ) → found_under variables x ≡ variable_of pins.now held.now 0 decls.now places.now slots.now x) }
 {
     let mut variables = BTreeMap::new(alloc);
     // from the last, so that the first of a name stays
@@ -71,6 +77,7 @@ pub(crate) fn gather<'a>(
             place: places[left],
             slot: slots[left],
             resident: is_pinned(pins, slots[left]),
+            held: register_of_scalar(held, left as u32),
         };
         add_variable(&mut variables, decl.name.bytes(), variable)?;
     }

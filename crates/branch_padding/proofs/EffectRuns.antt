@@ -119,16 +119,16 @@ module _ (o : Parts) (f : Setting) (taken : ℕ) (cmp : Cmp) (untaken code : Lis
   ends-region : s.place + 1 + length first + (length second + 1) ≡ s.place + length whole
   ends-region = omega (arith, length-append first (jump ∷ second))
 
-  moved : (t u : State) (after : Store) → u.slots ≡ t.slots → u.banks ≡ t.banks → Assigns f after t
-      → Assigns f after u
-  moved t u after slots banks made =
-      record { stands = stands-like f t u after slots banks made.stands; fits = made.fits }
+  moved : (t u : State) (after : Store) → u.slots ≡ t.slots → u.banks ≡ t.banks
+      → ((r : ℕ) → register u r ≡ register t r) → Assigns f after t → Assigns f after u
+  moved t u after slots banks registers made =
+      record { stands = stands-like f t u after slots banks (λ r high. registers r) made.stands; fits = made.fits }
 
   pub region-taken : compared cmp (register s 0) (register s 1) ≡ true
       → (shown : List Observed) × RunsThrough o s whole shown (Assigns f (h store))
   region-taken holds =
       let jumped = comes-br_taken o b.in_range s b.shaped cmp 0 1 (pos (length first + 2)) (Assigns f store)
-      (standing-head over (first ++ (jump ∷ second)) b.code_stands) holds (moved s _ store refl refl (begun b)) in
+      (standing-head over (first ++ (jump ∷ second)) b.code_stands) holds (moved s _ store refl refl (λ r. refl) (begun b)) in
       let there : s.place + 1 + length first + 1 ≡ jumped.end.place = omega (arith, jumped.comes) in
       let at : StandsAt o jumped.end.place second =
       subst (λ (p : ℕ). StandsAt o p second) there (standing-tail jump second jump_at) in
@@ -144,7 +144,7 @@ module _ (o : Parts) (f : Setting) (taken : ℕ) (cmp : Cmp) (untaken code : Lis
       → (shown : List Observed) × RunsThrough o s whole shown (Assigns f (g store))
   region-passed fails =
       let on = comes-br_on o b.in_range s b.shaped cmp 0 1 (pos (length first + 2)) (Assigns f store)
-      (standing-head over (first ++ (jump ∷ second)) b.code_stands) fails (moved s _ store refl refl (begun b)) in
+      (standing-head over (first ++ (jump ∷ second)) b.code_stands) fails (moved s _ store refl refl (λ r. refl) (begun b)) in
       let at : StandsAt o on.end.place first =
       subst (λ (p : ℕ). StandsAt o p first) (sym on.comes) (standing-first first (jump ∷ second) arms_at) in
       let arm = first-makes.runs o store on.end (begins-at store on.end first b on.shaped on.holds at) in
@@ -153,7 +153,7 @@ module _ (o : Parts) (f : Setting) (taken : ℕ) (cmp : Cmp) (untaken code : Lis
       let jump_there : StandsAt o u.place (jump ∷ second) =
       subst (λ (p : ℕ). StandsAt o p (jump ∷ second)) there jump_at in
       let jumped = comes-jmp o b.in_range u arm.1.shaped (pos (length second + 1)) (Assigns f (g store))
-      (standing-head jump second jump_there) (moved u _ (g store) refl refl arm.1.holds) in
+      (standing-head jump second jump_there) (moved u _ (g store) refl refl (λ r. refl) arm.1.holds) in
       let shown = arm.0 ++ [] in (
         shown,
         comes-weaker shown (s.place + length whole) (greatest_costs o whole) (Assigns f (g store))

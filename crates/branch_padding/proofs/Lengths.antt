@@ -5,29 +5,30 @@ use Rattle.gr_word.specs.declared.operations.Cmp.{Cmp}
 use Rattle.gr_word.specs.declared.variables.Label.{Label}
 use Rattle.gr_word.specs.declared.variables.Label.TheVariants as label
 use Rattle.lt_isa.specs.declared.instructions.Instr.{Instr}
-use Rattle.lt_isa.specs.declared.instructions.Instr.TheVariants.{Nop, Li, Jmp}
+use Rattle.lt_isa.specs.declared.instructions.Instr.TheVariants.{Nop, Jmp}
 use Rattle.src_tree.specs.Contexts.{context_of}
-use Rattle.src_tree.specs.Labels.{label_of_test}
+use Rattle.src_tree.specs.Labels.{label_of, label_of_test}
 use Rattle.src_tree.specs.Limits.{tree_weight, test_weight, parts_weight, statement_weight, block_weight}
-use Rattle.src_tree.specs.Trees.{Tree, Test, Statement, SetVariable, SetElement, Choice, Loop, Block, Nothing, Then}
+use Rattle.src_tree.specs.Trees.{Tree, Variable, Test, Statement, SetVariable, SetElement, Choice, Loop, Block, Nothing, Then}
 use Rattle.block_cache_gen.specs.declared.frames.Mode.{Mode}
 use Rattle.block_cache_gen.specs.declared.frames.Mode.TheVariants as modes
-use Rattle.block_cache_gen.specs.Homes.{Setting, home_of}
-use Rattle.block_cache_gen.specs.Codes.{compares, fixed_index, expr_code, access_code, store_code, stored_code, guard_code, set_code}
+use Rattle.block_cache_gen.specs.Homes.{Setting, home_of, register_for}
+use Rattle.block_cache_gen.specs.Codes.{compares, fixed_index, expr_code, access_code, store_code, stored_code, guard_code, set_code, write_code}
 use Rattle.block_cache_gen.specs.Alike.{pair_count}
-use Rattle.block_cache_gen.proofs.Sizes.{access_short, expr_code_short, store_short, stored_short}
+use Rattle.block_cache_gen.proofs.Sizes.{access_short, expr_code_short, write_short, store_short, stored_short}
 use Rattle.branch_padding.specs.Padded.{idle, in_a_row, arm_mode, untaken_arm, taken_arm, first_padded, second_padded, region_code, padded_code, padded_codes}
 
 -- an assignment
 variable-short : (f : Setting) (mode : Mode) (x : List ℕ) (e : Tree)
     → length (set_code f mode (SetVariable x e)) ≤ 120 * (1 + tree_weight e)
 variable-short f mode x e =
-    let h = home_of f x in
+    let found = register_for f x in
+    let l = label_of (context_of f.decls) (Variable x) in
     omega (
       arith,
-      length-append (expr_code f mode 0 e) (Li 1 (pos h.word) ∷ store_code mode h.slot),
+      length-append (expr_code f mode 0 e) (write_code found l mode (home_of f x)),
       expr_code_short f mode 0 e,
-      store_short mode h.slot,
+      write_short found l mode (home_of f x),
     )
 
 element-short : (f : Setting) (mode : Mode) (x : List ℕ) (i e : Tree)

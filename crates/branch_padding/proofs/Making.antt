@@ -86,7 +86,7 @@ module _ (f : Setting) where
       comes-weaker [] (s.place + 1) (greatest_costs o (Nop ∷ [])) (Assigns f store)
           (comes-step o b.in_range s b.shaped Nop None (went_on o Nop s) (Assigns f store)
           (standing-head Nop [] b.code_stands) refl
-          (record { stands = stands-like f s (went_on o Nop s) store refl refl b.stands; fits = b.fits }))
+          (record { stands = stands-like f s (went_on o Nop s) store refl refl (λ r high. refl) b.stands; fits = b.fits }))
           refl refl (omega arith) (λ t shape made. made),
     );
   }

@@ -11,7 +11,7 @@ use Rattle.gr_word.specs.declared.operations.Cmp.{Cmp}
 use Rattle.lt_isa.specs.declared.instructions.Instr.TheVariants.{Br, Jmp}
 use Rattle.lt_isa.specs.Step.{target_of}
 use Rattle.lt_isa.specs.Object.{Parts, is_ram, is_eram}
-use Rattle.symbolic_values.specs.Trees.{SlotAt}
+use Rattle.symbolic_values.specs.Trees.{Reg, SlotAt}
 use Rattle.src_tree.specs.Contexts.{context_of}
 use Rattle.src_tree.specs.Labels as labels
 use Rattle.src_tree.specs.Labels.{higher, inside, label_of, label_of_test}
@@ -23,7 +23,7 @@ use Rattle.trace_patterns.specs.Rules.{Opens, Falls, jumped, claimed_at, ruling_
 use Rattle.trace_patterns.specs.Shape.{most_regions}
 use Rattle.trace_patterns.specs.SymStates.{RamSlot, EramSlot, OramSlot, Entry, SymState, entry_slot, at_entry, slot_bank, known_after, common}
 use Rattle.trace_patterns.specs.Visits.{CrossesFrom}
-use Rattle.trace_patterns.proofs.SymStateLaws.{slot-at_entry, sized-at_entry, bank-after}
+use Rattle.trace_patterns.proofs.SymStateLaws.{tree-at_entry, slot-at_entry, sized-at_entry, secret-after, bank-after}
 use Rattle.trace_patterns.proofs.Walks.{crosses-wider}
 use Rattle.stretches.specs.InArms.{StandsInArm}
 use Rattle.stretches.specs.Passing.{HoldsAt, AsItComes, Passes, Done, Across}
@@ -35,9 +35,11 @@ use Rattle.block_cache_gen.specs.declared.frames.Mode.TheVariants as modes
 use Rattle.block_cache_gen.specs.Homes.{Setting, HasHomes, home_of}
 use Rattle.block_cache_gen.specs.Codes.{expr_code, guard_code}
 use Rattle.block_cache_gen.specs.Notes.{guard_notes}
-use Rattle.block_cache_gen.specs.Carries.{Carries, CarriesInArm}
+use Rattle.block_cache_gen.specs.Carries.{Carries, CarriesInArm, held_tree}
 use Rattle.block_cache_gen.specs.PublicCode.{StandsNoted}
 use Rattle.block_cache_gen.specs.PublicIndexes.{StatementHasPublicIndexes}
+use Rattle.held_registers.specs.Held.{IsSoundHeld}
+use Rattle.block_cache_gen.proofs.HeldLabels.{label-low}
 use Rattle.block_cache_gen.proofs.NotesOfCode.{expression-longer}
 use Rattle.block_cache_gen.proofs.SecretRegions.{region-crossed, joined-slots, joined-carries}
 use Rattle.block_cache_gen.proofs.PublicGuards.{guard-lie, guard-passes}
@@ -61,8 +63,16 @@ entry-bank bank slot = by (is_ram bank) refl (is_eram bank) refl
     by false is true other = ap Some (sym (eqb-true bank 1 other))
     by false is false other = refl
 
-pub carried-in : (f : Setting) (k : Known) → Carries f k → CarriesInArm f (at_entry k)
-carried-in f k carries =
+held-entry : (r : ℕ) (l : Label) → (if labels.secret_label l then None else Some (Reg r)) ≡ held_tree r l
+held-entry r label.Public = refl
+held-entry r label.Secret = refl
+
+held-after : (r : ℕ) (l : Label) → is_none (held_tree r l) ≡ labels.secret_label l
+held-after r label.Public = refl
+held-after r label.Secret = refl
+
+pub carried-in : (f : Setting) → IsSoundHeld f.decls f.held → (k : Known) → Carries f k → CarriesInArm f (at_entry k)
+carried-in f sound k carries =
     let sized = sized-at_entry k in
     record {
       registers = sized.registers;
@@ -79,6 +89,10 @@ carried-in f k carries =
           ap slot_bank (slot-at_entry k slot (omega arith))
           ∙ ap (λ (b : Option ℕ). slot_bank (entry_slot b slot)) (carries.arrays x label declared turn served)
           ∙ entry-bank (home_of f x).bank slot;
+      held = λ r l is.
+          tree-at_entry k r (label-low f sound r l is)
+          ∙ ap (λ (b : Bool). if b then None else Some (Reg r)) (carries.held r l is)
+          ∙ held-entry r l;
     }
 
 pub carried-out : (f : Setting) (s : SymState) → CarriesInArm f s → Carries f (known_after s)
@@ -88,6 +102,7 @@ carried-out f s carries = record {
   pinned = λ slot p pinned few apart. bank-after s slot ∙ carries.pinned slot p pinned few apart;
   arrays = λ x label declared turn served.
       bank-after s (home_of f x).slot ∙ carries.arrays x label declared turn served;
+  held = λ r l is. secret-after s r ∙ ap is_none (carries.held r l is) ∙ held-after r l;
 }
 
 -- one of two registers may hold a secret, where one of two labels is secret
@@ -186,8 +201,8 @@ module _ (o : Parts) (f : Setting) (homes : HasHomes o f) (some : 1 ≤ f.profil
       let s = at_entry holds in
       let shows = shows_of_arms f a b in
       let loads = slots_of_arms f a b in
-      let one = arms.untaken s (carried-in f holds carries) in
-      let two = arms.taken s (carried-in f holds carries) in
+      let one = arms.untaken s (carried-in f homes.held holds carries) in
+      let two = arms.taken s (carried-in f homes.held holds carries) in
       let none : 0 < most_regions = omega arith in
       let state = common one.state two.state in
       let pattern = pattern_of_region f a b in

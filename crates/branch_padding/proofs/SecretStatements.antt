@@ -37,8 +37,8 @@ module _ (o : Parts) (f : Setting) (homes : HasHomes o f) where
   -- statements that pair show the same and leave the same
   pair-shows_of : (s t : Statement) → Pair f s t → TypedStatement (context_of f.decls) Secret s
       → TypedStatement (context_of f.decls) Secret t → shows_of f s ≡ shows_of f t
-  pair-shows_of s t (ToScalars x y e g alike) left right =
-      pair-shows o f homes (SetVariable x e) (SetVariable y g) (ToScalars x y e g alike) left right
+  pair-shows_of s t (ToScalars x y e g one alike) left right =
+      pair-shows o f homes (SetVariable x e) (SetVariable y g) (ToScalars x y e g one alike) left right
   pair-shows_of s t (ToOblivious x y i j e g one index value) left right =
       pair-shows o f homes (SetElement x i e) (SetElement y j g) (ToOblivious x y i j e g one index value) left right
   pair-shows_of s t (ToResidents x y i j e g one index value) left right =
@@ -48,8 +48,8 @@ module _ (o : Parts) (f : Setting) (homes : HasHomes o f) where
 
   pair-slots_of : (s t : Statement) → Pair f s t → TypedStatement (context_of f.decls) Secret s
       → TypedStatement (context_of f.decls) Secret t → slots_of f s ≡ slots_of f t
-  pair-slots_of s t (ToScalars x y e g alike) left right =
-      pair-slots o f homes (SetVariable x e) (SetVariable y g) (ToScalars x y e g alike) left right
+  pair-slots_of s t (ToScalars x y e g one alike) left right =
+      pair-slots o f homes (SetVariable x e) (SetVariable y g) (ToScalars x y e g one alike) left right
   pair-slots_of s t (ToOblivious x y i j e g one index value) left right =
       pair-slots o f homes (SetElement x i e) (SetElement y j g) (ToOblivious x y i j e g one index value) left right
   pair-slots_of s t (ToResidents x y i j e g one index value) left right =

@@ -1,5 +1,6 @@
 -- How many stores of a word the code of statements has.
-use Rattle.std.proofs.Common.{◌≡◌, ℕ, zero, suc, ◌+◌, ◌-◌, ◌*◌, pos, List, [], ◌∷◌, ◌++◌, length, map, take, drop, refl, sym, ap, ◌∙◌, subst, arith}
+use Rattle.std.proofs.Common.{◌≡◌, ℕ, zero, suc, ◌+◌, ◌-◌, ◌*◌, Bool, pos, List, [], ◌∷◌, ◌++◌, length, map, take, drop, refl, sym, ap, ◌∙◌, subst, arith}
+use Rattle.std.specs.Prelude.{if◌then◌else◌}
 use Rattle.std.proofs.lemmas.List.{take-map, drop-map}
 use Rattle.std.proofs.lemmas.List.Sums.{sum_by-append}
 use Rattle.gr_word.specs.declared.operations.Cmp.{Cmp}
@@ -85,31 +86,30 @@ added-first n counts = sum_by-append (λ n. n) (n ∷ []) counts ∙ alone
     alone : added_up (n ∷ []) + added_up counts ≡ n + added_up counts
     alone = omega arith
 
--- each statement that pairs has one store
+-- two statements that pair have as many stores
 module _ (f : Setting) where
-  pair-stores : (s t : Statement) → Pair f s t → (stores_of f label.Secret s ≡ 1) × (stores_of f label.Secret t ≡ 1)
-  pair-stores s t (ToScalars x y e g alike) = (refl, refl)
-  pair-stores s t (ToOblivious x y i j e g one index value) = (refl, refl)
-  pair-stores s t (ToResidents x y i j e g one index value) = (refl, refl)
-  pair-stores s t (ToSame x i e g encrypted value) = (refl, refl)
+  pair-stores : (s t : Statement) → Pair f s t → stores_of f label.Secret t ≡ stores_of f label.Secret s
+  pair-stores s t (ToScalars x y e g one alike) = ap (λ (b : Bool). if b then 0 else 1) (sym one)
+  pair-stores s t (ToOblivious x y i j e g one index value) = refl
+  pair-stores s t (ToResidents x y i j e g one index value) = refl
+  pair-stores s t (ToSame x i e g encrypted value) = refl
 
-  record BothCount (k : ℕ) (a b : Block) : Type 0 where
-    first : added_up (take k (stores_of_each f label.Secret a)) ≡ k
-    second : added_up (take k (stores_of_each f label.Secret b)) ≡ k
+  -- so have the first statements of two parts that pair
+  abbrev CountAlike : ℕ → Block → Block → Type 0
+  CountAlike k a b =
+      added_up (take k (stores_of_each f label.Secret b)) ≡ added_up (take k (stores_of_each f label.Secret a))
 
-  paired-stores : (k : ℕ) (a b : Block) → StartsPaired f k a b → BothCount k a b
-  paired-stores k a b (NonePaired a' b') = record { first = refl; second = refl }
+  paired-stores : (k : ℕ) (a b : Block) → StartsPaired f k a b → CountAlike k a b
+  paired-stores k a b (NonePaired a' b') = refl
   paired-stores k a b (OnePaired n s t c d pair rest) =
       let more = paired-stores n c d rest in
       let one = pair-stores s t pair in
       let next : suc n ≡ n + 1 = omega arith in
-      let left : added_up (take (suc n) (stores_of_each f label.Secret (Then s c))) ≡ suc n =
-      added-first (stores_of f label.Secret s) (take n (stores_of_each f label.Secret c))
-      ∙ (λ i. one.0 i + more.first i) ∙ omega arith in
-      let right : added_up (take (suc n) (stores_of_each f label.Secret (Then t d))) ≡ suc n =
+      let both : CountAlike (suc n) (Then s c) (Then t d) =
       added-first (stores_of f label.Secret t) (take n (stores_of_each f label.Secret d))
-      ∙ (λ i. one.1 i + more.second i) ∙ omega arith in
-      subst (λ (m : ℕ). BothCount m (Then s c) (Then t d)) next (record { first = left; second = right })
+      ∙ (λ i. one i + more i)
+      ∙ sym (added-first (stores_of f label.Secret s) (take n (stores_of_each f label.Secret c))) in
+      subst (λ (m : ℕ). CountAlike m (Then s c) (Then t d)) next both
 
   -- a branch in code of a label, whose arms are secret code
   abbrev PartStores : Block → Mode → Type 0
@@ -122,25 +122,25 @@ module _ (f : Setting) where
       (stores_of_each f label.Secret b)
   choice-counts mode t a b first first_mirrored second second_mirrored =
       let k = pair_count f a b in
-      let counts = paired-stores k a b (counts_pairs f a b).pairs in
+      let alike = paired-stores k a b (counts_pairs f a b).pairs in
       let xs = stores_of_each f label.Secret a in
       let ys = stores_of_each f label.Secret b in
+      let paired = added_up (take k xs) in
+      let rests = added_up (drop k xs) + added_up (drop k ys) in
       let guard = guard_code f mode 0 t in
       let untaken = untaken_arm k (padded_codes f (arm_mode mode) b) (padded_codes f modes.Mirrored a) in
       let other = taken_arm k (padded_codes f (arm_mode mode) a) (padded_codes f modes.Mirrored b) in
       let region = region_code f.profile.taken t.cmp untaken other in
-      let one : stored_words untaken ≡ k + (added_up (drop k xs) + added_up (drop k ys)) =
+      let one : stored_words untaken ≡ paired + rests =
       arm-stores k (padded_codes f (arm_mode mode) b) (padded_codes f modes.Mirrored a)
       (padded_codes f (arm_mode mode) b)
       ∙ (λ i. added_up (take k (second i)) + (added_up (drop k (first_mirrored i)) + added_up (drop k (second i))))
-      ∙ ap (λ (n : ℕ). n + (added_up (drop k xs) + added_up (drop k ys))) counts.second in
-      let two : stored_words other ≡ k + (added_up (drop k xs) + added_up (drop k ys)) =
+      ∙ ap (λ (n : ℕ). n + rests) alike in
+      let two : stored_words other ≡ paired + rests =
       arm-stores k (padded_codes f (arm_mode mode) a) (padded_codes f (arm_mode mode) a)
       (padded_codes f modes.Mirrored b)
-      ∙ (λ i. added_up (take k (first i)) + (added_up (drop k (first i)) + added_up (drop k (second_mirrored i))))
-      ∙ ap (λ (n : ℕ). n + (added_up (drop k xs) + added_up (drop k ys))) counts.first in
-      let all : k + (added_up (drop k xs) + added_up (drop k ys)) + (k + (added_up (drop k xs) + added_up (drop k ys)))
-      ≡ 2 * (k + (added_up (drop k xs) + added_up (drop k ys))) = omega arith in
+      ∙ (λ i. added_up (take k (first i)) + (added_up (drop k (first i)) + added_up (drop k (second_mirrored i)))) in
+      let all : paired + rests + (paired + rests) ≡ 2 * (paired + rests) = omega arith in
       stored-append guard region
       ∙ (λ i. guard-stores f mode 0 t i + region-stores f.profile.taken t.cmp untaken other i)
       ∙ ap (λ (n : ℕ). 0 + n) (λ i. one i + two i) ∙ omega (arith, all)

@@ -1,5 +1,5 @@
 -- How many stores of a word the code of a statement has. (This project's own padding.)
-use Rattle.std.specs.Prelude.{ℕ, ◌+◌, ◌*◌, List, [], ◌∷◌, drop, sum_by}
+use Rattle.std.specs.Prelude.{ℕ, ◌+◌, ◌*◌, List, [], ◌∷◌, take, drop, sum_by}
 use Rattle.gr_word.specs.declared.variables.Label.{Label}
 use Rattle.gr_word.specs.declared.variables.Label.TheVariants.{Public, Secret}
 use Rattle.src_tree.specs.Trees.{Statement, SetVariable, SetElement, Choice, Loop, Block, Nothing, Then}
@@ -7,22 +7,24 @@ use Rattle.src_tree.specs.Contexts.{context_of}
 use Rattle.src_tree.specs.Labels.{inside}
 use Rattle.block_cache_gen.specs.Homes.{Setting}
 use Rattle.block_cache_gen.specs.Alike.{pair_count}
+use Rattle.block_cache_gen.specs.StoredWords.{set_stores}
 
 -- some numbers of stores together
 abbrev pub added_up : List ℕ → ℕ
 added_up counts = sum_by (λ n. n) counts
 
--- A choice whose parts are public code has the stores of both. Where they are secret code, each arm has those of the k
--- statements that pair, one each, and those of both rests.
+-- A choice whose parts are public code has the stores of both. If they are secret code, each arm has those of the k
+-- statements that pair, and those of both rests.
 abbrev pub choice_stores : Label → ℕ → (first second : List ℕ) → ℕ
 choice_stores Public k first second = added_up first + added_up second
-choice_stores Secret k first second = 2 * (k + (added_up (drop k first) + added_up (drop k second)))
+choice_stores Secret k first second =
+    2 * (added_up (take k first) + (added_up (drop k first) + added_up (drop k second)))
 
 -- the stores of a statement in code of a label, and of each statement of a block
 abbrev mutual
   pub stores_of : Setting → Label → Statement → ℕ
-  stores_of f code (SetVariable x e) = 1
-  stores_of f code (SetElement x i e) = 1
+  stores_of f code (SetVariable x e) = set_stores f (SetVariable x e)
+  stores_of f code (SetElement x i e) = set_stores f (SetElement x i e)
   stores_of f code (Choice t a b) =
       choice_stores (inside (context_of f.decls) code t) (pair_count f a b)
       (stores_of_each f (inside (context_of f.decls) code t) a)

@@ -21,6 +21,7 @@ use Rattle.scratch_alloc.specs.Plans.{Plan, IsSoundPlan, no_decl, no_place}
 use Rattle.block_cache_gen.specs.declared.frames.Mode.TheVariants as modes
 use Rattle.block_cache_gen.specs.Homes.{Setting, HasHomes}
 use Rattle.block_cache_gen.specs.Codes.{guard_code}
+use Rattle.block_cache_gen.specs.HeldCodes.{HasSecretSlot}
 use Rattle.block_cache_gen.proofs.Settled.{IsSettingOf, has-homes}
 use Rattle.block_cache_gen.proofs.IndexesOfPrograms.{program-public}
 use Rattle.branch_padding.proofs.NestingWeights.{choice-nesting}
@@ -79,12 +80,12 @@ passes-padded o f homes once some t a b typed public low light secret p k stands
 -- an object with a program's variables at the places of a plan, and with the code and the notes of the program
 pub laid-accepts : (p : Source) (w : ℕ) (plan : Plan) → IsTyped p → IsWithinLimits p → IsSoundPlan p w plan
     → (o : Parts) → IsLaidOut p w plan.places plan.blocks o
-    → (f : Setting) → IsSettingOf p plan o f → 1 ≤ f.profile.taken → o.code ≡ program_code f (padding_of f) p.body
+    → (f : Setting) → IsSettingOf p plan o f → HasSecretSlot f → 1 ≤ f.profile.taken → o.code ≡ program_code f (padding_of f) p.body
     → o.notes ≡ program_notes f (padding_of f) p.body → Accepts o
-laid-accepts p w plan typed limits sound o layout f setting some code notes =
+laid-accepts p w plan typed limits sound o layout f setting slot some code notes =
     let homes = has-homes p w plan limits sound o layout f setting in
     let once : DeclaredOnce f.decls = subst DeclaredOnce (sym setting.decls) typed.once in
-    program-accepts o f (padding_of f) p.body homes once (begins-guarded f) (passes-padded o f homes once some)
+    program-accepts o f (padding_of f) p.body homes once slot (begins-guarded f) (passes-padded o f homes once some)
     (subst (λ ds. TypedBlock (context_of ds) Public p.body) (sym setting.decls) typed.body)
     (program-public p w plan sound o f setting typed.body) limits.heights
     (subst (λ ds. block_weight (context_of ds) Public p.body ≤ max_weight) (sym setting.decls) limits.weight) code notes

@@ -35,23 +35,18 @@ pub planned-inputs_agree : (p : Source) (w : ℕ) (plan : Plan) → DeclaredOnce
     → (one other : Store) → FitsWants (declared_wants p.decls) one → FitsWants (declared_wants p.decls) other
     → AgreeOnPublic p.decls one other → Agree o (by_name p o one) (by_name p o other)
 planned-inputs_agree p w plan once limits sound o layout one other first second agree = record {
-  first_fits =
-      inputs-fit p w plan once limits sound o layout (setting_for p plan o.profile false) (setting-of p plan o) one first;
-  second_fits =
-      inputs-fit p w plan once limits sound o layout (setting_for p plan o.profile false) (setting-of p plan o) other
-      second;
+  first_fits = inputs-fit p w plan once limits sound o layout (setting_for p plan o.profile false []) (setting-of p plan o) one first;
+  second_fits = inputs-fit p w plan once limits sound o layout (setting_for p plan o.profile false []) (setting-of p plan o) other second;
   public_words = agree-each (named one) (named other) o.symbols (λ k d within public.
       of_variable (get_or o.symbols k d)
-      (symbols-variables p w plan once limits sound o layout (setting_for p plan o.profile false) (setting-of p plan o) k d
-      within) public);
+      (symbols-variables p w plan once limits sound o layout (setting_for p plan o.profile false []) (setting-of p plan o) k d within) public);
 }
   where
     named : Store → Symbol → List ℤ
     named store s = words_of_number store (variable_number p.decls s.name)
 
     of_variable : (s : Symbol)
-        → IsVariable p w plan once limits sound o layout (setting_for p plan o.profile false) (setting-of p plan o) s
-        → s.label ≡ Public
+        → IsVariable p w plan once limits sound o layout (setting_for p plan o.profile false []) (setting-of p plan o) s → s.label ≡ Public
         → named one s ≡ named other s
     of_variable s variable public =
         let k = variable.number in

@@ -23,7 +23,9 @@ use Rattle.scratch_alloc.specs.declared.plans.Pin.{Pin}
 use Rattle.scratch_alloc.specs.Plans.{Plan, IsSoundPlan, plan_from, scalar_pins, standard_plan}
 use Rattle.scratch_alloc.specs.Slots.{slots_of}
 use Rattle.block_cache_gen.specs.declared.frames.Frame.{Frame}
-use Rattle.block_cache_gen.specs.Homes.{Setting}
+use Rattle.held_registers.specs.Held.{IsSoundHeld}
+use Rattle.block_cache_gen.specs.HeldCodes.{HasSecretSlot}
+use Rattle.block_cache_gen.specs.Homes.{Held, Setting}
 use Rattle.block_cache_gen.specs.ProgramWords.{BlockHasWords}
 use Rattle.block_cache_gen.specs.Settings.{IsFrame, plan_of, setting_for, setting_of}
 use Rattle.block_cache_gen.specs.StoredWords.{stored_words}
@@ -75,7 +77,7 @@ pub frame-made : (f : Frame) (l : Latencies) (o : Parts) → IsFrame f → Laten
     → BlockHasWords (source_of f.program.now).body
     → o.code ≡ program_code (setting_of f) (padding_of (setting_of f)) (source_of f.program.now).body
     → o.notes ≡ program_notes (setting_of f) (padding_of (setting_of f)) (source_of f.program.now).body
-    → IsMadeOf (source_of f.program.now) (plan_of f) f.profile.now f.reduces l o
+    → IsMadeOf (source_of f.program.now) (plan_of f) f.profile.now f.reduces f.held.now l o
 frame-made f l o frame latencies profile banks symbols named words code notes =
     let blocks : map (λ (b : BankSpec). b.blocks) o.banks ≡ f.places.now.blocks.items =
     ap (map (λ (b : BankSpec). b.blocks)) banks ∙ blocks-made l 0 f.places.now.blocks.items in
@@ -110,31 +112,41 @@ plan-standard p w places slots are is pins =
     ∙ ap (plan (places_of p w) (slots_of (places_of p w)) (blocks_of_banks p w)) pins
 
 -- The contract's clauses for the object that a program is compiled to.
-pub record CompilePromises (p : Source) (plan : Plan) (given : Profile) (reduces : Bool) (l : Latencies) (o : Parts)
-    : Type 0 where
+pub record CompilePromises (p : Source) (plan : Plan) (given : Profile) (reduces : Bool) (held : List Held)
+    (l : Latencies) (o : Parts) : Type 0 where
   pub accepted : Accepts o
   pub implements : Implements p o
   pub machine : IsFor given l o
-  pub size : length o.code ≤ 120 * weight_of p + 64
-  pub stores : stored_words o.code ≡ stores_by p plan given reduces
+  pub size : length o.code ≤ 120 * weight_of p + (64 + 4 * length held)
+  pub stores : stored_words o.code ≡ stores_by p plan given reduces held
 
-module _ (p : Source) (plan : Plan) (given : Profile) (reduces : Bool) (l : Latencies) (typed : IsTyped p)
-    (within : IsWithinLimits p) (sound : IsSoundPlan p given.block_log plan) (profile : ProfileFits given) (o : Parts)
-    (made : IsMadeOf p plan given reduces l o) where
+module _ (p : Source) (plan : Plan) (given : Profile) (reduces : Bool) (held : List Held) (l : Latencies)
+    (typed : IsTyped p) (within : IsWithinLimits p) (sound : IsSoundPlan p given.block_log plan)
+    (holds : IsSoundHeld p.decls held) (secret_slot : HasSecretSlot (setting_for p plan given reduces held))
+    (profile : ProfileFits given) (o : Parts) (made : IsMadeOf p plan given reduces held l o) where
   abbrev setting : Setting
-  setting = setting_for p plan given reduces
+  setting = setting_for p plan given reduces held
 
   is-setting : IsSettingOf p plan o setting
-  is-setting = record { decls = refl; homes = refl; blocks = refl; pins = refl; profile = made.profile }
+  is-setting = record {
+    decls = refl;
+    homes = refl;
+    blocks = refl;
+    pins = refl;
+    held = holds;
+    profile = made.profile;
+  }
 
   made-accepted : Accepts o
   made-accepted =
       let taken = profile.taken in
-      laid-accepts p given.block_log plan typed within sound o made.layout setting is-setting taken.0 made.code made.notes
+      laid-accepts p given.block_log plan typed within sound o made.layout setting is-setting secret_slot taken.0 made.code
+      made.notes
 
   made-implements : Implements p o
   made-implements =
-      laid-code-implements p given.block_log plan typed within sound o made.in_range made.layout setting is-setting made.code
+      laid-code-implements p given.block_log plan typed within sound o made.in_range made.layout setting is-setting
+      secret_slot made.code
 
   made-for : IsFor given l o
   made-for = record {
@@ -145,16 +157,21 @@ module _ (p : Source) (plan : Plan) (given : Profile) (reduces : Bool) (l : Late
         ∙ ap (latency_for l) (zero-add b);
   }
 
-  made-short : length o.code ≤ 120 * weight_of p + 64
+  made-short : length o.code ≤ 120 * weight_of p + (64 + 4 * length held)
   made-short =
       let taken = profile.taken in
-      omega (arith, ap length made.code, program-short setting p.body taken.1 (λ slot pin pinned. (sound.pins slot pin pinned).few) within.weight)
+      omega (
+        arith,
+        ap length made.code,
+        program-short setting p.body taken.1
+            (λ slot pin pinned. (sound.pins slot pin pinned).few) holds.few within.weight,
+      )
 
-  made-stores : stored_words o.code ≡ stores_by p plan given reduces
+  made-stores : stored_words o.code ≡ stores_by p plan given reduces held
   made-stores = ap stored_words made.code ∙ program-stored setting p.body typed.body
 
   -- all of it holds of what was made
-  pub made-promises : CompilePromises p plan given reduces l o
+  pub made-promises : CompilePromises p plan given reduces held l o
   made-promises = record {
     accepted = made-accepted;
     implements = made-implements;

@@ -27,6 +27,7 @@ use Rattle.scratch_alloc.specs.Plans.{Plan, IsSoundPlan, no_decl, no_place}
 use Rattle.block_cache_gen.specs.Homes.{Home, Setting, home_of, words_a_block, start_of_home, no_home}
 use Rattle.block_cache_gen.specs.Settings.{home_at, setting_for}
 use Rattle.block_cache_gen.specs.StandsFor.{FitsHomes}
+use Rattle.held_registers.proofs.Sound.{nothing-sound}
 use Rattle.block_cache_gen.proofs.Settled.{IsSettingOf, width, bank-count, bank-blocks, home-at, named-below, homes-apart}
 use Rattle.code_gen.specs.Implements.{HasSymbols, by_name}
 use Rattle.code_gen.proofs.Started.{BanksHold}
@@ -63,8 +64,15 @@ fits-words decls store fits k =
     (cases_lt k (length decls))
 
 -- the setting of a program for an object
-pub setting-of : (p : Source) (plan : Plan) (o : Parts) → IsSettingOf p plan o (setting_for p plan o.profile false)
-setting-of p plan o = record { decls = refl; homes = refl; blocks = refl; pins = refl; profile = refl }
+pub setting-of : (p : Source) (plan : Plan) (o : Parts) → IsSettingOf p plan o (setting_for p plan o.profile false [])
+setting-of p plan o = record {
+  decls = refl;
+  homes = refl;
+  blocks = refl;
+  pins = refl;
+  held = nothing-sound p.decls;
+  profile = refl;
+}
 
 -- lists for symbols that have each its length
 symbols-fit : (words : Symbol → List ℤ) (symbols : List Symbol)

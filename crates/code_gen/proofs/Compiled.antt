@@ -1,5 +1,5 @@
 -- An object that a program was compiled to implements it, where the code of the body follows the body's statements.
-use Rattle.std.proofs.Common.{◌≡◌, ℕ, length}
+use Rattle.std.proofs.Common.{◌≡◌, ℕ, length, sym, subst}
 use Rattle.lt_isa.specs.Object.{Parts}
 use Rattle.lt_isa.specs.Ranges.{IsInRange}
 use Rattle.gr_word.specs.declared.variables.Label.TheVariants.{Public, Secret}
@@ -9,9 +9,10 @@ use Rattle.src_tree.specs.Contexts.{context_of}
 use Rattle.src_tree.specs.Labels.{label_of_test}
 use Rattle.src_tree.specs.Limits.{IsWithinLimits, LowStatement}
 use Rattle.src_tree.specs.Meaning.{run_of, run_of_block}
-use Rattle.src_tree.specs.Typing.{IsTyped, TypedStatement}
+use Rattle.src_tree.specs.Typing.{IsTyped, DeclaredOnce, TypedStatement}
 use Rattle.bank_alloc.specs.Layout.{IsLaidOut}
 use Rattle.scratch_alloc.specs.Plans.{Plan, IsSoundPlan}
+use Rattle.block_cache_gen.specs.HeldCodes.{HasSecretSlot}
 use Rattle.block_cache_gen.specs.Homes.{Setting}
 use Rattle.block_cache_gen.proofs.Settled.{IsSettingOf, has-homes}
 use Rattle.code_gen.specs.Implements.{Implements}
@@ -26,10 +27,12 @@ use Rattle.code_gen.proofs.BodyFollowed.{body-follows}
 -- by the layout
 pub laid-implements : (p : Source) (w : ℕ) (plan : Plan) → IsTyped p → IsWithinLimits p → IsSoundPlan p w plan
     → (o : Parts) → IsInRange o → IsLaidOut p w plan.places plan.blocks o
-    → (f : Setting) → IsSettingOf p plan o f → (padded : Padding) → o.code ≡ program_code f padded p.body
+    → (f : Setting) → IsSettingOf p plan o f → HasSecretSlot f → (padded : Padding)
+    → o.code ≡ program_code f padded p.body
     → Follows o f (length (beginning f)) (block_code f padded p.body) (run_of_block p.decls p.body) → Implements p o
-laid-implements p w plan typed limits sound o fits layout f setting padded code follows =
+laid-implements p w plan typed limits sound o fits layout f setting slot padded code follows =
     implements p o fits f (has-homes p w plan limits sound o layout f setting)
+    (subst DeclaredOnce (sym setting.decls) typed.once) slot
     (names-words p w plan typed.once limits sound o layout f setting) padded code follows
 
 -- The same of both, where the code of each branch on a secret follows it.
@@ -41,9 +44,10 @@ SecretsFollow o f padded =
 
 -- an object with the program's layout and code implements it, where its branches on secrets are followed
 pub laid-padded-implements : (p : Source) (w : ℕ) (plan : Plan) → IsTyped p → IsWithinLimits p → IsSoundPlan p w plan
-    → (o : Parts) → IsInRange o → IsLaidOut p w plan.places plan.blocks o → (f : Setting) → IsSettingOf p plan o f → (padded : Padding)
+    → (o : Parts) → IsInRange o → IsLaidOut p w plan.places plan.blocks o → (f : Setting) → IsSettingOf p plan o f
+    → HasSecretSlot f → (padded : Padding)
     → o.code ≡ program_code f padded p.body → SecretsFollow o f padded → Implements p o
-laid-padded-implements p w plan typed limits sound o fits layout f setting padded code secrets =
-    laid-implements p w plan typed limits sound o fits layout f setting padded code
+laid-padded-implements p w plan typed limits sound o fits layout f setting slot padded code secrets =
+    laid-implements p w plan typed limits sound o fits layout f setting slot padded code
     (body-follows p o fits f padded setting.decls typed limits code
     (parts-follow o fits f (has-homes p w plan limits sound o layout f setting) padded secrets))

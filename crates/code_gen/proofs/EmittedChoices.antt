@@ -10,13 +10,13 @@ use Rattle.lt_isa.specs.declared.symbols.Note.{Note}
 use Rattle.lt_isa.specs.declared.instructions.Instr.{Instr}
 use Rattle.lt_isa.specs.declared.instructions.Instr.TheVariants.{Jmp, Br, Li, Stw}
 use Rattle.src_tree.specs.declared.trees.Stmt.{Stmt}
-use Rattle.src_tree.specs.Trees.{Test, Statement, SetVariable, SetElement, Choice, Loop, Block, Nothing, Then, statement_of, block_of_all}
+use Rattle.src_tree.specs.Trees.{Variable, Test, Statement, SetVariable, SetElement, Choice, Loop, Block, Nothing, Then, statement_of, block_of_all}
 use Rattle.src_tree.specs.Contexts.{context_of}
-use Rattle.src_tree.specs.Labels.{label_of_test}
+use Rattle.src_tree.specs.Labels.{label_of, label_of_test}
 use Rattle.block_cache_gen.specs.declared.frames.CodeBuf.{CodeBuf}
 use Rattle.block_cache_gen.specs.declared.frames.Mode.TheVariants.{Public, Real, Mirrored}
-use Rattle.block_cache_gen.specs.Homes.{Setting, home_of}
-use Rattle.block_cache_gen.specs.Codes.{compares, expr_code, guard_code, stored_code, access_code, fixed_index}
+use Rattle.block_cache_gen.specs.Homes.{Setting, home_of, register_for}
+use Rattle.block_cache_gen.specs.Codes.{compares, expr_code, guard_code, stored_code, access_code, fixed_index, write_code}
 use Rattle.block_cache_gen.specs.Notes.{guard_notes}
 use Rattle.block_cache_gen.specs.Alike.{pair_count}
 use Rattle.block_cache_gen.specs.Emitted.{Appended, no_notes, EmitsGuard}
@@ -34,8 +34,9 @@ longer xs ys some = omega (arith, length-append xs ys)
 -- no statement is made into no code
 statement_code-some : (f : Setting) (s : Statement) → 1 ≤ length (statement_code f (padding_of f) s)
 statement_code-some f (SetVariable x e) =
-    let h = home_of f x in
-    longer (expr_code f Public 0 e) (Li 1 (pos h.word) ∷ Stw 0 h.slot 1 ∷ []) (expr_code-some f Public 0 e)
+    longer (expr_code f Public 0 e)
+    (write_code (register_for f x) (label_of (context_of f.decls) (Variable x)) Public (home_of f x))
+    (expr_code-some f Public 0 e)
 statement_code-some f (SetElement x i e) =
     let h = home_of f x in
     longer (expr_code f Public 0 e)

@@ -1,4 +1,5 @@
--- The end of a program's code: each pinned slot's block is stored, and then the banks hold each variable's words.
+-- The end of a program's code, where no register holds a scalar any more: each pinned slot's block is stored, and then
+-- the banks hold each variable's words.
 use Rattle.std.proofs.Common.{◌≡◌, ◌≢◌, ℕ, suc, ◌+◌, ◌*◌, ◌/◌, ◌%◌, ◌<◌, ◌≤◌, Bool, true, false, ℤ, pos, List, [], ◌∷◌, ◌++◌, length, get_or, set, Option, Some, None, refl, sym, ap, ◌∙◌, subst, ⊎_elim, arith, div-add-mod'}
 use Rattle.std.specs.Prelude.{slice_index_or}
 use Rattle.std.proofs.lemmas.Nat.{le-div, pow_pos}
@@ -21,7 +22,7 @@ use Rattle.stretches.proofs.Standing.{standing-head}
 use Rattle.stretches.proofs.Coming.{comes-here, comes-stb, comes-weaker}
 use Rattle.stretches.proofs.RunningThrough.{runs-append, runs-weaker}
 use Rattle.scratch_alloc.specs.declared.plans.Pin.{Pin}
-use Rattle.block_cache_gen.specs.Homes.{Setting, HasHomes, pin_at, pin_of, home_of, words_a_block, start_of_home}
+use Rattle.block_cache_gen.specs.Homes.{Setting, HasHomes, pin_at, pin_of, home_of, register_for, words_a_block, start_of_home}
 use Rattle.block_cache_gen.specs.StandsFor.{StandsFor}
 use Rattle.block_cache_gen.proofs.HomeFacts.{block_words-is}
 use Rattle.code_gen.specs.Programs.{pin_store, each_slot}
@@ -44,7 +45,7 @@ pub record StoredTo (f : Setting) (s : State) (k : ℕ) (t : State) : Type 0 whe
       → block_at t b a ≡ block_at s b a
 
 module _ (o : Parts) (fits : IsInRange o) (f : Setting) (homes : HasHomes o f) (s : State) (left : Store)
-    (stands : StandsFor f s left) where
+    (stands : StandsFor f s left) (free : (x : List ℕ) → register_for f x ≡ None) where
   -- one block more
   module _ (t : State) (shaped : IsShaped o t) (k : ℕ) (so_far : StoredTo f s k t) (p : Pin)
       (pinned : pin_at f k ≡ Some p) (words : List ℤ) (u : State)
@@ -174,7 +175,7 @@ module _ (o : Parts) (fits : IsInRange o) (f : Setting) (homes : HasHomes o f) (
       let home = homes.residents x label shape known resident in
       ap (λ words. word_in words (h.word + i))
       (stored.stored h.slot (pin_of h) (pin-below h.slot (pin_of h) home.pinned) home.pinned)
-      ∙ stands.residents x label shape i known resident below
+      ∙ stands.residents x label shape i known resident (free x) below
 
   arrays-held : (u : State) → StoredTo f s (length f.pins) u → (x : List ℕ) (label : Label) (i : ℕ)
       → context_of f.decls x ≡ Some (label, Array) → (home_of f x).resident ≡ false → i < (home_of f x).length

@@ -130,6 +130,6 @@ folded-laid p w plan o is =
     }
 
 -- its code is as short
-pub folded-short : (p : Source) (o : Parts) → length o.code ≤ 120 * weight_of (folded_source p) + 64
-    → length o.code ≤ 120 * weight_of p + 64
-folded-short p o short = let less = folded-weighs p in omega arith
+pub folded-short : (p : Source) (o : Parts) (more : ℕ) → length o.code ≤ 120 * weight_of (folded_source p) + more
+    → length o.code ≤ 120 * weight_of p + more
+folded-short p o more short = let less = folded-weighs p in omega arith

@@ -65,7 +65,7 @@ pub record Changes (o : Parts) (f : Setting) (place : ℕ) (code : List Instr) (
 pub stands-moved : {f : Setting} {s : State} {store : Store} (place cycle : ℕ) → StandsFor f s store
     → StandsFor f (record s { place = place; cycle = cycle }) store
 stands-moved {f = f} {s = s} {store = store} place cycle stands =
-    stands-like f s (record s { place = place; cycle = cycle }) store refl refl stands
+    stands-like f s (record s { place = place; cycle = cycle }) store refl refl (λ r high. refl) stands
 
 -- a stretch, and then a run that lasts
 pub lasts-behind : {o : Parts} {s : State} {es : List Observed} {p c turns : ℕ} {P : State → Type 0}

@@ -1,6 +1,6 @@
 -- An object implements a program where its code is the program's, the code of the body follows the body's statements,
 -- and the banks at the start and the outputs name the variables' words.
-use Rattle.std.proofs.Common.{◌≡◌, ℕ, false, ◌+◌, ◌*◌, ◌<◌, ◌≤◌, ℤ, List, [], ◌∷◌, ◌++◌, length, Option, Some, None, refl, sym, ap, ◌∙◌, subst, arith}
+use Rattle.std.proofs.Common.{◌≡◌, ℕ, false, ◌+◌, ◌*◌, ◌<◌, ◌≤◌, ℤ, List, [], ◌∷◌, ◌++◌, length, append-nil, Option, Some, None, refl, sym, ap, ◌∙◌, subst, arith}
 use Rattle.std.specs.Prelude.{slice_get}
 use Rattle.std.specs.Option.{option_map}
 use Rattle.std.proofs.lemmas.List.Elements.{Contains-append_right}
@@ -25,20 +25,26 @@ use Rattle.stretches.specs.Standing.{StandsAt, greatest_costs}
 use Rattle.stretches.specs.Coming.{Comes, RunsThrough}
 use Rattle.stretches.proofs.Standing.{standing-first, standing-rest, standing-head, greatest_costs-append, standing-whole}
 use Rattle.stretches.proofs.Coming.{comes-weaker}
+use Rattle.stretches.proofs.RunningThrough.{runs-append}
 use Rattle.lt_isa.proofs.Lasting.{lasting-no_halt}
 use Rattle.src_tree.specs.Trees.{Source}
 use Rattle.src_tree.specs.Meaning.{Store, Left, run_of_block, meaning}
 use Rattle.flow_types.specs.Wants.{declared_wants}
+use Rattle.src_tree.specs.Typing.{DeclaredOnce}
+use Rattle.held_registers.proofs.Sound.{nothing-sound}
+use Rattle.block_cache_gen.specs.HeldCodes.{held_beginning, held_ending, HasSecretSlot}
 use Rattle.block_cache_gen.specs.Homes.{Setting, HasHomes}
 use Rattle.block_cache_gen.specs.ServedBlocks.{first_blocks}
 use Rattle.block_cache_gen.specs.StandsFor.{StandsFor, FitsHomes}
 use Rattle.code_gen.specs.Implements.{Implements, HasSymbols, by_name}
 use Rattle.code_gen.specs.Statements.{Padding, block_code}
-use Rattle.code_gen.specs.Programs.{pin_store, each_slot, beginning, ending, program_code}
+use Rattle.block_cache_gen.proofs.HeldBeginning.{unheld, runs-held_beginning}
+use Rattle.code_gen.specs.Programs.{load_code, pin_store, each_slot, beginning, ending, program_code}
 use Rattle.code_gen.specs.Follows.{Follows, Finishes, Lasts}
-use Rattle.code_gen.proofs.Loads.{loads_shown, comes-beginning}
+use Rattle.code_gen.proofs.Loads.{LoadedTo, loads_shown, comes-slots}
 use Rattle.code_gen.proofs.Started.{BanksHold, stands-started}
 use Rattle.code_gen.proofs.Ended.{pins_shown, comes-ending}
+use Rattle.code_gen.proofs.HeldEnding.{homes-with, runs-held_ending}
 
 -- The inputs and the outputs of an object are the words of a program's variables, by the homes that its code is made
 -- for.
@@ -86,8 +92,9 @@ module _ (o : Parts) (fits : IsInRange o) (s : State) (shaped : IsShaped o s) (n
       subst P (sym (final_split-stops o fits s run.events run.last run.halt run.reaches shaped run.stops n
       run.in_time)) run.leaves
 
-module _ (p : Source) (o : Parts) (fits : IsInRange o) (f : Setting) (homes : HasHomes o f) (names : NamesWords p o f)
-    (padded : Padding) (code_is : o.code ≡ program_code f padded p.body)
+module _ (p : Source) (o : Parts) (fits : IsInRange o) (f : Setting) (homes : HasHomes o f)
+    (once : DeclaredOnce f.decls) (secret_slot : HasSecretSlot f) (names : NamesWords p o f) (padded : Padding)
+    (code_is : o.code ≡ program_code f padded p.body)
     (follows : Follows o f (length (beginning f)) (block_code f padded p.body) (run_of_block p.decls p.body)) where
   abbrev body : List Instr
   body = block_code f padded p.body
@@ -95,17 +102,26 @@ module _ (p : Source) (o : Parts) (fits : IsInRange o) (f : Setting) (homes : Ha
   abbrev costs : ℕ
   costs = greatest_costs o o.code
 
-  -- the stores at the end
+  -- the stores at the end, of scalars and of blocks
+  abbrev scalars : List Instr
+  scalars = held_ending f
+
   abbrev stores : List Instr
   stores = each_slot pin_store 0 f.pins
 
-  costs-are : costs ≡ greatest_costs o (beginning f) + (greatest_costs o body + (greatest_costs o stores + 1))
+  costs-are : costs
+      ≡ greatest_costs o (beginning f)
+      + (greatest_costs o body + ((greatest_costs o scalars + greatest_costs o stores) + 1))
   costs-are =
       ap (greatest_costs o) code_is
       ∙ greatest_costs-append o (beginning f) (body ++ ending f)
       ∙ ap (λ n. greatest_costs o (beginning f) + n)
-      (let last : greatest_costs o (ending f) ≡ greatest_costs o stores + 1 =
-      omega (arith, greatest_costs-append o stores (Halt ∷ [])) in
+      (let last : greatest_costs o (ending f) ≡ (greatest_costs o scalars + greatest_costs o stores) + 1 =
+      omega (
+        arith,
+        greatest_costs-append o scalars (stores ++ Halt ∷ []),
+        greatest_costs-append o stores (Halt ∷ []),
+      ) in
       greatest_costs-append o body (ending f) ∙ ap (λ n. greatest_costs o body + n) last)
 
   whole : StandsAt o 0 (program_code f padded p.body)
@@ -115,9 +131,6 @@ module _ (p : Source) (o : Parts) (fits : IsInRange o) (f : Setting) (homes : Ha
   ending-stands =
       standing-rest body (ending f) (subst (λ n. StandsAt o n (body ++ ending f)) (omega arith)
       (standing-rest (beginning f) (body ++ ending f) whole))
-
-  halt-stands : (place : ℕ) → StandsAt o place (ending f) → slice_get o.code (place + length stores) ≡ Some Halt
-  halt-stands place at = standing-head Halt [] (standing-rest stores (Halt ∷ []) at)
 
   -- one run on a store
   module _ (store : Store) (given : FitsWants (declared_wants p.decls) store) where
@@ -134,42 +147,61 @@ module _ (p : Source) (o : Parts) (fits : IsInRange o) (f : Setting) (homes : Ha
     pub comes-begun : Comes o start (loads_shown o start (first_blocks f)) (length (beginning f))
         (greatest_costs o (beginning f)) (λ t. StandsFor f t store)
     comes-begun =
-        comes-weaker (loads_shown o start (first_blocks f)) (length (beginning f)) (greatest_costs o (beginning f))
-        (λ t. StandsFor f t store)
-        (comes-beginning o fits start start-shaped f
+        let slots = each_slot load_code 0 (first_blocks f) in
+        let shown = loads_shown o start (first_blocks f) in
+        let P : State → Type 0 = λ t. StandsFor f t store in
+        comes-weaker shown (length (beginning f)) (greatest_costs o (beginning f)) P
+        (runs-append start slots (held_beginning f) shown [] (LoadedTo o start (first_blocks f) 8) P
         (subst (λ n. StandsAt o n (beginning f)) (sym (place-start o inputs))
-        (standing-first (beginning f) (body ++ ending f) whole)))
-        refl (ap (λ n. n + length (beginning f)) (place-start o inputs) ∙ (omega arith)) (omega arith)
-        (λ t shape loaded. stands-started o f homes start t loaded store (names.hold store given)
-        (slot-start o inputs 6))
+        (standing-first (beginning f) (body ++ ending f) whole))
+        (λ here. comes-slots o fits start start-shaped f here)
+        (λ t shape loaded there.
+        runs-held_beginning o fits f homes once secret_slot store t shape
+        (stands-started o f homes start t loaded store (names.hold store given) (slot-start o inputs 6)) there))
+        (append-nil shown) (ap (λ n. n + length (beginning f)) (place-start o inputs) ∙ (omega arith)) (omega arith)
+        (λ t shape stands. stands)
 
     -- if the body is done, it reaches the end of the body and the halt
     module _ (n : ℕ) (left : Left) (done : Finishes o f comes-begun.end n left (length (beginning f) + length body)
         (greatest_costs o body)) where
-      ended : RunsThrough o done.end stores (pins_shown done.end 0 f.pins) (λ u. BanksHold f u left.store)
+      at-end : StandsAt o done.end.place (ending f)
+      at-end = subst (λ n. StandsAt o n (ending f)) (sym done.comes) ending-stands
+
+      stored : RunsThrough o done.end scalars [] (λ u. StandsFor (unheld f) u left.store)
+      stored =
+          runs-held_ending o fits f homes once left.store done.fits done.end done.shaped done.stands
+          (standing-first scalars (stores ++ Halt ∷ []) at-end)
+
+      behind-scalars : StandsAt o stored.end.place (stores ++ Halt ∷ [])
+      behind-scalars =
+          subst (λ n. StandsAt o n (stores ++ Halt ∷ [])) (sym stored.comes)
+          (standing-rest scalars (stores ++ Halt ∷ []) at-end)
+
+      ended : RunsThrough o stored.end stores (pins_shown stored.end 0 f.pins) (λ u. BanksHold (unheld f) u left.store)
       ended =
-          comes-ending o fits f homes done.end left.store done.stands done.shaped
-          (standing-first stores (Halt ∷ []) (subst (λ n. StandsAt o n (ending f)) (sym done.comes) ending-stands))
+          comes-ending o fits (unheld f) (homes-with [] (nothing-sound f.decls) homes) stored.end left.store stored.holds
+          (λ x. refl) stored.shaped (standing-first stores (Halt ∷ []) behind-scalars)
 
       halt-there : slice_get o.code ended.end.place ≡ Some Halt
       halt-there =
-          ap (slice_get o.code) (ended.comes ∙ ap (λ n. n + length stores) done.comes)
-          ∙ halt-stands (length (beginning f) + length body) ending-stands
+          ap (slice_get o.code) ended.comes ∙ standing-head Halt [] (standing-rest stores (Halt ∷ []) behind-scalars)
 
       halts-below : HaltsBelow o start (costs * (n + 1)) (λ u. outputs o u ≡ by_name p o left.store)
       halts-below =
           let last = ended.end in
           let bound =
           costs-bound (greatest_costs o (beginning f)) (greatest_costs o body)
-          (greatest_costs o stores) done.used n (omega (arith, done.counts)) in
+          (greatest_costs o scalars + greatest_costs o stores) done.used n (omega (arith, done.counts)) in
           let in_time : last.cycle < costs * (n + 1) =
           subst (λ c. last.cycle < c * (n + 1)) (sym costs-are)
-          (omega (arith, bound, ended.by, done.by, comes-begun.by, cycle-start o inputs)) in
+          (omega (arith, bound, ended.by, stored.by, done.by, comes-begun.by, cycle-start o inputs)) in
           record {
             last = last;
             halt = passed o Halt false 0 last.place last;
-            events = comes-begun.events ++ (done.events ++ ended.events);
-            reaches = reaches-append comes-begun.reaches (reaches-append done.reaches ended.reaches);
+            events = comes-begun.events ++ (done.events ++ (stored.events ++ ended.events));
+            reaches =
+                reaches-append comes-begun.reaches
+                (reaches-append done.reaches (reaches-append stored.reaches ended.reaches));
             stops = step-at o last Halt halt-there;
             in_time = subst (λ c. c < costs * (n + 1)) (sym (step_start-at o last Halt halt-there)) in_time;
             leaves =

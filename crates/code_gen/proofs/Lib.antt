@@ -1,6 +1,8 @@
+pub mod ScalarsNumbered
 pub mod Loads
 pub mod Started
 pub mod Ended
+pub mod HeldEnding
 pub mod Implementing
 pub mod ByName
 pub mod Compiled
@@ -19,6 +21,7 @@ pub mod PassedBranches
 pub mod PassedChoices
 pub mod PassedLoops
 pub mod PassedStatements
+pub mod PassedRegisters
 pub mod PassedPrograms
 pub mod StoredStatements
 pub mod AcceptedPrograms

@@ -17,7 +17,7 @@ use Rattle.stretches.proofs.Coming.{comes-here, comes-weaker, comes-ldb, comes-l
 use Rattle.scratch_alloc.specs.declared.plans.Pin.{Pin}
 use Rattle.block_cache_gen.specs.Homes.{Setting}
 use Rattle.block_cache_gen.specs.ServedBlocks.{first_blocks}
-use Rattle.code_gen.specs.Programs.{load_code, each_slot, beginning}
+use Rattle.code_gen.specs.Programs.{load_code, each_slot}
 
 -- the block that a number names
 abbrev pub named : Parts → (bank block : ℕ) → ℕ
@@ -147,11 +147,12 @@ module _ (o : Parts) (fits : IsInRange o) (s : State) (blocks : List (Option Pin
           → get_or more i None ≡ get_or blocks (k + 1 + i) None
       next are i = let same : k + suc i ≡ k + 1 + i = omega arith in are (suc i) ∙ ap (λ n. get_or blocks n None) same
 
--- the code of a beginning loads all slots
-pub comes-beginning : (o : Parts) → IsInRange o → (s : State) → IsShaped o s → (f : Setting)
-    → StandsAt o s.place (beginning f)
-    → RunsThrough o s (beginning f) (loads_shown o s (first_blocks f)) (LoadedTo o s (first_blocks f) 8)
-comes-beginning o fits s shaped f at =
+-- the code for slots loads all of them
+pub comes-slots : (o : Parts) → IsInRange o → (s : State) → IsShaped o s → (f : Setting)
+    → StandsAt o s.place (each_slot load_code 0 (first_blocks f))
+    → RunsThrough o s (each_slot load_code 0 (first_blocks f)) (loads_shown o s (first_blocks f))
+    (LoadedTo o s (first_blocks f) 8)
+comes-slots o fits s shaped f at =
     comes-loads o fits s (first_blocks f) (first_blocks f) 0 s shaped
     (record { banks = refl; loaded = λ j below. absurd (omega (arith, below)); others = λ j past. refl })
     (λ i. let same : i ≡ 0 + i = omega arith in ap (λ n. get_or (first_blocks f) n None) same) (omega arith) at

@@ -17,7 +17,7 @@ use Rattle.block_cache_gen.specs.Homes.{Setting, HasHomes}
 use Rattle.block_cache_gen.specs.Codes.{guard_code}
 use Rattle.block_cache_gen.specs.Notes.{guard_notes}
 use Rattle.block_cache_gen.proofs.PublicGuards.{guard-lie}
-use Rattle.block_cache_gen.proofs.RangesOfNotes.{NotesRise, rise-wider, rise-then, guard-rises}
+use Rattle.block_cache_gen.proofs.RangesOfNotes.{base_mask-below, NotesRise, rise-wider, rise-then, guard-rises}
 use Rattle.code_gen.specs.Statements.{opposite, choice_code, head_note}
 use Rattle.code_gen.proofs.PassedParts.{head_claim, IsOpenAt, IsPassed, IsNoted, rise-lies, closed, closed_by, closed_other, closed_found, closed_rises, end-open, head-carries, stands-as}
 use Rattle.code_gen.proofs.PassedBranches.{PassesGuards, guard-longer, branch-on, jump-away}
@@ -75,7 +75,7 @@ module _ (f : Setting) (t : Test) (xs : List Instr) (first : ℕ → List Note) 
   tail_rises : (p : ℕ) → NotesRise f (head_at p) (end_at p + 1) (tail_notes p)
   tail_rises p = (
     (omega arith, omega arith),
-    (omega arith, refl),
+    (base_mask-below f, refl),
     closed_rises f (second (second_at p)) two (head_at p + 1) (end_at p) (omega arith) (second_rises p) (second_end p),
   )
 

@@ -19,7 +19,7 @@ use Rattle.block_cache_gen.specs.Homes.{Setting, HasHomes}
 use Rattle.block_cache_gen.specs.Codes.{guard_code}
 use Rattle.block_cache_gen.specs.Notes.{guard_notes}
 use Rattle.block_cache_gen.proofs.PublicGuards.{guard-lie}
-use Rattle.block_cache_gen.proofs.RangesOfNotes.{NotesRise, rise-wider, rise-then, guard-rises}
+use Rattle.block_cache_gen.proofs.RangesOfNotes.{base_mask-below, NotesRise, rise-wider, rise-then, guard-rises}
 use Rattle.code_gen.specs.Statements.{loop_code, guard_note, head_note}
 use Rattle.code_gen.proofs.PassedParts.{head_claim, IsOpenAt, IsPassed, IsNoted, rise-lies, closed_by, closed_other, closed_rises, head-carries, stands-as}
 use Rattle.code_gen.proofs.PassedBranches.{PassesGuards, guard-longer, branch-on, jump-away}
@@ -148,7 +148,7 @@ module _ (f : Setting) (t : Test) (xs : List Instr) (first : ℕ → List Note) 
           (rise-wider f (guard_at p + 1) (branch_at p) (guard_at p + 1) (p + length loop + 1)
           (guard_notes f 0 (guard_at p) t) (omega arith) (omega arith) (guard-rises f 0 (guard_at p) t)) in (
             (omega arith, omega arith),
-            (omega arith, refl),
+            (base_mask-below f, refl),
             subst (NotesRise f (body_at p + 1) (p + length loop + 1)) (sym (regrouped p)) behind,
           );
       ended = λ p.

@@ -14,16 +14,15 @@ use Rattle.stretches.specs.Passing.{HoldsAt, AsItComes, AsClaimed, Passes, Done,
 use Rattle.stretches.proofs.Standing.{standing-first, standing-rest}
 use Rattle.stretches.proofs.Passed.{passes-then, passes-to, LieBetween, no_note-before, no_note-behind, note_at-first, note_at-second, note_at-found, note_at-head, note_at-tail}
 use Rattle.block_cache_gen.specs.Homes.{Setting, HasHomes}
-use Rattle.block_cache_gen.specs.Notes.{all_marked, note_of}
+use Rattle.block_cache_gen.specs.Notes.{base_mask, note_of}
 use Rattle.block_cache_gen.specs.Carries.{Carries}
-use Rattle.block_cache_gen.proofs.NoteClaims.{note-fits, note-carries}
-use Rattle.block_cache_gen.proofs.PublicGuards.{leaves-none}
-use Rattle.block_cache_gen.proofs.RangesOfNotes.{NotesRise, rise-wider, rise-then}
+use Rattle.block_cache_gen.proofs.NoteClaims.{leaves-base, note-fits, note-carries}
+use Rattle.block_cache_gen.proofs.RangesOfNotes.{base_mask-below, NotesRise, rise-wider, rise-then}
 use Rattle.code_gen.specs.Statements.{head_note, head_unless}
 
 -- what a note to which public code may jump claims
 abbrev pub head_claim : Setting → Known
-head_claim f = note_known (note_of f all_marked 0)
+head_claim f = note_known (note_of f (base_mask f) 0)
 
 -- at a place there is no note, or one to which public code may jump
 abbrev pub IsOpenAt : Parts → Setting → ℕ → Type 0
@@ -116,7 +115,7 @@ closed_rises f notes true low q le rise ended =
     rise-then f low (q + 1) (q + 1) notes [] (omega arith) (omega arith) rise tt
 closed_rises f notes false low q le rise ended =
     rise-then f low q (q + 1) notes (head_note f q ∷ []) le (omega arith) (rise-short f low q notes rise ended)
-    ((omega arith, omega arith), (omega arith, refl), tt)
+    ((omega arith, omega arith), (base_mask-below f, refl), tt)
 
 -- the note at a part's end, if nothing else is there
 pub end-open : (o : Parts) (f : Setting) (ends : Bool) (q : ℕ)
@@ -133,11 +132,11 @@ pub record HeldOpen (o : Parts) (f : Setting) (p : ℕ) (k : Known) : Type 0 whe
 module _ (o : Parts) (f : Setting) (homes : HasHomes o f) (once : DeclaredOnce f.decls) where
   -- what the setting relies on fits the claim of a head
   pub fits-head : (k : Known) → Carries f k → FitsClaim k (head_claim f)
-  fits-head k carries = note-fits o f homes once all_marked 0 0 k carries (leaves-none 0 k)
+  fits-head k carries = note-fits o f homes once (base_mask f) 0 0 k carries (leaves-base f 0 k)
 
   -- and that claim has what the setting relies on
   pub head-carries : Carries f (head_claim f)
-  head-carries = note-carries o f homes once all_marked 0
+  head-carries = note-carries o f homes once (base_mask f) 0 (λ r high low. refl)
 
   -- what holds at a place where public code may come in
   pub held-open : (p : ℕ) (k : Known) → IsOpenAt o f p → Carries f k → HeldOpen o f p k

@@ -1,5 +1,6 @@
 -- An object with the code and the notes of a program is accepted.
-use Rattle.std.proofs.Common.{◌≡◌, ℕ, zero, suc, ◌+◌, ◌<◌, ◌≤◌, Bool, true, false, ◌&&◌, pos, List, [], ◌∷◌, ◌++◌, length, length-append, get_or, inl, Option, Some, None, refl, ap, ◌∙◌, subst, arith, length-set}
+use Rattle.std.proofs.Common.{◌≡◌, ℕ, zero, suc, ◌+◌, ◌-◌, ◌<◌, ◌≤◌, Bool, true, false, ◌&&◌, pos, List, [], ◌∷◌, ◌++◌, length, length-append, get_or, inl, Option, Some, None, refl, sym, ap, ◌∙◌, subst, arith, append_assoc, length-set}
+use Rattle.std.specs.List.{slice_get}
 use Rattle.std.specs.Option.{option_map}
 use Rattle.gr_word.specs.declared.variables.Label.TheVariants as label
 use Rattle.lt_isa.specs.declared.symbols.Note.{Note}
@@ -10,7 +11,7 @@ use Rattle.src_tree.specs.Contexts.{context_of}
 use Rattle.src_tree.specs.Limits.{max_weight, LowBlock, block_weight}
 use Rattle.src_tree.specs.Trees.{Block}
 use Rattle.src_tree.specs.Typing.{TypedBlock, DeclaredOnce}
-use Rattle.trace_patterns.specs.Known.{Known, bank_known, set_secret, set_bank, start_known, note_known}
+use Rattle.trace_patterns.specs.Known.{Known, is_secret, bank_known, set_secret, set_bank, start_known, note_known}
 use Rattle.trace_patterns.specs.Rules.{Leaves, shows_block, note_of_place, claimed_at, ruling_of}
 use Rattle.trace_patterns.specs.Accepts.{Accepts, has_secret_in_ram}
 use Rattle.stretches.specs.Standing.{StandsAt}
@@ -19,7 +20,8 @@ use Rattle.stretches.proofs.Standing.{standing-first, standing-rest, standing-he
 use Rattle.stretches.proofs.Passed.{passes-then, passes-to, passes-goes, passes-noted, GoesOn, NoMore, One, goes-then, ruled-at, rules-li, rules-ldb, rules-stb, secret-same, bank-same, bank-other, LieBetween, no_note-before, no_note-behind}
 use Rattle.stretches.proofs.PassedCode.{passes-accepted}
 use Rattle.scratch_alloc.specs.declared.plans.Pin.{Pin}
-use Rattle.block_cache_gen.specs.Homes.{Setting, HasHomes, home_of}
+use Rattle.block_cache_gen.specs.Homes.{Held, Setting, HasHomes, held_label, home_of, label_by}
+use Rattle.block_cache_gen.specs.HeldCodes.{HasSecretSlot, begin_code, end_code, each_held}
 use Rattle.block_cache_gen.specs.ServedBlocks.{first_blocks}
 use Rattle.block_cache_gen.specs.Carries.{Carries}
 use Rattle.block_cache_gen.proofs.NamesOfHomes.{array-used, array-served}
@@ -27,6 +29,13 @@ use Rattle.block_cache_gen.proofs.ServedBlocks.{first-pinned, first-served}
 use Rattle.code_gen.specs.Statements.{Padding, block_code, block_notes, block_ends_noted}
 use Rattle.code_gen.specs.Programs.{load_code, pin_store, each_slot, beginning, ending, program_code, program_notes}
 use Rattle.block_cache_gen.specs.PublicIndexes.{BlockHasPublicIndexes}
+use Rattle.gr_word.specs.declared.variables.Label.{Label}
+use Rattle.src_tree.specs.Labels.{secret_label}
+use Rattle.held_registers.specs.declared.registers.Held.TheVariants as thing
+use Rattle.held_registers.specs.Held.{held_at, label_held}
+use Rattle.held_registers.proofs.Found.{held-high}
+use Rattle.block_cache_gen.proofs.HeldScalars.{held-listed}
+use Rattle.code_gen.proofs.PassedRegisters.{KnowsPins, all_held, got_from, stored_scalars}
 use Rattle.code_gen.proofs.PassedParts.{IsOpenAt, rise-lies, end-open, held-open, stands-as}
 use Rattle.code_gen.proofs.PassedStatements.{BeginsGuarded, PassesPadded, block-noted, block-passed}
 
@@ -130,29 +139,51 @@ record Begun (o : Parts) (f : Setting) (p : ℕ) (code : List Instr) (k : Known)
   goes : GoesOn o p code k after
   carries : Carries f after
 
-begun : (o : Parts) (f : Setting) → HasHomes o f → Begun o f 0 (beginning f) start_known
-begun o f homes =
+begun : (o : Parts) (f : Setting) → HasHomes o f → DeclaredOnce f.decls → HasSecretSlot f
+    → Begun o f 0 (beginning f) start_known
+begun o f homes once slot =
     let a = loaded_from o 0 0 (first_blocks f) start_known (omega arith) start_loading in
     let l = a.loading in
+    let loads = each_slot load_code 0 (first_blocks f) in
     let known : (slot : ℕ) (q : Pin) → get_or (first_blocks f) slot None ≡ Some q
     → bank_known a.after slot ≡ Some q.bank = (λ slot q e.
     let same : slot ≡ 0 + slot = omega arith in ap (bank_known a.after) same ∙ a.loaded slot q e) in
+    let pins : KnowsPins f a.after = λ slot q is few apart. known slot q (first-pinned f slot q few apart is) in
+    let few = homes.held.few in
+    let g = got_from o f homes once slot (0 + length loads) 19 f.held a.after (all_held f) (omega arith) (omega arith) l.registers pins in
+    let still : (slot : ℕ) → bank_known g.after slot ≡ bank_known a.after slot =
+    λ slot. ap (λ (banks : List (Option ℕ)). get_or banks slot None) g.banks in
     record {
-      after = a.after;
-      goes = a.goes;
+      after = g.after;
+      goes = goes-then o 0 loads (each_held (begin_code f) 19 f.held) start_known a.after g.after a.goes g.goes;
       carries
           = record {
-            registers = l.registers;
-            slots = l.slots;
-            pinned = λ slot q is few apart. known slot q (first-pinned f slot q few apart is);
+            registers = g.registers;
+            slots = ap length g.banks ∙ l.slots;
+            pinned = λ slot q is few apart. still slot ∙ pins slot q is few apart;
             arrays = λ x label declared turn range.
                 let h = home_of f x in
                 let first =
                 first-served f h.slot h.bank (array-served o f homes x label declared turn range)
                 (homes.arrays x label declared turn).unpinned (array-used o f homes x label declared) in
-                known h.slot (record { bank = h.bank; block = first.0 }) first.1;
+                still h.slot ∙ known h.slot (record { bank = h.bank; block = first.0 }) first.1;
+            held = held_by g.after g.own;
           };
     }
+  where
+    held_by : (last : Known)
+        → ((i : ℕ) (h : Held) (l : Label) → slice_get f.held i ≡ Some h → label_held f.decls h ≡ Some l
+        → is_secret last (19 + i) ≡ secret_label l)
+        → (r : ℕ) (l : Label) → held_label f r ≡ Some l → is_secret last r ≡ secret_label l
+    held_by last own r l is = by (held_at f.held r) refl is
+      where
+        by : (q : Option Held) → held_at f.held r ≡ q → label_by f.decls q ≡ Some l
+            → is_secret last r ≡ secret_label l
+        by None at e = absurd (let g : ◌≡◌ {A = Option Label} None (Some l) = e in cc)
+        by (Some h) at e =
+            let high = held-high f.held r h at in
+            let same : r ≡ 19 + (r - 19) = omega arith in
+            ap (is_secret last) same ∙ own (r - 19) h l (held-listed f.held r h at) e
 
 -- the stores of pinned slots from one on
 stores-go : (o : Parts) (p slot : ℕ) (pins : List (Option Pin)) (k : Known)
@@ -169,26 +200,26 @@ stores-go o p slot (Some r ∷ pins) k known =
     (stores-go o (p + 1) (slot + 1) pins k
     (λ i q e. let same : slot + 1 + i ≡ slot + suc i = omega arith in ap (bank_known k) same ∙ known (suc i) q e))
 
--- From a place where this holds such code is passed up to the place after it, where the same holds.
+-- From a place where this holds such code is passed up to the place after it, where that holds.
 record Ended (o : Parts) (p q : ℕ) (comes holds : Known) : Type 0 where
   last : Known
   passes : Passes o p comes q last
   here : HoldsAt o q last holds
 
-ended : (o : Parts) (p : ℕ) (code : List Instr) (comes holds : Known) → HoldsAt o p comes holds
-    → GoesOn o p code holds holds → StandsAt o p code → ((r : ℕ) → p < r → claimed_at o r ≡ None)
-    → p + length code < length o.code → Ended o p (p + length code) comes holds
-ended o p [] comes holds here goes at quiet inside =
+ended : (o : Parts) (p : ℕ) (code : List Instr) (comes holds after : Known) → HoldsAt o p comes holds
+    → GoesOn o p code holds after → StandsAt o p code → ((r : ℕ) → p < r → claimed_at o r ≡ None)
+    → p + length code < length o.code → Ended o p (p + length code) comes after
+ended o p [] comes holds after here (NoMore q k) at quiet inside =
     let same : p ≡ p + 0 = omega arith in
     record {
       last = comes;
       passes = passes-to o p comes p (p + 0) comes same (Done p comes);
       here = subst (λ q. HoldsAt o q comes holds) same here;
     }
-ended o p (i ∷ code) comes holds here goes at quiet inside = record {
-  last = holds;
-  passes = passes-noted o p i code comes holds holds here goes at (λ r after under. quiet r after) inside;
-  here = AsItComes holds (quiet (p + length (i ∷ code)) (omega arith));
+ended o p (i ∷ code) comes holds after here goes at quiet inside = record {
+  last = after;
+  passes = passes-noted o p i code comes holds after here goes at (λ r over under. quiet r over) inside;
+  here = AsItComes after (quiet (p + length (i ∷ code)) (omega arith));
 }
 
 -- the end of a program
@@ -203,22 +234,26 @@ notes_claim o notes r same = ap (λ (ns : List Note). option_map note_known (not
 
 -- an object with a program's code and notes is accepted
 pub program-accepts : (o : Parts) (f : Setting) (padded : Padding) (body : Block) → HasHomes o f → DeclaredOnce f.decls
-    → BeginsGuarded f padded → PassesPadded o f padded → TypedBlock (context_of f.decls) label.Public body
+    → HasSecretSlot f → BeginsGuarded f padded → PassesPadded o f padded → TypedBlock (context_of f.decls) label.Public body
     → BlockHasPublicIndexes f body → LowBlock body → block_weight (context_of f.decls) label.Public body ≤ max_weight
     → o.code ≡ program_code f padded body → o.notes ≡ program_notes f padded body → has_secret_in_ram o ≡ false
     → Accepts o
-program-accepts o f padded body homes once begins secret typed indexes low light coded noted symbols =
+program-accepts o f padded body homes once slot begins secret typed indexes low light coded noted symbols =
     let start = beginning f in
     let middle = block_code f padded body in
     let p = length start in
     let q = p + length middle in
     let notes = block_notes f padded p body in
-    let stores = each_slot pin_store 0 f.pins in
+    let scalars = each_held (end_code f) 19 f.held in
+    let blocks = each_slot pin_store 0 f.pins in
+    let stores = scalars ++ blocks in
     let last = ending f in
+    let regrouped : last ≡ stores ++ Halt ∷ [] = sym (append_assoc scalars blocks (Halt ∷ [])) in
     let size : length (start ++ (middle ++ last)) ≡ p + (length middle + (length stores + 1)) =
     length-append start (middle ++ last)
     ∙ ap (λ (n : ℕ). p + n)
-    (length-append middle last ∙ ap (λ (n : ℕ). length middle + n) (length-append stores (Halt ∷ []))) in
+    (length-append middle last
+    ∙ ap (λ (n : ℕ). length middle + n) (ap length regrouped ∙ length-append stores (Halt ∷ []))) in
     let whole : length o.code ≡ p + (length middle + (length stores + 1)) = ap length coded ∙ size in
     let stands : StandsAt o 0 (start ++ (middle ++ last)) = standing-whole o (start ++ (middle ++ last)) coded in
     let part = block-noted f padded begins body in
@@ -229,7 +264,7 @@ program-accepts o f padded body homes once begins secret typed indexes low light
     ∙ ap (option_map note_known) (no_note-before p (q + 1) r notes lie le)) in
     let none_high : (r : ℕ) → q < r → claimed_at o r ≡ None = (λ r lt. at r
     ∙ ap (option_map note_known) (no_note-behind p (q + 1) r notes lie (omega arith))) in
-    let a = begun o f homes in
+    let a = begun o f homes once slot in
     let zero_p : 0 + length start ≡ p = omega arith in
     let first : Passes o 0 start_known p a.after = passes-to o 0 start_known (0 + length start) p a.after zero_p
     (passes-goes o 0 start start_known a.after a.goes (standing-first start (middle ++ last) stands)
@@ -243,18 +278,21 @@ program-accepts o f padded body homes once begins secret typed indexes low light
     (omega arith) open_body a.carries in
     let h = held-open o f homes once q b.last
     (end-open o f (block_ends_noted f body) q (at q ∙ ap (option_map note_known) (part.ended p))) b.carries in
-    let close : StandsAt o q last = standing-rest middle last rest in
-    let goes : GoesOn o q stores h.held h.held =
-    stores-go o q 0 f.pins h.held
+    let close : StandsAt o q (stores ++ Halt ∷ []) =
+    subst (λ (code : List Instr). StandsAt o q code) regrouped (standing-rest middle last rest) in
+    let w = stored_scalars o f homes once slot q 19 f.held h.held (all_held f) h.carries in
+    let goes : GoesOn o q stores h.held w.after =
+    goes-then o q scalars blocks h.held w.after w.after w.goes
+    (stores-go o (q + length scalars) 0 f.pins w.after
     (λ i pin is.
     let same : 0 + i ≡ i = omega arith in
     let fits = homes.pins i pin is in
-    ap (bank_known h.held) same ∙ h.carries.pinned i pin is fits.few fits.apart) in
-    let e = ended o q stores b.last h.held h.here goes (standing-first stores (Halt ∷ []) close)
+    ap (bank_known w.after) same ∙ w.carries.pinned i pin is fits.few fits.apart)) in
+    let e = ended o q stores b.last h.held w.after h.here goes (standing-first stores (Halt ∷ []) close)
     (λ r after. none_high r after) (omega arith) in
     let z = q + length stores in
-    passes-accepted o z e.last h.held
+    passes-accepted o z e.last w.after
     (passes-then o 0 start_known p a.after first z e.last (passes-then o p a.after q b.last b.passes z e.last e.passes))
     e.here
-    (ruled-at o z h.held Halt (standing-head Halt [] (standing-rest stores (Halt ∷ []) close)) ∙ halts o z h.held)
+    (ruled-at o z w.after Halt (standing-head Halt [] (standing-rest stores (Halt ∷ []) close)) ∙ halts o z w.after)
     (omega arith) symbols

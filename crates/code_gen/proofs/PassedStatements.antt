@@ -9,9 +9,9 @@ use Rattle.lt_isa.specs.declared.instructions.Instr.{Instr}
 use Rattle.lt_isa.specs.declared.instructions.Instr.TheVariants.{Li, Br, Stw}
 use Rattle.lt_isa.specs.Object.{Parts}
 use Rattle.src_tree.specs.Contexts.{context_of}
-use Rattle.src_tree.specs.Labels.{inside, label_of_test}
+use Rattle.src_tree.specs.Labels.{inside, label_of, label_of_test}
 use Rattle.src_tree.specs.Limits.{max_weight, Low, LowStatement, LowBlock, parts_weight, statement_weight, block_weight, test_weight}
-use Rattle.src_tree.specs.Trees.{Test, Statement, SetVariable, SetElement, Choice, Loop, Block, Nothing, Then}
+use Rattle.src_tree.specs.Trees.{Variable, Test, Statement, SetVariable, SetElement, Choice, Loop, Block, Nothing, Then}
 use Rattle.src_tree.specs.Typing.{TypedStatement, TypedBlock, TypedTest, DeclaredOnce}
 use Rattle.trace_patterns.specs.Known.{Known, note_known}
 use Rattle.trace_patterns.specs.Rules.{note_of_place, claimed_at}
@@ -19,8 +19,8 @@ use Rattle.stretches.specs.Passing.{HoldsAt}
 use Rattle.stretches.proofs.Standing.{standing-first}
 use Rattle.stretches.proofs.Passed.{passes-to, no_note-behind, note_at-first, note_at-found}
 use Rattle.block_cache_gen.specs.declared.frames.Mode.TheVariants.{Public}
-use Rattle.block_cache_gen.specs.Homes.{Setting, HasHomes, home_of}
-use Rattle.block_cache_gen.specs.Codes.{expr_code, guard_code, set_code, stored_code}
+use Rattle.block_cache_gen.specs.Homes.{Setting, HasHomes, home_of, register_for}
+use Rattle.block_cache_gen.specs.Codes.{expr_code, guard_code, set_code, write_code, stored_code}
 use Rattle.block_cache_gen.specs.Notes.{guard_notes, set_notes}
 use Rattle.block_cache_gen.specs.Carries.{Carries}
 use Rattle.block_cache_gen.specs.PublicIndexes.{TestHasPublicIndexes}
@@ -174,7 +174,8 @@ module _ (f : Setting) (padded : Padding) (begins : BeginsGuarded f padded) wher
 
   pub statement-longer : (s : Statement) → 1 ≤ length (statement_code f padded s)
   statement-longer (SetVariable x e) =
-      longer (expr_code f Public 0 e) (Li 1 (pos (home_of f x).word) ∷ Stw 0 (home_of f x).slot 1 ∷ [])
+      longer (expr_code f Public 0 e)
+      (write_code (register_for f x) (label_of (context_of f.decls) (Variable x)) Public (home_of f x))
       (expression-longer f e 0)
   statement-longer (SetElement x i e) =
       longer (expr_code f Public 0 e)

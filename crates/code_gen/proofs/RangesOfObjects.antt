@@ -1,5 +1,5 @@
 -- An object with a program's layout, and with the program's code and notes, is in its ranges.
-use Rattle.std.proofs.Common.{◌≡◌, ℕ, ◌^◌, ◌≤◌, List, [], ◌∷◌, length, sym, ap, ◌∙◌, subst, arith}
+use Rattle.std.proofs.Common.{◌≡◌, ℕ, ◌+◌, ◌^◌, ◌≤◌, List, [], ◌∷◌, length, sym, ap, ◌∙◌, subst, arith}
 use Rattle.std.specs.Prelude.{All}
 use Rattle.std.proofs.lemmas.List.{length-map}
 use Rattle.std.proofs.lemmas.List.Sorted.{length_permutation}
@@ -15,20 +15,39 @@ use Rattle.src_tree.specs.Trees.{source_of}
 use Rattle.bank_alloc.specs.declared.places.Place.{Place}
 use Rattle.bank_alloc.proofs.BankSizes.{banks_fit}
 use Rattle.bank_alloc.specs.Layout.{IsLaidOut, placed_symbols}
+use Rattle.gr_word.specs.declared.variables.Shape.TheVariants as shape
+use Rattle.held_registers.specs.declared.registers.Held.TheVariants.{Number, Scalar}
 use Rattle.block_cache_gen.specs.declared.frames.Frame.{Frame}
 use Rattle.block_cache_gen.specs.Settings.{setting_of, IsFrame}
 use Rattle.block_cache_gen.specs.ProgramWords.{BlockHasWords}
 use Rattle.block_cache_gen.proofs.HomesOfFrames.{homes_fit, first_fits, frame_banks}
-use Rattle.block_cache_gen.proofs.RangesOfCode.{HomesFit}
+use Rattle.block_cache_gen.proofs.HeldBeginning.{held-at}
+use Rattle.block_cache_gen.proofs.RangesOfCode.{HomeFits, HomesFit}
 use Rattle.code_gen.specs.Emitted.{padding_of}
 use Rattle.code_gen.specs.Programs.{program_code, program_notes}
-use Rattle.code_gen.proofs.RangesOfPrograms.{PinsInEight, program-size, program-fits, notes-fit, notes-few, notes-inside}
+use Rattle.code_gen.proofs.ScalarsNumbered.{scalar-numbered}
+use Rattle.code_gen.proofs.RangesOfPrograms.{HeldFit, PinsInEight, program-size, program-fits, notes-fit, notes-few, notes-inside}
 
 -- as many symbols as variables
 symbols_short : (ds : List Decl) (places : List Place) → length (placed_symbols ds places) ≤ length ds
 symbols_short [] places = omega arith
 symbols_short (d ∷ ds) [] = omega arith
 symbols_short (d ∷ ds) (q ∷ places) = omega (arith, symbols_short ds places)
+
+-- what registers hold in a frame's code
+held_fit : (f : Frame) → IsFrame f → (banks : ℕ) → HomesFit banks (setting_of f)
+    → HeldFit banks (setting_of f) 19 f.held.now
+held_fit f frame banks homes =
+    let g = setting_of f in
+    let sound = frame.held in
+    record {
+      few = omega (arith, sound.few);
+      words = λ i z at. sound.words (19 + i) z (held-at f.held.now i (Number z) at);
+      homes = λ i n at.
+          let typed = frame.typed in
+          let named = scalar-numbered g typed.once sound (19 + i) n (held-at f.held.now i (Scalar n) at) in
+          subst (HomeFits banks) named.home (homes.homes named.name named.label shape.Scalar named.declared);
+    }
 
 -- The frame that the code was made for; symbols and latencies in their ranges; and numbers that are words, as those of
 -- every program are.
@@ -45,6 +64,7 @@ frame-in_range f frame o profile layout named latencies words code notes =
     let few = frame.profile.taken.1 in
     let light = frame.within.weight in
     let eight : PinsInEight g = λ slot pin pinned. (frame.plan.pins slot pin pinned).few in
+    let registers = (let sound = frame.held in sound.few) in
     let places = f.places.now.of_var.items in
     let banks : length f.places.now.blocks.items ≡ length o.banks =
     ap length (sym layout.blocks) ∙ length-map o.banks (λ (b : BankSpec). b.blocks) in
@@ -66,19 +86,19 @@ frame-in_range f frame o profile layout named latencies words code notes =
           = subst (λ (n : ℕ). EachAfter (SymbolFits (2 ^ n) o.banks) [] o.symbols) (sym layout.block_size)
           named;
       note_count = subst (λ (ns : List Note). length ns ≤ most_notes) (sym notes)
-          (notes-few g p.body few eight light);
+          (notes-few g p.body few eight registers light);
       notes
-          = subst (EachAfter (NoteFits (length o.banks)) []) (sym notes) (notes-fit g p.body few eight light
+          = subst (EachAfter (NoteFits (length o.banks)) []) (sym notes) (notes-fit g p.body few eight registers light
           (length o.banks) some homes.pins);
       code_size
           = subst (λ (c : List Instr). Within 1 most_instructions (length c)) (sym code)
-          (program-size g p.body few eight light);
+          (program-size g p.body few eight registers light);
       behind_notes
           = subst (λ (ns : List Note). next_place ns ≤ length o.code) (sym notes)
           (subst (λ (c : List Instr). next_place (program_notes g (padding_of g) p.body) ≤ length c) (sym code)
-          (notes-inside g p.body few eight light));
+          (notes-inside g p.body few eight registers light));
       code
           = subst (All (InstrFits (length o.banks))) (sym code)
-          (program-fits g p.body few eight light (length o.banks) some homes
-          (first_fits f frame) frame.typed.body words frame.within.heights);
+          (program-fits g p.body few eight registers light (length o.banks) some homes
+          (first_fits f frame) (held_fit f frame (length o.banks) homes) frame.typed.body words frame.within.heights);
     }

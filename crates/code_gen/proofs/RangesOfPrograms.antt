@@ -1,11 +1,13 @@
 -- The code and the notes of a whole program are in their ranges, and so is an object that is made of them.
-use Rattle.std.proofs.Common.{◌≡◌, ℕ, suc, ◌+◌, ◌-◌, ◌*◌, ◌<◌, ◌≤◌, pos, List, [], ◌∷◌, ◌++◌, length, length-append, get_or, Option, Some, None, refl, ap, ◌∙◌, arith}
+use Rattle.std.proofs.Common.{◌≡◌, ℕ, suc, ◌+◌, ◌-◌, ◌*◌, ◌<◌, ◌≤◌, ℤ, pos, List, [], ◌∷◌, ◌++◌, length, length-append, get_or, Option, Some, None, refl, ap, ◌∙◌, arith}
 use Rattle.std.specs.Prelude.{All}
+use Rattle.std.specs.List.{slice_get}
 use Rattle.gr_base.specs.Lists.{Within, EachAfter}
+use Rattle.gr_word.specs.declared.operations.Op.TheVariants.{Sub}
 use Rattle.gr_word.specs.declared.variables.Label.TheVariants as label
 use Rattle.lt_isa.specs.declared.symbols.Note.{Note}
 use Rattle.lt_isa.specs.declared.instructions.Instr.{Instr}
-use Rattle.lt_isa.specs.declared.instructions.Instr.TheVariants.{Li, Ldb, Stb, Halt}
+use Rattle.lt_isa.specs.declared.instructions.Instr.TheVariants.{Li, Alu, Ldb, Ldw, Stw, Stb, Halt}
 use Rattle.lt_isa.specs.Limits.{most_instructions, most_notes}
 use Rattle.lt_isa.specs.Ranges.{InstrFits, NoteFits, next_place}
 use Rattle.src_tree.specs.Contexts.{context_of}
@@ -13,10 +15,13 @@ use Rattle.src_tree.specs.Limits.{max_weight, LowBlock, block_weight}
 use Rattle.src_tree.specs.Trees.{Block}
 use Rattle.src_tree.specs.Typing.{TypedBlock}
 use Rattle.scratch_alloc.specs.declared.plans.Pin.{Pin}
-use Rattle.block_cache_gen.specs.Homes.{Setting, pin_at}
+use Rattle.gr_word.specs.Words.{IsWord}
+use Rattle.held_registers.specs.declared.registers.Held.TheVariants.{SecretZero, Number, Scalar}
+use Rattle.block_cache_gen.specs.HeldCodes.{home_numbered, begin_code, end_code, each_held, held_beginning, held_ending}
+use Rattle.block_cache_gen.specs.Homes.{Held, Setting, pin_at}
 use Rattle.block_cache_gen.specs.ServedBlocks.{first_blocks}
 use Rattle.block_cache_gen.specs.ProgramWords.{BlockHasWords}
-use Rattle.block_cache_gen.proofs.RangesOfCode.{HomesFit, CodeFits, NoCode, Before, code-all, code-both, small-word}
+use Rattle.block_cache_gen.proofs.RangesOfCode.{HomeFits, HomesFit, CodeFits, NoCode, Before, code-all, code-both, small-word}
 use Rattle.block_cache_gen.proofs.RangesOfNotes.{NotesRise, PinsLow, rise-fits}
 use Rattle.code_gen.specs.Emitted.{padding_of}
 use Rattle.code_gen.specs.Statements.{block_code}
@@ -53,13 +58,34 @@ PinsInEight f = (slot : ℕ) (p : Pin) → pin_at f slot ≡ Some p → slot < 8
 all_in_eight : (f : Setting) → PinsInEight f → AreInEight 0 f.pins
 all_in_eight f few i p is = omega (arith, few i p is)
 
-pub beginning_short : (f : Setting) → length (beginning f) ≤ 16
-beginning_short f = loads_short 0 (first_blocks f)
+-- the code of held registers
+begun_short : (f : Setting) (r : ℕ) (held : List Held) → length (each_held (begin_code f) r held) ≤ 2 * length held
+begun_short f r [] = omega arith
+begun_short f r (SecretZero ∷ held) = omega (arith, begun_short f (r + 1) held)
+begun_short f r (Number z ∷ held) = omega (arith, begun_short f (r + 1) held)
+begun_short f r (Scalar n ∷ held) = omega (arith, begun_short f (r + 1) held)
 
-ending_short : (f : Setting) → PinsInEight f → length (ending f) ≤ 9
+ended_short : (f : Setting) (r : ℕ) (held : List Held) → length (each_held (end_code f) r held) ≤ 2 * length held
+ended_short f r [] = omega arith
+ended_short f r (SecretZero ∷ held) = omega (arith, ended_short f (r + 1) held)
+ended_short f r (Number z ∷ held) = omega (arith, ended_short f (r + 1) held)
+ended_short f r (Scalar n ∷ held) = omega (arith, ended_short f (r + 1) held)
+
+pub beginning_short : (f : Setting) → length (beginning f) ≤ 16 + 2 * length f.held
+beginning_short f =
+    omega (
+      arith,
+      length-append (each_slot load_code 0 (first_blocks f)) (held_beginning f),
+      loads_short 0 (first_blocks f),
+      begun_short f 19 f.held,
+    )
+
+ending_short : (f : Setting) → PinsInEight f → length (ending f) ≤ 9 + 2 * length f.held
 ending_short f few =
     omega (
       arith,
+      length-append (held_ending f) (each_slot pin_store 0 f.pins ++ Halt ∷ []),
+      ended_short f 19 f.held,
       stores_short 0 f.pins (all_in_eight f few),
       length-append (each_slot pin_store 0 f.pins) (Halt ∷ []),
     )
@@ -90,10 +116,59 @@ stores_fit banks slot (Some p ∷ pins) few =
     Before (Stb slot) (each_slot pin_store (slot + 1) pins) (omega (arith, few 0 p refl))
     (stores_fit banks (slot + 1) pins (in_eight-rest slot (Some p) pins few))
 
-ending_fits : (banks : ℕ) (f : Setting) → PinsInEight f → CodeFits banks (ending f)
-ending_fits banks f few =
-    code-both banks (each_slot pin_store 0 f.pins) (Halt ∷ []) (stores_fit banks 0 f.pins (all_in_eight f few))
-    (Before Halt [] tt NoCode)
+-- what registers hold is in its ranges: the registers of the machine, and the homes of scalars
+pub record HeldFit (banks : ℕ) (f : Setting) (r : ℕ) (held : List Held) : Type 0 where
+  pub few : r + length held ≤ 32
+  pub words : (i : ℕ) (z : ℤ) → slice_get held i ≡ Some (Number z) → IsWord z
+  pub homes : (i n : ℕ) → slice_get held i ≡ Some (Scalar n) → HomeFits banks (home_numbered f n)
+
+held_rest : {banks : ℕ} {f : Setting} {r : ℕ} (h : Held) (held : List Held) → HeldFit banks f r (h ∷ held)
+    → HeldFit banks f (r + 1) held
+held_rest h held fit = record {
+  few = omega (arith, fit.few);
+  words = λ i z at. fit.words (suc i) z at;
+  homes = λ i n at. fit.homes (suc i) n at;
+}
+
+begun_fits : (banks : ℕ) (f : Setting) (r : ℕ) (held : List Held) → HeldFit banks f r held
+    → CodeFits banks (each_held (begin_code f) r held)
+begun_fits banks f r [] fit = NoCode
+begun_fits banks f r (SecretZero ∷ held) fit =
+    let low : r < 32 = omega (arith, fit.few) in
+    Before (Ldw r 1 0) (Alu Sub r r r ∷ each_held (begin_code f) (r + 1) held) (low, omega arith, omega arith)
+    (Before (Alu Sub r r r) (each_held (begin_code f) (r + 1) held) (low, low, low)
+    (begun_fits banks f (r + 1) held (held_rest SecretZero held fit)))
+begun_fits banks f r (Number z ∷ held) fit =
+    Before (Li r z) (each_held (begin_code f) (r + 1) held) (omega (arith, fit.few), fit.words 0 z refl)
+    (begun_fits banks f (r + 1) held (held_rest (Number z) held fit))
+begun_fits banks f r (Scalar n ∷ held) fit =
+    let h = home_numbered f n in
+    let home = fit.homes 0 n refl in
+    let low : r < 32 = omega (arith, fit.few) in
+    Before (Li 0 (pos h.word)) (Ldw r h.slot 0 ∷ each_held (begin_code f) (r + 1) held)
+    (omega arith, small-word h.word (omega (arith, home.word)))
+    (Before (Ldw r h.slot 0) (each_held (begin_code f) (r + 1) held) (low, home.slot, omega arith)
+    (begun_fits banks f (r + 1) held (held_rest (Scalar n) held fit)))
+
+ended_fits : (banks : ℕ) (f : Setting) (r : ℕ) (held : List Held) → HeldFit banks f r held
+    → CodeFits banks (each_held (end_code f) r held)
+ended_fits banks f r [] fit = NoCode
+ended_fits banks f r (SecretZero ∷ held) fit = ended_fits banks f (r + 1) held (held_rest SecretZero held fit)
+ended_fits banks f r (Number z ∷ held) fit = ended_fits banks f (r + 1) held (held_rest (Number z) held fit)
+ended_fits banks f r (Scalar n ∷ held) fit =
+    let h = home_numbered f n in
+    let home = fit.homes 0 n refl in
+    let low : r < 32 = omega (arith, fit.few) in
+    Before (Li 0 (pos h.word)) (Stw r h.slot 0 ∷ each_held (end_code f) (r + 1) held)
+    (omega arith, small-word h.word (omega (arith, home.word)))
+    (Before (Stw r h.slot 0) (each_held (end_code f) (r + 1) held) (low, home.slot, omega arith)
+    (ended_fits banks f (r + 1) held (held_rest (Scalar n) held fit)))
+
+ending_fits : (banks : ℕ) (f : Setting) → PinsInEight f → HeldFit banks f 19 f.held → CodeFits banks (ending f)
+ending_fits banks f few held =
+    code-both banks (held_ending f) (each_slot pin_store 0 f.pins ++ Halt ∷ []) (ended_fits banks f 19 f.held held)
+    (code-both banks (each_slot pin_store 0 f.pins) (Halt ∷ []) (stores_fit banks 0 f.pins (all_in_eight f few))
+    (Before Halt [] tt NoCode))
 
 -- the last of notes that rise is before their end
 rise_ends : (f : Setting) (low high : ℕ) (notes : List Note) → NotesRise f low high notes → next_place notes ≤ high
@@ -102,6 +177,7 @@ rise_ends f low high (n ∷ []) rise = let at = rise.0 in omega (arith, at.1)
 rise_ends f low high (n ∷ m ∷ notes) rise = rise_ends f (n.pc + 1) high (m ∷ notes) rise.2
 
 module _ (f : Setting) (body : Block) (few : f.profile.taken ≤ 32) (pins : PinsInEight f)
+    (registers : length f.held ≤ 13)
     (light : block_weight (context_of f.decls) label.Public body ≤ max_weight) where
   abbrev whole : List Instr
   whole = program_code f (padding_of f) body
@@ -116,10 +192,15 @@ module _ (f : Setting) (body : Block) (few : f.profile.taken ≤ 32) (pins : Pin
 
   -- it ends with an instruction at least
   ending_some : 1 ≤ length (ending f)
-  ending_some = omega (arith, length-append (each_slot pin_store 0 f.pins) (Halt ∷ []))
+  ending_some =
+      omega (
+        arith,
+        length-append (held_ending f) (each_slot pin_store 0 f.pins ++ Halt ∷ []),
+        length-append (each_slot pin_store 0 f.pins) (Halt ∷ []),
+      )
 
   -- a program has at most 120 instructions for each unit of its weight, and few more
-  pub program-short : length whole ≤ 120 * block_weight (context_of f.decls) label.Public body + 64
+  pub program-short : length whole ≤ 120 * block_weight (context_of f.decls) label.Public body + (64 + 4 * length f.held)
   program-short = omega (arith, whole_size, beginning_short f, ending_short f pins, row-public f few body)
 
   -- the code of a program isn't too long
@@ -132,15 +213,16 @@ module _ (f : Setting) (body : Block) (few : f.profile.taken ≤ 32) (pins : Pin
       (omega arith, omega arith)
 
   -- each of its instructions is in its range
-  pub program-fits : (banks : ℕ) → 2 ≤ banks → HomesFit banks f → FirstFit f
+  pub program-fits : (banks : ℕ) → 2 ≤ banks → HomesFit banks f → FirstFit f → HeldFit banks f 19 f.held
       → TypedBlock (context_of f.decls) label.Public body → BlockHasWords body → LowBlock body
       → All (InstrFits banks) whole
-  program-fits banks some homes first typed words low =
+  program-fits banks some homes first held typed words low =
       code-all banks whole
       (code-both banks (beginning f) (block_code f (padding_of f) body ++ ending f)
-      (loads_fit banks some 0 (first_blocks f) (omega arith) first)
+      (code-both banks (each_slot load_code 0 (first_blocks f)) (held_beginning f)
+      (loads_fit banks some 0 (first_blocks f) (omega arith) first) (begun_fits banks f 19 f.held held))
       (code-both banks (block_code f (padding_of f) body) (ending f)
-      (rows-fits f few banks homes body typed words low light) (ending_fits banks f pins)))
+      (rows-fits f few banks homes body typed words low light) (ending_fits banks f pins held)))
 
   -- its notes
   notes_rise : NotesRise f (length (beginning f) + 1)

@@ -8,6 +8,7 @@ use Rattle.src_tree.specs.Meaning.{Store, run_of}
 use Rattle.src_tree.specs.Typing.{IsTyped}
 use Rattle.bank_alloc.specs.Layout.{IsLaidOut}
 use Rattle.scratch_alloc.specs.Plans.{Plan, IsSoundPlan}
+use Rattle.block_cache_gen.specs.HeldCodes.{HasSecretSlot}
 use Rattle.block_cache_gen.specs.Homes.{Setting, HasHomes}
 use Rattle.block_cache_gen.proofs.Settled.{IsSettingOf, has-homes}
 use Rattle.branch_padding.specs.Effects.{effect_of}
@@ -31,8 +32,8 @@ secrets-follow o fits f homes t a b place typed low secret at =
 
 -- by the layout
 pub laid-code-implements : (p : Source) (w : ℕ) (plan : Plan) → IsTyped p → IsWithinLimits p → IsSoundPlan p w plan
-    → (o : Parts) → IsInRange o → IsLaidOut p w plan.places plan.blocks o → (f : Setting) → IsSettingOf p plan o f → o.code ≡ program_code f (padding_of f) p.body
-    → Implements p o
-laid-code-implements p w plan typed limits sound o fits layout f setting code =
-    laid-padded-implements p w plan typed limits sound o fits layout f setting (padding_of f) code
+    → (o : Parts) → IsInRange o → IsLaidOut p w plan.places plan.blocks o → (f : Setting) → IsSettingOf p plan o f
+    → HasSecretSlot f → o.code ≡ program_code f (padding_of f) p.body → Implements p o
+laid-code-implements p w plan typed limits sound o fits layout f setting slot code =
+    laid-padded-implements p w plan typed limits sound o fits layout f setting slot (padding_of f) code
     (secrets-follow o fits f (has-homes p w plan limits sound o layout f setting))

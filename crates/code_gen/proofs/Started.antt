@@ -1,7 +1,8 @@
 -- After the first instructions of its code, the run of a program represents the store that the banks hold at the start.
-use Rattle.std.proofs.Common.{◌≡◌, ◌≢◌, ℕ, ◌+◌, ◌*◌, ◌%◌, ◌<◌, true, false, pos, ℤ, List, Some, None, refl, sym, ap, ◌∙◌, ⊎_elim, arith}
+use Rattle.std.proofs.Common.{◌≡◌, ◌≢◌, ℕ, ◌+◌, ◌-◌, ◌*◌, ◌%◌, ◌<◌, true, false, pos, ℤ, List, [], Some, None, refl, sym, ap, ◌∙◌, ⊎_elim, arith}
 use Rattle.std.specs.Prelude.{slice_index_or}
 use Rattle.std.proofs.lemmas.Bool.{cases_eq}
+use Rattle.std.proofs.lemmas.Option.{slice_get_within}
 use Rattle.std.proofs.lemmas.Nat.{div-mul-add, mod-mul-add}
 use Rattle.gr_base.specs.Lists.{Within}
 use Rattle.gr_word.specs.declared.variables.Label.{Label}
@@ -13,9 +14,12 @@ use Rattle.lt_isa.specs.Outputs.{bank_word_numbered}
 use Rattle.src_tree.specs.Contexts.{context_of}
 use Rattle.src_tree.specs.Meaning.{Store, variable_number, words_of_number}
 use Rattle.scratch_alloc.specs.declared.plans.Pin.{Pin}
-use Rattle.block_cache_gen.specs.Homes.{Home, Setting, HasHomes, Serves, PlainSlot, EncryptedSlot, ObliviousSlot, home_of, pin_at, pin_of, words_a_block, start_of_home}
+use Rattle.held_registers.specs.Held.{held_at}
+use Rattle.block_cache_gen.specs.Homes.{Held, Home, Setting, HasHomes, Serves, PlainSlot, EncryptedSlot, ObliviousSlot, home_of, pin_at, pin_of, words_a_block, start_of_home}
 use Rattle.block_cache_gen.specs.ServedBlocks.{first_blocks}
 use Rattle.block_cache_gen.specs.StandsFor.{StandsFor}
+use Rattle.block_cache_gen.proofs.HeldBeginning.{unheld}
+use Rattle.block_cache_gen.proofs.HeldScalars.{held-listed}
 use Rattle.block_cache_gen.proofs.HomeFacts.{block_words-is}
 use Rattle.block_cache_gen.proofs.NamesOfHomes.{array-used, array-served}
 use Rattle.block_cache_gen.proofs.ServedBlocks.{first-pinned, first-served}
@@ -38,6 +42,10 @@ word-in_block s h w i inside =
     ∙ ap (λ n. word_in (block_at s h.bank n) ((h.block * w + (h.word + i)) % w))
     (div-mul-add h.block w (h.word + i) inside)
     ∙ ap (word_in (block_at s h.bank h.block)) (mod-mul-add h.block w (h.word + i) inside)
+
+holds-nothing : (r : ℕ) (h : Held) → held_at [] r ≡ Some h → ⊥
+holds-nothing r h at =
+    let within = slice_get_within [] (r - 19) h (held-listed [] r h at) in omega (arith, within)
 
 unbound : (b a : ℕ) (words : List ℤ) → Unbound ≡ Bound b a words → ⊥
 unbound b a words e = cc
@@ -88,11 +96,11 @@ module _ (o : Parts) (f : Setting) (homes : HasHomes o f) where
     low bank k (EncryptedSlot k' within) other = (omega (arith, within), omega (arith, within))
     low bank k (ObliviousSlot b least) other = absurd (other refl)
 
-    -- after the loads the machine represents the store that the banks hold
-    pub stands-started : (store : Store) → BanksHold f s store → slot s 6 ≡ Unbound → StandsFor f t store
+    -- after the loads the machine represents the store that the banks hold, with no scalar in a register
+    pub stands-started : (store : Store) → BanksHold f s store → slot s 6 ≡ Unbound → StandsFor (unheld f) t store
     stands-started store hold free = record {
       pinned = λ k p is. record { words = block_at s p.bank p.block; holds = pinned-held k p is };
-      residents = λ x label shape i known resident below.
+      residents = λ x label shape i known resident free below.
           let h = home_of f x in
           ap (λ bound. word_in (slot_words bound) (h.word + i))
           (pinned-held h.slot (pin_of h) (homes.residents x label shape known resident).pinned)
@@ -119,4 +127,5 @@ module _ (o : Parts) (f : Setting) (homes : HasHomes o f) where
           ∙ ap (λ banks. block_at (record s { banks = banks }) h.bank a) (sym after.banks)
           ∙ ap (block_at t h.bank) (bound-block h.bank h.bank a block (block_at s h.bank a) words both))
           (cases_eq h.slot 6);
+      held = λ r h at. absurd (holds-nothing r h at);
     }

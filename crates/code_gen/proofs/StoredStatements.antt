@@ -1,5 +1,7 @@
 -- How many stores of a word the code of statements in public code has, and that of a program.
 use Rattle.std.proofs.Common.{◌≡◌, ℕ, ◌+◌, ◌-◌, pos, negsuc, List, [], ◌∷◌, ◌++◌, length, Option, Some, None, refl, sym, ap, ◌∙◌, subst, arith}
+use Rattle.std.specs.Prelude.{cond}
+use Rattle.std.proofs.lemmas.List.Sums.{sum_by-append}
 use Rattle.gr_word.specs.declared.operations.Cmp.{Cmp}
 use Rattle.gr_word.specs.declared.variables.Label.{Label}
 use Rattle.gr_word.specs.declared.variables.Label.TheVariants as label
@@ -11,7 +13,9 @@ use Rattle.src_tree.specs.Trees.{Test, Statement, SetVariable, SetElement, Choic
 use Rattle.src_tree.specs.Typing.{TypedStatement, TypedBlock}
 use Rattle.block_cache_gen.specs.declared.frames.Mode.TheVariants.{Public}
 use Rattle.scratch_alloc.specs.declared.plans.Pin.{Pin}
-use Rattle.block_cache_gen.specs.Homes.{Setting}
+use Rattle.held_registers.specs.declared.registers.Held.TheVariants.{SecretZero, Number, Scalar}
+use Rattle.block_cache_gen.specs.Homes.{Held, Setting}
+use Rattle.block_cache_gen.specs.HeldCodes.{begin_code, end_code, each_held, held_beginning, held_ending}
 use Rattle.block_cache_gen.specs.Codes.{guard_code}
 use Rattle.block_cache_gen.specs.ServedBlocks.{first_blocks}
 use Rattle.block_cache_gen.specs.Alike.{pair_count}
@@ -20,7 +24,7 @@ use Rattle.block_cache_gen.proofs.SecretCodes.{stored-append, guard-stores, vari
 use Rattle.branch_padding.specs.Stores.{added_up, choice_stores, stores_of, stores_of_each}
 use Rattle.branch_padding.proofs.StoredRows.{added-first, public_choice-stores}
 use Rattle.code_gen.specs.Statements.{opposite, second_code, places_over, choice_code, loop_code, choice_by, statement_code, block_code}
-use Rattle.code_gen.specs.Programs.{load_code, pin_store, each_slot, beginning, ending, program_code}
+use Rattle.code_gen.specs.Programs.{is_some_scalar, scalars_among, load_code, pin_store, each_slot, beginning, ending, program_code}
 use Rattle.code_gen.specs.Emitted.{padding_of}
 
 -- a choice has the stores of its blocks, and a loop those of its body
@@ -127,26 +131,70 @@ module _ (f : Setting) where
   pin-stored slot None = refl
   pin-stored slot (Some p) = refl
 
-  ending-stored : stored_words (ending f) ≡ 0
+  -- the beginning stores no word, and the end one for each scalar that a register holds
+  begin-stored : (r : ℕ) (held : List Held) → stored_words (each_held (begin_code f) r held) ≡ 0
+  begin-stored r [] = refl
+  begin-stored r (h ∷ held) =
+      omega (
+        arith,
+        stored-append (begin_code f r h) (each_held (begin_code f) (r + 1) held),
+        one h,
+        begin-stored (r + 1) held,
+      )
+    where
+      one : (h : Held) → stored_words (begin_code f r h) ≡ 0
+      one SecretZero = refl
+      one (Number z) = refl
+      one (Scalar n) = refl
+
+  end-stored : (r : ℕ) (held : List Held) → stored_words (each_held (end_code f) r held) ≡ scalars_among held
+  end-stored r [] = refl
+  end-stored r (h ∷ held) =
+      omega (
+        arith,
+        stored-append (end_code f r h) (each_held (end_code f) (r + 1) held),
+        sum_by-append (λ (g : Held). cond (is_some_scalar g) 1 0) (h ∷ []) held,
+        one h,
+        end-stored (r + 1) held,
+      )
+    where
+      one : (h : Held) → stored_words (end_code f r h) ≡ scalars_among (h ∷ [])
+      one SecretZero = refl
+      one (Number z) = refl
+      one (Scalar n) = refl
+
+  beginning-stored : stored_words (beginning f) ≡ 0
+  beginning-stored =
+      omega (
+        arith,
+        stored-append (each_slot load_code 0 (first_blocks f)) (held_beginning f),
+        slots-stored load_code load-stored 0 (first_blocks f),
+        begin-stored 19 f.held,
+      )
+
+  ending-stored : stored_words (ending f) ≡ scalars_among f.held
   ending-stored =
       let halt : stored_words (Halt ∷ []) ≡ 0 = refl in
       omega (
         arith,
+        stored-append (held_ending f) (each_slot pin_store 0 f.pins ++ Halt ∷ []),
         stored-append (each_slot pin_store 0 f.pins) (Halt ∷ []),
         slots-stored pin_store pin-stored 0 f.pins,
+        end-stored 19 f.held,
         halt,
       )
 
-  -- the stores of a word in a program's code are those of its statements
+  -- the stores of a word in a program's code are those of its statements, and one for each scalar that a register holds
   pub program-stored : (body : Block) → TypedBlock (context_of f.decls) label.Public body
-      → stored_words (program_code f (padding_of f) body) ≡ added_up (stores_of_each f label.Public body)
+      → stored_words (program_code f (padding_of f) body)
+      ≡ added_up (stores_of_each f label.Public body) + scalars_among f.held
   program-stored body typed =
       let code = block_code f (padding_of f) body in
       omega (
         arith,
         stored-append (beginning f) (code ++ ending f),
         stored-append code (ending f),
-        slots-stored load_code load-stored 0 (first_blocks f),
+        beginning-stored,
         ending-stored,
         block-stored body typed,
       )

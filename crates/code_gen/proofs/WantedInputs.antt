@@ -51,8 +51,7 @@ module _ (p : Source) (w : ℕ) (plan : Plan) (once : DeclaredOnce p.decls) (lim
       → by_name p o (map words (declared_wants p.decls)) ≡ map words (wants_of o)
   planned-inputs_wanted words =
       each-want named words o.symbols (λ k d within. of_variable (get_or o.symbols k d)
-      (symbols-variables p w plan once limits sound o layout (setting_for p plan o.profile false) (setting-of p plan o) k d
-      within))
+      (symbols-variables p w plan once limits sound o layout (setting_for p plan o.profile false []) (setting-of p plan o) k d within))
     where
       store : Store
       store = map words (declared_wants p.decls)
@@ -60,8 +59,7 @@ module _ (p : Source) (w : ℕ) (plan : Plan) (once : DeclaredOnce p.decls) (lim
       named : Symbol → List ℤ
       named s = words_of_number store (variable_number p.decls s.name)
 
-      of_variable : (s : Symbol)
-          → IsVariable p w plan once limits sound o layout (setting_for p plan o.profile false) (setting-of p plan o) s
+      of_variable : (s : Symbol) → IsVariable p w plan once limits sound o layout (setting_for p plan o.profile false []) (setting-of p plan o) s
           → named s ≡ words (want_of s)
       of_variable s variable =
           let k = variable.number in

@@ -1,6 +1,6 @@
 -- Properties of a compiled program's object besides its acceptance, its meaning and its layout: its cycles, how long
 -- its code is, and how many stores of a word it has; and why a program isn't compiled. (This project's profile.)
-use Rattle.std.specs.Prelude.{◌≡◌, ℕ, ◌<◌, Bool, true, false, if◌then◌else◌, length}
+use Rattle.std.specs.Prelude.{◌≡◌, ℕ, ◌+◌, ◌<◌, Bool, true, false, List, [], if◌then◌else◌, length}
 use Rattle.gr_base.specs.Lists.{Within}
 use Rattle.gr_word.specs.declared.variables.Label.TheVariants.{Public}
 use Rattle.lt_isa.specs.declared.profiles.Profile.{Profile}
@@ -14,8 +14,11 @@ use Rattle.scratch_alloc.specs.Plans.{Plan, standard_plan}
 use Rattle.source_folding.specs.Folded.{folded_source}
 use Rattle.resident_alloc.specs.ResidentFits.{ResidentsRefuse}
 use Rattle.resident_alloc.specs.ResidentPlan.{resident_plan}
+use Rattle.held_registers.specs.Held.{held_scalars}
+use Rattle.block_cache_gen.specs.Homes.{Held}
 use Rattle.block_cache_gen.specs.Settings.{setting_for}
 use Rattle.branch_padding.specs.Stores.{added_up, stores_of_each}
+use Rattle.code_gen.specs.Programs.{scalars_among}
 use Rattle.code_gen.specs.declared.compiling.CompileError.{CompileError}
 use Rattle.code_gen.specs.declared.compiling.CompileError.TheVariants.{TooManyScalars, BankFull, Memory}
 
@@ -34,18 +37,21 @@ pub record IsFor (given : Profile) (l : Latencies) (o : Parts) : Type 0 where
   pub profile : o.profile ≡ given
   pub latencies : (b : ℕ) → b < length o.banks → latency_of o b ≡ latency_for l b
 
--- the stores of a word that the code of a program has, by a plan of its memory, and with or without steps in the place of
--- operations by numbers
-abbrev pub stores_by : Source → Plan → Profile → Bool → ℕ
-stores_by p plan profile reduces = added_up (stores_of_each (setting_for p plan profile reduces) Public p.body)
+-- the stores of a word that the code of a program has, by a plan of its memory, with or without steps in the place of
+-- operations by numbers, and with what registers hold: those of its statements, and one for each scalar that a register
+-- holds
+abbrev pub stores_by : Source → Plan → Profile → Bool → List Held → ℕ
+stores_by p plan profile reduces held =
+    added_up (stores_of_each (setting_for p plan profile reduces held) Public p.body) + scalars_among held
 
 -- the same without --fast
 abbrev pub stores_in : Source → Profile → ℕ
-stores_in p profile = stores_by p (standard_plan p profile.block_log) profile false
+stores_in p profile = stores_by p (standard_plan p profile.block_log) profile false []
 
--- and with it, where expressions are made cheaper
+-- and with it, where expressions are made cheaper and registers hold the first scalars
 abbrev pub stores_with_residents : Source → Profile → ℕ
-stores_with_residents p profile = stores_by (folded_source p) (resident_plan p profile.block_log) profile true
+stores_with_residents p profile =
+    stores_by (folded_source p) (resident_plan p profile.block_log) profile true (held_scalars p.decls)
 
 -- A program is refused where its variables lack room, as the first of them does. Want of memory says nothing.
 abbrev pub ExplainsRoom : CompileError → Source → ℕ → Type 0

@@ -10,6 +10,7 @@ use Rattle.bank_alloc.specs.Layout.{IsLaidOut}
 use Rattle.bank_alloc.specs.declared.places.PlaceError.{PlaceError}
 use Rattle.bank_alloc.specs.declared.places.PlaceError.TheVariants as place
 use Rattle.scratch_alloc.specs.Plans.{Plan}
+use Rattle.block_cache_gen.specs.Homes.{Held}
 use Rattle.block_cache_gen.specs.Settings.{setting_for}
 use Rattle.code_gen.specs.declared.compiling.CompileError.{CompileError}
 use Rattle.code_gen.specs.declared.compiling.CompileError.TheVariants.{TooManyScalars, BankFull, Memory}
@@ -22,18 +23,18 @@ abbrev pub banks_from : Latencies → ℕ → List ℕ → List BankSpec
 banks_from l bank [] = []
 banks_from l bank (n ∷ ns) = record { blocks = n; latency = latency_for l bank } ∷ banks_from l (bank + 1) ns
 
--- the object has a program's variables at the places of a plan, the program's code and notes with or without steps, and
--- this profile and these latencies
-pub record IsMadeOf (p : Source) (plan : Plan) (given : Profile) (reduces : Bool) (l : Latencies) (o : Parts)
-    : Type 0 where
+-- the object has a program's variables at the places of a plan, the program's code and notes with or without steps and
+-- with what registers hold, and this profile and these latencies
+pub record IsMadeOf (p : Source) (plan : Plan) (given : Profile) (reduces : Bool) (held : List Held) (l : Latencies)
+    (o : Parts) : Type 0 where
   pub in_range : IsInRange o
   pub profile : o.profile ≡ given
   pub layout : IsLaidOut p given.block_log plan.places plan.blocks o
   pub banks : o.banks ≡ banks_from l 0 plan.blocks
   pub code : o.code
-      ≡ program_code (setting_for p plan given reduces) (padding_of (setting_for p plan given reduces)) p.body
+      ≡ program_code (setting_for p plan given reduces held) (padding_of (setting_for p plan given reduces held)) p.body
   pub notes : o.notes
-      ≡ program_notes (setting_for p plan given reduces) (padding_of (setting_for p plan given reduces)) p.body
+      ≡ program_notes (setting_for p plan given reduces held) (padding_of (setting_for p plan given reduces held)) p.body
 
 -- the error of a lack of room
 abbrev pub error_of : PlaceError → CompileError

@@ -1,12 +1,15 @@
--- For the proofs and for private clauses only: the code of a whole program. It begins with the loads of the slots that
--- the rest relies on, and ends with the stores of the blocks that slots hold for the whole run.
-use Rattle.std.specs.Prelude.{ℕ, ◌+◌, pos, List, [], ◌∷◌, ◌++◌, length, Option, Some, None}
+-- For the proofs and for private clauses only: the code of a whole program. It begins with the loads of the slots and
+-- registers that the rest relies on, and ends with the stores of the scalars that registers hold for the whole run, and
+-- of the blocks that slots hold.
+use Rattle.std.specs.Prelude.{ℕ, ◌+◌, Bool, true, false, pos, List, [], ◌∷◌, ◌++◌, length, count_by, Option, Some, None}
 use Rattle.lt_isa.specs.declared.symbols.Note.{Note}
 use Rattle.lt_isa.specs.declared.instructions.Instr.{Instr}
 use Rattle.lt_isa.specs.declared.instructions.Instr.TheVariants.{Li, Ldb, Stb, Halt}
 use Rattle.src_tree.specs.Trees.{Block}
 use Rattle.scratch_alloc.specs.declared.plans.Pin.{Pin}
-use Rattle.block_cache_gen.specs.Homes.{Setting}
+use Rattle.held_registers.specs.declared.registers.Held.TheVariants.{SecretZero, Number, Scalar}
+use Rattle.block_cache_gen.specs.Homes.{Held, Setting}
+use Rattle.block_cache_gen.specs.HeldCodes.{held_beginning, held_ending}
 use Rattle.block_cache_gen.specs.ServedBlocks.{first_blocks}
 use Rattle.code_gen.specs.Statements.{Padding, block_code, block_notes}
 
@@ -26,10 +29,19 @@ each_slot code slot [] = []
 each_slot code slot (pin ∷ pins) = code slot pin ++ each_slot code (slot + 1) pins
 
 abbrev pub beginning : Setting → List Instr
-beginning f = each_slot load_code 0 (first_blocks f)
+beginning f = each_slot load_code 0 (first_blocks f) ++ held_beginning f
 
 abbrev pub ending : Setting → List Instr
-ending f = each_slot pin_store 0 f.pins ++ Halt ∷ []
+ending f = held_ending f ++ (each_slot pin_store 0 f.pins ++ Halt ∷ [])
+
+-- how many scalars registers hold for the whole run: as many words are stored at the end
+abbrev pub is_some_scalar : Held → Bool
+is_some_scalar SecretZero = false
+is_some_scalar (Number z) = false
+is_some_scalar (Scalar n) = true
+
+abbrev pub scalars_among : List Held → ℕ
+scalars_among held = count_by is_some_scalar held
 
 abbrev pub program_code : Setting → Padding → Block → List Instr
 program_code f padded body = beginning f ++ (block_code f padded body ++ ending f)

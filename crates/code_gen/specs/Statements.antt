@@ -14,7 +14,7 @@ use Rattle.src_tree.specs.Labels.{label_of_test}
 use Rattle.block_cache_gen.specs.declared.frames.Mode.TheVariants.{Public}
 use Rattle.block_cache_gen.specs.Homes.{Setting}
 use Rattle.block_cache_gen.specs.Codes.{guard_code, set_code}
-use Rattle.block_cache_gen.specs.Notes.{all_marked, note_of, guard_notes, set_notes}
+use Rattle.block_cache_gen.specs.Notes.{base_mask, note_of, guard_notes, set_notes}
 
 -- the code of a branch on a secret
 abbrev pub Padding : Type 0
@@ -68,9 +68,10 @@ abbrev mutual
   block_code f padded Nothing = []
   block_code f padded (Then s rest) = statement_code f padded s ++ block_code f padded rest
 
--- a note to which public code may jump: every register may hold a secret
+-- a note to which public code may jump: every register may hold a secret, but those that hold something public for the
+-- whole run
 abbrev pub head_note : Setting → ℕ → Note
-head_note f place = note_of f all_marked place
+head_note f place = note_of f (base_mask f) place
 
 -- there is a note just after a statement, or a block, since public code jumps there
 abbrev pub is_public : Label → Bool

@@ -1,4 +1,4 @@
-ghost use Rattle.std.specs.Prelude.{◌≡◌, ◌+◌, ◌*◌, ◌≤◌, true, false, IfOk, IfErr, OnOk, length};
+ghost use Rattle.std.specs.Prelude.{◌≡◌, ◌+◌, ◌*◌, ◌≤◌, [], true, false, IfOk, IfErr, OnOk, length};
 ghost use Rattle.lt_isa.specs.Ranges.{IsInRange, ProfileFits};
 ghost use Rattle.src_tree.specs.Limits.{IsWithinLimits, weight_of};
 ghost use Rattle.src_tree.specs.Trees.{source_of};
@@ -9,6 +9,7 @@ ghost use Rattle.bank_alloc.specs.Layout.{HasLayout};
 ghost use Rattle.bank_alloc.specs.Places.{IsPlacesOf};
 ghost use Rattle.resident_alloc.specs.ResidentFits.{ResidentsFit};
 ghost use Rattle.resident_alloc.specs.ResidentLayout.{HasResidentLayout};
+ghost use Rattle.held_registers.specs.Held.{IsSoundHeld, held_scalars};
 ghost use Rattle.block_cache_gen.specs.ProgramWords.{BlockHasWords};
 ghost use Rattle.scratch_alloc.specs.Plans.{IsSoundPlan, plan_from, standard_plan};
 ghost use Rattle.block_cache_gen.specs.Settings.{IsFrame, plan_of, setting_of};
@@ -28,6 +29,7 @@ use block_cache_gen::{CodeBuf, Emitter, Frame};
 use flow_types::Typed;
 use gr_base::Memory;
 use gr_word::Label;
+use held_registers::{Held, held_scalars};
 use lt_isa::{Latencies, Object, Profile};
 use resident_alloc::resident_plan;
 use scratch_alloc::{SlotPlan, slots};
@@ -71,14 +73,15 @@ fn assembled(alloc: Global, f: &Frame<'_>, l: &Latencies, made: CodeBuf) -> Resu
     requires notes { made.notes.items
         ≡ program_notes (setting_of f.now) (padding_of (setting_of f.now)) (source_of f.now.program.now).body }
     ensures { IfOk result (λ o. IsMadeOf (source_of f.now.program.now) (plan_of f.now) f.now.profile.now f.now.reduces
-        l.now o) }
+        f.now.held.now l.now o) }
 {
     let symbols = symbols(alloc, f.program, f.profile.block_log, f.places)?;
     let banks = bank_specs(alloc, f.places.blocks.as_slice(), l)?;
     Ok(Object::of_parts(*f.profile, banks, symbols, made.notes, made.code))
 }
 
-// The object of a program by a plan of its memory, with or without steps in the place of operations by numbers.
+// The object of a program by a plan of its memory, with or without steps in the place of operations by numbers, and with
+// what registers hold for the whole run.
 fn planned(
     alloc: Global,
     program: &Program,
@@ -86,14 +89,17 @@ fn planned(
     slots: &SlotPlan,
     p: &Profile,
     reduces: bool,
+    held: &[Held],
     l: &Latencies,
 ) -> Result<Object, Memory>
     requires typed { IsTyped (source_of program.now) }
     requires within { IsWithinLimits (source_of program.now) }
+    requires held { IsSoundHeld (source_of program.now).decls held.now }
     requires plan { IsSoundPlan (source_of program.now) p.now.block_log (plan_from places.now slots.now) }
     requires profile { ProfileFits p.now }
     requires latencies { LatenciesFit l.now }
-    ensures { IfOk result (λ o. IsMadeOf (source_of program.now) (plan_from places.now slots.now) p.now reduces l.now o) }
+    ensures { IfOk result (λ o. IsMadeOf (source_of program.now) (plan_from places.now slots.now) p.now reduces
+        held.now l.now o) }
 {
     let frame = Frame {
         program,
@@ -101,9 +107,10 @@ fn planned(
         slots,
         profile: p,
         reduces,
+        held,
     };
     let emitter = Emitter::new(alloc, &frame)?;
-    let made = program_code(alloc, &emitter, program.body.as_slice())?;
+    let made = program_code(alloc, &emitter, &frame, program.body.as_slice())?;
     assembled(alloc, &frame, l, made)
 }
 
@@ -122,11 +129,12 @@ fn planned_folded(
     requires profile { ProfileFits p.now }
     requires latencies { LatenciesFit l.now }
     ensures made { IfOk result (λ o. IsMadeOf (folded_source (source_of program.now)) (plan_from places.now slots.now) p.now
-        true l.now o) }
+        true (held_scalars (source_of program.now).decls) l.now o) }
     ensures numbers { OnOk result (BlockNumbersFit (source_of program.now).body) }
 {
     let program = folded(alloc, program)?;
-    planned(alloc, &program, places, slots, p, true, l)
+    let held = held_scalars(alloc, program.decls.as_slice())?;
+    planned(alloc, &program, places, slots, p, true, held.as_slice(), l)
 }
 
 // The object of a program whose variables have their places.
@@ -143,11 +151,12 @@ fn compiled(
     requires places { IsPlacesOf (source_of program.now) p.now.block_log places.now }
     requires profile { ProfileFits p.now }
     requires latencies { LatenciesFit l.now }
-    ensures { IfOk result (λ o. IsMadeOf (source_of program.now) (standard_plan (source_of program.now)
-        p.now.block_log) p.now false l.now o) }
+    ensures { IfOk result (λ o. IsMadeOf (source_of program.now) (standard_plan (source_of program.now) p.now.block_log) p.now
+        false [] l.now o) }
 {
     let slots = slots(alloc, places)?;
-    planned(alloc, program, places, &slots, p, false, l)
+    let held: Vec<Held> = Vec::new(alloc);
+    planned(alloc, program, places, &slots, p, false, held.as_slice(), l)
 }
 
 /// Compiles a program for a machine: the object is accepted, computes what the program means, has its layout, and has
@@ -179,7 +188,7 @@ pub fn compile(alloc: Global, t: &Typed, p: &Profile, l: &Latencies) -> Result<O
 }
 
 /// Compiles a program as [`compile`] does, for `--fast`: arrays stay in the scratchpad for the whole run if there is room
-/// for them, so that an access of them shows nothing on the bus. Expressions are made cheaper
+/// for them, so that an access of them shows nothing on the bus. The first scalars stay in registers. Expressions are made cheaper
 /// ([`source_folding::folded`]), and steps replace products, quotients and remainders by numbers
 /// (`strength_reduction`). Each variable is at the place that [`resident_alloc::resident_plan`] gives it. A program is
 /// refused exactly where its variables lack room at these places, with the first that does.
@@ -195,7 +204,7 @@ pub fn compile_fast(
     ensures implements { IfOk result (λ o. Implements (source_of t.now) o) }
     ensures laid_out { IfOk result (λ o. HasResidentLayout (source_of t.now) p.now.block_log o) }
     ensures machine { IfOk result (λ o. IsFor p.now l.now o) }
-    ensures size { IfOk result (λ o. length o.code ≤ 120 * weight_of (source_of t.now) + 64) }
+    ensures size { IfOk result (λ o. length o.code ≤ 120 * weight_of (source_of t.now) + 116) }
     ensures stores { IfOk result (λ o. stored_words o.code ≡ stores_with_residents (source_of t.now) p.now) }
     ensures in_range { IfOk result (λ o. IsInRange o) }
     ensures fits { OnOk result (ResidentsFit (source_of t.now) p.now.block_log) }

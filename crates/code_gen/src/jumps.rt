@@ -43,15 +43,15 @@ pub(crate) fn set_branch_unless(out: &mut CodeBuf, at: u32, cmp: Cmp)
     out.set_branch(at, opposite(cmp));
 }
 
-/// Appends a note after the code so far, to which public code may jump: every register may hold a secret. The only
-/// error is want of memory.
+/// Appends a note after the code so far, to which public code may jump: every register may hold a secret, but those that
+/// hold something public for the whole run. The only error is want of memory.
 pub(crate) fn put_head_note(emitter: &Emitter<'_>, out: &mut CodeBuf) -> Result<(), Memory>
     requires room { length out.old.code.items < 2 ^ 32 }
     ensures appended { OnOk result (Appended out.old out.new [] (λ place. head_note emitter.now place ∷ [])) }
 {
     out.put_note(Note {
         pc: out.next_place(),
-        secrets: u32::MAX,
+        secrets: emitter.base_mask(),
         slots: emitter.claims(),
     })
 }

@@ -20,7 +20,7 @@ use Rattle.call_replies.specs.declared.replies.Done.TheVariants.{Compiled}
 use Rattle.call_replies.specs.declared.replies.Reply.{Reply}
 use Rattle.call_replies.specs.Texts.{Said}
 use Rattle.ghost_cli.specs.Questions.{WhichCompiled}
-use Rattle.ghost_cli.specs.Compiled.{HasLayoutFor, HasRoom, IsCompiledTo, LacksRoom, plan_for, source_for, room_fault}
+use Rattle.ghost_cli.specs.Compiled.{HasLayoutFor, HasRoom, IsCompiledTo, LacksRoom, held_for, plan_for, source_for, room_fault}
 use Rattle.ghost_cli.specs.Outside.{outside, LeftBy, Explains}
 use Rattle.command_words.specs.Windows.{WindowFits, windowed_profile}
 use Rattle.command_words.specs.declared.windows.Window.{Window}
@@ -61,6 +61,7 @@ pub spelling-compiled : (p : Source) (target : Target) (latencies : Latencies) (
     → Implements p o → HasLayoutFor target.fast p target.profile.block_log o → IsFor target.profile latencies o
     → stored_words o.code
     ≡ stores_by (source_for target.fast p) (plan_for target.fast p target.profile.block_log) target.profile target.fast
+    (held_for target.fast p)
     → IsCompiledTo p target (spelling o)
 spelling-compiled p target latencies o usually room ranges accepted implements layout machine stores = record {
   room = room;

@@ -9,6 +9,7 @@ use Rattle.std.proofs.Math.Nat.{mul-le-mul_left}
 use Rattle.std.proofs.Math.Pow.{pow_mono}
 use Rattle.gr_base.specs.Lists.{Within}
 use Rattle.gr_word.specs.Names.{is_name}
+use Rattle.gr_word.specs.declared.variables.Shape.TheVariants as shape
 use Rattle.lt_isa.specs.declared.profiles.BankSpec.{BankSpec}
 use Rattle.lt_isa.specs.declared.profiles.Latencies.{Latencies}
 use Rattle.lt_isa.specs.declared.profiles.Profile.{Profile}
@@ -31,10 +32,16 @@ use Rattle.bank_alloc.proofs.SymbolOrder.{length-symbols_at, symbols_in_range, s
 use Rattle.scratch_alloc.specs.Plans.{Plan, IsSoundPlan, IsSoundByPin, pin_of_slot, no_decl, no_place}
 use Rattle.scratch_alloc.proofs.PlanPlaces.{plan_places}
 use Rattle.scratch_alloc.proofs.Serving.{serves-within}
+use Rattle.held_registers.specs.declared.registers.Held.{Held}
+use Rattle.held_registers.specs.declared.registers.Held.TheVariants.{Number, Scalar}
+use Rattle.held_registers.specs.Held.{IsSoundHeld}
+use Rattle.held_registers.proofs.Found.{scalar-held}
 use Rattle.block_cache_gen.specs.Homes.{Pin, Setting, no_home}
 use Rattle.block_cache_gen.specs.ProgramWords.{BlockHasWords}
 use Rattle.block_cache_gen.specs.ServedBlocks.{block_served}
 use Rattle.block_cache_gen.specs.Settings.{homes_at, setting_for}
+use Rattle.block_cache_gen.proofs.HeldBeginning.{held-at}
+use Rattle.block_cache_gen.proofs.HeldScalars.{held-inside}
 use Rattle.block_cache_gen.proofs.RangesOfCode.{HomeFits, HomesFit}
 use Rattle.block_cache_gen.proofs.ServedBlocks.{served-home, first-all}
 use Rattle.block_cache_gen.proofs.Settled.{get_or-homes_at, length-homes_at, place-length}
@@ -43,7 +50,8 @@ use Rattle.code_gen.specs.Emitted.{padding_of}
 use Rattle.code_gen.specs.Made.{banks_from, IsMadeOf}
 use Rattle.code_gen.specs.Programs.{program_code, program_notes}
 use Rattle.code_gen.proofs.Assembled.{blocks-made}
-use Rattle.code_gen.proofs.RangesOfPrograms.{FirstFit, PinsInEight, program-size, program-fits, notes-fit, notes-few, notes-inside}
+use Rattle.code_gen.proofs.ScalarsNumbered.{scalar-numbered}
+use Rattle.code_gen.proofs.RangesOfPrograms.{FirstFit, HeldFit, PinsInEight, program-size, program-fits, notes-fit, notes-few, notes-inside}
 use Rattle.ghost_cli.proofs.SortedLists.{sorted-some}
 
 -- the block of a variable is in its bank
@@ -82,13 +90,14 @@ latencies-fit l fits bank (n ∷ ns) =
     All-cons (λ (b : BankSpec). Within 1 most_latency b.latency) (record { blocks = n; latency = latency_for l bank })
     (banks_from l (bank + 1) ns) (latency-fits l fits bank) (latencies-fit l fits (bank + 1) ns)
 
-module _ (p : Source) (plan : Plan) (given : Profile) (reduces : Bool) (typed : IsTyped p) (within : IsWithinLimits p)
-    (sound : IsSoundPlan p given.block_log plan) (fits : ProfileFits given) where
+module _ (p : Source) (plan : Plan) (given : Profile) (reduces : Bool) (held : List Held) (typed : IsTyped p)
+    (within : IsWithinLimits p) (sound : IsSoundPlan p given.block_log plan) (holds : IsSoundHeld p.decls held)
+    (fits : ProfileFits given) where
   abbrev w : ℕ
   w = given.block_log
 
   abbrev f : Setting
-  f = setting_for p plan given reduces
+  f = setting_for p plan given reduces held
 
   same : length plan.slots ≡ length plan.places
   same = sound.slots ∙ sym sound.places
@@ -127,6 +136,8 @@ module _ (p : Source) (plan : Plan) (given : Profile) (reduces : Bool) (typed : 
   homes-fit : HomesFit (length plan.blocks) f
   homes-fit = record {
     block_log = fits.block_log.1;
+    registers = λ x r found.
+        let n = variable_number p.decls x in (held-inside holds r (Scalar n) (scalar-held held n r found)).0;
     pins = λ slot pin pinned. (sound.pins slot pin pinned).bank;
     homes = λ x label shape known.
         home_fits-at (variable_number p.decls x) (number-below p.decls x (label, shape) known);
@@ -150,6 +161,16 @@ module _ (p : Source) (plan : Plan) (given : Profile) (reduces : Bool) (typed : 
 
   in-eight : PinsInEight f
   in-eight slot pin pinned = (sound.pins slot pin pinned).few
+
+  -- what registers hold
+  held-fits : (banks : ℕ) → HomesFit banks f → HeldFit banks f 19 held
+  held-fits banks homes = record {
+    few = omega (arith, holds.few);
+    words = λ i z at. holds.words (19 + i) z (held-at held i (Number z) at);
+    homes = λ i n at.
+        let named = scalar-numbered f typed.once holds (19 + i) n (held-at held i (Scalar n) at) in
+        subst (HomeFits banks) named.home (homes.homes named.name named.label shape.Scalar named.declared);
+  }
 
   -- the object of the plan
   module _ (l : Latencies) (latencies : LatenciesFit l) (symbols : List Symbol) (words : BlockHasWords p.body)
@@ -189,14 +210,15 @@ module _ (p : Source) (plan : Plan) (given : Profile) (reduces : Bool) (typed : 
           symbol_count = omega (arith, count, length-symbols_at p.decls plan.places sound.places, variables);
           symbols = symbols_in_range p w plan.blocks plan.places (banks_from l 0 plan.blocks) symbols typed within
               (plan_places p w plan sound) (symbols-named p.decls plan.places named) sorted blocks-are;
-          note_count = notes-few f p.body few in-eight light;
-          notes = notes-fit f p.body few in-eight light banks some homes.pins;
-          code_size = program-size f p.body few in-eight light;
-          behind_notes = notes-inside f p.body few in-eight light;
-          code = program-fits f p.body few in-eight light banks some homes first-fits typed.body words within.heights;
+          note_count = notes-few f p.body few in-eight holds.few light;
+          notes = notes-fit f p.body few in-eight holds.few light banks some homes.pins;
+          code_size = program-size f p.body few in-eight holds.few light;
+          behind_notes = notes-inside f p.body few in-eight holds.few light;
+          code = program-fits f p.body few in-eight holds.few light banks some homes first-fits
+              (held-fits banks homes) typed.body words within.heights;
         }
 
-    object-made : IsMadeOf p plan given reduces l object
+    object-made : IsMadeOf p plan given reduces held l object
     object-made = record {
       in_range = object-in_range;
       profile = refl;
@@ -208,7 +230,7 @@ module _ (p : Source) (plan : Plan) (given : Profile) (reduces : Bool) (typed : 
 
   -- there is an object with the plan's places and the program's code
   pub made-some : (l : Latencies) → LatenciesFit l → BlockHasWords p.body
-      → All (λ d. IsTrue (is_name d.name)) p.decls → (o : Parts) × IsMadeOf p plan given reduces l o
+      → All (λ d. IsTrue (is_name d.name)) p.decls → (o : Parts) × IsMadeOf p plan given reduces held l o
   made-some l latencies words named =
       let sort = sorted-some symbol_key (placed_symbols p.decls plan.places) in
       let sorted = symbols_sorted p w plan.blocks plan.places sort.0 typed within fits.block_log

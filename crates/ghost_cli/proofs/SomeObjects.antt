@@ -1,5 +1,5 @@
 -- Each well-typed program with names and numbers in their ranges is compiled, or something lacks room first.
-use Rattle.std.proofs.Common.{ℕ, ◌^◌, ◌≤◌, ℤ, Bool, true, false, List, ◌⊎◌, inl, inr, Result, Ok, Err, refl, sym, subst, arith}
+use Rattle.std.proofs.Common.{ℕ, ◌^◌, ◌<◌, ◌≤◌, ℤ, Bool, true, false, List, [], ◌⊎◌, inl, inr, Result, Ok, Err, refl, sym, subst, arith}
 use Rattle.std.proofs.Math.Facts.{sfits_to_z}
 use Rattle.std.proofs.Math.Pow.{pow_mono}
 use Rattle.gr_word.specs.Words.{IsWord}
@@ -19,6 +19,8 @@ use Rattle.source_folding.specs.Folded.{folded, folded_block, folded_source, fol
 use Rattle.source_folding.specs.Numbers.{BlockNumbersFit, NumbersFit, StatementNumbersFit}
 use Rattle.source_folding.proofs.FoldedPrograms.{folded-source_typed, folded-within}
 use Rattle.source_folding.proofs.FoldedTrees.{IsPower, Made, AsBefore, Computed, Swapped, Shifted, SwappedShift, Masked, is-made}
+use Rattle.held_registers.specs.Held.{held_scalars}
+use Rattle.held_registers.proofs.Sound.{held_scalars-sound, nothing-sound}
 use Rattle.block_cache_gen.specs.ProgramWords.{BlockHasWords, StatementHasWords}
 use Rattle.block_cache_gen.specs.TreeWords.{HasWords, TestHasWords}
 use Rattle.block_cache_gen.proofs.RangesOfCode.{small-word}
@@ -111,10 +113,10 @@ module _ (p : Source) (target : Target) (profile : ProfileFits target.profile) (
   plain-object : HasRoom false p w → SomeBytes false
   plain-object room =
       let sound = standard_sound_at p w within room in
-      let made = made-some p (standard_plan p w) target.profile false typed within sound profile usual_latencies usual-fit
-      fits.words fits.named in
-      let is = made-promises p (standard_plan p w) target.profile false usual_latencies typed within sound profile made.0
-      made.1 in (
+      let made = made-some p (standard_plan p w) target.profile false [] typed within sound (nothing-sound p.decls) profile
+      usual_latencies usual-fit fits.words fits.named in
+      let is = made-promises p (standard_plan p w) target.profile false [] usual_latencies typed within sound
+      (nothing-sound p.decls) (λ (some : 0 < 0). absurd (omega arith)) profile made.0 made.1 in (
         spelling made.0,
         record {
           room = room;
@@ -132,12 +134,15 @@ module _ (p : Source) (target : Target) (profile : ProfileFits target.profile) (
   fast-object room =
       let plan = resident_plan p w in
       let q = folded_source p in
+      let held = held_scalars p.decls in
+      let holds = held_scalars-sound p.decls in
       let sound = folded-sound p w plan (resident_sound p w within profile.block_log room) in
       let typed' = folded-source_typed p typed in
       let within' = folded-within p within in
-      let made = made-some q plan target.profile true typed' within' sound profile usual_latencies usual-fit
+      let made = made-some q plan target.profile true held typed' within' sound holds profile usual_latencies usual-fit
       (block-folds p.body fits.words) fits.named in
-      let is = made-promises q plan target.profile true usual_latencies typed' within' sound profile made.0 made.1 in (
+      let is = made-promises q plan target.profile true held usual_latencies typed' within' sound holds
+      (λ some. (record { bank = 1; block = 0 }, refl, refl)) profile made.0 made.1 in (
         spelling made.0,
         record {
           room = room;

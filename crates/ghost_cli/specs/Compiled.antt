@@ -1,5 +1,5 @@
 -- What `compile` writes: an object file of a program, for a machine of a profile and the usual latencies.
-use Rattle.std.specs.Prelude.{◌≡◌, ℕ, Bool, true, false, List, Option, Some, None, Result, Ok, Err}
+use Rattle.std.specs.Prelude.{◌≡◌, ℕ, Bool, true, false, List, [], Option, Some, None, Result, Ok, Err}
 use Rattle.lt_isa.specs.Object.{Parts, usual_latencies}
 use Rattle.src_tree.specs.Trees.{Source}
 use Rattle.trace_patterns.specs.Accepts.{Accepts}
@@ -9,6 +9,8 @@ use Rattle.scratch_alloc.specs.Plans.{Plan, standard_plan}
 use Rattle.resident_alloc.specs.ResidentFits.{ResidentsFit}
 use Rattle.resident_alloc.specs.ResidentPlan.{resident_plan}
 use Rattle.source_folding.specs.Folded.{folded_source}
+use Rattle.held_registers.specs.declared.registers.Held.{Held}
+use Rattle.held_registers.specs.Held.{held_scalars}
 use Rattle.block_cache_gen.specs.StoredWords.{stored_words}
 use Rattle.code_gen.specs.Compiles.{ExplainsResidents, ExplainsRoom, IsFor, stores_by}
 use Rattle.code_gen.specs.Implements.{Implements}
@@ -41,6 +43,11 @@ abbrev pub source_for : Bool → Source → Source
 source_for false p = p
 source_for true p = folded_source p
 
+-- what registers hold for the whole run: with `--fast` the first scalars
+abbrev pub held_for : Bool → Source → List Held
+held_for false p = []
+held_for true p = held_scalars p.decls
+
 -- There is room for the program's variables. The bytes encode an object that is accepted, that computes what the
 -- program means, and that has the program's layout for the profile's blocks, that profile with the usual latencies, and
 -- the number of stores of a word that the padding makes.
@@ -54,7 +61,7 @@ pub record IsCompiledTo (p : Source) (target : Target) (bytes : List ℕ) : Type
   pub machine : IsFor target.profile usual_latencies o
   pub stores : stored_words o.code
       ≡ stores_by (source_for target.fast p) (plan_for target.fast p target.profile.block_log) target.profile
-      target.fast
+      target.fast (held_for target.fast p)
 
 -- what lacks room, as it is printed; want of memory isn't a fault
 abbrev pub room_fault : CompileError → Option SourceFault

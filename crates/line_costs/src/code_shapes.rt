@@ -5,6 +5,9 @@ use lt_isa::Instr;
 use scratch_alloc::SlotPlan;
 use src_tree::{Decl, Expr, Guard};
 
+// The first of the registers that hold scalars for the whole run.
+const FIRST_HELD: u8 = 21;
+
 /// The code of a program, and what its form depends on.
 #[derive(Clone, Copy)]
 pub struct CompiledCode<'a> {
@@ -37,7 +40,8 @@ pub(crate) struct Arms {
 }
 
 impl CompiledCode<'_> {
-    /// Where the code of the statements begins: after the loads of the slots' first blocks.
+    /// Where the code of the statements begins: after the loads of the slots' first blocks, and of the registers that hold
+    /// zeros and scalars.
     pub(crate) fn body_start(&self) -> usize {
         let mut start = 0usize;
         for _ in 0..8 {
@@ -45,7 +49,42 @@ impl CompiledCode<'_> {
                 start = start.saturating_add(2);
             }
         }
+        if let Some(Instr::Ldw { rd: 19, .. }) = self.code.get(start) {
+            start = start.saturating_add(3);
+        }
+        for _ in FIRST_HELD..32 {
+            if self.loads_scalar(start) {
+                start = start.saturating_add(2);
+            }
+        }
         start
+    }
+
+    // Whether a register that holds a scalar for the whole run is loaded at a place.
+    fn loads_scalar(&self, at: usize) -> bool {
+        match (self.code.get(at), self.code.get(at.saturating_add(1))) {
+            (Some(Instr::Li { rd: 0, .. }), Some(Instr::Ldw { rd, .. })) => *rd >= FIRST_HELD,
+            _ => false,
+        }
+    }
+
+    // Whether a scalar that a register holds is stored at a place.
+    fn stores_scalar(&self, at: usize) -> bool {
+        match (self.code.get(at), self.code.get(at.saturating_add(1))) {
+            (Some(Instr::Li { rd: 0, .. }), Some(Instr::Stw { rs, .. })) => *rs >= FIRST_HELD,
+            _ => false,
+        }
+    }
+
+    // The place after the stores of the scalars that registers hold.
+    fn stores_end(&self, from: usize) -> usize {
+        let mut end = from;
+        for _ in FIRST_HELD..32 {
+            if self.stores_scalar(end) {
+                end = end.saturating_add(2);
+            }
+        }
+        end
     }
 
     // Whether a slot is loaded with a block of a fixed number at a place.
@@ -56,10 +95,10 @@ impl CompiledCode<'_> {
         }
     }
 
-    /// Whether only stores of slots and the halt are left at a place.
+    /// Whether only stores of scalars and slots and the halt are left at a place.
     pub(crate) fn ends_from(&self, at: usize) -> bool {
         let mut is_over = false;
-        for instruction in self.code.iter().skip(at) {
+        for instruction in self.code.iter().skip(self.stores_end(at)) {
             match instruction {
                 Instr::Stb { .. } if !is_over => {}
                 Instr::Halt if !is_over => is_over = true,
@@ -95,13 +134,14 @@ impl CompiledCode<'_> {
         }
     }
 
-    // The first place from one on that ends the code of an expression: a store of a word, a jump, a halt, or a branch
-    // other than one that skips the load of a cached block or a remainder.
+    // The first place from one on that ends the code of an expression: a store of a word, a copy to a register that holds a
+    // scalar, a jump, a halt, or a branch other than one that skips the load of a cached block or a remainder.
     fn expression_end(&self, from: usize) -> Option<usize> {
         let mut tests_cache = false;
         for (at, instruction) in self.code.iter().enumerate().skip(from) {
             match instruction {
                 Instr::Stw { .. } | Instr::Jmp { .. } | Instr::Halt => return Some(at),
+                Instr::Alu { rd, .. } if *rd >= FIRST_HELD => return Some(at),
                 Instr::Br { .. } if !tests_cache && !self.skips_remainder(at) => return Some(at),
                 _ => {}
             }
@@ -125,8 +165,8 @@ impl CompiledCode<'_> {
         Some(*self.slots.of_var.as_slice().get(number)?)
     }
 
-    /// The end of an assignment to a variable, whose code begins at a place: after its store, and for an element of an
-    /// array that no slot holds for the whole run after the store of its block.
+    /// The end of an assignment to a variable, whose code begins at a place: after its store or its copy to a register, and
+    /// for an element of an array that no slot holds for the whole run after the store of its block.
     pub(crate) fn assignment_end(
         &self,
         name: &[u8],
@@ -135,11 +175,12 @@ impl CompiledCode<'_> {
     ) -> Option<usize> {
         let own = self.slot_of(name)?;
         let store = self.expression_end(from)?;
+        let next = store.checked_add(1)?;
         match self.code.get(store)? {
             Instr::Stw { slot, .. } if *slot == own => {}
+            Instr::Alu { .. } if !is_element => return Some(next),
             _ => return None,
         }
-        let next = store.checked_add(1)?;
         if !is_element || is_pinned(self.slots, own) {
             return Some(next);
         }
@@ -192,6 +233,7 @@ impl CompiledCode<'_> {
                 Instr::Stb { .. } => next.checked_add(1),
                 _ => Some(next),
             },
+            Instr::Alu { .. } => Some(next),
             Instr::Br { .. } => Some(self.region_at(end)?.end),
             _ => None,
         }

@@ -10,6 +10,10 @@ numbered-low base i low room = omega (arith, numbered_is base i)
 pub numbered-from : (base i : ℕ) → base ≤ numbered base i
 numbered-from base i = omega (arith, numbered_is base i)
 
+-- and they are among three
+pub numbered-to : (base i : ℕ) → i ≤ 2 → numbered base i < base + 3
+numbered-to base i low = omega (arith, numbered_is base i)
+
 numbered-same : (base i j : ℕ) → numbered base i ≡ numbered base j → i ≡ j
 numbered-same base i j same = omega (arith, numbered_is base i, numbered_is base j)
 

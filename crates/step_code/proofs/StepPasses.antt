@@ -7,7 +7,7 @@ use Rattle.lt_isa.specs.Object.{Parts}
 use Rattle.trace_patterns.specs.Known.{Known, is_secret, set_secret}
 use Rattle.stretches.proofs.Passed.{GoesOn, NoMore, One, rules-li, rules-alu, secret-same, secret-other}
 use Rattle.strength_reduction.specs.Steps.{Step, Constant, Compute, StepFits, replaced, secrets_after, numbered, code_of}
-use Rattle.step_code.proofs.Registers.{numbered-low, numbered-from, set-own}
+use Rattle.step_code.proofs.Registers.{numbered-low, numbered-from, numbered-to, set-own}
 
 -- what the check knows after code that it passes: the labels of the steps' registers, and the rest as before
 pub record Passed (o : Parts) (base p : ℕ) (steps : List Step) (secret : ℕ → Bool) (k : Known) : Type 0 where
@@ -15,6 +15,7 @@ pub record Passed (o : Parts) (base p : ℕ) (steps : List Step) (secret : ℕ �
   pub goes : GoesOn o p (code_of base steps) k last
   pub own : (i : ℕ) → i ≤ 2 → is_secret last (numbered base i) ≡ secret i
   pub below : (r : ℕ) → r < base → is_secret last r ≡ is_secret k r
+  pub above : (r : ℕ) → base + 3 ≤ r → is_secret last r ≡ is_secret k r
   pub count : length last.secret ≡ length k.secret
   pub banks : last.banks ≡ k.banks
 
@@ -29,6 +30,7 @@ module _ (o : Parts) (base : ℕ) (room : base + 2 < 32) where
     goes = NoMore p k;
     own = held;
     below = λ r under. refl;
+    above = λ r over. refl;
     count = refl;
     banks = refl;
   }
@@ -49,6 +51,9 @@ module _ (o : Parts) (base : ℕ) (room : base + 2 < 32) where
         below = λ r under.
             rest.below r under
             ∙ secret-other k rd r false (λ same. absurd (omega (arith, numbered-from base to)));
+        above = λ r over.
+            rest.above r over
+            ∙ secret-other k rd r false (λ same. absurd (omega (arith, numbered-to base to first.0, over, same)));
         count = rest.count ∙ length-set k.secret rd false;
         banks = rest.banks;
       }
@@ -74,6 +79,9 @@ module _ (o : Parts) (base : ℕ) (room : base + 2 < 32) where
         below = λ r under.
             rest.below r under
             ∙ secret-other k rd r label (λ same. absurd (omega (arith, numbered-from base to)));
+        above = λ r over.
+            rest.above r over
+            ∙ secret-other k rd r label (λ same. absurd (omega (arith, numbered-to base to first.0, over, same)));
         count = rest.count ∙ length-set k.secret rd label;
         banks = rest.banks;
       }

@@ -13,22 +13,25 @@ use Rattle.stretches.specs.Standing.{StandsAt}
 use Rattle.stretches.specs.Coming.{RunsThrough, Sets}
 use Rattle.stretches.proofs.RunningThrough.{runs-cons, runs-weaker, sets-li, sets-alu}
 use Rattle.strength_reduction.specs.Steps.{Step, Constant, Compute, StepFits, replaced, words_after, numbered, code_of}
-use Rattle.step_code.proofs.Registers.{numbered-low, numbered-from, set-own}
+use Rattle.step_code.proofs.Registers.{numbered-low, numbered-from, numbered-to, set-own}
 
--- the registers of the steps have these words; those below, the slots and the banks are as before
+-- the registers of the steps have these words; those below and above, the slots and the banks are as before
 pub record Leaves (base : ℕ) (words : ℕ → ℤ) (s t : State) : Type 0 where
   pub own : (i : ℕ) → i ≤ 2 → register t (numbered base i) ≡ words i
   pub below : (r : ℕ) → r < base → register t r ≡ register s r
+  pub above : (r : ℕ) → base + 3 ≤ r → register t r ≡ register s r
   pub slots : t.slots ≡ s.slots
   pub banks : t.banks ≡ s.banks
 
 -- one register was set, and then the rest
-leaves-on : {base : ℕ} {words : ℕ → ℤ} {s t u : State} (to : ℕ) (word : ℤ)
+leaves-on : {base : ℕ} {words : ℕ → ℤ} {s t u : State} (to : ℕ) (word : ℤ) → to ≤ 2
     → Sets s (numbered base to) word t → Leaves base words t u → Leaves base words s u
-leaves-on {base = base} to word sets rest = record {
+leaves-on {base = base} to word low sets rest = record {
   own = rest.own;
   below = λ r under.
       rest.below r under ∙ sets.others r (λ same. absurd (omega (arith, numbered-from base to)));
+  above = λ r over.
+      rest.above r over ∙ sets.others r (λ same. absurd (omega (arith, numbered-to base to low, over, same)));
   slots = rest.slots ∙ sets.slots;
   banks = rest.banks ∙ sets.banks;
 }
@@ -48,7 +51,7 @@ module _ (o : Parts) (fits : IsInRange o) (base : ℕ) (room : base + 2 < 32) wh
     comes = omega arith;
     by = omega arith;
     shaped = shaped;
-    holds = record { own = held; below = λ r under. refl; slots = refl; banks = refl };
+    holds = record { own = held; below = λ r under. refl; above = λ r over. refl; slots = refl; banks = refl };
   }
   runs-steps (Constant to value ∷ steps) words s low shaped held at =
       let first = All-head StepFits (Constant to value) steps low in
@@ -61,7 +64,7 @@ module _ (o : Parts) (fits : IsInRange o) (base : ℕ) (room : base + 2 < 32) wh
       (runs-steps steps (replaced words to value) t (All-tail StepFits (Constant to value) steps low) shape
       (set-own base to value (register s) (register t) words sets.value sets.others held) at')
       refl
-      (λ u shape' rest. leaves-on to value sets rest))
+      (λ u shape' rest. leaves-on to value first.0 sets rest))
   runs-steps (Compute op to left right ∷ steps) words s low shaped held at =
       let first = All-head StepFits (Compute op to left right) steps low in
       let rd = numbered base to in
@@ -79,4 +82,4 @@ module _ (o : Parts) (fits : IsInRange o) (base : ℕ) (room : base + 2 < 32) wh
       (runs-steps steps (replaced words to word) t (All-tail StepFits (Compute op to left right) steps low) shape
       (set-own base to word (register s) (register t) words sets.value sets.others held) at')
       refl
-      (λ u shape' rest. leaves-on to word sets rest))
+      (λ u shape' rest. leaves-on to word first.0 sets rest))

@@ -13,7 +13,7 @@ use Rattle.trace_patterns.specs.Single.{Goes, applied_trees, single}
 use Rattle.stretches.specs.Shows.{Show, Gap, pattern_of_one}
 use Rattle.stretches.proofs.ArmCode.{Walked, walked-none, walked-on}
 use Rattle.strength_reduction.specs.Steps.{Step, Constant, Compute, StepFits, left_by, replaced, numbered, code_of}
-use Rattle.step_code.proofs.Registers.{numbered-low, numbered-from, set-own}
+use Rattle.step_code.proofs.Registers.{numbered-low, numbered-from, numbered-to, set-own}
 
 -- the trees that steps leave in the registers
 abbrev pub trees_after : List Step → (ℕ → Option Value) → ℕ → Option Value
@@ -32,6 +32,7 @@ pub record Walks (o : Parts) (depth base : ℕ) (steps : List Step) (trees : ℕ
   pub walked : Walked o depth s (code_of base steps) (steps_show o.profile steps) state
   pub own : (i : ℕ) → i ≤ 2 → tree_held state (numbered base i) ≡ trees i
   pub below : (r : ℕ) → r < base → tree_held state r ≡ tree_held s r
+  pub above : (r : ℕ) → base + 3 ≤ r → tree_held state r ≡ tree_held s r
   pub slots : state.slots ≡ s.slots
   pub registers : length state.registers ≡ 32
 
@@ -58,6 +59,7 @@ module _ (o : Parts) (depth base : ℕ) (room : base + 2 < 32) where
     walked = walked-none o depth s;
     own = held;
     below = λ r under. refl;
+    above = λ r over. refl;
     slots = refl;
     registers = size;
   }
@@ -80,6 +82,10 @@ module _ (o : Parts) (depth base : ℕ) (room : base + 2 < 32) where
         below = λ r under.
             rest.below r under
             ∙ get_or-set_other s.registers rd r tree None (λ same. absurd (omega (arith, numbered-from base to)));
+        above = λ r over.
+            rest.above r over
+            ∙ get_or-set_other s.registers rd r tree None
+            (λ same. absurd (omega (arith, numbered-to base to first.0, over, same)));
         slots = rest.slots;
         registers = rest.registers;
       }
@@ -109,6 +115,10 @@ module _ (o : Parts) (depth base : ℕ) (room : base + 2 < 32) where
         below = λ r under.
             rest.below r under
             ∙ get_or-set_other s.registers rd r tree None (λ same. absurd (omega (arith, numbered-from base to)));
+        above = λ r over.
+            rest.above r over
+            ∙ get_or-set_other s.registers rd r tree None
+            (λ same. absurd (omega (arith, numbered-to base to first.0, over, same)));
         slots = rest.slots;
         registers = rest.registers;
       }

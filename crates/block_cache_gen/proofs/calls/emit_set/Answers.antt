@@ -38,6 +38,7 @@ returns c =
       passes = on_ok_weaker c.put_set.result (λ x. let h = promised x in h.passes) c.put_set.ensures.emitted;
       walked = on_ok_weaker c.put_set.result (λ x. let h = promised x in h.walked) c.put_set.ensures.emitted;
       stores = on_ok_weaker c.put_set.result (λ x. let h = promised x in h.stores) c.put_set.ensures.emitted;
+      writes = on_ok_weaker c.put_set.result (λ x. let h = promised x in h.writes) c.put_set.ensures.emitted;
       instructions = on_ok_weaker c.put_set.result (λ x. let h = promised x in h.instructions)
           c.put_set.ensures.emitted;
       twin = on_ok_weaker c.put_set.result (λ x. let h = promised x in h.twin) c.put_set.ensures.emitted;

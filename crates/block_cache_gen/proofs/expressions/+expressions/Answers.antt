@@ -1,11 +1,17 @@
-use Rattle.std.proofs.Common.{◌≡◌, ◌∙◌, ap, rules, sym, Some, w64, to_z, of_z}
+use Rattle.std.proofs.Common.{◌≡◌, ◌∙◌, ap, rules, sym, Some, w64, to_z, of_z, arith}
 use Rattle.std.proofs.lemmas.Int.{wraps}
 use Rattle.std.proofs.lemmas.Result.{on_ok_weaker}
 use Rattle.src_tree.specs.Trees.{expr_tree}
+use Rattle.src_tree.proofs.TreeHeights.{height-some}
 use Rattle.block_cache_gen.specs.Variables.{home_in}
 use Rattle.block_cache_gen.proofs.Emitting.{grows_then}
 use Rattle.block_cache_gen.proofs.EmittedTrees.{access_fixed, access_worked, element_appended, operation_appended, room_for_found, room_behind_left}
 use Rattle.block_cache_gen.proofs.expressions.+expressions.Goals as goal
+
+pub put_operation-steps_code-requires : goal.put_operation-steps_code-requires
+put_operation-steps_code-requires t c = record {
+  registers = omega (arith, c.requires.registers, height-some (expr_tree c.args.right.now));
+}
 
 pub put_access-put_found_access-requires-clause-room : goal.put_access-put_found_access-requires-clause-room
 put_access-put_found_access-requires-clause-room t c =

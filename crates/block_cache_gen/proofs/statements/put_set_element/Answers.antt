@@ -1,7 +1,9 @@
+use Rattle.std.proofs.Common.{ap, ◌∙◌}
+use Rattle.block_cache_gen.specs.Notes.{marked_by}
 use Rattle.std.proofs.lemmas.Result.{on_ok_weaker}
 use Rattle.src_tree.specs.Trees.{expr_tree}
 use Rattle.block_cache_gen.specs.Variables.{home_in}
-use Rattle.block_cache_gen.proofs.EmittedStatements.{element_set, room_for_access}
+use Rattle.block_cache_gen.proofs.EmittedStatements.{element_set, room_for_access, with_base}
 use Rattle.block_cache_gen.proofs.Emitting.{grows_then}
 use Rattle.block_cache_gen.proofs.statements.put_set_element.Goals as goal
 
@@ -9,7 +11,9 @@ pub put_access-requires-clause-room : goal.put_access-requires-clause-room
 put_access-requires-clause-room c =
     room_for_access c.args.emitter.now c.args.mode (expr_tree c.args.index.now) (expr_tree c.args.value.now)
     c.args.out.now
-    c.put_expr.new.out c.requires.room c.in_ok-put_expr.ensures.emitted
+    c.put_expr.new.out c.requires.room
+    (with_base c.args.emitter.now c.args.mode (expr_tree c.args.value.now) 0 c.base_mask-base.result c.args.out.now
+    c.put_expr.new.out c.base_mask-base.ensures c.in_ok-put_expr.ensures.emitted)
 
 pub returns-clause-emitted : goal.returns-clause-emitted
 returns-clause-emitted c =
@@ -18,7 +22,9 @@ returns-clause-emitted c =
     (expr_tree c.args.value.now)
     (home_in c.variable-array.result) c.label_of.result c.marked_by-mask.result c.args.out.now
     c.put_expr.new.out c.put_access.new.out c.put_store.new.out c.put_block_store.new.out c.bytes.ensures.bytes
-    c.variable-array.ensures.home c.label_of.ensures c.marked_by-mask.ensures c.in_ok-put_expr.ensures.emitted
+    c.variable-array.ensures.home c.label_of.ensures (c.marked_by-mask.ensures ∙ ap (λ m. marked_by c.label_of.result m 0) c.base_mask-base.ensures)
+    (with_base c.args.emitter.now c.args.mode (expr_tree c.args.value.now) 0 c.base_mask-base.result c.args.out.now
+    c.put_expr.new.out c.base_mask-base.ensures c.in_ok-put_expr.ensures.emitted)
     c.in_ok-put_access.ensures.emitted c.in_ok-put_store.ensures.appended)
     c.put_block_store.ensures.appended
 

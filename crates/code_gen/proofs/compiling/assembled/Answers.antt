@@ -25,7 +25,7 @@ symbols-requires-clause-places c =
 
 made : (c : In_ok-banks)
     → IsMadeOf (source_of c.args.f.now.program.now) (plan_of c.args.f.now) c.args.f.now.profile.now c.args.f.now.reduces
-    c.args.l.now (object_of c)
+    c.args.f.now.held.now c.args.l.now (object_of c)
 made c =
     frame-made c.args.f.now c.args.l.now (object_of c) c.requires.frame c.requires.latencies refl
     (c.in_ok-banks.ensures ∙ ap (banks_from c.args.l.now 0) c.as_slice.ensures.value)
@@ -37,6 +37,6 @@ of_parts-requires c = let h = made (goal.at.of_parts-requires c).In_ok-banks in 
 
 pub returns : goal.returns
 returns c =
-    subst (IsMadeOf (source_of c.args.f.now.program.now) (plan_of c.args.f.now) c.args.f.now.profile.now
-    c.args.f.now.reduces c.args.l.now) (sym c.of_parts.ensures)
+    subst (IsMadeOf (source_of c.args.f.now.program.now) (plan_of c.args.f.now) c.args.f.now.profile.now c.args.f.now.reduces
+    c.args.f.now.held.now c.args.l.now) (sym c.of_parts.ensures)
     (made (goal.at.returns c).In_ok-banks)

@@ -1,4 +1,5 @@
-use Rattle.std.proofs.Common.{false, rules, sym, subst}
+use Rattle.std.proofs.Common.{◌<◌, false, [], rules, sym, subst, arith}
+use Rattle.held_registers.proofs.Sound.{nothing-sound}
 use Rattle.src_tree.specs.Limits.{IsWithinLimits}
 use Rattle.src_tree.specs.Trees.{source_of}
 use Rattle.src_tree.specs.Typing.{IsTyped}
@@ -12,13 +13,14 @@ returns-in-Ok-compiled c =
     let p = c.program-program in
     let w = c.args.p.now.block_log in
     let limits = subst (λ q. IsWithinLimits (source_of q)) (sym p.ensures.program) p.ensures.within in
-    let h = subst (λ q. CompilePromises (source_of q) (standard_plan (source_of q) w) c.args.p.now false c.args.l.now
+    let h = subst (λ q. CompilePromises (source_of q) (standard_plan (source_of q) w) c.args.p.now false [] c.args.l.now
     c.in-Ok-compiled.object)
     p.ensures.program
-    (made-promises (source_of p.result.now) (standard_plan (source_of p.result.now) w) c.args.p.now false c.args.l.now
+    (made-promises (source_of p.result.now) (standard_plan (source_of p.result.now) w) c.args.p.now false [] c.args.l.now
     (subst (λ q. IsTyped (source_of q)) (sym p.ensures.program) p.ensures.typed)
     limits
-    (standard_sound_at (source_of p.result.now) w limits c.in-Ok.ensures.fits) c.requires.profile c.in-Ok-compiled.object c.in-Ok-compiled.ensures) in
+    (standard_sound_at (source_of p.result.now) w limits c.in-Ok.ensures.fits) (nothing-sound (source_of p.result.now).decls)
+    (λ (some : 0 < 0). absurd (omega arith)) c.requires.profile c.in-Ok-compiled.object c.in-Ok-compiled.ensures) in
     record {
       accepted = h.accepted;
       implements = h.implements;

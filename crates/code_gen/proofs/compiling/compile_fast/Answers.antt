@@ -1,4 +1,6 @@
-use Rattle.std.proofs.Common.{true, rules, sym, subst}
+use Rattle.std.proofs.Common.{◌+◌, ◌*◌, true, length, refl, rules, sym, subst, arith}
+use Rattle.held_registers.specs.Held.{held_scalars}
+use Rattle.held_registers.proofs.Sound.{held_scalars-sound}
 use Rattle.src_tree.specs.Limits.{IsWithinLimits}
 use Rattle.src_tree.specs.Trees.{source_of}
 use Rattle.src_tree.specs.Typing.{IsTyped}
@@ -26,29 +28,36 @@ returns-in-Ok-planned_folded c =
     let p = c.program-program in
     let w = c.args.p.now.block_log in
     let source = source_of p.result.now in
+    let held = held_scalars source.decls in
+    let holds = held_scalars-sound source.decls in
     let limits = subst (λ q. IsWithinLimits (source_of q)) (sym p.ensures.program) p.ensures.within in
     let typed = subst (λ q. IsTyped (source_of q)) (sym p.ensures.program) p.ensures.typed in
     let sound = resident_sound source w limits c.requires.profile.block_log c.in-Ok.ensures.fits in
     let object = c.in-Ok-planned_folded.object in
-    let made = subst (λ plan. IsMadeOf (folded_source source) plan c.args.p.now true c.args.l.now object)
+    let made = subst (λ plan. IsMadeOf (folded_source source) plan c.args.p.now true held c.args.l.now object)
     c.in-Ok.ensures.plan c.in-Ok-planned_folded.ensures.made in
     let numbers = subst (λ q. BlockNumbersFit (source_of q).body) p.ensures.program
     c.in-Ok-planned_folded.ensures.numbers in
-    let layout = subst (λ q. IsMadeOf (folded_source (source_of q)) (resident_plan (source_of q) w) c.args.p.now true
-    c.args.l.now object) p.ensures.program made in
-    let h = subst (λ q. CompilePromises (folded_source (source_of q)) (resident_plan (source_of q) w) c.args.p.now true
-    c.args.l.now object)
+    let layout = subst (λ q. IsMadeOf (folded_source (source_of q)) (resident_plan (source_of q) w) c.args.p.now true (held_scalars (source_of q).decls) c.args.l.now
+    object) p.ensures.program made in
+    let h = subst (λ q. CompilePromises (folded_source (source_of q)) (resident_plan (source_of q) w) c.args.p.now true (held_scalars (source_of q).decls) c.args.l.now
+    object)
     p.ensures.program
-    (made-promises (folded_source source) (resident_plan source w) c.args.p.now true c.args.l.now
+    (made-promises (folded_source source) (resident_plan source w) c.args.p.now true held c.args.l.now
     (folded-source_typed source typed) (folded-within source limits)
-    (folded-sound source w (resident_plan source w) sound) c.requires.profile object made) in
+    (folded-sound source w (resident_plan source w) sound) holds
+    (λ some. (record { bank = 1; block = 0 }, refl, refl)) c.requires.profile object made) in
+    let few = (held_scalars-sound (source_of c.args.t.now).decls).few in
     record {
       accepted = h.accepted;
       implements = folded-implements (source_of c.args.t.now) object numbers h.implements;
       laid_out =
           folded-laid (source_of c.args.t.now) w (resident_plan (source_of c.args.t.now) w) object layout.layout;
       machine = h.machine;
-      size = folded-short (source_of c.args.t.now) object h.size;
+      size =
+          let short = folded-short (source_of c.args.t.now) object
+          (64 + 4 * length (held_scalars (source_of c.args.t.now).decls)) h.size in
+          omega arith;
       stores = h.stores;
       in_range = layout.in_range;
       fits = search rules;

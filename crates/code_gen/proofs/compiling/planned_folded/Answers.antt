@@ -1,4 +1,6 @@
-use Rattle.std.proofs.Common.{sym, subst}
+use Rattle.std.proofs.Common.{sym, subst, ap, ◌∙◌}
+use Rattle.held_registers.specs.Held.{held_scalars, IsSoundHeld}
+use Rattle.held_registers.proofs.Sound.{held_scalars-sound}
 use Rattle.src_tree.specs.Limits.{IsWithinLimits}
 use Rattle.src_tree.specs.Typing.{IsTyped}
 use Rattle.src_tree.specs.Trees.{source_of}
@@ -15,6 +17,12 @@ pub planned-requires-clause-within : goal.planned-requires-clause-within
 planned-requires-clause-within c =
     subst IsWithinLimits (sym c.in_ok-program.ensures.folded)
     (folded-within (source_of c.args.program.now) c.requires.within)
+
+pub planned-requires-clause-held : goal.planned-requires-clause-held
+planned-requires-clause-held c =
+    subst (IsSoundHeld c.in_ok-program.program.decls.items)
+    (sym (c.as_slice-2.ensures.value ∙ c.in_ok-held.ensures ∙ ap held_scalars c.as_slice.ensures.value))
+    (held_scalars-sound c.in_ok-program.program.decls.items)
 
 pub planned-requires-clause-plan : goal.planned-requires-clause-plan
 planned-requires-clause-plan c =

@@ -1,5 +1,6 @@
 use Rattle.std.proofs.Common.{◌∙◌, sym, ap, length}
 use Rattle.gr_base.specs.NameMaps.{found_under}
+use Rattle.block_cache_gen.specs.Notes.{mask_to}
 use Rattle.block_cache_gen.proofs.FrameParts.{frame_places, frame_slots, frame_claims, frame_names}
 use Rattle.block_cache_gen.proofs.emitter.Emitter.new.Goals as goal
 
@@ -18,8 +19,12 @@ invariant_of-result c = (
   c.requires,
   (
     c.claims_in-claims.ensures ∙ frame_claims c.args.f.now c.as_slice-slots.result.now c.requires c.as_slice-slots.ensures.value,
-    frame_names c.args.f.now (found_under c.in_ok-variables.variables) c.as_slice.result.now c.as_slice-2.result.now
-        c.as_slice-slots.result.now c.as_slice.ensures.value c.as_slice-2.ensures.value c.as_slice-slots.ensures.value
-        (c.in_ok-variables.ensures {u = tt}),
+    (
+      c.mask_of_held-mask.ensures
+          ∙ ap (λ ds. mask_to ds c.args.f.now.held.now 32) c.as_slice-3.ensures.value,
+      frame_names c.args.f.now (found_under c.in_ok-variables.variables) c.as_slice.result.now c.as_slice-2.result.now
+          c.as_slice-slots.result.now c.as_slice.ensures.value c.as_slice-2.ensures.value
+          c.as_slice-slots.ensures.value (c.in_ok-variables.ensures {u = tt}),
+    ),
   ),
 )

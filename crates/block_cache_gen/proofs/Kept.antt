@@ -1,0 +1,29 @@
+-- What short code keeps that sets registers from some number on: the registers below it and those from 19 on, which hold
+-- something for the whole run, the slots and the banks.
+use Rattle.std.proofs.Common.{◌≡◌, ℕ, ◌<◌, ◌≤◌, ℤ, ◌∙◌, arith}
+use Rattle.lt_isa.specs.Machine.{State, register}
+use Rattle.stretches.specs.Coming.{Sets}
+
+pub record Keeps (n : ℕ) (s t : State) : Type 0 where
+  pub below : (r : ℕ) → r < n → register t r ≡ register s r
+  pub above : (r : ℕ) → 19 ≤ r → register t r ≡ register s r
+  pub slots : t.slots ≡ s.slots
+  pub banks : t.banks ≡ s.banks
+
+-- where one register was set
+pub keeps-set : (n : ℕ) {s t : State} {r : ℕ} {word : ℤ} → Sets s r word t → n ≤ r → r < 19 → Keeps n s t
+keeps-set n {r = r} sets from low = record {
+  below = λ q under. sets.others q (λ same. absurd (omega (arith, from, under, same)));
+  above = λ q over. sets.others q (λ same. absurd (omega (arith, low, over, same)));
+  slots = sets.slots;
+  banks = sets.banks;
+}
+
+-- one after another
+pub keeps-on : {n : ℕ} {s t u : State} → Keeps n s t → Keeps n t u → Keeps n s u
+keeps-on first second = record {
+  below = λ r under. second.below r under ∙ first.below r under;
+  above = λ r over. second.above r over ∙ first.above r over;
+  slots = second.slots ∙ first.slots;
+  banks = second.banks ∙ first.banks;
+}

@@ -1,0 +1,212 @@
+-- The instructions that write a scalar or an element: none in an expression's code, and one in an assignment's.
+use Rattle.std.proofs.Common.{◌≡◌, ℕ, ◌+◌, ◌-◌, ◌<◌, ◌≤◌, ◌==◌, Bool, true, false, ℤ, pos, ◌+ℤ◌, List, [], ◌∷◌, ◌++◌, Option, Some, None, refl, ap, ◌∙◌, arith}
+use Rattle.std.specs.Prelude.{All, cond, if◌then◌else◌}
+use Rattle.std.proofs.lemmas.Bool.{le-ltb, lt-ltb}
+use Rattle.std.proofs.lemmas.List.Elements.{All-head, All-tail}
+use Rattle.std.proofs.lemmas.List.Sums.{sum_by-append}
+use Rattle.gr_word.specs.declared.operations.Op.{Op}
+use Rattle.gr_word.specs.declared.operations.Op.TheVariants.{Add, Remu, And, Shr}
+use Rattle.gr_word.specs.declared.operations.Cmp.TheVariants.{Lt}
+use Rattle.gr_word.specs.declared.variables.Label.{Label}
+use Rattle.lt_isa.specs.declared.instructions.Instr.{Instr}
+use Rattle.lt_isa.specs.declared.instructions.Instr.TheVariants.{Li, Alu, Ldw, Br}
+use Rattle.src_tree.specs.Contexts.{context_of}
+use Rattle.src_tree.specs.Heights.{height_of}
+use Rattle.src_tree.specs.Labels.{label_of}
+use Rattle.src_tree.specs.Limits.{LowStatement}
+use Rattle.src_tree.specs.Trees.{Tree, Number, Variable, Element, Operation, Statement, SetVariable, SetElement, Choice, Loop}
+use Rattle.src_tree.proofs.TreeHeights.{height-some}
+use Rattle.strength_reduction.specs.Steps.{Step, Constant, Compute, StepFits, numbered, code_of}
+use Rattle.step_code.proofs.Registers.{numbered-to}
+use Rattle.held_registers.specs.Held.{public_zero, IsSoundHeld}
+use Rattle.block_cache_gen.specs.declared.frames.Mode.{Mode}
+use Rattle.block_cache_gen.specs.declared.frames.Mode.TheVariants.{Public, Real, Mirrored}
+use Rattle.block_cache_gen.specs.Assignments.{IsAssignment}
+use Rattle.block_cache_gen.specs.Homes.{Home, Setting, home_of, register_for}
+use Rattle.block_cache_gen.specs.Codes.{zero_of, copied_from, is_masked, fixed_index, scalar_code, compares, least_word, numbered_code, reduced_code, shift_code, offset_code, placed_code, located_code, load_code, skips, access_by, access_code, stored_code, operation_code, steps_at, expr_code, store_code, write_code, set_code}
+use Rattle.block_cache_gen.specs.StoredWords.{is_held_register, is_write, written_words}
+use Rattle.block_cache_gen.proofs.HeldLabels.{register-own}
+use Rattle.block_cache_gen.proofs.StepsAt.{steps-of}
+
+-- writes of code after other code
+pub written-append : (xs ys : List Instr) → written_words (xs ++ ys) ≡ written_words xs + written_words ys
+written-append xs ys = sum_by-append (λ i. cond (is_write i) 1 0) xs ys
+
+pub written-one : (i : Instr) (b : Bool) → is_write i ≡ b → written_words (i ∷ []) ≡ 0 + cond b 1 0
+written-one i b is = ap (λ (c : Bool). 0 + cond c 1 0) is
+
+none-more : (i : Instr) (code : List Instr) → is_write i ≡ false → written_words code ≡ 0
+    → written_words (i ∷ code) ≡ 0
+none-more i code is none =
+    let one : written_words (i ∷ []) ≡ 0 = written-one i false is in
+    written-append (i ∷ []) code ∙ omega (arith, one, none)
+
+none-then : (xs ys : List Instr) → written_words xs ≡ 0 → written_words ys ≡ 0 → written_words (xs ++ ys) ≡ 0
+none-then xs ys first second = written-append xs ys ∙ omega (arith, first, second)
+
+-- a register of expressions
+low-plain : (r : ℕ) → r < 21 → is_held_register r ≡ false
+low-plain r low = le-ltb public_zero r (omega arith)
+
+-- the code of an access
+module _ (to : ℕ) (low : to + 2 < 21) where
+  reduced-writes : (h : Home) → written_words (reduced_code h to) ≡ 0
+  reduced-writes h = by (is_masked h)
+    where
+      by : (masked : Bool)
+          → written_words (if masked then Li (to + 1) (pos (h.length - 1)) ∷ Alu And to to (to + 1) ∷ []
+          else Li (to + 1) (pos h.length) ∷ Alu Remu to to (to + 1) ∷ [])
+          ≡ 0
+      by true =
+          none-more (Li (to + 1) (pos (h.length - 1))) (Alu And to to (to + 1) ∷ []) refl
+          (none-more (Alu And to to (to + 1)) [] (low-plain to (omega arith)) refl)
+      by false =
+          none-more (Li (to + 1) (pos h.length)) (Alu Remu to to (to + 1) ∷ []) refl
+          (none-more (Alu Remu to to (to + 1)) [] (low-plain to (omega arith)) refl)
+
+  shift-writes : (log : ℕ) (h : Home) → written_words (shift_code log h to) ≡ 0
+  shift-writes log h =
+      let one = Alu Add (to + 1) (to + 1) (to + 2) in
+      let two = Li (to + 2) (pos h.block) in
+      let three = Alu Shr (to + 1) to (to + 1) in
+      let plain = low-plain (to + 1) (omega arith) in
+      none-more (Li (to + 1) (pos log)) (three ∷ two ∷ one ∷ []) refl
+      (none-more three (two ∷ one ∷ []) plain (none-more two (one ∷ []) refl (none-more one [] plain refl)))
+
+  offset-writes : (h : Home) → written_words (offset_code h to) ≡ 0
+  offset-writes h = by (h.word == 0)
+    where
+      by : (first : Bool)
+          → written_words (if first then [] else Li (to + 1) (pos h.word) ∷ Alu Add to to (to + 1) ∷ []) ≡ 0
+      by true = refl
+      by false =
+          none-more (Li (to + 1) (pos h.word)) (Alu Add to to (to + 1) ∷ []) refl
+          (none-more (Alu Add to to (to + 1)) [] (low-plain to (omega arith)) refl)
+
+  load-writes : (skipped : Bool) (h : Home) → written_words (load_code skipped h to) ≡ 0
+  load-writes true h = refl
+  load-writes false h = refl
+
+  numbered-writes : (near : Bool) (h : Home) → written_words (numbered_code near h to) ≡ 0
+  numbered-writes false h = reduced-writes h
+  numbered-writes true h =
+      let one = Alu Remu to to (to + 1) in
+      let two = Li (to + 1) (pos h.length) in
+      let three = Br Lt (to + 1) (to + 2) (pos 3) in
+      let four = Li (to + 2) (least_word +ℤ pos h.length) in
+      let five = Alu Add (to + 1) (to + 1) to in
+      none-more (Li (to + 1) least_word) (five ∷ four ∷ three ∷ two ∷ one ∷ []) refl
+      (none-more five (four ∷ three ∷ two ∷ one ∷ []) (low-plain (to + 1) (omega arith))
+      (none-more four (three ∷ two ∷ one ∷ []) refl
+      (none-more three (two ∷ one ∷ []) refl
+      (none-more two (one ∷ []) refl (none-more one [] (low-plain to (omega arith)) refl)))))
+
+  located-writes : (near : Bool) (log : ℕ) (h : Home) (fixed : Option ℤ) (index : List Instr)
+      → written_words index ≡ 0 → written_words (located_code near log h to fixed index) ≡ 0
+  located-writes near log h (Some z) index none = refl
+  located-writes near log h None index none =
+      none-then index (numbered_code near h to ++ shift_code log h to) none
+      (none-then (numbered_code near h to) (shift_code log h to) (numbered-writes near h) (shift-writes log h))
+
+  placed-writes : (near : Bool) (h : Home) (fixed : Option ℤ) (index : List Instr) → written_words index ≡ 0
+      → written_words (placed_code near h to fixed index) ≡ 0
+  placed-writes near h (Some z) index none = refl
+  placed-writes near h None index none =
+      none-then index (numbered_code near h to ++ offset_code h to) none
+      (none-then (numbered_code near h to) (offset_code h to) (numbered-writes near h) (offset-writes h))
+
+  access-writes : (f : Setting) (mode : Mode) (near : Bool) (h : Home) (fixed : Option ℤ) (index : List Instr)
+      → written_words index ≡ 0 → written_words (access_code near f.profile.block_log mode h to fixed index) ≡ 0
+  access-writes f mode near h fixed index none = by h.resident
+    where
+      by : (b : Bool) → written_words (access_by b near f.profile.block_log mode h to fixed index) ≡ 0
+      by true = placed-writes near h fixed index none
+      by false =
+          none-then (located_code near f.profile.block_log h to fixed index) (load_code (skips mode h) h to)
+          (located-writes near f.profile.block_log h fixed index none) (load-writes (skips mode h) h)
+
+  scalar-writes : (found : Option ℕ) (h : Home) → written_words (scalar_code found h to) ≡ 0
+  scalar-writes None h = refl
+  scalar-writes (Some r) h = none-more (Alu Add to r public_zero) [] (low-plain to (omega arith)) refl
+
+  steps-writes : (steps : List Step) → All StepFits steps → written_words (code_of to steps) ≡ 0
+  steps-writes [] fits = refl
+  steps-writes (Constant rd value ∷ steps) fits =
+      none-more (Li (numbered to rd) value) (code_of to steps) refl
+      (steps-writes steps (All-tail StepFits (Constant rd value) steps fits))
+  steps-writes (Compute op rd left right ∷ steps) fits =
+      let first = All-head StepFits (Compute op rd left right) steps fits in
+      none-more (Alu op (numbered to rd) (numbered to left) (numbered to right)) (code_of to steps)
+      (low-plain (numbered to rd) (omega (arith, numbered-to to rd first.0)))
+      (steps-writes steps (All-tail StepFits (Compute op rd left right) steps fits))
+
+  operation-writes : (f : Setting) (op : Op) (b : Tree) (found : Option (List Step)) → steps_at f op b ≡ found
+      → (right : List Instr) → written_words right ≡ 0 → written_words (operation_code op to found right) ≡ 0
+  operation-writes f op b None is right none =
+      none-then right (Alu op to to (to + 1) ∷ []) none
+      (none-more (Alu op to to (to + 1)) [] (low-plain to (omega arith)) refl)
+  operation-writes f op b (Some steps) is right none =
+      let of = steps-of f op b steps is in let replaces = of.replaces in steps-writes steps replaces.fits
+
+-- an expression writes neither a scalar nor an element
+pub expr-writes : (f : Setting) (mode : Mode) (to : ℕ) (e : Tree) → to + height_of e ≤ 18
+    → written_words (expr_code f mode to e) ≡ 0
+expr-writes f mode to (Number z) low = refl
+expr-writes f mode to (Variable x) low = scalar-writes to (omega arith) (register_for f x) (home_of f x)
+expr-writes f mode to (Element x i) low =
+    let h = home_of f x in
+    let access = access_code (compares f mode h i) f.profile.block_log mode h to (fixed_index h i)
+    (expr_code f mode to i) in
+    none-then access (Ldw to h.slot to ∷ [])
+    (access-writes to (omega (arith, height-some i)) f mode (compares f mode h i) h (fixed_index h i) (expr_code f mode to i)
+    (expr-writes f mode to i (omega arith))) refl
+expr-writes f mode to (Operation op a b) low =
+    none-then (expr_code f mode to a) (operation_code op to (steps_at f op b) (expr_code f mode (to + 1) b))
+    (expr-writes f mode to a (omega arith))
+    (operation-writes to (omega arith) f op b (steps_at f op b) refl (expr_code f mode (to + 1) b)
+    (expr-writes f mode (to + 1) b (omega arith)))
+
+-- what writes a scalar
+write-writes : (f : Setting) → IsSoundHeld f.decls f.held → (mode : Mode) (x : List ℕ) (l : Label) (found : Option ℕ)
+    → register_for f x ≡ found → written_words (write_code found l mode (home_of f x)) ≡ 1
+write-writes f sound mode x l (Some r) is =
+    written-one (Alu Add r (copied_from mode r) (zero_of l)) true (lt-ltb public_zero r (omega (arith, register-own f sound x r is)))
+write-writes f sound Public x l None is = refl
+write-writes f sound Real x l None is = refl
+write-writes f sound Mirrored x l None is = refl
+
+-- what writes an element
+store-writes : (mode : Mode) (resident : Bool) (slot : ℕ)
+    → written_words (store_code mode slot ++ stored_code resident slot) ≡ 1
+store-writes Public true slot = refl
+store-writes Public false slot = refl
+store-writes Real true slot = refl
+store-writes Real false slot = refl
+store-writes Mirrored true slot = refl
+store-writes Mirrored false slot = refl
+
+-- an assignment writes one scalar or element
+pub set-writes : (f : Setting) → IsSoundHeld f.decls f.held → (mode : Mode) (t : Statement) → IsAssignment t
+    → LowStatement t → written_words (set_code f mode t) ≡ 1
+set-writes f sound mode (SetVariable x e) is low =
+    let l = label_of (context_of f.decls) (Variable x) in
+    let found = register_for f x in
+    written-append (expr_code f mode 0 e) (write_code found l mode (home_of f x))
+    ∙ omega (arith, expr-writes f mode 0 e (omega (arith, low)), write-writes f sound mode x l found refl)
+set-writes f sound mode (SetElement x i e) is low =
+    let h = home_of f x in
+    let access = access_code (compares f mode h i) f.profile.block_log mode h 1 (fixed_index h i)
+    (expr_code f mode 1 i) in
+    let store = store_code mode h.slot ++ stored_code h.resident h.slot in
+    let none = access-writes 1 (omega arith) f mode (compares f mode h i) h (fixed_index h i) (expr_code f mode 1 i)
+    (expr-writes f mode 1 i (omega (arith, low.0))) in
+    written-append (expr_code f mode 0 e) (access ++ store)
+    ∙ omega (
+      arith,
+      expr-writes f mode 0 e (omega (arith, low.1)),
+      written-append access store,
+      none,
+      store-writes mode h.resident h.slot,
+    )
+set-writes f sound mode (Choice t a b) is low = absurd is
+set-writes f sound mode (Loop t a) is low = absurd is

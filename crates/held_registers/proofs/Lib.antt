@@ -1,0 +1,4 @@
+pub mod Sound
+pub mod Copies
+pub mod HeldWrites
+pub mod Found
