@@ -10,19 +10,13 @@
 #include "emitting.h"
 
 #include "files.h"
+#include "holding.h"
 #include "layout.h"
 #include "reducing.h"
 
 #include <stdlib.h>
 
-enum { ALL_SECRET = -1, SCALAR_REGISTER = 0, FIRST_CODE = 1024, FIRST_NOTES = 256 };
-
-/*
- * Registers that hold one thing for the whole run, with --fast: SECRET_ZERO holds 0, but is secret for the check, so that a
- * sum with it copies a value and makes it secret; PUBLIC_ZERO holds the number 0; the registers from FIRST_HELD on hold
- * scalars in order of declaration. Expressions use the registers below these.
- */
-enum { SECRET_ZERO = 19, PUBLIC_ZERO, FIRST_HELD };
+enum { SCALAR_REGISTER = 0, FIRST_CODE = 1024, FIRST_NOTES = 256 };
 
 /* How code is made: in public code; in an arm with its effect; in an arm without it. */
 enum mode { IN_PUBLIC, WITH_EFFECT, WITHOUT_EFFECT };
@@ -34,8 +28,8 @@ struct emitter {
     size_t code_room, note_room;
     /* What each note claims of the slots. */
     uint8_t claims[SLOTS];
-    /* The register that holds each variable, or 0. */
-    uint8_t *held;
+    /* What registers hold for the whole run. */
+    struct holding holding;
     /* The registers that may hold a secret between statements. */
     uint32_t base_mask;
 };
@@ -132,6 +126,22 @@ static bool is_oblivious(const struct variable *variable)
 
 static void put_expr(struct emitter *emitter, const struct expr *expr, unsigned to, enum mode mode, uint32_t mask);
 
+/* Leaves the value of an expression in a register, and returns which: this one, unless a register holds the value for the whole
+ * run. */
+static unsigned put_operand(struct emitter *emitter, const struct expr *expr, unsigned to, enum mode mode, uint32_t mask)
+{
+    const unsigned held = register_of(&emitter->holding, expr);
+    if (held == 0)
+        put_expr(emitter, expr, to, mode, mask);
+    return held == 0 ? to : held;
+}
+
+/* The registers that may hold a secret after an operand that was left in a register. */
+static uint32_t mask_with(const struct expr *expr, uint32_t mask, unsigned held, unsigned to)
+{
+    return held == to ? mask_behind(expr, mask, to) : mask;
+}
+
 /* Copies a value of a label. */
 static void put_copy(struct emitter *emitter, unsigned to, unsigned from, bool is_secret)
 {
@@ -173,13 +183,14 @@ static void put_word(struct emitter *emitter, const struct variable *array, cons
                      enum mode mode, uint32_t mask)
 {
     const uint32_t length = array->symbol.length;
-    put_expr(emitter, index, to, mode, mask);
     if (is_compared(emitter, array, index, mode)) {
+        put_expr(emitter, index, to, mode, mask);
         put_compared(emitter, length, to, mask);
         return;
     }
+    const unsigned held = put_operand(emitter, index, to, mode, mask);
     put_constant(emitter, to + 1, is_masked(array) ? length - 1 : length);
-    put_plain(emitter, is_masked(array) ? AND : REMU, to, to, to + 1);
+    put_plain(emitter, is_masked(array) ? AND : REMU, to, held, to + 1);
 }
 
 /* Leaves the number of the word that an index names in a register, and that of its block in the next. */
@@ -261,8 +272,8 @@ static void put_expr(struct emitter *emitter, const struct expr *expr, unsigned 
         break;
     case SCALAR:
         variable = variable_of(emitter, expr->variable);
-        if (emitter->held[expr->variable] != 0) {
-            put_copy(emitter, to, emitter->held[expr->variable], false);
+        if (emitter->holding.variables[expr->variable] != 0) {
+            put_copy(emitter, to, emitter->holding.variables[expr->variable], false);
             break;
         }
         put_constant(emitter, to, variable->symbol.word);
@@ -276,9 +287,9 @@ static void put_expr(struct emitter *emitter, const struct expr *expr, unsigned 
     case OPERATION:
         if (put_by_number(emitter, expr, to, mode, mask))
             break;
-        put_expr(emitter, expr->left, to, mode, mask);
-        put_expr(emitter, expr->right, to + 1, mode, mask_behind(expr->left, mask, to));
-        put_plain(emitter, expr->opcode, to, to, to + 1);
+        const unsigned left = put_operand(emitter, expr->left, to, mode, mask);
+        const unsigned right = put_operand(emitter, expr->right, to + 1, mode, mask_with(expr->left, mask, left, to));
+        put_plain(emitter, expr->opcode, to, left, right);
         break;
     }
 }
@@ -296,19 +307,19 @@ static void put_assignment(struct emitter *emitter, const struct statement *made
 {
     const struct variable *target = variable_of(emitter, made->variable);
     const uint32_t mask = emitter->base_mask;
-    put_expr(emitter, made->value, 0, mode, mask);
-    if (made->kind == SET && emitter->held[made->variable] != 0) {
-        const unsigned held = emitter->held[made->variable];
-        put_copy(emitter, held, mode == WITHOUT_EFFECT ? held : 0, target->symbol.is_secret);
+    const unsigned value = put_operand(emitter, made->value, 0, mode, mask);
+    const unsigned held = emitter->holding.variables[made->variable];
+    if (made->kind == SET && held != 0) {
+        put_copy(emitter, held, mode == WITHOUT_EFFECT ? held : value, target->symbol.is_secret);
         return;
     }
     if (made->kind == PUT)
-        put_access(emitter, target, made->index, 1, mode, mask_behind(made->value, mask, 0));
+        put_access(emitter, target, made->index, 1, mode, mask_with(made->value, mask, value, 0));
     else
         put_constant(emitter, 1, target->symbol.word);
     if (mode != IN_PUBLIC)
         put_plain(emitter, LDW, 2, target->slot, 1);
-    put_plain(emitter, STW, mode == WITHOUT_EFFECT ? 2 : 0, target->slot, 1);
+    put_plain(emitter, STW, mode == WITHOUT_EFFECT ? 2 : value, target->slot, 1);
     if (made->kind == PUT && !target->is_resident)
         put_plain(emitter, STB, target->slot, 0, 0);
 }
@@ -366,10 +377,10 @@ static bool shows_same(const struct emitter *emitter, int32_t array, const struc
     return !is_oblivious(one) && array == other_array && is_same(index, other_index);
 }
 
-/* Whether registers hold two scalars, or neither. */
-static bool is_held_alike(const struct emitter *emitter, int32_t one, int32_t other)
+/* Whether registers hold two scalars or two numbers, or neither. */
+static bool is_held_alike(const struct emitter *emitter, const struct expr *one, const struct expr *other)
 {
-    return (emitter->held[one] != 0) == (emitter->held[other] != 0);
+    return (register_of(&emitter->holding, one) != 0) == (register_of(&emitter->holding, other) != 0);
 }
 
 /* Whether two expressions show the same in secret code. */
@@ -378,7 +389,8 @@ static bool is_alike(const struct emitter *emitter, const struct expr *one, cons
     if (one->kind != other->kind)
         return false;
     switch (one->kind) {
-    case SCALAR: return is_held_alike(emitter, one->variable, other->variable);
+    case CONSTANT:
+    case SCALAR: return is_held_alike(emitter, one, other);
     case ELEMENT: return shows_same(emitter, one->variable, one->left, other->variable, other->left);
     case OPERATION:
         if (!is_alike(emitter, one->left, other->left))
@@ -387,8 +399,8 @@ static bool is_alike(const struct emitter *emitter, const struct expr *one, cons
             return true;
         return !may_step(emitter, one) && !may_step(emitter, other) && is_product(one->opcode) == is_product(other->opcode)
                && is_alike(emitter, one->right, other->right);
-    default: return true;
     }
+    return false;
 }
 
 static bool is_pair(const struct emitter *emitter, const struct statement *one, const struct statement *other)
@@ -396,7 +408,7 @@ static bool is_pair(const struct emitter *emitter, const struct statement *one, 
     if (one->kind != other->kind || (one->kind != SET && one->kind != PUT) || !is_alike(emitter, one->value, other->value))
         return false;
     if (one->kind == SET)
-        return is_held_alike(emitter, one->variable, other->variable);
+        return (emitter->holding.variables[one->variable] != 0) == (emitter->holding.variables[other->variable] != 0);
     return shows_same(emitter, one->variable, one->index, other->variable, other->index);
 }
 
@@ -548,23 +560,26 @@ static void put_held_values(struct emitter *emitter)
     put_plain(emitter, SUB, SECRET_ZERO, SECRET_ZERO, SECRET_ZERO);
     put_constant(emitter, PUBLIC_ZERO, 0);
     for (size_t i = 0; i < emitter->source->count; i++) {
-        if (emitter->held[i] == 0)
+        if (emitter->holding.variables[i] == 0)
             continue;
         const struct variable *scalar = &emitter->source->variables[i];
         put_constant(emitter, 0, scalar->symbol.word);
-        put_plain(emitter, LDW, emitter->held[i], scalar->slot, 0);
+        put_plain(emitter, LDW, emitter->holding.variables[i], scalar->slot, 0);
     }
+    for (unsigned reg = FIRST_HELD; reg < REGISTERS; reg++)
+        if (emitter->holding.has_number[reg])
+            put_constant(emitter, reg, emitter->holding.numbers[reg]);
 }
 
 /* Stores the words of held scalars in their blocks. */
 static void put_held_words(struct emitter *emitter)
 {
     for (size_t i = 0; i < emitter->source->count; i++) {
-        if (emitter->held[i] == 0)
+        if (emitter->holding.variables[i] == 0)
             continue;
         const struct variable *scalar = &emitter->source->variables[i];
         put_constant(emitter, 0, scalar->symbol.word);
-        put_plain(emitter, STW, emitter->held[i], scalar->slot, 0);
+        put_plain(emitter, STW, emitter->holding.variables[i], scalar->slot, 0);
     }
 }
 
@@ -603,29 +618,13 @@ static void put_end(struct emitter *emitter)
     put_plain(emitter, HALT, 0, 0, 0);
 }
 
-/* Gives registers to scalars in order of declaration, as long as there are any. */
-static void hold_scalars(struct emitter *emitter)
-{
-    unsigned next = FIRST_HELD;
-    emitter->base_mask = without(emitter->base_mask, PUBLIC_ZERO);
-    for (size_t i = 0; i < emitter->source->count && next < REGISTERS; i++) {
-        const struct symbol *symbol = &emitter->source->variables[i].symbol;
-        if (symbol->is_array)
-            continue;
-        emitter->held[i] = (uint8_t)next++;
-        if (!symbol->is_secret)
-            emitter->base_mask = without(emitter->base_mask, emitter->held[i]);
-    }
-}
-
 void emit(const struct source *source, bool is_fast, struct object *object)
 {
     struct emitter emitter = {
         .source = source, .object = object, .is_fast = is_fast, .code_room = FIRST_CODE, .note_room = FIRST_NOTES,
-        .held = zeros_for(source->count + 1, sizeof *emitter.held), .base_mask = (uint32_t)ALL_SECRET,
+        .holding = is_fast ? hold_for(source) : hold_nothing(source),
     };
-    if (is_fast)
-        hold_scalars(&emitter);
+    emitter.base_mask = secret_registers(&emitter.holding, source);
     object->code = room_for(FIRST_CODE, sizeof object->code[0]);
     object->notes = room_for(FIRST_NOTES, sizeof object->notes[0]);
     put_beginning(&emitter);

@@ -1,5 +1,5 @@
 -- The labels of the registers in the public code of an access: the number of the word, that of its block, and the load.
-use Rattle.std.proofs.Common.{◌≡◌, ℕ, zero, suc, ◌+◌, ◌-◌, ◌<◌, ◌≤◌, Bool, true, false, not, ◌||◌, ◌&&◌, ◌==◌, ℤ, pos, ◌+ℤ◌, List, [], ◌∷◌, length, Some, refl, sym, ap, ◌∙◌, subst, arith}
+use Rattle.std.proofs.Common.{◌≡◌, ◌≢◌, ℕ, zero, suc, ◌+◌, ◌-◌, ◌<◌, ◌≤◌, Bool, true, false, not, ◌||◌, ◌&&◌, ◌==◌, ℤ, pos, ◌+ℤ◌, List, [], ◌∷◌, length, Some, refl, sym, ap, ◌∙◌, subst, arith}
 use Rattle.std.specs.Prelude.{if◌then◌else◌}
 use Rattle.std.proofs.lemmas.Bool.{ne_eqb}
 use Rattle.gr_word.specs.declared.operations.Op.{Op}
@@ -31,43 +31,47 @@ pub record Placed (o : Parts) (p : ℕ) (code : List Instr) (to : ℕ) (before :
   pub word_is : is_secret after to ≡ word
 
 module _ (o : Parts) (to : ℕ) (low : to + 2 < 19) where
-  -- the number of the word, in a register: the index modulo the length
-  module _ (k : Known) (sized : length k.secret ≡ 32) where
+  -- the number of the word, in a register: the index in a register modulo the length
+  module _ (from : ℕ) (apart : from ≢ to + 1) (k : Known) (sized : length k.secret ≡ 32) where
     reduced_known : Known
     reduced_known =
-        let one = set_secret k (to + 1) false in set_secret one to (is_secret one to || is_secret one (to + 1))
+        let one = set_secret k (to + 1) false in set_secret one to (is_secret one from || is_secret one (to + 1))
 
-    one_set : SameBelow to k (set_secret k (to + 1) false)
-    one_set = same-set to k k (to + 1) false (omega arith) (omega arith) (same-itself to k)
+    first_set : SameBelow to k (set_secret k (to + 1) false)
+    first_set = same-set to k k (to + 1) false (omega arith) (omega arith) (same-itself to k)
 
     reduced_same : SameBelow to k reduced_known
     unfolding reduced_known
-    reduced_same = same-set to k (set_secret k (to + 1) false) to _ (omega arith) (omega arith) one_set
+    reduced_same = same-set to k (set_secret k (to + 1) false) to _ (omega arith) (omega arith) first_set
 
-    reduced_word : is_secret reduced_known to ≡ is_secret k to
+    reduced_word : is_secret reduced_known to ≡ is_secret k from
     unfolding reduced_known
     reduced_word =
         let one = set_secret k (to + 1) false in
-        let size : length one.secret ≡ 32 = one_set.sized ∙ sized in
-        secret-same one to (is_secret one to || is_secret one (to + 1)) (omega arith)
-        ∙ ap (λ (b : Bool). b || is_secret one (to + 1)) (secret-other k (to + 1) to false (λ e. absurd (omega arith)))
-        ∙ ap (λ (b : Bool). is_secret k to || b) (secret-same k (to + 1) false (omega arith))
-        ∙ or_false (is_secret k to)
+        let size : length one.secret ≡ 32 = first_set.sized ∙ sized in
+        secret-same one to (is_secret one from || is_secret one (to + 1)) (omega arith)
+        ∙ ap (λ (b : Bool). b || is_secret one (to + 1)) (secret-other k (to + 1) from false apart)
+        ∙ ap (λ (b : Bool). is_secret k from || b) (secret-same k (to + 1) false (omega arith))
+        ∙ or_false (is_secret k from)
 
     -- an operation on it and a number
     applied_by : (op : Op) (z : ℤ) (p : ℕ)
-        → GoesOn o p (Li (to + 1) z ∷ Alu op to to (to + 1) ∷ []) k reduced_known
+        → GoesOn o p (Li (to + 1) z ∷ Alu op to from (to + 1) ∷ []) k reduced_known
     unfolding reduced_known
     applied_by op z p =
         let one = set_secret k (to + 1) false in
         One p _ _ k one _ (rules-li o p k (to + 1) z)
-        (One (p + 1) _ _ one _ _ (rules-alu o (p + 1) one op to to (to + 1)) (NoMore (p + 1 + 1) _))
+        (One (p + 1) _ _ one _ _ (rules-alu o (p + 1) one op to from (to + 1)) (NoMore (p + 1 + 1) _))
 
     reduced_by : (h : Home) (p : ℕ) (masked : Bool)
-        → GoesOn o p (if masked then Li (to + 1) (pos (h.length - 1)) ∷ Alu And to to (to + 1) ∷ []
-        else Li (to + 1) (pos h.length) ∷ Alu Remu to to (to + 1) ∷ []) k reduced_known
+        → GoesOn o p (if masked then Li (to + 1) (pos (h.length - 1)) ∷ Alu And to from (to + 1) ∷ []
+        else Li (to + 1) (pos h.length) ∷ Alu Remu to from (to + 1) ∷ []) k reduced_known
     reduced_by h p true = applied_by And (pos (h.length - 1)) p
     reduced_by h p false = applied_by Remu (pos h.length) p
+
+  module _ (k : Known) (sized : length k.secret ≡ 32) where
+    one_set : SameBelow to k (set_secret k (to + 1) false)
+    one_set = same-set to k k (to + 1) false (omega arith) (omega arith) (same-itself to k)
 
     -- the number of its block, in the next
     block_known : Known
@@ -131,26 +135,29 @@ module _ (o : Parts) (to : ℕ) (low : to + 2 < 19) where
         (One (p + 1 + 1 + 1) _ _ three _ _ (rules-alu o (p + 1 + 1 + 1) three Add (to + 1) (to + 1) (to + 2))
         (NoMore (p + 1 + 1 + 1 + 1) _))))
 
+  own : to ≢ to + 1
+  own e = absurd (omega (arith, e))
+
   -- the number of the array's first word is added, unless that is 0
   pub offset_by : (h : Home) (p : ℕ) (k : Known) → length k.secret ≡ 32 → (first : Bool)
       → Placed o p (if first then [] else Li (to + 1) (pos h.word) ∷ Alu Add to to (to + 1) ∷ []) to k (is_secret k to)
   offset_by h p k sized true =
       record { after = k; goes = NoMore p k; same = same-itself to k; word_is = refl }
   offset_by h p k sized false = record {
-    after = reduced_known k sized;
-    goes = applied_by k sized Add (pos h.word) p;
-    same = reduced_same k sized;
-    word_is = reduced_word k sized;
+    after = reduced_known to own k sized;
+    goes = applied_by to own k sized Add (pos h.word) p;
+    same = reduced_same to own k sized;
+    word_is = reduced_word to own k sized;
   }
 
   -- without a comparison
-  pub reduced-numbered : (h : Home) (p : ℕ) (k : Known) → length k.secret ≡ 32
-      → Placed o p (reduced_code h to) to k (is_secret k to)
-  reduced-numbered h p k sized = record {
-    after = reduced_known k sized;
-    goes = reduced_by k sized h p (is_masked h);
-    same = reduced_same k sized;
-    word_is = reduced_word k sized;
+  pub reduced-numbered : (h : Home) (from : ℕ) → from ≢ to + 1 → (p : ℕ) (k : Known) → length k.secret ≡ 32
+      → Placed o p (reduced_code h to from) to k (is_secret k from)
+  reduced-numbered h from apart p k sized = record {
+    after = reduced_known from apart k sized;
+    goes = reduced_by from apart k sized h p (is_masked h);
+    same = reduced_same from apart k sized;
+    word_is = reduced_word from apart k sized;
   }
 
   -- A comparison of a public index with the length, and the remainder if it isn't below it.
@@ -206,12 +213,12 @@ module _ (o : Parts) (to : ℕ) (low : to + 2 < 19) where
 
     -- what is known after the remainder
     pub divided_known : Known
-    divided_known = reduced_known compared_known compared_sized
+    divided_known = reduced_known to own compared_known compared_sized
 
     pub divided_same : SameBelow to k divided_known
     unfolding divided_known
     divided_same =
-        same-then to k compared_known (reduced_known compared_known compared_sized)
+        same-then to k compared_known (reduced_known to own compared_known compared_sized)
         (record {
           sized = compared_same.sized;
           count = compared_same.count;
@@ -219,11 +226,11 @@ module _ (o : Parts) (to : ℕ) (low : to + 2 < 19) where
           above = compared_same.above;
           slots = compared_same.slots;
         })
-        (reduced_same compared_known compared_sized)
+        (reduced_same to own compared_known compared_sized)
 
     pub divided_word : is_secret divided_known to ≡ false
     unfolding divided_known
-    divided_word = reduced_word compared_known compared_sized ∙ compared_word
+    divided_word = reduced_word to own compared_known compared_sized ∙ compared_word
 
     -- both are passed: what is known after the comparison fits the claim of the note that follows
     pub compared-by : (p : ℕ) (claimed : Known) → p + 6 < length o.code → claimed_at o (p + 6) ≡ Some claimed
@@ -241,7 +248,7 @@ module _ (o : Parts) (to : ℕ) (low : to + 2 < 19) where
         (branch-falls o (p + 1 + 1 + 1) three claimed Lt (to + 1) (to + 2) (pos 3) compared_sum compared_length
         (subst (λ (q : ℕ). q < length o.code) (sym target) inside)
         (subst (λ (q : ℕ). claimed_at o q ≡ Some claimed) (sym target) noted) fit)
-        (applied_by three compared_sized Remu (pos h.length) (p + 1 + 1 + 1 + 1)))))
+        (applied_by to own three compared_sized Remu (pos h.length) (p + 1 + 1 + 1 + 1)))))
 
   -- the number of the block is found
   pub shifted-numbered : (block_log : ℕ) (h : Home) (p : ℕ) (k : Known) → length k.secret ≡ 32

@@ -1,5 +1,5 @@
 -- Runs of the code of an access: afterwards its block is in its slot, and the access is seen if it wasn't skipped.
-use Rattle.std.proofs.Common.{◌≡◌, ℕ, ◌+◌, ◌/◌, ◌%◌, ◌^◌, ◌<◌, ◌≤◌, Bool, true, false, cond, ◌&&◌, ◌==◌, eqb-true, eq-eqb, ltb-true, ℤ, pos, List, [], ◌∷◌, ◌++◌, length, get_or, set, append-nil, Option, Some, None, refl, sym, ap, ◌∙◌, subst, ⊎_elim, arith, mod-lt, mod-eq_of_lt}
+use Rattle.std.proofs.Common.{◌≡◌, ◌≢◌, ℕ, ◌+◌, ◌/◌, ◌%◌, ◌^◌, ◌<◌, ◌≤◌, Bool, true, false, cond, ◌&&◌, ◌==◌, eqb-true, eq-eqb, ltb-true, ℤ, pos, List, [], ◌∷◌, ◌++◌, length, get_or, set, append-nil, Option, Some, None, refl, sym, ap, ◌∙◌, subst, ⊎_elim, arith, mod-lt, mod-eq_of_lt}
 use Rattle.std.proofs.lemmas.Bool.{cases_Bool, and_from, and_right, false≢true}
 use Rattle.std.proofs.lemmas.List.{set-get_or, get_or-set_same}
 use Rattle.std.proofs.lemmas.Option.{none-some, cond_some}
@@ -7,6 +7,7 @@ use Rattle.gr_word.specs.Words.{compared, unsigned_of}
 use Rattle.gr_word.specs.declared.variables.Label.{Label}
 use Rattle.gr_word.specs.declared.variables.Shape.TheVariants.{Array}
 use Rattle.gr_word.specs.declared.operations.Cmp.TheVariants.{Eq}
+use Rattle.lt_isa.specs.declared.instructions.Instr.{Instr}
 use Rattle.lt_isa.specs.declared.instructions.Instr.TheVariants.{Ldb, Idb, Br}
 use Rattle.lt_isa.specs.Object.{Parts, blocks_of}
 use Rattle.lt_isa.specs.Ranges.{IsInRange}
@@ -25,7 +26,7 @@ use Rattle.scratch_alloc.proofs.Serving.{serves-within}
 use Rattle.block_cache_gen.specs.declared.frames.Mode.{Mode}
 use Rattle.block_cache_gen.specs.declared.frames.Mode.TheVariants.{Public, Real, Mirrored}
 use Rattle.block_cache_gen.specs.Homes.{Home, Setting, HasHomes, home_of, words_a_block}
-use Rattle.block_cache_gen.specs.Codes.{skips, is_cached, fixed_index, fixed_word, located_code, fixed_code, numbered_code, shift_code, load_code, access_by, expr_code}
+use Rattle.block_cache_gen.specs.Codes.{skips, is_cached, fixed_index, fixed_word, located_code, fixed_code, numbered_code, shift_code, load_code, access_by}
 use Rattle.block_cache_gen.specs.StandsFor.{StandsFor, FitsHomes, IsBlockOf}
 use Rattle.block_cache_gen.specs.Accesses.{ArrayAccess, access_of, accesses, word_number, block_in, slots_after, may_skip, is_held, seen_of, seen_of_all}
 use Rattle.block_cache_gen.specs.LeavesWord.{LeavesWord}
@@ -34,6 +35,7 @@ use Rattle.block_cache_gen.proofs.HomeFacts.{serves-cached, block-of, block-exis
 use Rattle.block_cache_gen.proofs.Stands.{stands-like, stands-loaded}
 use Rattle.block_cache_gen.proofs.IndexRuns.{Locates, Reduces, runs-numbered, runs-block, runs-fixed}
 use Rattle.block_cache_gen.proofs.Kept.{Keeps, keeps-set}
+use Rattle.block_cache_gen.proofs.OperandRuns.{LeavesAt, RunsValue}
 
 -- the block of an access is loaded; the registers up to `to` and from 19 on and the banks are as before
 pub record Loads (a : ArrayAccess) (to : ℕ) (s t : State) : Type 0 where
@@ -214,22 +216,17 @@ module _ (o : Parts) (fits : IsInRange o) (f : Setting) (homes : HasHomes o f) (
       (sym (seen_of-unskipped mode s.banks s.slots a may))
       (λ t shape loads. loads)
 
-  -- What is known of a run of the code of an index.
-  abbrev pub RunsIndex : Mode → ℕ → Tree → State → Type 0
-  RunsIndex mode to i s =
-      StandsAt o s.place (expr_code f mode to i)
-      → RunsThrough o s (expr_code f mode to i) (seen_of_all mode s.banks s.slots (accesses f store i))
-      (LeavesWord f store (accesses f store i) to (evaluated f.decls store i) s)
-
   -- the word and the block are found
-  runs-located : (mode : Mode) (to : ℕ) (i : Tree) (s : State) → IsShaped o s → StandsFor f s store → to + 2 < 19
-      → RunsIndex mode to i s → (near : Bool) (fixed : Option ℤ) → fixed_index (home_of f x) i ≡ fixed
-      → StandsAt o s.place (located_code near f.profile.block_log (home_of f x) to fixed (expr_code f mode to i))
-      → RunsThrough o s (located_code near f.profile.block_log (home_of f x) to fixed (expr_code f mode to i))
+  runs-located : (mode : Mode) (to from : ℕ) (i : Tree) (code : List Instr) (s : State) → IsShaped o s
+      → StandsFor f s store → to + 2 < 19 → from ≢ to + 1
+      → RunsValue o f store mode to from i code s → (near : Bool) → (near ≡ true → from ≡ to) → (fixed : Option ℤ)
+      → fixed_index (home_of f x) i ≡ fixed
+      → StandsAt o s.place (located_code near f.profile.block_log (home_of f x) to from fixed code)
+      → RunsThrough o s (located_code near f.profile.block_log (home_of f x) to from fixed code)
       (seen_of_all mode s.banks s.slots (accesses f store i))
       (Finds f store (accesses f store i) to (word_number f store x (evaluated f.decls store i))
       (access_of f store x (evaluated f.decls store i)).block s)
-  runs-located mode to i s shaped stands small run near (Some z) is at =
+  runs-located mode to from i code s shaped stands small other run near own (Some z) is at =
       let h = home_of f x in
       let n = word_number f store x z in
       let w = words_a_block f in
@@ -253,7 +250,7 @@ module _ (o : Parts) (fits : IsInRange o) (f : Setting) (homes : HasHomes o f) (
         slots = locates.keeps.slots;
         stands = stands-like f s t store locates.keeps.slots locates.keeps.banks locates.keeps.above stands;
       }))
-  runs-located mode to i s shaped stands small run near None is at =
+  runs-located mode to from i code s shaped stands small other run near own None is at =
       let h = home_of f x in
       let home = homes.arrays x label known turn in
       let w = words_a_block f in
@@ -266,14 +263,13 @@ module _ (o : Parts) (fits : IsInRange o) (f : Setting) (homes : HasHomes o f) (
       let log_small : log < 64 = omega (arith, (profile-fits fits homes).block_log) in
       let block_small : h.block + n / w < 2 ^ 63 =
       omega (arith, block-small o fits f homes label h home n (word-within index)) in
-      runs-weaker s (expr_code f mode to i ++ (numbered_code near h to ++ shift_code log h to))
-      (seen ++ []) seen Found Found
-      (runs-append s (expr_code f mode to i) (numbered_code near h to ++ shift_code log h to) seen []
-      (LeavesWord f store before to index s) Found at run
+      let number = numbered_code near h to from in
+      runs-weaker s (code ++ (number ++ shift_code log h to)) (seen ++ []) seen Found Found
+      (runs-append s code (number ++ shift_code log h to) seen [] (LeavesAt f store before to from index s) Found at run
       (λ t shape leaves at'.
-      runs-append t (numbered_code near h to) (shift_code log h to) [] []
+      runs-append t number (shift_code log h to) [] []
       (Reduces to (unsigned_of index % h.length) t) Found at'
-      (runs-numbered o fits near h to t index shape leaves.value small home.length.0 home.length.1)
+      (runs-numbered o fits near h to from t index shape leaves.value other own small home.length.0 home.length.1)
       (λ u shape' reduces at''.
       let word : register u to ≡ pos n = reduces.word ∙ ap pos (word_number-is index) in
       runs-weaker u (shift_code log h to) [] [] (Locates to n (h.block + n / w) u) Found
@@ -296,18 +292,16 @@ module _ (o : Parts) (fits : IsInRange o) (f : Setting) (homes : HasHomes o f) (
       (λ t shape found. found)
 
   -- the whole access
-  pub runs-access : (near : Bool) (mode : Mode) (to : ℕ) (i : Tree) (s : State) → IsShaped o s
-      → StandsFor f s store → to + 2 < 19
-      → RunsIndex mode to i s → StandsAt o s.place
-      (access_by false near f.profile.block_log mode (home_of f x) to (fixed_index (home_of f x) i)
-      (expr_code f mode to i))
+  pub runs-access : (near : Bool) (mode : Mode) (to from : ℕ) (i : Tree) (code : List Instr) (s : State)
+      → IsShaped o s → StandsFor f s store → to + 2 < 19 → from ≢ to + 1 → (near ≡ true → from ≡ to)
+      → RunsValue o f store mode to from i code s → StandsAt o s.place
+      (access_by false near f.profile.block_log mode (home_of f x) to from (fixed_index (home_of f x) i) code)
       → RunsThrough o s
-      (access_by false near f.profile.block_log mode (home_of f x) to (fixed_index (home_of f x) i)
-      (expr_code f mode to i))
+      (access_by false near f.profile.block_log mode (home_of f x) to from (fixed_index (home_of f x) i) code)
       (seen_of_all mode s.banks s.slots (accesses f store i ++ access_of f store x (evaluated f.decls store i) ∷ []))
       (Accesses f store (accesses f store i)
       (access_of f store x (evaluated f.decls store i)) to (word_number f store x (evaluated f.decls store i)) s)
-  runs-access near mode to i s shaped stands small run at =
+  runs-access near mode to from i code s shaped stands small other own run at =
       let h = home_of f x in
       let home = homes.arrays x label known turn in
       let w = words_a_block f in
@@ -317,7 +311,7 @@ module _ (o : Parts) (fits : IsInRange o) (f : Setting) (homes : HasHomes o f) (
       let n = word_number f store x index in
       let before = accesses f store i in
       let a = access_of f store x index in
-      let located = located_code near log h to fixed (expr_code f mode to i) in
+      let located = located_code near log h to from fixed code in
       let load = load_code (skips mode h) h to in
       let first = seen_of_all mode s.banks s.slots before in
       let second = seen_of mode s.banks (slots_after s.banks s.slots before) a in
@@ -327,7 +321,7 @@ module _ (o : Parts) (fits : IsInRange o) (f : Setting) (homes : HasHomes o f) (
       ap (λ l. first ++ l) (sym (append-nil second)) ∙ sym (seen_of_all-append mode s.banks s.slots before (a ∷ [])) in
       runs-weaker s (located ++ load) (first ++ second) (seen_of_all mode s.banks s.slots (before ++ a ∷ [])) Done Done
       (runs-append s located load first second Found Done at
-      (runs-located mode to i s shaped stands small run near fixed refl)
+      (runs-located mode to from i code s shaped stands small other run near own fixed refl)
       (λ t shape finds at'.
       runs-weaker t load (seen_of mode t.banks t.slots a) second (Loads a to t) Done
       (runs-load mode to n t shape finds.stands (word-within index) small finds.block (skips mode h)

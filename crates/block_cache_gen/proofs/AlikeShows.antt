@@ -17,10 +17,10 @@ use Rattle.trace_patterns.specs.Events.{Oram}
 use Rattle.stretches.specs.Shows.{Show, Gap, Seen, pattern_of}
 use Rattle.trace_patterns.specs.SymStates.{SymSlot, OramSlot}
 use Rattle.block_cache_gen.specs.Homes.{Home, Setting, home_of, register_for, HasHomes}
-use Rattle.block_cache_gen.specs.Codes.{is_cached, is_masked, is_power, literal, fixed_index, steps_at}
+use Rattle.block_cache_gen.specs.Codes.{is_cached, is_masked, is_power, literal, fixed_index, operand, operand_part, operand_unless, left_operand, steps_at}
 use Rattle.strength_reduction.specs.Steps.{Step}
 use Rattle.block_cache_gen.proofs.StepsAt.{not-stepped}
-use Rattle.block_cache_gen.specs.PatternsOf.{scalar_shows, write_shows, operation_gap, word_gap, reducing, block_tree, found_shows, plain_loaded, encrypted_loaded, block_loaded, load_shows, placed_shows, shows_by, loads_by, stored_by, Loads, then_loads, one_load, index_loads, no_loads, operation_shows, operation_loads, element_slot, access_shows, access_loads, tree_of_expr, shows_of_expr, slots_of_expr, shows_of_set, slots_of_set, pattern_of_expr, pattern_of_set}
+use Rattle.block_cache_gen.specs.PatternsOf.{operand_tree, scalar_shows, write_shows, operation_gap, word_gap, reducing, block_tree, found_shows, plain_loaded, encrypted_loaded, block_loaded, load_shows, placed_shows, shows_by, loads_by, stored_by, Loads, then_loads, one_load, index_loads, no_loads, operation_shows, operation_loads, element_slot, access_shows, access_loads, tree_of_expr, shows_of_expr, slots_of_expr, shows_of_set, slots_of_set, pattern_of_expr, pattern_of_set}
 use Rattle.block_cache_gen.specs.Alike.{is_product, InOneBank, AreReducedAlike, Residents, ToResidents, Alike, Numbers, Scalars, Oblivious, Same, Operations, ByNumber, Pair, ToScalars, ToOblivious, ToSame}
 use Rattle.bank_alloc.proofs.Apart.{scalar_bank-lt}
 use Rattle.block_cache_gen.proofs.HomeFacts.{serves-oblivious}
@@ -95,7 +95,7 @@ module _ (f : Setting) (h : Home) (oblivious : 2 ≤ h.bank) where
 
 -- only numbers are alike to a number
 alike-literal : (f : Setting) (i j : Tree) → Alike f i j → is_some (literal i) ≡ is_some (literal j)
-alike-literal f i j (Numbers y z) = refl
+alike-literal f i j (Numbers y z one) = refl
 alike-literal f i j (Scalars x y one) = refl
 alike-literal f i j (Oblivious x y k l one alike) = refl
 alike-literal f i j (Residents x y k l one alike) = refl
@@ -140,6 +140,41 @@ write-alike f None None same = refl
 write-alike f (Some r) None same = absurd (let e : true ≡ false = same in cc)
 write-alike f None (Some q) same = absurd (let e : false ≡ true = same in cc)
 
+-- registers hold alike expressions for the whole run, or neither
+alike-held : (f : Setting) (a b : Tree) → Alike f a b → is_some (operand f a) ≡ is_some (operand f b)
+alike-held f a b (Numbers y z one) = one
+alike-held f a b (Scalars x y one) = one
+alike-held f a b (Oblivious x y k l one alike) = refl
+alike-held f a b (Residents x y k l one alike) = refl
+alike-held f a b (Same x k cached) = refl
+alike-held f a b (Operations op oq l r m s plain other kind left right) = refl
+alike-held f a b (ByNumber op l m z left) = refl
+
+unless-alike : (never : Bool) (one other : Option ℕ) → is_some one ≡ is_some other
+    → is_some (operand_unless never one) ≡ is_some (operand_unless never other)
+unless-alike true one other same = refl
+unless-alike false one other same = same
+
+part-alike : (one other : Option ℕ) (shows more : List Show) → is_some one ≡ is_some other → shows ≡ more
+    → operand_part one shows ≡ operand_part other more
+part-alike (Some r) (Some q) shows more held same = refl
+part-alike None None shows more held same = same
+part-alike (Some r) None shows more held same = absurd (let e : true ≡ false = held in cc)
+part-alike None (Some q) shows more held same = absurd (let e : false ≡ true = held in cc)
+
+-- operands that are alike
+operand-alike : (f : Setting) (a b : Tree) → Alike f a b → shows_of_expr f a ≡ shows_of_expr f b
+    → operand_part (operand f a) (shows_of_expr f a) ≡ operand_part (operand f b) (shows_of_expr f b)
+operand-alike f a b alike same =
+    part-alike (operand f a) (operand f b) (shows_of_expr f a) (shows_of_expr f b) (alike-held f a b alike) same
+
+-- the tree and the cycles of an index
+abbrev index_tree : Setting → Tree → Option Value
+index_tree f i = operand_tree f (operand f i) (tree_of_expr f i)
+
+abbrev index_shows : Setting → Tree → List Show
+index_shows f i = operand_part (operand f i) (shows_of_expr f i)
+
 loads-alike : (one other : Option ℤ) (loads more : Loads) → is_some one ≡ is_some other → loads ≡ more
     → index_loads one loads ≡ index_loads other more
 loads-alike (Some y) (Some z) loads more fixed same = refl
@@ -161,100 +196,108 @@ module _ (o : Parts) (f : Setting) (homes : HasHomes o f) where
       by false is = refl
 
   -- the accesses of two arrays of one oblivious bank
-  both-shows : (x y : List ℕ) (i j : Tree) → InOneBank f x y → UsedAs (context_of f.decls) x Array
-      → UsedAs (context_of f.decls) y Array → shows_of_expr f i ≡ shows_of_expr f j
-      → access_shows f (home_of f x) (fixed_index (home_of f x) i) (tree_of_expr f i) (shows_of_expr f i)
-      ≡ access_shows f (home_of f y) (fixed_index (home_of f y) j) (tree_of_expr f j) (shows_of_expr f j)
-  both-shows x y i j one left right same =
+  both-shows : (x y : List ℕ) (i j : Tree) (index other : Option Value) (shows more : List Show) → InOneBank f x y
+      → UsedAs (context_of f.decls) x Array → UsedAs (context_of f.decls) y Array → shows ≡ more
+      → access_shows f (home_of f x) (fixed_index (home_of f x) i) index shows
+      ≡ access_shows f (home_of f y) (fixed_index (home_of f y) j) other more
+  both-shows x y i j index other shows more one left right same =
       let g = home_of f x in
       let h = home_of f y in
-      let other : 2 ≤ h.bank = omega (arith, one.oblivious, one.same) in
-      ap (λ (b : Bool). shows_by b f g (fixed_index g i) (tree_of_expr f i) (shows_of_expr f i))
-      (oblivious-turn x left one.oblivious)
-      ∙ oblivious-shows f g one.oblivious i (tree_of_expr f i) (shows_of_expr f i)
+      let high : 2 ≤ h.bank = omega (arith, one.oblivious, one.same) in
+      ap (λ (b : Bool). shows_by b f g (fixed_index g i) index shows) (oblivious-turn x left one.oblivious)
+      ∙ oblivious-shows f g one.oblivious i index shows
       ∙ (λ k. oblivious_shows f g one.oblivious (one.same k) (same k))
-      ∙ sym (oblivious-shows f h other j (tree_of_expr f j) (shows_of_expr f j))
-      ∙ sym (ap (λ (b : Bool). shows_by b f h (fixed_index h j) (tree_of_expr f j) (shows_of_expr f j))
-      (oblivious-turn y right other))
+      ∙ sym (oblivious-shows f h high j other more)
+      ∙ sym (ap (λ (b : Bool). shows_by b f h (fixed_index h j) other more) (oblivious-turn y right high))
 
-  both-loads : (x y : List ℕ) (i j : Tree) → InOneBank f x y → UsedAs (context_of f.decls) x Array
-      → UsedAs (context_of f.decls) y Array → slots_of_expr f i ≡ slots_of_expr f j
-      → access_loads f (home_of f x) (fixed_index (home_of f x) i) (tree_of_expr f i) (slots_of_expr f i)
-      ≡ access_loads f (home_of f y) (fixed_index (home_of f y) j) (tree_of_expr f j) (slots_of_expr f j)
-  both-loads x y i j one left right same =
+  both-loads : (x y : List ℕ) (i j : Tree) (index other : Option Value) → InOneBank f x y
+      → UsedAs (context_of f.decls) x Array → UsedAs (context_of f.decls) y Array
+      → slots_of_expr f i ≡ slots_of_expr f j
+      → access_loads f (home_of f x) (fixed_index (home_of f x) i) index (slots_of_expr f i)
+      ≡ access_loads f (home_of f y) (fixed_index (home_of f y) j) other (slots_of_expr f j)
+  both-loads x y i j index other one left right same =
       let g = home_of f x in
       let h = home_of f y in
-      let other : 2 ≤ h.bank = omega (arith, one.oblivious, one.same) in
+      let high : 2 ≤ h.bank = omega (arith, one.oblivious, one.same) in
       let turn = oblivious-turn x left one.oblivious in
-      let turn' = oblivious-turn y right other in
+      let turn' = oblivious-turn y right high in
       let first = serves-oblivious (homes.arrays x left.0 left.1 turn).slot one.oblivious in
-      let second = serves-oblivious (homes.arrays y right.0 right.1 turn').slot other in
+      let second = serves-oblivious (homes.arrays y right.0 right.1 turn').slot high in
       let slot = first ∙ sym second in
-      ap (λ (b : Bool). loads_by b f g (fixed_index g i) (tree_of_expr f i) (slots_of_expr f i)) turn
-      ∙ oblivious-loads f g one.oblivious i (tree_of_expr f i) (slots_of_expr f i)
+      ap (λ (b : Bool). loads_by b f g (fixed_index g i) index (slots_of_expr f i)) turn
+      ∙ oblivious-loads f g one.oblivious i index (slots_of_expr f i)
       ∙ (λ k. then_loads (same k) (one_load (slot k) (OramSlot (one.same k))))
-      ∙ sym (oblivious-loads f h other j (tree_of_expr f j) (slots_of_expr f j))
-      ∙ sym (ap (λ (b : Bool). loads_by b f h (fixed_index h j) (tree_of_expr f j) (slots_of_expr f j)) turn')
+      ∙ sym (oblivious-loads f h high j other (slots_of_expr f j))
+      ∙ sym (ap (λ (b : Bool). loads_by b f h (fixed_index h j) other (slots_of_expr f j)) turn')
 
   -- those of two resident arrays
-  resident-shows : (x y : List ℕ) (i j : Tree) → AreReducedAlike f x y → Alike f i j
-      → shows_of_expr f i ≡ shows_of_expr f j
-      → access_shows f (home_of f x) (fixed_index (home_of f x) i) (tree_of_expr f i) (shows_of_expr f i)
-      ≡ access_shows f (home_of f y) (fixed_index (home_of f y) j) (tree_of_expr f j) (shows_of_expr f j)
-  resident-shows x y i j one alike same =
+  resident-shows : (x y : List ℕ) (i j : Tree) (index other : Option Value) (shows more : List Show)
+      → AreReducedAlike f x y → Alike f i j → shows ≡ more
+      → access_shows f (home_of f x) (fixed_index (home_of f x) i) index shows
+      ≡ access_shows f (home_of f y) (fixed_index (home_of f y) j) other more
+  resident-shows x y i j index other shows more one alike same =
       let g = home_of f x in
       let h = home_of f y in
-      ap (λ (b : Bool). shows_by b f g (fixed_index g i) (tree_of_expr f i) (shows_of_expr f i)) one.first
-      ∙ placed-alike f g h (fixed_index g i) (fixed_index h j) (shows_of_expr f i) (shows_of_expr f j) one.masked
+      ap (λ (b : Bool). shows_by b f g (fixed_index g i) index shows) one.first
+      ∙ placed-alike f g h (fixed_index g i) (fixed_index h j) shows more one.masked
       one.offset (alike-fixed f g h i j one.low alike) same
-      ∙ sym (ap (λ (b : Bool). shows_by b f h (fixed_index h j) (tree_of_expr f j) (shows_of_expr f j)) one.second)
+      ∙ sym (ap (λ (b : Bool). shows_by b f h (fixed_index h j) other more) one.second)
 
-  resident-loads : (x y : List ℕ) (i j : Tree) → AreReducedAlike f x y → Alike f i j
+  resident-loads : (x y : List ℕ) (i j : Tree) (index other : Option Value) → AreReducedAlike f x y → Alike f i j
       → slots_of_expr f i ≡ slots_of_expr f j
-      → access_loads f (home_of f x) (fixed_index (home_of f x) i) (tree_of_expr f i) (slots_of_expr f i)
-      ≡ access_loads f (home_of f y) (fixed_index (home_of f y) j) (tree_of_expr f j) (slots_of_expr f j)
-  resident-loads x y i j one alike same =
+      → access_loads f (home_of f x) (fixed_index (home_of f x) i) index (slots_of_expr f i)
+      ≡ access_loads f (home_of f y) (fixed_index (home_of f y) j) other (slots_of_expr f j)
+  resident-loads x y i j index other one alike same =
       let g = home_of f x in
       let h = home_of f y in
-      ap (λ (b : Bool). loads_by b f g (fixed_index g i) (tree_of_expr f i) (slots_of_expr f i)) one.first
+      ap (λ (b : Bool). loads_by b f g (fixed_index g i) index (slots_of_expr f i)) one.first
       ∙ loads-alike (fixed_index g i) (fixed_index h j) (slots_of_expr f i) (slots_of_expr f j)
       (alike-fixed f g h i j one.low alike) same
-      ∙ sym (ap (λ (b : Bool). loads_by b f h (fixed_index h j) (tree_of_expr f j) (slots_of_expr f j)) one.second)
+      ∙ sym (ap (λ (b : Bool). loads_by b f h (fixed_index h j) other (slots_of_expr f j)) one.second)
 
   -- alike expressions
   pub alike-shows : (a b : Tree) → Alike f a b → TypedTree (context_of f.decls) a → TypedTree (context_of f.decls) b
       → shows_of_expr f a ≡ shows_of_expr f b
-  alike-shows a b (Numbers y z) left right = refl
+  alike-shows a b (Numbers y z one) left right = refl
   alike-shows a b (Scalars x y one) left right = scalar-alike f (register_for f x) (register_for f y) one
   alike-shows a b (Oblivious x y i j one alike) left right =
       ap (λ (shows : List Show). shows ++ word_gap f ∷ [])
-      (both-shows x y i j one left.0 right.0 (alike-shows i j alike left.1.0 right.1.0))
+      (both-shows x y i j (index_tree f i) (index_tree f j) (index_shows f i) (index_shows f j) one left.0 right.0
+      (operand-alike f i j alike (alike-shows i j alike left.1.0 right.1.0)))
   alike-shows a b (Residents x y i j one alike) left right =
       ap (λ (shows : List Show). shows ++ word_gap f ∷ [])
-      (resident-shows x y i j one alike (alike-shows i j alike left.1.0 right.1.0))
+      (resident-shows x y i j (index_tree f i) (index_tree f j) (index_shows f i) (index_shows f j) one alike
+      (operand-alike f i j alike (alike-shows i j alike left.1.0 right.1.0)))
   alike-shows a b (Same x i cached) left right = refl
   alike-shows a b (Operations op oq l r m s plain other kind one two) left right =
-      let first = alike-shows l m one left.0 right.0 in
-      let second = alike-shows r s two left.1 right.1 in
+      let first = operand-alike f l m one (alike-shows l m one left.0 right.0) in
+      let second = operand-alike f r s two (alike-shows r s two left.1 right.1) in
       let gap = alike-cost f op oq kind in
       let none = not-stepped f op r plain in
       let none' = not-stepped f oq s other in
-      ap (λ (found : Option (List Step)). shows_of_expr f l ++ operation_shows f op found (shows_of_expr f r)) none
+      ap (λ (found : Option (List Step)).
+      operand_part (operand_unless (is_some found) (operand f l)) (shows_of_expr f l)
+      ++ operation_shows f op found (operand_part (operand f r) (shows_of_expr f r))) none
       ∙ (λ k. first k ++ (second k ++ gap k ∷ []))
       ∙ sym (ap (λ (found : Option (List Step)).
-      shows_of_expr f m ++ operation_shows f oq found (shows_of_expr f s)) none')
+      operand_part (operand_unless (is_some found) (operand f m)) (shows_of_expr f m)
+      ++ operation_shows f oq found (operand_part (operand f s) (shows_of_expr f s))) none')
   alike-shows a b (ByNumber op l m z one) left right =
-      ap (λ (shows : List Show). shows ++ operation_shows f op (steps_at f op (Number z)) (Gap 1 ∷ []))
-      (alike-shows l m one left.0 right.0)
+      let by = Number z in
+      let never = is_some (steps_at f op by) in
+      let held = unless-alike never (operand f l) (operand f m) (alike-held f l m one) in
+      ap (λ (shows : List Show). shows ++ operation_shows f op (steps_at f op by) (operand_part (operand f by) (Gap 1 ∷ [])))
+      (part-alike (left_operand f op l by) (left_operand f op m by) (shows_of_expr f l) (shows_of_expr f m) held
+      (alike-shows l m one left.0 right.0))
 
   pub alike-slots : (a b : Tree) → Alike f a b → TypedTree (context_of f.decls) a → TypedTree (context_of f.decls) b
       → slots_of_expr f a ≡ slots_of_expr f b
-  alike-slots a b (Numbers y z) left right = refl
+  alike-slots a b (Numbers y z one) left right = refl
   alike-slots a b (Scalars x y one) left right = refl
   alike-slots a b (Oblivious x y i j one alike) left right =
-      both-loads x y i j one left.0 right.0 (alike-slots i j alike left.1.0 right.1.0)
+      both-loads x y i j (index_tree f i) (index_tree f j) one left.0 right.0 (alike-slots i j alike left.1.0 right.1.0)
   alike-slots a b (Residents x y i j one alike) left right =
-      resident-loads x y i j one alike (alike-slots i j alike left.1.0 right.1.0)
+      resident-loads x y i j (index_tree f i) (index_tree f j) one alike (alike-slots i j alike left.1.0 right.1.0)
   alike-slots a b (Same x i cached) left right = refl
   alike-slots a b (Operations op oq l r m s plain other kind one two) left right =
       let first = alike-slots l m one left.0 right.0 in
@@ -277,38 +320,40 @@ module _ (o : Parts) (f : Setting) (homes : HasHomes o f) where
   pub pair-shows : (s t : Statement) → Pair f s t → TypedStatement (context_of f.decls) Secret s
       → TypedStatement (context_of f.decls) Secret t → shows_of_set f s ≡ shows_of_set f t
   pair-shows s t (ToScalars x y e g one alike) left right =
-      let first = alike-shows e g alike left.1.0 right.1.0 in
+      let first = operand-alike f e g alike (alike-shows e g alike left.1.0 right.1.0) in
       let last = write-alike f (register_for f x) (register_for f y) one in
       λ k. first k ++ last k
   pair-shows s t (ToResidents x y i j e g one index value) left right =
-      let first = alike-shows e g value left.1.0 right.1.0 in
-      let second = resident-shows x y i j one index (alike-shows i j index left.0.1.0 right.0.1.0) in
+      let first = operand-alike f e g value (alike-shows e g value left.1.0 right.1.0) in
+      let second = resident-shows x y i j (index_tree f i) (index_tree f j) (index_shows f i) (index_shows f j) one index
+      (operand-alike f i j index (alike-shows i j index left.0.1.0 right.0.1.0)) in
       let none : (h : Home) (bound : SymSlot) → h.resident ≡ true → stored_by h.resident bound ≡ [] =
       λ h bound is. ap (λ (b : Bool). stored_by b bound) is in
-      let last = none (home_of f x) (element_slot f (home_of f x) (fixed_index (home_of f x) i) (tree_of_expr f i))
+      let last = none (home_of f x) (element_slot f (home_of f x) (fixed_index (home_of f x) i) (index_tree f i))
       one.first
-      ∙ sym (none (home_of f y) (element_slot f (home_of f y) (fixed_index (home_of f y) j) (tree_of_expr f j))
+      ∙ sym (none (home_of f y) (element_slot f (home_of f y) (fixed_index (home_of f y) j) (index_tree f j))
       one.second) in
       λ k. first k ++ (second k ++ (word_gap f ∷ word_gap f ∷ last k))
   pair-shows s t (ToOblivious x y i j e g one index value) left right =
-      let first = alike-shows e g value left.1.0 right.1.0 in
-      let second = both-shows x y i j one left.0.0 right.0.0 (alike-shows i j index left.0.1.0 right.0.1.0) in
+      let first = operand-alike f e g value (alike-shows e g value left.1.0 right.1.0) in
+      let second = both-shows x y i j (index_tree f i) (index_tree f j) (index_shows f i) (index_shows f j) one left.0.0
+      right.0.0 (operand-alike f i j index (alike-shows i j index left.0.1.0 right.0.1.0)) in
       let turn = oblivious-turn x left.0.0 one.oblivious in
       let turn' = oblivious-turn y right.0.0 (omega (arith, one.oblivious, one.same)) in
       let flag = turn ∙ sym turn' in
       let other : 2 ≤ (home_of f y).bank = omega (arith, one.oblivious, one.same) in
-      let slot = oblivious-slot f (home_of f x) one.oblivious i (tree_of_expr f i) ∙ ap OramSlot one.same
-      ∙ sym (oblivious-slot f (home_of f y) other j (tree_of_expr f j)) in
+      let slot = oblivious-slot f (home_of f x) one.oblivious i (index_tree f i) ∙ ap OramSlot one.same
+      ∙ sym (oblivious-slot f (home_of f y) other j (index_tree f j)) in
       λ k. first k ++ (second k ++ (word_gap f ∷ word_gap f ∷ stored_by (flag k) (slot k)))
   pair-shows s t (ToSame x i e g encrypted value) left right =
       ap (λ (shows : List Show).
       shows
-      ++ (access_shows f (home_of f x) (fixed_index (home_of f x) i) (tree_of_expr f i) (shows_of_expr f i)
+      ++ (access_shows f (home_of f x) (fixed_index (home_of f x) i) (index_tree f i) (index_shows f i)
       ++ (word_gap f
       ∷ word_gap f
       ∷ stored_by (home_of f x).resident
-      (element_slot f (home_of f x) (fixed_index (home_of f x) i) (tree_of_expr f i)))))
-      (alike-shows e g value left.1.0 right.1.0)
+      (element_slot f (home_of f x) (fixed_index (home_of f x) i) (index_tree f i)))))
+      (operand-alike f e g value (alike-shows e g value left.1.0 right.1.0))
 
   -- two statements that pair leave the slots alike
   pub pair-slots : (s t : Statement) → Pair f s t → TypedStatement (context_of f.decls) Secret s
@@ -316,16 +361,16 @@ module _ (o : Parts) (f : Setting) (homes : HasHomes o f) where
   pair-slots s t (ToScalars x y e g one alike) left right = alike-slots e g alike left.1.0 right.1.0
   pair-slots s t (ToOblivious x y i j e g one index value) left right =
       let first = alike-slots e g value left.1.0 right.1.0 in
-      let second = both-loads x y i j one left.0.0 right.0.0 (alike-slots i j index left.0.1.0 right.0.1.0) in
+      let second = both-loads x y i j (index_tree f i) (index_tree f j) one left.0.0 right.0.0 (alike-slots i j index left.0.1.0 right.0.1.0) in
       λ k. then_loads (first k) (second k)
   pair-slots s t (ToResidents x y i j e g one index value) left right =
       let first = alike-slots e g value left.1.0 right.1.0 in
-      let second = resident-loads x y i j one index (alike-slots i j index left.0.1.0 right.0.1.0) in
+      let second = resident-loads x y i j (index_tree f i) (index_tree f j) one index (alike-slots i j index left.0.1.0 right.0.1.0) in
       λ k. then_loads (first k) (second k)
   pair-slots s t (ToSame x i e g encrypted value) left right =
       ap (λ (loads : Loads).
       then_loads loads
-      (access_loads f (home_of f x) (fixed_index (home_of f x) i) (tree_of_expr f i) (slots_of_expr f i)))
+      (access_loads f (home_of f x) (fixed_index (home_of f x) i) (index_tree f i) (slots_of_expr f i)))
       (alike-slots e g value left.1.0 right.1.0)
 
   pub pair-patterns : (s t : Statement) → Pair f s t → TypedStatement (context_of f.decls) Secret s

@@ -8,8 +8,8 @@ use Rattle.std.proofs.lemmas.Slice.Eq.{bytes_eq-Decides}
 use Rattle.symbolic_values.specs.Sameness.{same_op}
 use Rattle.symbolic_values.proofs.TreeEquality.{same_op-true, same_op-own}
 use Rattle.src_tree.specs.Trees.{Tree, Number, Variable, Element, Operation, Statement, SetVariable, SetElement, Block, Nothing, Then}
-use Rattle.block_cache_gen.specs.Homes.{Setting, home_of, register_for}
-use Rattle.block_cache_gen.specs.Codes.{is_cached, is_masked, may_step}
+use Rattle.block_cache_gen.specs.Homes.{Setting, home_of}
+use Rattle.block_cache_gen.specs.Codes.{is_cached, is_masked, may_step, operand}
 use Rattle.gr_word.specs.declared.operations.Op.{Op}
 use Rattle.block_cache_gen.specs.Alike.{is_product, AreHeldAlike, held_alike, InOneBank, AreReducedAlike, Residents, ToResidents, same_flag, reduced_alike, Alike, Numbers, Scalars, Oblivious, Same, Operations, ByNumber, Pair, ToScalars, ToOblivious, ToSame, StartsPaired, NonePaired, OnePaired, IsPairCount, is_same, in_one_bank, both_products, are_plain, is_same_number, by_same_number, is_alike, is_pair, pair_count}
 
@@ -94,12 +94,12 @@ module _ (f : Setting) where
       (and_from masked offset (kinds-own (is_masked (home_of f x)) (is_masked (home_of f y)) one.masked)
       (kinds-own ((home_of f x).word == 0) ((home_of f y).word == 0) one.offset))))
 
-  -- two scalars that registers hold, or neither
-  held-true : (x y : List ℕ) → held_alike f x y ≡ true → AreHeldAlike f x y
-  held-true x y e = kinds-true (is_some (register_for f x)) (is_some (register_for f y)) e
+  -- two numbers or scalars that registers hold, or neither
+  held-true : (a b : Tree) → held_alike f a b ≡ true → AreHeldAlike f a b
+  held-true a b e = kinds-true (is_some (operand f a)) (is_some (operand f b)) e
 
-  held-own : (x y : List ℕ) → AreHeldAlike f x y → held_alike f x y ≡ true
-  held-own x y one = kinds-own (is_some (register_for f x)) (is_some (register_for f y)) one
+  held-own : (a b : Tree) → AreHeldAlike f a b → held_alike f a b ≡ true
+  held-own a b one = kinds-own (is_some (operand f a)) (is_some (operand f b)) one
 
   -- one array and one index
   record OneElement (x y : List ℕ) (i j : Tree) : Type 0 where
@@ -149,8 +149,8 @@ module _ (f : Setting) where
 
   -- alike expressions
   alike-true : (a b : Tree) → is_alike f a b ≡ true → Alike f a b
-  alike-true (Number y) (Number z) e = Numbers y z
-  alike-true (Variable x) (Variable y) e = Scalars x y (held-true x y e)
+  alike-true (Number y) (Number z) e = Numbers y z (held-true (Number y) (Number z) e)
+  alike-true (Variable x) (Variable y) e = Scalars x y (held-true (Variable x) (Variable y) e)
   alike-true (Element x i) (Element y j) e =
       let held = or_cases ((in_one_bank f x y || reduced_alike f x y) && is_alike f i j)
       (nat_lt (home_of f x).bank 2 && (bytes_eq x y && is_same i j)) e in
@@ -182,8 +182,8 @@ module _ (f : Setting) where
   alike-true _ _ e = absurd (let f : false ≡ true = e in cc)
 
   alike-own : (a b : Tree) → Alike f a b → is_alike f a b ≡ true
-  alike-own a b (Numbers y z) = refl
-  alike-own a b (Scalars x y one) = held-own x y one
+  alike-own a b (Numbers y z one) = held-own (Number y) (Number z) one
+  alike-own a b (Scalars x y one) = held-own (Variable x) (Variable y) one
   alike-own a b (Oblivious x y i j one alike) =
       or_left ((in_one_bank f x y || reduced_alike f x y) && is_alike f i j)
       (nat_lt (home_of f x).bank 2 && (bytes_eq x y && is_same i j))
@@ -219,8 +219,8 @@ module _ (f : Setting) where
   -- assignments that pair
   pair-true : (s t : Statement) → is_pair f s t ≡ true → Pair f s t
   pair-true (SetVariable x e) (SetVariable y g) held =
-      let parts = and_parts (held_alike f x y) (is_alike f e g) held in
-      ToScalars x y e g (held-true x y parts.0) (alike-true e g parts.1)
+      let parts = and_parts (held_alike f (Variable x) (Variable y)) (is_alike f e g) held in
+      ToScalars x y e g (held-true (Variable x) (Variable y) parts.0) (alike-true e g parts.1)
   pair-true (SetElement x i e) (SetElement y j g) held =
       let parts = and_parts (is_alike f e g)
       (((in_one_bank f x y || reduced_alike f x y) && is_alike f i j)
@@ -247,7 +247,8 @@ module _ (f : Setting) where
 
   pair-own : (s t : Statement) → Pair f s t → is_pair f s t ≡ true
   pair-own s t (ToScalars x y e g one alike) =
-      and_from (held_alike f x y) (is_alike f e g) (held-own x y one) (alike-own e g alike)
+      and_from (held_alike f (Variable x) (Variable y)) (is_alike f e g) (held-own (Variable x) (Variable y) one)
+      (alike-own e g alike)
   pair-own s t (ToOblivious x y i j e g one index value) =
       and_from (is_alike f e g)
       (((in_one_bank f x y || reduced_alike f x y) && is_alike f i j)

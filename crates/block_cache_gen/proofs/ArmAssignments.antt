@@ -1,6 +1,6 @@
 -- The code of assignments in secret code: walked in an arm, it shows what depends only on the assignment, whether it
 -- has its effect or only looks as if it had.
-use Rattle.std.proofs.Common.{◌≡◌, ℕ, pos, Bool, true, false, List, [], ◌∷◌, ◌++◌, get_or, Option, Some, None, refl, sym, ap, ◌∙◌, subst, arith, append-nil}
+use Rattle.std.proofs.Common.{◌≡◌, ℕ, ◌+◌, ◌≤◌, pos, Bool, true, false, List, [], ◌∷◌, ◌++◌, get_or, Option, Some, None, refl, sym, ap, ◌∙◌, subst, arith, append-nil}
 use Rattle.std.specs.Option.{unwrap_or}
 use Rattle.gr_word.specs.declared.variables.Label.{Label}
 use Rattle.gr_word.specs.declared.variables.Label.TheVariants.{Public, Secret}
@@ -13,29 +13,31 @@ use Rattle.lt_isa.specs.Object.{Parts}
 use Rattle.symbolic_values.specs.Trees.{Value, Const}
 use Rattle.src_tree.specs.Contexts.{context_of}
 use Rattle.src_tree.specs.Labels.{label_or_public, label_at}
+use Rattle.src_tree.specs.Heights.{height_of}
 use Rattle.src_tree.specs.Limits.{LowStatement}
 use Rattle.src_tree.specs.Trees.{Tree, Statement, SetVariable, SetElement, Choice, Loop}
-use Rattle.src_tree.specs.Typing.{Flows, TypedStatement}
+use Rattle.src_tree.specs.Typing.{Flows, TypedTree, TypedStatement}
 use Rattle.stretches.specs.Shows.{Show, Gap}
 use Rattle.trace_patterns.specs.SymStates.{SymSlot, AnySlot, RamSlot, EramSlot, OramSlot, SymState, tree_held, slot_held, slot_bank}
 use Rattle.stretches.proofs.ArmCode.{Walked, walked-none, walked-then}
 use Rattle.block_cache_gen.specs.declared.frames.Mode.{Mode}
 use Rattle.block_cache_gen.specs.declared.frames.Mode.TheVariants as modes
 use Rattle.block_cache_gen.specs.Homes.{Setting, home_of, pin_of, HasHomes, register_for}
-use Rattle.block_cache_gen.specs.Codes.{may_skip_loads, fixed_index, expr_code, access_by, placed_code, store_code, stored_code, set_code, access_code, write_code, copied_from}
+use Rattle.block_cache_gen.specs.Codes.{may_skip_loads, fixed_index, expr_code, access_by, placed_code, store_code, stored_code, set_code, compares, operand, operand_part, operand_register, indexed_code, write_code, copied_from}
 use Rattle.block_cache_gen.specs.Carries.{CarriesInArm}
-use Rattle.block_cache_gen.specs.PublicIndexes.{SetHasPublicIndexes}
-use Rattle.block_cache_gen.specs.PatternsOf.{write_shows, word_gap, block_tree, number_tree, store_shows, Loads, no_loads, then_loads, element_slot, placed_shows, placed_tree, index_loads, shows_by, loads_by, stored_by, tree_of_expr, shows_of_expr, slots_of_expr, shows_of_set, slots_of_set}
+use Rattle.block_cache_gen.specs.PublicIndexes.{IndexIsPublic, HasPublicIndexes, SetHasPublicIndexes}
+use Rattle.block_cache_gen.specs.PatternsOf.{write_shows, operand_tree, word_gap, block_tree, number_tree, store_shows, Loads, no_loads, then_loads, element_slot, placed_shows, placed_tree, index_loads, shows_by, loads_by, stored_by, tree_of_expr, shows_of_expr, slots_of_expr, shows_of_set, slots_of_set}
 use Rattle.lt_checker.proofs.Singles.{IsKnown, IsHidden}
 use Rattle.block_cache_gen.proofs.SomeCode.{compares-secret}
 use Rattle.block_cache_gen.proofs.ArmInstructions.{loaded-bank, sets-ldw, walked-stw, walked-stb, sets-alu}
-use Rattle.block_cache_gen.proofs.ArmStates.{LeavesTree, then_loads-held, carries-same, carries-copied}
+use Rattle.block_cache_gen.proofs.ArmStates.{LeavesIn, then_loads-held, carries-same, carries-copied}
 use Rattle.held_registers.specs.Held.{secret_zero}
 use Rattle.held_registers.proofs.Copies.{hidden_copy}
 use Rattle.block_cache_gen.proofs.HeldLabels.{register-label, register-low, zero-label}
 use Rattle.block_cache_gen.proofs.HomeFacts.{shows-cached}
-use Rattle.block_cache_gen.proofs.PublicTrees.{block-seen, public-tree}
-use Rattle.block_cache_gen.proofs.ArmExpressions.{access-leaves, placed-leaves, number-leaves, expr-leaves}
+use Rattle.block_cache_gen.proofs.PublicTrees.{block-seen, public-operand}
+use Rattle.block_cache_gen.proofs.ArmExpressions.{access-leaves, placed-leaves, number-leaves, operand-leaves, index-apart, expr-leaves}
+use Rattle.block_cache_gen.proofs.OperandLabels.{is-operand}
 
 -- A stretch of secret code is walked from s: it shows this, keeps what the setting relies on, and leaves this in the
 -- slots.
@@ -78,8 +80,9 @@ flows-secret Secret h = refl
 
 module _ (o : Parts) (f : Setting) (depth : ℕ) where
   -- code that leaves a value continues
-  abbrev pub goes-leaves : (s : SymState) (code : List Instr) (shows : List Show) (to : ℕ) (tree : Option Value)
-      (loads : Loads) → LeavesTree o f depth s code shows to tree loads → Goes o f depth s code shows loads
+  abbrev pub goes-leaves : {at : ℕ} (s : SymState) (code : List Instr) (shows : List Show) (to : ℕ)
+      (tree : Option Value) (loads : Loads) → LeavesIn o f depth s code shows to at tree loads
+      → Goes o f depth s code shows loads
   goes-leaves s code shows to tree loads leaves =
       record { state = leaves.state; walked = leaves.walked; carries = leaves.carries; slots = leaves.slots }
 
@@ -122,26 +125,26 @@ module _ (o : Parts) (f : Setting) (homes : HasHomes o f) (depth : ℕ) where
       }
 
   module _ (mode : Mode) (secret : may_skip_loads mode ≡ false) where
-    store-goes : (s : SymState) (slot : ℕ) → CarriesInArm f s → IsHidden (slot_held s slot)
-        → Goes o f depth s (store_code mode slot) (word_gap f ∷ word_gap f ∷ []) no_loads
-    store-goes s slot carries stored = by mode secret
+    store-goes : (s : SymState) (slot value : ℕ) → CarriesInArm f s → IsHidden (slot_held s slot)
+        → Goes o f depth s (store_code mode slot value) (word_gap f ∷ word_gap f ∷ []) no_loads
+    store-goes s slot value carries stored = by mode secret
       where
         by : (m : Mode) → may_skip_loads m ≡ false
-            → Goes o f depth s (store_code m slot) (word_gap f ∷ word_gap f ∷ []) no_loads
+            → Goes o f depth s (store_code m slot value) (word_gap f ∷ word_gap f ∷ []) no_loads
         by modes.Public e = absurd (let g : true ≡ false = e in cc)
-        by modes.Real e = stored-by s 0 slot carries stored
+        by modes.Real e = stored-by s value slot carries stored
         by modes.Mirrored e = stored-by s 2 slot carries stored
 
     -- the block is stored too
-    store_block-goes : (s : SymState) (slot : ℕ) (bound : SymSlot) → CarriesInArm f s → slot_held s slot ≡ bound
+    store_block-goes : (s : SymState) (slot value : ℕ) (bound : SymSlot) → CarriesInArm f s → slot_held s slot ≡ bound
         → IsHidden bound
-        → Goes o f depth s (store_code mode slot ++ Stb slot ∷ []) (word_gap f ∷ word_gap f ∷ store_shows bound)
+        → Goes o f depth s (store_code mode slot value ++ Stb slot ∷ []) (word_gap f ∷ word_gap f ∷ store_shows bound)
         no_loads
-    store_block-goes s slot bound carries holds stored =
-        let word = store-goes s slot carries (subst IsHidden (sym holds) stored) in
+    store_block-goes s slot value bound carries holds stored =
+        let word = store-goes s slot value carries (subst IsHidden (sym holds) stored) in
         record {
           state = word.state;
-          walked = walked-then o depth s (store_code mode slot) (word_gap f ∷ word_gap f ∷ []) word.state
+          walked = walked-then o depth s (store_code mode slot value) (word_gap f ∷ word_gap f ∷ []) word.state
               (Stb slot ∷ []) (store_shows bound) word.state word.walked
               (walked-stb o depth f homes.profile word.state slot bound (word.slots slot ∙ holds) stored);
           carries = word.carries;
@@ -149,23 +152,24 @@ module _ (o : Parts) (f : Setting) (homes : HasHomes o f) (depth : ℕ) where
         }
 
     -- a value is written to a secret scalar, by the register that holds it
-    word-goes : (s : SymState) (x : List ℕ) → context_of f.decls x ≡ Some (Secret, Scalar) → CarriesInArm f s
-        → Goes o f depth s (write_code None Secret mode (home_of f x)) (write_shows f None) no_loads
-    word-goes s x declared carries =
+    word-goes : (s : SymState) (value : ℕ) (x : List ℕ) → context_of f.decls x ≡ Some (Secret, Scalar)
+        → CarriesInArm f s
+        → Goes o f depth s (write_code None Secret mode (home_of f x) value) (write_shows f None) no_loads
+    word-goes s value x declared carries =
         let h = home_of f x in
         let scalar = homes.scalars x Secret declared in
         let place = number-leaves o f homes depth s 1 (pos h.word) carries (omega arith) in
         let stored = resident-hidden o f homes place.state x Scalar place.carries declared scalar.resident in
         goes-then o f depth s (Li 1 (pos h.word) ∷ []) (Gap 1 ∷ []) no_loads
         (goes-leaves o f depth s (Li 1 (pos h.word) ∷ []) (Gap 1 ∷ []) 1 (Some (Const (pos h.word))) no_loads place)
-        (store_code mode h.slot) (word_gap f ∷ word_gap f ∷ []) no_loads
-        (store-goes place.state h.slot place.carries stored)
+        (store_code mode h.slot value) (word_gap f ∷ word_gap f ∷ []) no_loads
+        (store-goes place.state h.slot value place.carries stored)
 
-    copy-goes : (s : SymState) (x : List ℕ) → context_of f.decls x ≡ Some (Secret, Scalar) → (r : ℕ)
+    copy-goes : (s : SymState) (value : ℕ) (x : List ℕ) → context_of f.decls x ≡ Some (Secret, Scalar) → (r : ℕ)
         → register_for f x ≡ Some r → CarriesInArm f s
-        → Goes o f depth s (write_code (Some r) Secret mode (home_of f x)) (write_shows f (Some r)) no_loads
-    copy-goes s x declared r is carries =
-        let from = copied_from mode r in
+        → Goes o f depth s (write_code (Some r) Secret mode (home_of f x) value) (write_shows f (Some r)) no_loads
+    copy-goes s value x declared r is carries =
+        let from = copied_from mode r value in
         let zero = zero-label f homes.held x Secret Scalar declared r is Secret in
         let copied = sets-alu o depth f homes.profile s Add r from secret_zero (tree_held s from) None carries.registers
         (register-low f homes.held x Secret Scalar declared r is) refl (carries.held secret_zero Secret zero) in
@@ -179,11 +183,21 @@ module _ (o : Parts) (f : Setting) (homes : HasHomes o f) (depth : ℕ) where
           slots = λ k. ap (λ (slots : List SymSlot). get_or slots k AnySlot) copied.slots;
         }
 
-    write-goes : (s : SymState) (x : List ℕ) → context_of f.decls x ≡ Some (Secret, Scalar) → (found : Option ℕ)
-        → register_for f x ≡ found → CarriesInArm f s
-        → Goes o f depth s (write_code found Secret mode (home_of f x)) (write_shows f found) no_loads
-    write-goes s x declared None is carries = word-goes s x declared carries
-    write-goes s x declared (Some r) is carries = copy-goes s x declared r is carries
+    write-goes : (s : SymState) (value : ℕ) (x : List ℕ) → context_of f.decls x ≡ Some (Secret, Scalar)
+        → (found : Option ℕ) → register_for f x ≡ found → CarriesInArm f s
+        → Goes o f depth s (write_code found Secret mode (home_of f x) value) (write_shows f found) no_loads
+    write-goes s value x declared None is carries = word-goes s value x declared carries
+    write-goes s value x declared (Some r) is carries = copy-goes s value x declared r is carries
+
+    -- an operand, which its code leaves in a register or which is in one
+    value-leaves : (e : Tree) (s : SymState) (to : ℕ) → TypedTree (context_of f.decls) e → HasPublicIndexes f e
+        → to + height_of e ≤ 18 → CarriesInArm f s
+        → LeavesIn o f depth s (operand_part (operand f e) (expr_code f mode to e))
+        (operand_part (operand f e) (shows_of_expr f e)) to (operand_register (operand f e) to)
+        (operand_tree f (operand f e) (tree_of_expr f e)) (slots_of_expr f e)
+    value-leaves e s to typed public low carries =
+        operand-leaves o f homes depth mode e typed (operand f e) (is-operand f e) s to carries
+        (expr-leaves o f homes depth mode secret e s to typed public low carries)
 
     -- an assignment to a scalar
     variable-goes : (s : SymState) (x : List ℕ) (e : Tree)
@@ -196,90 +210,79 @@ module _ (o : Parts) (f : Setting) (homes : HasHomes o f) (depth : ℕ) where
         let own = flows-secret (label_at (context_of f.decls) x) typed.1.1 in
         let same : label_at (context_of f.decls) x ≡ typed.0.0 = ap label_or_public typed.0.1 in
         let declared = subst (λ (l : Label). context_of f.decls x ≡ Some (l, Scalar)) (sym same ∙ own) typed.0.1 in
-        let value = expr-leaves o f homes depth mode secret e s 0 typed.1.0 public (omega arith) carries in
-        let one = goes-leaves o f depth s (expr_code f mode 0 e) (shows_of_expr f e) 0 (tree_of_expr f e)
-        (slots_of_expr f e) value in
+        let q = operand f e in
+        let first = operand_part q (expr_code f mode 0 e) in
+        let shown = operand_part q (shows_of_expr f e) in
+        let from = operand_register q 0 in
+        let value = value-leaves e s 0 typed.1.0 public (omega arith) carries in
+        let one = goes-leaves o f depth s first shown 0 (operand_tree f q (tree_of_expr f e)) (slots_of_expr f e)
+        value in
         let two = subst
         (λ (l : Label).
-        Goes o f depth value.state (write_code found l mode (home_of f x)) (write_shows f found) no_loads) (sym own)
-        (write-goes value.state x declared found refl value.carries) in
-        goes-then o f depth s (expr_code f mode 0 e) (shows_of_expr f e) (slots_of_expr f e) one
-        (write_code found (label_at (context_of f.decls) x) mode (home_of f x)) (write_shows f found) no_loads two
+        Goes o f depth value.state (write_code found l mode (home_of f x) from) (write_shows f found) no_loads) (sym own)
+        (write-goes value.state from x declared found refl value.carries) in
+        goes-then o f depth s first shown (slots_of_expr f e) one
+        (write_code found (label_at (context_of f.decls) x) mode (home_of f x) from) (write_shows f found) no_loads two
 
-    -- an assignment to an element
-    element_by-goes : (b : Bool) (s : SymState) (x : List ℕ) (i e : Tree) → (home_of f x).resident ≡ b
-        → TypedStatement (context_of f.decls) Secret (SetElement x i e) → SetHasPublicIndexes f (SetElement x i e)
-        → LowStatement (SetElement x i e) → CarriesInArm f s
+    -- an assignment to an element, after the code of its value
+    element_by-goes : (b : Bool) (s : SymState) (x : List ℕ) (i : Tree) (value : ℕ) → (home_of f x).resident ≡ b
+        → context_of f.decls x ≡ Some (Secret, Array) → TypedTree (context_of f.decls) i
+        → IndexIsPublic f x i → HasPublicIndexes f i → 1 + height_of i ≤ 18 → CarriesInArm f s
         → Goes o f depth s
-        (expr_code f mode 0 e
-        ++ (access_by b false f.profile.block_log mode (home_of f x) 1 (fixed_index (home_of f x) i)
-        (expr_code f mode 1 i)
-        ++ (store_code mode (home_of f x).slot ++ stored_code b (home_of f x).slot)))
-        (shows_of_expr f e
-        ++ (shows_by b f (home_of f x) (fixed_index (home_of f x) i) (tree_of_expr f i) (shows_of_expr f i)
+        (access_by b false f.profile.block_log mode (home_of f x) 1 (operand_register (operand f i) 1)
+        (fixed_index (home_of f x) i) (operand_part (operand f i) (expr_code f mode 1 i))
+        ++ (store_code mode (home_of f x).slot value ++ stored_code b (home_of f x).slot))
+        (shows_by b f (home_of f x) (fixed_index (home_of f x) i) (operand_tree f (operand f i) (tree_of_expr f i))
+        (operand_part (operand f i) (shows_of_expr f i))
         ++ (word_gap f
         ∷ word_gap f
-        ∷ stored_by b (element_slot f (home_of f x) (fixed_index (home_of f x) i) (tree_of_expr f i)))))
-        (then_loads (slots_of_expr f e)
-        (loads_by b f (home_of f x) (fixed_index (home_of f x) i) (tree_of_expr f i) (slots_of_expr f i)))
-    element_by-goes true s x i e is typed public low carries =
+        ∷ stored_by b
+        (element_slot f (home_of f x) (fixed_index (home_of f x) i) (operand_tree f (operand f i) (tree_of_expr f i)))))
+        (loads_by b f (home_of f x) (fixed_index (home_of f x) i) (operand_tree f (operand f i) (tree_of_expr f i))
+        (slots_of_expr f i))
+    element_by-goes true s x i value is declared typed shows public low carries =
         let h = home_of f x in
         let fixed = fixed_index h i in
-        let index = tree_of_expr f i in
-        let used = typed.0.0 in
-        let same : label_at (context_of f.decls) x ≡ used.0 = ap label_or_public used.1 in
-        let label = sym same ∙ flows-secret (label_at (context_of f.decls) x) typed.1.1 in
-        let declared = subst (λ (l : Label). context_of f.decls x ≡ Some (l, Array)) label used.1 in
-        let value = expr-leaves o f homes depth mode secret e s 0 typed.1.0 public.1 (omega arith) carries in
-        let number = expr-leaves o f homes depth mode secret i value.state 1 typed.0.1.0 public.0.1 (omega arith)
-        value.carries in
-        let place = placed-leaves o f homes depth value.state 1 h fixed index (expr_code f mode 1 i)
-        (shows_of_expr f i) (slots_of_expr f i) value.carries number (omega arith) in
+        let q = operand f i in
+        let from = operand_register q 1 in
+        let index = operand_tree f q (tree_of_expr f i) in
+        let part = operand_part q (expr_code f mode 1 i) in
+        let number = value-leaves i s 1 typed public low carries in
+        let place = placed-leaves o f homes depth s 1 from h fixed index part (operand_part q (shows_of_expr f i))
+        (slots_of_expr f i) carries number (omega arith) (index-apart o f homes depth mode secret i 1 (omega arith)) in
         let stored = resident-hidden o f homes place.state x Array place.carries declared is in
-        let code = placed_code false h 1 fixed (expr_code f mode 1 i) in
-        let shown = placed_shows f h fixed (shows_of_expr f i) in
+        let code = placed_code false h 1 from fixed part in
+        let shown = placed_shows f h fixed (operand_part q (shows_of_expr f i)) in
         let loads = index_loads fixed (slots_of_expr f i) in
-        let one = goes-leaves o f depth s (expr_code f mode 0 e) (shows_of_expr f e) 0 (tree_of_expr f e)
-        (slots_of_expr f e) value in
-        let two = goes-leaves o f depth value.state code shown 1 (placed_tree h fixed index) loads place in
-        let three = subst (λ (c : List Instr). Goes o f depth place.state c (word_gap f ∷ word_gap f ∷ []) no_loads)
-        (sym (append-nil (store_code mode h.slot))) (store-goes place.state h.slot place.carries stored) in
-        goes-then o f depth s (expr_code f mode 0 e) (shows_of_expr f e) (slots_of_expr f e) one
-        (code ++ (store_code mode h.slot ++ [])) (shown ++ (word_gap f ∷ word_gap f ∷ [])) loads
-        (goes-then o f depth value.state code shown loads two (store_code mode h.slot ++ [])
-        (word_gap f ∷ word_gap f ∷ []) no_loads three)
-    element_by-goes false s x i e is typed public low carries =
+        let one = goes-leaves o f depth s code shown 1 (placed_tree h fixed index) loads place in
+        let two = subst (λ (c : List Instr). Goes o f depth place.state c (word_gap f ∷ word_gap f ∷ []) no_loads)
+        (sym (append-nil (store_code mode h.slot value))) (store-goes place.state h.slot value place.carries stored) in
+        goes-then o f depth s code shown loads one (store_code mode h.slot value ++ [])
+        (word_gap f ∷ word_gap f ∷ []) no_loads two
+    element_by-goes false s x i value is declared typed shows public low carries =
         let h = home_of f x in
         let fixed = fixed_index h i in
-        let index = tree_of_expr f i in
-        let used = typed.0.0 in
-        let same : label_at (context_of f.decls) x ≡ used.0 = ap label_or_public used.1 in
-        let label = sym same ∙ flows-secret (label_at (context_of f.decls) x) typed.1.1 in
-        let home = homes.arrays x Secret
-        (subst (λ (l : Label). context_of f.decls x ≡ Some (l, Array)) label used.1) is in
-        let value = expr-leaves o f homes depth mode secret e s 0 typed.1.0 public.1 (omega arith) carries in
-        let number = expr-leaves o f homes depth mode secret i value.state 1 typed.0.1.0 public.0.1 (omega arith)
-        value.carries in
+        let q = operand f i in
+        let from = operand_register q 1 in
+        let index = operand_tree f q (tree_of_expr f i) in
+        let part = operand_part q (expr_code f mode 1 i) in
+        let home = homes.arrays x Secret declared is in
+        let number = value-leaves i s 1 typed public low carries in
         let seen =
-        block-seen f h fixed index
-        (λ cached. public-tree o f homes i typed.0.1.0 (public.0.0 (shows-cached h is cached))) in
+        block-seen f h fixed index (λ cached. public-operand o f homes i typed (shows (shows-cached h is cached))) in
         let bound = element_slot f h fixed index in
-        let access = access-leaves o f homes depth mode secret value.state 1 x fixed index (expr_code f mode 1 i)
-        (shows_of_expr f i) (slots_of_expr f i) value.carries number (omega arith) used is seen in
+        let access = access-leaves o f homes depth mode secret s 1 from x fixed index part
+        (operand_part q (shows_of_expr f i)) (slots_of_expr f i) carries number (omega arith)
+        (index-apart o f homes depth mode secret i 1 (omega arith)) (Secret, declared) is seen in
         let stored = stored-of_bank bound h.bank (loaded-bank f h.bank (block_tree f h fixed index) seen)
         (λ e. let wrong : Secret ≡ Public = home.plain.0 e in let g : ◌≡◌ {A = Label} Secret Public = wrong in cc) in
-        let code = access_by false false f.profile.block_log mode h 1 fixed (expr_code f mode 1 i) in
-        let shown = shows_by false f h fixed index (shows_of_expr f i) in
+        let code = access_by false false f.profile.block_log mode h 1 from fixed part in
+        let shown = shows_by false f h fixed index (operand_part q (shows_of_expr f i)) in
         let loads = loads_by false f h fixed index (slots_of_expr f i) in
-        let one = goes-leaves o f depth s (expr_code f mode 0 e) (shows_of_expr f e) 0 (tree_of_expr f e)
-        (slots_of_expr f e) value in
-        let two = goes-leaves o f depth value.state code shown 1 (number_tree h fixed index) loads access.leaves in
-        let three = store_block-goes access.leaves.state h.slot bound access.leaves.carries access.holds stored in
-        goes-then o f depth s (expr_code f mode 0 e) (shows_of_expr f e) (slots_of_expr f e) one
-        (code ++ (store_code mode h.slot ++ Stb h.slot ∷ []))
-        (shown ++ (word_gap f ∷ word_gap f ∷ store_shows bound)) loads
-        (goes-then o f depth value.state code shown loads two (store_code mode h.slot ++ Stb h.slot ∷ [])
-        (word_gap f ∷ word_gap f ∷ store_shows bound) no_loads three)
+        let one = goes-leaves o f depth s code shown 1 (number_tree h fixed index) loads access.leaves in
+        let two = store_block-goes access.leaves.state h.slot value bound access.leaves.carries access.holds stored in
+        goes-then o f depth s code shown loads one (store_code mode h.slot value ++ Stb h.slot ∷ [])
+        (word_gap f ∷ word_gap f ∷ store_shows bound) no_loads two
 
     element-goes : (s : SymState) (x : List ℕ) (i e : Tree)
         → TypedStatement (context_of f.decls) Secret (SetElement x i e) → SetHasPublicIndexes f (SetElement x i e)
@@ -288,14 +291,30 @@ module _ (o : Parts) (f : Setting) (homes : HasHomes o f) (depth : ℕ) where
         (slots_of_set f (SetElement x i e))
     element-goes s x i e typed public low carries =
         let h = home_of f x in
-        let fixed = fixed_index h i in
-        subst (λ (near : Bool). Goes o f depth s
-        (expr_code f mode 0 e
-        ++ (access_code near f.profile.block_log mode h 1 fixed (expr_code f mode 1 i)
-        ++ (store_code mode h.slot ++ stored_code h.resident h.slot)))
-        (shows_of_set f (SetElement x i e)) (slots_of_set f (SetElement x i e)))
+        let used = typed.0.0 in
+        let same : label_at (context_of f.decls) x ≡ used.0 = ap label_or_public used.1 in
+        let label = sym same ∙ flows-secret (label_at (context_of f.decls) x) typed.1.1 in
+        let declared = subst (λ (l : Label). context_of f.decls x ≡ Some (l, Array)) label used.1 in
+        let q = operand f e in
+        let first = operand_part q (expr_code f mode 0 e) in
+        let shown = operand_part q (shows_of_expr f e) in
+        let from = operand_register q 0 in
+        let value = value-leaves e s 0 typed.1.0 public.1 (omega arith) carries in
+        let one = goes-leaves o f depth s first shown 0 (operand_tree f q (tree_of_expr f e)) (slots_of_expr f e)
+        value in
+        let index = operand_tree f (operand f i) (tree_of_expr f i) in
+        let more = shows_by h.resident f h (fixed_index h i) index (operand_part (operand f i) (shows_of_expr f i))
+        ++ (word_gap f ∷ word_gap f ∷ stored_by h.resident (element_slot f h (fixed_index h i) index)) in
+        let loads = loads_by h.resident f h (fixed_index h i) index (slots_of_expr f i) in
+        let two = subst (λ (near : Bool). Goes o f depth value.state
+        (indexed_code f near mode h 1 i (expr_code f mode 1 i)
+        ++ (store_code mode h.slot from ++ stored_code h.resident h.slot)) more loads)
         (sym (compares-secret f mode h i secret))
-        (element_by-goes h.resident s x i e refl typed public low carries)
+        (element_by-goes h.resident value.state x i from refl declared typed.0.1.0 public.0.0 public.0.1 (omega arith)
+        value.carries) in
+        goes-then o f depth s first shown (slots_of_expr f e) one
+        (indexed_code f (compares f mode h i) mode h 1 i (expr_code f mode 1 i)
+        ++ (store_code mode h.slot from ++ stored_code h.resident h.slot)) more loads two
 
     -- the code of an assignment, and no code
     pub set-goes : (a : Statement) (s : SymState) → TypedStatement (context_of f.decls) Secret a

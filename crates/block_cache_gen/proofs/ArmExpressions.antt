@@ -1,6 +1,6 @@
 -- The code of expressions and guards in secret code: walked in an arm, it shows what depends only on the expression.
-use Rattle.std.proofs.Common.{◌≡◌, ℕ, ◌+◌, ◌-◌, ◌<◌, ◌≤◌, ◌/◌, ℤ, pos, Bool, true, false, ◌&&◌, ◌==◌, List, [], ◌∷◌, ◌++◌, length, map, get_or, Option, Some, None, refl, sym, ap, ◌∙◌, subst, arith, append_assoc}
-use Rattle.std.specs.Prelude.{All, IsTrue, if◌then◌else◌}
+use Rattle.std.proofs.Common.{◌≡◌, ◌≢◌, ℕ, ◌+◌, ◌-◌, ◌<◌, ◌≤◌, ◌/◌, ℤ, pos, Bool, true, false, ◌&&◌, ◌==◌, List, [], ◌∷◌, ◌++◌, length, map, get_or, Option, Some, None, refl, sym, ap, ◌∙◌, subst, arith}
+use Rattle.std.specs.Prelude.{All, IsTrue, is_some, if◌then◌else◌}
 use Rattle.std.specs.Option.{unwrap_or}
 use Rattle.std.proofs.lemmas.Bool.{eq-eqb}
 use Rattle.gr_word.specs.declared.operations.Op.{Op}
@@ -21,7 +21,7 @@ use Rattle.trace_patterns.specs.Single.{applied_trees}
 use Rattle.stretches.proofs.ArmCode.{Walked, walked-none, walked-then}
 use Rattle.block_cache_gen.specs.declared.frames.Mode.{Mode}
 use Rattle.block_cache_gen.specs.Homes.{Home, Setting, home_of, words_a_block, blocks_set, HasHomes, held_label, register_for}
-use Rattle.block_cache_gen.specs.Codes.{may_skip_loads, is_cached, is_masked, fixed_index, fixed_word, scalar_code, reduced_code, shift_code, offset_code, placed_code, fixed_code, located_code, load_code, skips, access_by, operation_code, steps_at, expr_code, guard_code, access_code}
+use Rattle.block_cache_gen.specs.Codes.{may_skip_loads, is_cached, is_masked, fixed_index, fixed_word, scalar_code, reduced_code, shift_code, offset_code, placed_code, fixed_code, located_code, load_code, skips, access_by, operand, operand_part, operand_register, operand_unless, indexed_code, operation_code, steps_at, expr_code, guard_code}
 use Rattle.lt_isa.specs.declared.profiles.Profile.{Profile}
 use Rattle.strength_reduction.specs.Steps.{Step, Constant, Compute, StepFits, reads_known, numbered, code_of}
 use Rattle.strength_reduction.proofs.Replacing.{result-alike}
@@ -31,13 +31,15 @@ use Rattle.block_cache_gen.proofs.SomeCode.{compares-secret}
 use Rattle.block_cache_gen.proofs.StepsAt.{steps-of}
 use Rattle.block_cache_gen.specs.Carries.{CarriesInArm}
 use Rattle.block_cache_gen.specs.PublicIndexes.{shows_index, HasPublicIndexes, TestHasPublicIndexes}
-use Rattle.block_cache_gen.specs.PatternsOf.{operation_gap, word_gap, word_read, tree_by, scalar_shows, offset_shows, scalar_tree, reduced_tree, number_tree, shifted_tree, block_tree, reducing, placed_shows, placed_tree, shows_by, loads_by, element_by, found_shows, load_shows, Loads, no_loads, then_loads, one_load, index_loads, element_slot, step_gap, steps_tree, operation_tree, operation_shows, operation_loads, tree_of_expr, shows_of_expr, slots_of_expr, shows_of_test, slots_of_test}
+use Rattle.block_cache_gen.specs.PatternsOf.{operation_gap, word_gap, word_read, tree_by, scalar_shows, offset_shows, scalar_tree, operand_tree, reduced_tree, number_tree, shifted_tree, block_tree, reducing, placed_shows, placed_tree, shows_by, loads_by, element_by, found_shows, load_shows, Loads, no_loads, then_loads, one_load, index_loads, element_slot, step_gap, steps_tree, operation_tree, operation_shows, operation_loads, tree_of_expr, shows_of_expr, slots_of_expr, shows_of_test, slots_of_test}
 use Rattle.block_cache_gen.proofs.ArmInstructions.{IsSeen, Sets, loaded-bank, sets-li, sets-alu, sets-ldw, walked-ldb}
-use Rattle.block_cache_gen.proofs.ArmStates.{LeavesTree, bound-of_bank, then_loads-held, one_load-held, serves-within, carries-same, carries-load, resident-read}
+use Rattle.block_cache_gen.proofs.ArmStates.{LeavesIn, LeavesTree, bound-of_bank, then_loads-held, one_load-held, serves-within, carries-same, carries-load, resident-read}
 use Rattle.held_registers.specs.Held.{public_zero}
 use Rattle.block_cache_gen.proofs.HeldLabels.{register-label, zero-label}
+use Rattle.block_cache_gen.proofs.HeldOperands.{IsOperandOf, operand-apart}
+use Rattle.block_cache_gen.proofs.OperandLabels.{is-operand, operand-label}
 use Rattle.block_cache_gen.proofs.HomeFacts.{shows-cached}
-use Rattle.block_cache_gen.proofs.PublicTrees.{IsKnown, block-seen, public-tree}
+use Rattle.block_cache_gen.proofs.PublicTrees.{IsKnown, block-seen, public-operand}
 
 -- a load holds in its own slot
 loaded_here : (slot : ℕ) (bound other : SymSlot) → unwrap_or (one_load slot bound slot) other ≡ bound
@@ -71,8 +73,8 @@ module _ (o : Parts) (f : Setting) (homes : HasHomes o f) (depth : ℕ) where
     slots = λ k. ap (λ (slots : List SymSlot). get_or slots k AnySlot) sets.slots;
   }
 
-  pub leaves-then_sets : (s : SymState) (code : List Instr) (shows : List Show) (from : ℕ) (old : Option Value)
-      (loads : Loads) (first : LeavesTree o f depth s code shows from old loads) (rest : List Instr) (more : List Show)
+  pub leaves-then_sets : {at : ℕ} (s : SymState) (code : List Instr) (shows : List Show) (from : ℕ) (old : Option Value)
+      (loads : Loads) (first : LeavesIn o f depth s code shows from at old loads) (rest : List Instr) (more : List Show)
       (to : ℕ) (tree : Option Value)
       → to ≤ from → to < 19 → Sets o depth first.state rest more to tree
       → LeavesTree o f depth s (code ++ rest) (shows ++ more) to tree loads
@@ -133,8 +135,8 @@ module _ (o : Parts) (f : Setting) (homes : HasHomes o f) (depth : ℕ) where
   scalar-leaves s to x carries inside used (Some r) is = copy-leaves s to x carries inside used r is
 
   -- code after other code, to a register that isn't above the first's
-  abbrev pub leaves-then : (s : SymState) (code : List Instr) (shows : List Show) (from : ℕ) (old : Option Value)
-      (loads : Loads) (first : LeavesTree o f depth s code shows from old loads) (rest : List Instr) (more : List Show)
+  abbrev pub leaves-then : {at : ℕ} (s : SymState) (code : List Instr) (shows : List Show) (from : ℕ)
+      (old : Option Value) (loads : Loads) (first : LeavesIn o f depth s code shows from at old loads) (rest : List Instr) (more : List Show)
       (to : ℕ) (tree : Option Value) (later : Loads)
       → to ≤ from → LeavesTree o f depth first.state rest more to tree later
       → LeavesTree o f depth s (code ++ rest) (shows ++ more) to tree (then_loads loads later)
@@ -147,6 +149,44 @@ module _ (o : Parts) (f : Setting) (homes : HasHomes o f) (depth : ℕ) where
     slots = λ k.
         second.slots k ∙ ap (unwrap_or (later k)) (first.slots k) ∙ sym (then_loads-held loads later k (slot_held s k));
   }
+
+  -- a register that holds an operand for the whole run has the operand's tree
+  operand-holds : (e : Tree) → TypedTree (context_of f.decls) e → (r : ℕ) → operand f e ≡ Some r → (s : SymState)
+      → CarriesInArm f s → tree_held s r ≡ tree_by r (held_label f r)
+  operand-holds e typed r is s carries =
+      let own = operand-label f homes.held e typed r is in carries.held r _ own ∙ sym (ap (tree_by r) own)
+
+  -- an operand in such a register loads nothing
+  quiet-operand : (e : Tree) (r : ℕ) → operand f e ≡ Some r → slots_of_expr f e ≡ no_loads
+  quiet-operand (Number z) r is = refl
+  quiet-operand (Variable x) r is = refl
+  quiet-operand (Element x i) r is = absurd (let g : ◌≡◌ {A = Option ℕ} None (Some r) = is in cc)
+  quiet-operand (Operation op a b) r is = absurd (let g : ◌≡◌ {A = Option ℕ} None (Some r) = is in cc)
+
+  -- an operand: in such a register, or in the one in which the code of an expression leaves it
+  pub operand-leaves : (mode : Mode) (e : Tree) → TypedTree (context_of f.decls) e → (q : Option ℕ) → IsOperandOf f e q
+      → (s : SymState) (to : ℕ) → CarriesInArm f s
+      → LeavesTree o f depth s (expr_code f mode to e) (shows_of_expr f e) to (tree_of_expr f e) (slots_of_expr f e)
+      → LeavesIn o f depth s (operand_part q (expr_code f mode to e)) (operand_part q (shows_of_expr f e)) to
+      (operand_register q to) (operand_tree f q (tree_of_expr f e)) (slots_of_expr f e)
+  operand-leaves mode e typed None is s to carries value = value
+  operand-leaves mode e typed (Some r) is s to carries value = record {
+    state = s;
+    walked = walked-none o depth s;
+    carries = carries;
+    held = operand-holds e typed r (is r refl) s carries;
+    below = λ q lt. refl;
+    slots = λ k. ap (λ (loads : Loads). unwrap_or (loads k) (slot_held s k)) (sym (quiet-operand e r (is r refl)));
+  }
+
+  -- it keeps its tree while registers up to its own do
+  operand-stays : (e : Tree) → TypedTree (context_of f.decls) e → (q : Option ℕ) → IsOperandOf f e q → (to : ℕ)
+      (tree : Option Value) (s t : SymState) → CarriesInArm f t
+      → tree_held s (operand_register q to) ≡ operand_tree f q tree
+      → ((r : ℕ) → r < to + 1 → tree_held t r ≡ tree_held s r)
+      → tree_held t (operand_register q to) ≡ operand_tree f q tree
+  operand-stays e typed None is to tree s t carries held below = below to (omega arith) ∙ held
+  operand-stays e typed (Some r) is to tree s t carries held below = operand-holds e typed r (is r refl) t carries
 
   -- and one register higher: both trees are left
   two-leave : (s : SymState) (to : ℕ) (left right : Option Value) (code rest : List Instr) (shows more : List Show)
@@ -199,18 +239,20 @@ module _ (o : Parts) (f : Setting) (homes : HasHomes o f) (depth : ℕ) where
       two-leave s to (Some (Const word)) (Some (Const block)) (Li to word ∷ []) (Li (to + 1) block ∷ []) (Gap 1 ∷ [])
       (Gap 1 ∷ []) no_loads no_loads one (number-leaves one.state (to + 1) block one.carries (omega arith))
 
-  -- an operation on a register below and a number, in the number's register or below
+  -- an operation on another register and a number, in the number's register or below
   number-applied : (s : SymState) (op : Op) (to ra rb : ℕ) (z : ℤ) (left : Option Value) → CarriesInArm f s → rb < 19
-      → to ≤ rb → ra < rb → tree_held s ra ≡ left
+      → to ≤ rb → ra ≢ rb → tree_held s ra ≡ left
       → LeavesTree o f depth s (Li rb z ∷ Alu op to ra rb ∷ []) (Gap 1 ∷ operation_gap f op ∷ []) to
       (applied_trees op left (Some (Const z))) no_loads
-  number-applied s op to ra rb z left carries inside le lt held =
+  unfolding leaves-sets
+  number-applied s op to ra rb z left carries inside le apart held =
       let right : Option Value = Some (Const z) in
-      let one = number-leaves s rb z carries inside in
+      let set = sets-li o depth s rb z carries.registers (omega arith) in
+      let one = leaves-sets s (Li rb z ∷ []) (Gap 1 ∷ []) rb right carries inside set in
       leaves-then_sets s (Li rb z ∷ []) (Gap 1 ∷ []) rb right no_loads one (Alu op to ra rb ∷ [])
       (operation_gap f op ∷ []) to (applied_trees op left right) le (omega arith)
       (sets-alu o depth f homes.profile one.state op to ra rb left right one.carries.registers (omega arith)
-      (one.below ra lt ∙ held) one.held)
+      (set.other ra apart ∙ held) one.held)
 
   -- the number of a block, by a shift and a sum
   block-leaves : (s : SymState) (to : ℕ) (h : Home) (number : Option Value) → CarriesInArm f s → to + 2 < 19
@@ -222,9 +264,10 @@ module _ (o : Parts) (f : Setting) (homes : HasHomes o f) (depth : ℕ) where
       let last = to + 2 in
       let log = pos f.profile.block_log in
       let shifted = applied_trees Shr number (Some (Const log)) in
-      let one = number-applied s Shr next to next log number carries (omega arith) (omega arith) (omega arith) held in
+      let one = number-applied s Shr next to next log number carries (omega arith) (omega arith)
+      (λ e. absurd (omega (arith, e))) held in
       let two = number-applied one.state Add next next last (pos h.block) shifted one.carries (omega arith)
-      (omega arith) (omega arith) one.held in
+      (omega arith) (λ e. absurd (omega (arith, e))) one.held in
       leaves-then s (Li next log ∷ Alu Shr next to next ∷ []) (Gap 1 ∷ operation_gap f Shr ∷ []) next shifted no_loads
       one (Li last (pos h.block) ∷ Alu Add next next last ∷ []) (Gap 1 ∷ operation_gap f Add ∷ []) next
       (shifted_tree f h number) no_loads (omega arith) two
@@ -234,30 +277,31 @@ module _ (o : Parts) (f : Setting) (homes : HasHomes o f) (depth : ℕ) where
   finding_shows op =
       Gap 1 ∷ operation_gap f op ∷ Gap 1 ∷ operation_gap f Shr ∷ Gap 1 ∷ operation_gap f Add ∷ []
 
-  finding-located : (s : SymState) (to : ℕ) (h : Home) (index : Option Value) (op : Op) (z : ℤ) → CarriesInArm f s
-      → to + 2 < 19 → tree_held s to ≡ index
-      → LeavesTwo o f depth s ((Li (to + 1) z ∷ Alu op to to (to + 1) ∷ []) ++ shift_code f.profile.block_log h to)
+  finding-located : (s : SymState) (to from : ℕ) (h : Home) (index : Option Value) (op : Op) (z : ℤ)
+      → CarriesInArm f s → to + 2 < 19 → from ≢ to + 1 → tree_held s from ≡ index
+      → LeavesTwo o f depth s ((Li (to + 1) z ∷ Alu op to from (to + 1) ∷ []) ++ shift_code f.profile.block_log h to)
       (finding_shows op) to (applied_trees op index (Some (Const z)))
       (shifted_tree f h (applied_trees op index (Some (Const z)))) no_loads
-  finding-located s to h index op z carries inside held =
+  finding-located s to from h index op z carries inside apart held =
       let number = applied_trees op index (Some (Const z)) in
-      let one = number-applied s op to to (to + 1) z index carries (omega arith) (omega arith) (omega arith) held in
-      two-leave s to number (shifted_tree f h number) (Li (to + 1) z ∷ Alu op to to (to + 1) ∷ [])
+      let one = number-applied s op to from (to + 1) z index carries (omega arith) (omega arith) apart held in
+      two-leave s to number (shifted_tree f h number) (Li (to + 1) z ∷ Alu op to from (to + 1) ∷ [])
       (shift_code f.profile.block_log h to) (Gap 1 ∷ operation_gap f op ∷ [])
       (Gap 1 ∷ operation_gap f Shr ∷ Gap 1 ∷ operation_gap f Add ∷ []) no_loads no_loads one
       (block-leaves one.state to h number one.carries inside one.held)
 
   -- by a mask or a remainder, after the code of the index
-  reduced-located : (s : SymState) (to : ℕ) (h : Home) (index : Option Value) → CarriesInArm f s → to + 2 < 19
-      → tree_held s to ≡ index
-      → LeavesTwo o f depth s (reduced_code h to ++ shift_code f.profile.block_log h to) (finding_shows (reducing h)) to
+  reduced-located : (s : SymState) (to from : ℕ) (h : Home) (index : Option Value) → CarriesInArm f s → to + 2 < 19
+      → from ≢ to + 1 → tree_held s from ≡ index
+      → LeavesTwo o f depth s (reduced_code h to from ++ shift_code f.profile.block_log h to)
+      (finding_shows (reducing h)) to
       (reduced_tree h index) (shifted_tree f h (reduced_tree h index)) no_loads
-  reduced-located s to h index carries inside held = by (is_masked h)
+  reduced-located s to from h index carries inside apart held = by (is_masked h)
     where
       code : Bool → List Instr
       code masked =
-          if masked then Li (to + 1) (pos (h.length - 1)) ∷ Alu And to to (to + 1) ∷ []
-          else Li (to + 1) (pos h.length) ∷ Alu Remu to to (to + 1) ∷ []
+          if masked then Li (to + 1) (pos (h.length - 1)) ∷ Alu And to from (to + 1) ∷ []
+          else Li (to + 1) (pos h.length) ∷ Alu Remu to from (to + 1) ∷ []
 
       tree : Bool → Option Value
       tree masked =
@@ -267,42 +311,44 @@ module _ (o : Parts) (f : Setting) (homes : HasHomes o f) (depth : ℕ) where
       by : (masked : Bool)
           → LeavesTwo o f depth s (code masked ++ shift_code f.profile.block_log h to)
           (finding_shows (if masked then And else Remu)) to (tree masked) (shifted_tree f h (tree masked)) no_loads
-      by true = finding-located s to h index And (pos (h.length - 1)) carries inside held
-      by false = finding-located s to h index Remu (pos h.length) carries inside held
+      by true = finding-located s to from h index And (pos (h.length - 1)) carries inside apart held
+      by false = finding-located s to from h index Remu (pos h.length) carries inside apart held
 
-  index-located : (s : SymState) (to : ℕ) (h : Home) (index : Option Value) (code : List Instr) (shows : List Show)
-      (loads : Loads) → LeavesTree o f depth s code shows to index loads → to + 2 < 19
-      → LeavesTwo o f depth s (code ++ (reduced_code h to ++ shift_code f.profile.block_log h to))
+  index-located : (s : SymState) (to from : ℕ) (h : Home) (index : Option Value) (code : List Instr)
+      (shows : List Show) (loads : Loads) → LeavesIn o f depth s code shows to from index loads → to + 2 < 19
+      → from ≢ to + 1
+      → LeavesTwo o f depth s (code ++ (reduced_code h to from ++ shift_code f.profile.block_log h to))
       (shows ++ finding_shows (reducing h)) to (reduced_tree h index) (shifted_tree f h (reduced_tree h index)) loads
-  index-located s to h index code shows loads first inside =
-      let found = reduced-located first.state to h index first.carries inside first.held in
+  index-located s to from h index code shows loads first inside apart =
+      let found = reduced-located first.state to from h index first.carries inside apart first.held in
       record {
         leaves = leaves-then s code shows to index loads first
-            (reduced_code h to ++ shift_code f.profile.block_log h to) (finding_shows (reducing h)) to
+            (reduced_code h to from ++ shift_code f.profile.block_log h to) (finding_shows (reducing h)) to
             (reduced_tree h index) no_loads (omega arith) found.leaves;
         next = found.next;
       }
 
-  located : (s : SymState) (to : ℕ) (h : Home) (fixed : Option ℤ) (index : Option Value) (code : List Instr)
-      (shows : List Show) (loads : Loads) → CarriesInArm f s → LeavesTree o f depth s code shows to index loads
-      → to + 2 < 19
-      → LeavesTwo o f depth s (located_code false f.profile.block_log h to fixed code) (found_shows f h fixed shows) to
-      (number_tree h fixed index) (block_tree f h fixed index) (index_loads fixed loads)
-  located s to h (Some z) index code shows loads carries first inside = fixed-located s to h z carries inside
-  located s to h None index code shows loads carries first inside =
-      index-located s to h index code shows loads first inside
+  located : (s : SymState) (to from : ℕ) (h : Home) (fixed : Option ℤ) (index : Option Value) (code : List Instr)
+      (shows : List Show) (loads : Loads) → CarriesInArm f s → LeavesIn o f depth s code shows to from index loads
+      → to + 2 < 19 → from ≢ to + 1
+      → LeavesTwo o f depth s (located_code false f.profile.block_log h to from fixed code)
+      (found_shows f h fixed shows) to (number_tree h fixed index) (block_tree f h fixed index)
+      (index_loads fixed loads)
+  located s to from h (Some z) index code shows loads carries first inside apart = fixed-located s to h z carries inside
+  located s to from h None index code shows loads carries first inside apart =
+      index-located s to from h index code shows loads first inside apart
 
   -- it is reduced by a mask or by a remainder
-  reduced-leaves : (s : SymState) (to : ℕ) (h : Home) (index : Option Value) → CarriesInArm f s → to + 2 < 19
-      → tree_held s to ≡ index
-      → LeavesTree o f depth s (reduced_code h to) (Gap 1 ∷ operation_gap f (reducing h) ∷ []) to (reduced_tree h index)
+  reduced-leaves : (s : SymState) (to from : ℕ) (h : Home) (index : Option Value) → CarriesInArm f s → to + 2 < 19
+      → from ≢ to + 1 → tree_held s from ≡ index
+      → LeavesTree o f depth s (reduced_code h to from) (Gap 1 ∷ operation_gap f (reducing h) ∷ []) to (reduced_tree h index)
       no_loads
-  reduced-leaves s to h index carries inside held = by (is_masked h)
+  reduced-leaves s to from h index carries inside apart held = by (is_masked h)
     where
       code : Bool → List Instr
       code masked =
-          if masked then Li (to + 1) (pos (h.length - 1)) ∷ Alu And to to (to + 1) ∷ []
-          else Li (to + 1) (pos h.length) ∷ Alu Remu to to (to + 1) ∷ []
+          if masked then Li (to + 1) (pos (h.length - 1)) ∷ Alu And to from (to + 1) ∷ []
+          else Li (to + 1) (pos h.length) ∷ Alu Remu to from (to + 1) ∷ []
 
       tree : Bool → Option Value
       tree masked =
@@ -312,10 +358,10 @@ module _ (o : Parts) (f : Setting) (homes : HasHomes o f) (depth : ℕ) where
       by : (masked : Bool)
           → LeavesTree o f depth s (code masked) (Gap 1 ∷ operation_gap f (if masked then And else Remu) ∷ []) to
           (tree masked) no_loads
-      by true = number-applied s And to to (to + 1) (pos (h.length - 1)) index carries (omega arith) (omega arith)
-          (omega arith) held
-      by false = number-applied s Remu to to (to + 1) (pos h.length) index carries (omega arith) (omega arith)
-          (omega arith) held
+      by true = number-applied s And to from (to + 1) (pos (h.length - 1)) index carries (omega arith) (omega arith)
+          apart held
+      by false = number-applied s Remu to from (to + 1) (pos h.length) index carries (omega arith) (omega arith)
+          apart held
 
   -- the number of the array's first word is added, unless that is 0
   offset-leaves : (s : SymState) (to : ℕ) (h : Home) (tree : Option Value) → CarriesInArm f s → to + 2 < 19
@@ -332,25 +378,26 @@ module _ (o : Parts) (f : Setting) (homes : HasHomes o f) (depth : ℕ) where
     slots = λ k. refl;
   }
   offset-leaves s to h tree carries inside held false =
-      number-applied s Add to to (to + 1) (pos h.word) tree carries (omega arith) (omega arith) (omega arith) held
+      number-applied s Add to to (to + 1) (pos h.word) tree carries (omega arith) (omega arith)
+      (λ e. absurd (omega (arith, e))) held
 
   -- the place of a resident array's word in its block
-  pub placed-leaves : (s : SymState) (to : ℕ) (h : Home) (fixed : Option ℤ) (index : Option Value) (code : List Instr)
-      (shows : List Show) (loads : Loads) → CarriesInArm f s → LeavesTree o f depth s code shows to index loads
-      → to + 2 < 19
-      → LeavesTree o f depth s (placed_code false h to fixed code) (placed_shows f h fixed shows) to
+  pub placed-leaves : (s : SymState) (to from : ℕ) (h : Home) (fixed : Option ℤ) (index : Option Value)
+      (code : List Instr) (shows : List Show) (loads : Loads) → CarriesInArm f s
+      → LeavesIn o f depth s code shows to from index loads → to + 2 < 19 → from ≢ to + 1
+      → LeavesTree o f depth s (placed_code false h to from fixed code) (placed_shows f h fixed shows) to
       (placed_tree h fixed index) (index_loads fixed loads)
-  placed-leaves s to h (Some z) index code shows loads carries first inside =
+  placed-leaves s to from h (Some z) index code shows loads carries first inside apart =
       number-leaves s to (pos (h.word + fixed_word h z)) carries (omega arith)
-  placed-leaves s to h None index code shows loads carries first inside =
-      let one = reduced-leaves first.state to h index first.carries inside first.held in
+  placed-leaves s to from h None index code shows loads carries first inside apart =
+      let one = reduced-leaves first.state to from h index first.carries inside apart first.held in
       let two = offset-leaves one.state to h (reduced_tree h index) one.carries inside one.held (h.word == 0) in
       let tree = placed_tree h None index in
       let reduced = Gap 1 ∷ operation_gap f (reducing h) ∷ [] in
-      leaves-then s code shows to index loads first (reduced_code h to ++ offset_code h to)
+      leaves-then s code shows to index loads first (reduced_code h to from ++ offset_code h to)
       (reduced ++ offset_shows f h) to tree no_loads (omega arith)
-      (leaves-then first.state (reduced_code h to) reduced to (reduced_tree h index) no_loads one (offset_code h to)
-      (offset_shows f h) to tree no_loads (omega arith) two)
+      (leaves-then first.state (reduced_code h to from) reduced to (reduced_tree h index) no_loads one
+      (offset_code h to) (offset_shows f h) to tree no_loads (omega arith) two)
 
   module _ (mode : Mode) (secret : may_skip_loads mode ≡ false) where
     -- an access: its block is in the slot of its array
@@ -360,20 +407,20 @@ module _ (o : Parts) (f : Setting) (homes : HasHomes o f) (depth : ℕ) where
       pub holds : slot_held leaves.state slot ≡ bound
 
     -- an access leaves the number of the word, and its block in the array's slot
-    pub access-leaves : (s : SymState) (to : ℕ) (x : List ℕ) (fixed : Option ℤ) (index : Option Value)
+    pub access-leaves : (s : SymState) (to from : ℕ) (x : List ℕ) (fixed : Option ℤ) (index : Option Value)
         (code : List Instr) (shows : List Show) (loads : Loads) → CarriesInArm f s
-        → LeavesTree o f depth s code shows to index loads → to + 2 < 19 → (used : UsedAs (context_of f.decls) x Array)
+        → LeavesIn o f depth s code shows to from index loads → to + 2 < 19 → from ≢ to + 1 → (used : UsedAs (context_of f.decls) x Array)
         → (home_of f x).resident ≡ false
         → IsSeen (home_of f x).bank (block_tree f (home_of f x) fixed index)
-        → Accessed s (access_by false false f.profile.block_log mode (home_of f x) to fixed code)
+        → Accessed s (access_by false false f.profile.block_log mode (home_of f x) to from fixed code)
         (shows_by false f (home_of f x) fixed index shows) to (number_tree (home_of f x) fixed index)
         (loads_by false f (home_of f x) fixed index loads) (home_of f x).slot (element_slot f (home_of f x) fixed index)
-    access-leaves s to x fixed index code shows loads carries first inside used turn seen =
+    access-leaves s to from x fixed index code shows loads carries first inside apart used turn seen =
         let h = home_of f x in
         let home = homes.arrays x used.0 used.1 turn in
         let block = block_tree f h fixed index in
         let bound = element_slot f h fixed index in
-        let found = located s to h fixed index code shows loads carries first inside in
+        let found = located s to from h fixed index code shows loads carries first inside apart in
         let there = found.leaves in
         let t = hold_slot there.state h.slot bound in
         let within = serves-within h.bank h.slot home.slot in
@@ -382,7 +429,7 @@ module _ (o : Parts) (f : Setting) (homes : HasHomes o f) (depth : ℕ) where
         let load = walked-ldb o depth f homes.profile there.state h.slot h.bank (to + 1) block sizes found.next seen in
         let skipped : load_code false h to ≡ load_code (skips mode h) h to =
         sym (ap (λ (b : Bool). load_code (b && is_cached h) h to) secret) in
-        let before = located_code false f.profile.block_log h to fixed code in
+        let before = located_code false f.profile.block_log h to from fixed code in
         let shown = found_shows f h fixed shows in
         let whole = walked-then o depth s before shown there.state (load_code false h to) (load_shows bound) t
         there.walked load in
@@ -405,116 +452,136 @@ module _ (o : Parts) (f : Setting) (homes : HasHomes o f) (depth : ℕ) where
               ∙ loaded_here h.slot bound (slot_held there.state h.slot);
         }
 
-    -- the word of an element
-    element_by-leaves : (b : Bool) (s : SymState) (to : ℕ) (x : List ℕ) (i : Tree) → (home_of f x).resident ≡ b
-        → CarriesInArm f s
-        → LeavesTree o f depth s (expr_code f mode to i) (shows_of_expr f i) to (tree_of_expr f i) (slots_of_expr f i)
-        → to + 2 < 19 → UsedAs (context_of f.decls) x Array
-        → (shows_index (home_of f x) ≡ true → IsKnown (tree_of_expr f i))
+    -- the word of an element, by the code of its index
+    element_by-leaves : (b : Bool) (s : SymState) (to from : ℕ) (x : List ℕ) (fixed : Option ℤ) (index : Option Value)
+        (code : List Instr) (shows : List Show) (loads : Loads) → (home_of f x).resident ≡ b → CarriesInArm f s
+        → LeavesIn o f depth s code shows to from index loads → to + 2 < 19 → from ≢ to + 1
+        → UsedAs (context_of f.decls) x Array → (shows_index (home_of f x) ≡ true → IsKnown index)
         → LeavesTree o f depth s
-        (access_by b false f.profile.block_log mode (home_of f x) to (fixed_index (home_of f x) i)
-        (expr_code f mode to i)
-        ++ Ldw to (home_of f x).slot to ∷ [])
-        (shows_by b f (home_of f x) (fixed_index (home_of f x) i) (tree_of_expr f i) (shows_of_expr f i)
-        ++ word_gap f ∷ []) to
-        (element_by b f (home_of f x) (fixed_index (home_of f x) i) (tree_of_expr f i))
-        (loads_by b f (home_of f x) (fixed_index (home_of f x) i) (tree_of_expr f i) (slots_of_expr f i))
-    element_by-leaves true s to x i is carries first inside used known =
+        (access_by b false f.profile.block_log mode (home_of f x) to from fixed code ++ Ldw to (home_of f x).slot to ∷ [])
+        (shows_by b f (home_of f x) fixed index shows ++ word_gap f ∷ []) to
+        (element_by b f (home_of f x) fixed index) (loads_by b f (home_of f x) fixed index loads)
+    element_by-leaves true s to from x fixed index code shows loads is carries first inside apart used known =
         let h = home_of f x in
-        let fixed = fixed_index h i in
-        let index = tree_of_expr f i in
         let place = placed_tree h fixed index in
-        let code = placed_code false h to fixed (expr_code f mode to i) in
-        let shown = placed_shows f h fixed (shows_of_expr f i) in
-        let loads = index_loads fixed (slots_of_expr f i) in
-        let there = placed-leaves s to h fixed index (expr_code f mode to i) (shows_of_expr f i) (slots_of_expr f i)
-        carries first inside in
+        let placed = placed_code false h to from fixed code in
+        let shown = placed_shows f h fixed shows in
+        let there = placed-leaves s to from h fixed index code shows loads carries first inside apart in
         let read = resident-read o f homes there.state x used.0 Array there.carries used.1 is in
         let word = sets-ldw o depth f homes.profile there.state to h.slot to (slot_held there.state h.slot) place
         there.carries.registers (omega arith) refl read.bound there.held in
         subst (λ (v : Option Value).
-        LeavesTree o f depth s (code ++ Ldw to h.slot to ∷ []) (shown ++ word_gap f ∷ []) to v loads)
+        LeavesTree o f depth s (placed ++ Ldw to h.slot to ∷ []) (shown ++ word_gap f ∷ []) to v
+        (index_loads fixed loads))
         (read.word place)
-        (leaves-then_sets s code shown to place loads there (Ldw to h.slot to ∷ []) (word_gap f ∷ []) to
+        (leaves-then_sets s placed shown to place (index_loads fixed loads) there (Ldw to h.slot to ∷ [])
+        (word_gap f ∷ []) to
         (word_read f (slot_held there.state h.slot) place) (omega arith) (omega arith) word)
-    element_by-leaves false s to x i is carries first inside used known =
+    element_by-leaves false s to from x fixed index code shows loads is carries first inside apart used known =
         let h = home_of f x in
-        let fixed = fixed_index h i in
-        let index = tree_of_expr f i in
         let bound = element_slot f h fixed index in
         let number = number_tree h fixed index in
         let seen = block-seen f h fixed index (λ low. known (shows-cached h is low)) in
-        let access = access-leaves s to x fixed index (expr_code f mode to i) (shows_of_expr f i) (slots_of_expr f i)
-        carries first inside used is seen in
+        let access = access-leaves s to from x fixed index code shows loads carries first inside apart used is seen in
         let there = access.leaves in
         let is_bound = bound-of_bank bound h.bank (loaded-bank f h.bank (block_tree f h fixed index) seen) in
         let word = sets-ldw o depth f homes.profile there.state to h.slot to bound number there.carries.registers
         (omega arith) access.holds is_bound there.held in
-        leaves-then_sets s (access_by false false f.profile.block_log mode h to fixed (expr_code f mode to i))
-        (shows_by false f h fixed index (shows_of_expr f i)) to number
-        (loads_by false f h fixed index (slots_of_expr f i))
+        leaves-then_sets s (access_by false false f.profile.block_log mode h to from fixed code)
+        (shows_by false f h fixed index shows) to number (loads_by false f h fixed index loads)
         there (Ldw to h.slot to ∷ []) (word_gap f ∷ []) to (word_read f bound number) (omega arith) (omega arith) word
 
-    element-leaves : (s : SymState) (to : ℕ) (x : List ℕ) (i : Tree) → CarriesInArm f s
+    -- an index is in no register that the code of an access sets before it is read
+    pub index-apart : (i : Tree) (to : ℕ) → to + 2 < 19 → operand_register (operand f i) to ≢ to + 1
+    index-apart i to low =
+        let apart = operand-apart f i (operand f i) (is-operand f i) to in
+        apart.apart (to + 1) (omega arith) (omega arith)
+
+    element-leaves : (s : SymState) (to : ℕ) (x : List ℕ) (i : Tree) → TypedTree (context_of f.decls) i
+        → CarriesInArm f s
         → LeavesTree o f depth s (expr_code f mode to i) (shows_of_expr f i) to (tree_of_expr f i) (slots_of_expr f i)
         → to + 2 < 19 → UsedAs (context_of f.decls) x Array
-        → (shows_index (home_of f x) ≡ true → IsKnown (tree_of_expr f i))
+        → (shows_index (home_of f x) ≡ true → IsKnown (operand_tree f (operand f i) (tree_of_expr f i)))
         → LeavesTree o f depth s (expr_code f mode to (Element x i)) (shows_of_expr f (Element x i)) to
         (tree_of_expr f (Element x i)) (slots_of_expr f (Element x i))
-    element-leaves s to x i carries first inside used known =
+    element-leaves s to x i typed carries value inside used known =
         let h = home_of f x in
-        let fixed = fixed_index h i in
+        let q = operand f i in
+        let first = operand-leaves mode i typed q (is-operand f i) s to carries value in
         subst (λ (near : Bool). LeavesTree o f depth s
-        (access_code near f.profile.block_log mode h to fixed (expr_code f mode to i) ++ Ldw to h.slot to ∷ [])
+        (indexed_code f near mode h to i (expr_code f mode to i) ++ Ldw to h.slot to ∷ [])
         (shows_of_expr f (Element x i)) to (tree_of_expr f (Element x i)) (slots_of_expr f (Element x i)))
         (sym (compares-secret f mode h i secret))
-        (element_by-leaves h.resident s to x i refl carries first inside used known)
+        (element_by-leaves h.resident s to (operand_register q to) x (fixed_index h i)
+        (operand_tree f q (tree_of_expr f i)) (operand_part q (expr_code f mode to i))
+        (operand_part q (shows_of_expr f i)) (slots_of_expr f i) refl carries first inside (index-apart i to inside)
+        used known)
 
-    -- an operation on both
-    operation-leaves : (s : SymState) (to : ℕ) (op : Op) (left right : Option Value) (code rest : List Instr)
-        (shows more : List Show) (loads : Loads)
-        → LeavesTwo o f depth s (code ++ rest) (shows ++ more) to left right loads → to + 2 < 19
-        → LeavesTree o f depth s (code ++ (rest ++ Alu op to to (to + 1) ∷ []))
-        (shows ++ (more ++ operation_gap f op ∷ [])) to (applied_trees op left right) loads
-    operation-leaves s to op left right code rest shows more loads both inside =
-        let last = Alu op to to (to + 1) ∷ [] in
+    -- an operation on two operands
+    operation-leaves : (op : Op) (a b : Tree) → TypedTree (context_of f.decls) a → TypedTree (context_of f.decls) b
+        → (s : SymState) (to : ℕ) → to + 2 < 19 → CarriesInArm f s
+        → LeavesTree o f depth s (expr_code f mode to a) (shows_of_expr f a) to (tree_of_expr f a) (slots_of_expr f a)
+        → ((t : SymState) → CarriesInArm f t
+        → LeavesTree o f depth t (expr_code f mode (to + 1) b) (shows_of_expr f b) (to + 1) (tree_of_expr f b)
+        (slots_of_expr f b))
+        → LeavesTree o f depth s
+        (operand_part (operand f a) (expr_code f mode to a)
+        ++ (operand_part (operand f b) (expr_code f mode (to + 1) b)
+        ++ Alu op to (operand_register (operand f a) to) (operand_register (operand f b) (to + 1)) ∷ []))
+        (operand_part (operand f a) (shows_of_expr f a)
+        ++ (operand_part (operand f b) (shows_of_expr f b) ++ operation_gap f op ∷ [])) to
+        (applied_trees op (operand_tree f (operand f a) (tree_of_expr f a))
+        (operand_tree f (operand f b) (tree_of_expr f b)))
+        (then_loads (slots_of_expr f a) (slots_of_expr f b))
+    operation-leaves op a b typed_a typed_b s to inside carries value next =
+        let q = operand f a in
+        let q' = operand f b in
+        let left = operand_tree f q (tree_of_expr f a) in
+        let right = operand_tree f q' (tree_of_expr f b) in
+        let from = operand_register q to in
+        let by = operand_register q' (to + 1) in
+        let last = Alu op to from by ∷ [] in
         let gaps = operation_gap f op ∷ [] in
-        let there = both.leaves in
-        let sets = sets-alu o depth f homes.profile there.state op to to (to + 1) left right there.carries.registers
-        (omega arith) there.held both.next in
-        let whole = leaves-then_sets s (code ++ rest) (shows ++ more) to left loads there last gaps to
-        (applied_trees op left right) (omega arith) (omega arith) sets in
-        subst (λ (c : List Instr).
-        LeavesTree o f depth s c (shows ++ (more ++ gaps)) to (applied_trees op left right) loads)
-        (append_assoc code rest last)
-        (subst (λ (xs : List Show).
-        LeavesTree o f depth s ((code ++ rest) ++ last) xs to (applied_trees op left right) loads)
-        (append_assoc shows more gaps) whole)
+        let first = operand-leaves mode a typed_a q (is-operand f a) s to carries value in
+        let second = operand-leaves mode b typed_b q' (is-operand f b) first.state (to + 1) first.carries
+        (next first.state first.carries) in
+        let stays = operand-stays a typed_a q (is-operand f a) to (tree_of_expr f a) first.state second.state
+        second.carries first.held second.below in
+        let sets = sets-alu o depth f homes.profile second.state op to from by left right second.carries.registers
+        (omega arith) stays second.held in
+        leaves-then s (operand_part q (expr_code f mode to a)) (operand_part q (shows_of_expr f a)) to left
+        (slots_of_expr f a) first (operand_part q' (expr_code f mode (to + 1) b) ++ last)
+        (operand_part q' (shows_of_expr f b) ++ gaps) to (applied_trees op left right) (slots_of_expr f b) (omega arith)
+        (leaves-then_sets first.state (operand_part q' (expr_code f mode (to + 1) b))
+        (operand_part q' (shows_of_expr f b)) (to + 1) right (slots_of_expr f b) second last gaps to
+        (applied_trees op left right) (omega arith) (omega arith) sets)
 
     -- an operation, or the steps that replace it
-    either-leaves : (op : Op) (a b : Tree) (s : SymState) (to : ℕ) → to + 2 < 19
-        → (first : LeavesTree o f depth s (expr_code f mode to a) (shows_of_expr f a) to (tree_of_expr f a)
-        (slots_of_expr f a))
-        → LeavesTree o f depth first.state (expr_code f mode (to + 1) b) (shows_of_expr f b) (to + 1) (tree_of_expr f b)
-        (slots_of_expr f b)
+    either-leaves : (op : Op) (a b : Tree) → TypedTree (context_of f.decls) a → TypedTree (context_of f.decls) b
+        → (s : SymState) (to : ℕ) → to + 2 < 19 → CarriesInArm f s
+        → LeavesTree o f depth s (expr_code f mode to a) (shows_of_expr f a) to (tree_of_expr f a) (slots_of_expr f a)
+        → ((t : SymState) → CarriesInArm f t
+        → LeavesTree o f depth t (expr_code f mode (to + 1) b) (shows_of_expr f b) (to + 1) (tree_of_expr f b)
+        (slots_of_expr f b))
         → (found : Option (List Step)) → steps_at f op b ≡ found
-        → LeavesTree o f depth s (expr_code f mode to a ++ operation_code op to found (expr_code f mode (to + 1) b))
-        (shows_of_expr f a ++ operation_shows f op found (shows_of_expr f b)) to
-        (operation_tree op found (tree_of_expr f a) (tree_of_expr f b))
+        → LeavesTree o f depth s
+        (operand_part (operand_unless (is_some found) (operand f a)) (expr_code f mode to a)
+        ++ operation_code op to (operand_register (operand_unless (is_some found) (operand f a)) to)
+        (operand_register (operand f b) (to + 1)) found (operand_part (operand f b) (expr_code f mode (to + 1) b)))
+        (operand_part (operand_unless (is_some found) (operand f a)) (shows_of_expr f a)
+        ++ operation_shows f op found (operand_part (operand f b) (shows_of_expr f b))) to
+        (operation_tree op found (operand_tree f (operand_unless (is_some found) (operand f a)) (tree_of_expr f a))
+        (operand_tree f (operand f b) (tree_of_expr f b)))
         (then_loads (slots_of_expr f a) (operation_loads found (slots_of_expr f b)))
-    either-leaves op a b s to inside first second None e =
-        operation-leaves s to op (tree_of_expr f a) (tree_of_expr f b) (expr_code f mode to a)
-        (expr_code f mode (to + 1) b) (shows_of_expr f a) (shows_of_expr f b)
-        (then_loads (slots_of_expr f a) (slots_of_expr f b))
-        (two-leave s to (tree_of_expr f a) (tree_of_expr f b) (expr_code f mode to a) (expr_code f mode (to + 1) b)
-        (shows_of_expr f a) (shows_of_expr f b) (slots_of_expr f a) (slots_of_expr f b) first second) inside
-    either-leaves op a b s to inside first second (Some steps) e =
+    either-leaves op a b typed_a typed_b s to inside carries value next None e =
+        operation-leaves op a b typed_a typed_b s to inside carries value next
+    either-leaves op a b typed_a typed_b s to inside carries value next (Some steps) e =
         let of = steps-of f op b steps e in
         let replaces = of.replaces in
-        leaves-then s (expr_code f mode to a) (shows_of_expr f a) to (tree_of_expr f a) (slots_of_expr f a) first
+        leaves-then s (expr_code f mode to a) (shows_of_expr f a) to (tree_of_expr f a) (slots_of_expr f a) value
         (code_of to steps) (map (step_gap f) steps) to (steps_tree steps (tree_of_expr f a)) no_loads (omega arith)
-        (steps-leave first.state to steps (tree_of_expr f a) first.carries inside replaces.fits replaces.reads
-        first.held)
+        (steps-leave value.state to steps (tree_of_expr f a) value.carries inside replaces.fits replaces.reads
+        value.held)
 
     -- the code of an expression
     pub expr-leaves : (e : Tree) (s : SymState) (to : ℕ) → TypedTree (context_of f.decls) e → HasPublicIndexes f e
@@ -524,12 +591,13 @@ module _ (o : Parts) (f : Setting) (homes : HasHomes o f) (depth : ℕ) where
     expr-leaves (Variable x) s to typed public low carries =
         scalar-leaves s to x carries (omega arith) typed (register_for f x) refl
     expr-leaves (Element x i) s to typed public low carries =
-        element-leaves s to x i carries (expr-leaves i s to typed.1.0 public.1 (omega arith) carries)
-        (omega (arith, height-some i)) typed.0 (λ cached. public-tree o f homes i typed.1.0 (public.0 cached))
+        element-leaves s to x i typed.1.0 carries (expr-leaves i s to typed.1.0 public.1 (omega arith) carries)
+        (omega (arith, height-some i)) typed.0
+        (λ cached. public-operand o f homes i typed.1.0 (public.0 cached))
     expr-leaves (Operation op a b) s to typed public low carries =
-        let first = expr-leaves a s to typed.0 public.0 (omega arith) carries in
-        either-leaves op a b s to (omega (arith, height-some b)) first
-        (expr-leaves b first.state (to + 1) typed.1 public.1 (omega arith) first.carries) (steps_at f op b) refl
+        either-leaves op a b typed.0 typed.1 s to (omega (arith, height-some b)) carries
+        (expr-leaves a s to typed.0 public.0 (omega arith) carries)
+        (λ t more. expr-leaves b t (to + 1) typed.1 public.1 (omega arith) more) (steps_at f op b) refl
 
     -- the code of a guard
     pub guard-leaves : (t : Test) (s : SymState) (to : ℕ) → TypedTest (context_of f.decls) t

@@ -25,15 +25,19 @@ use Rattle.block_cache_gen.proofs.PublicTrees.{pinned-ram}
 use Rattle.lt_checker.proofs.Singles.{IsKnown}
 
 -- A stretch of secret code is walked from s: it shows this, keeps what the setting relies on and the registers below
--- one, and leaves a tree in that register and this in the slots.
-pub record LeavesTree (o : Parts) (f : Setting) (depth : ℕ) (s : SymState) (code : List Instr) (shows : List Show)
-    (to : ℕ) (tree : Option Value) (loads : Loads) : Type 0 where
+-- one, and leaves a tree in a register and this in the slots.
+pub record LeavesIn (o : Parts) (f : Setting) (depth : ℕ) (s : SymState) (code : List Instr) (shows : List Show)
+    (to at : ℕ) (tree : Option Value) (loads : Loads) : Type 0 where
   pub state : SymState
   pub walked : Walked o depth s code shows state
   pub carries : CarriesInArm f state
-  pub held : tree_held state to ≡ tree
+  pub held : tree_held state at ≡ tree
   pub below : (r : ℕ) → r < to → tree_held state r ≡ tree_held s r
   pub slots : (k : ℕ) → slot_held state k ≡ unwrap_or (loads k) (slot_held s k)
+
+-- it leaves the tree in that register
+abbrev pub LeavesTree : Parts → Setting → ℕ → SymState → List Instr → List Show → ℕ → Option Value → Loads → Type 0
+LeavesTree o f depth s code shows to tree loads = LeavesIn o f depth s code shows to to tree loads
 
 -- a slot of a bank is bound
 pub bound-of_bank : (bound : SymSlot) (bank : ℕ) → slot_bank bound ≡ Some bank → IsKnown bound

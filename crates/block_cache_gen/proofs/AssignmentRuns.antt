@@ -1,10 +1,11 @@
 -- The code of an assignment, run, leaves the store that it means, or the same store in a mirrored arm.
-use Rattle.std.proofs.Common.{◌≡◌, ℕ, ◌+◌, ◌%◌, ◌<◌, ◌≤◌, Bool, true, false, ℤ, pos, List, [], ◌∷◌, ◌++◌, length, get_or, set, append_assoc, append-nil, Option, Some, None, refl, sym, ap, ◌∙◌, subst, arith, mod-eq_of_lt}
+use Rattle.std.proofs.Common.{◌≡◌, ◌≢◌, ℕ, ◌+◌, ◌%◌, ◌<◌, ◌≤◌, Bool, true, false, ℤ, pos, List, [], ◌∷◌, ◌++◌, length, get_or, set, append_assoc, append-nil, Option, Some, None, refl, sym, ap, ◌∙◌, subst, arith, mod-eq_of_lt}
 use Rattle.std.proofs.lemmas.List.{get_or-set_same}
 use Rattle.gr_word.specs.Words.{IsWord}
 use Rattle.gr_word.specs.declared.variables.Label.{Label}
 use Rattle.gr_word.specs.declared.variables.Shape.{Shape}
 use Rattle.gr_word.specs.declared.variables.Shape.TheVariants.{Scalar, Array}
+use Rattle.lt_isa.specs.declared.instructions.Instr.{Instr}
 use Rattle.lt_isa.specs.declared.instructions.Instr.TheVariants.{Li, Ldw, Stw, Stb}
 use Rattle.lt_isa.specs.Object.{Parts, block_words}
 use Rattle.lt_isa.specs.Ranges.{IsInRange}
@@ -27,7 +28,7 @@ use Rattle.scratch_alloc.proofs.Serving.{serves-within}
 use Rattle.block_cache_gen.specs.declared.frames.Mode.{Mode}
 use Rattle.block_cache_gen.specs.declared.frames.Mode.TheVariants.{Public, Real, Mirrored}
 use Rattle.block_cache_gen.specs.Homes.{Setting, HasHomes, home_of, words_a_block, register_for}
-use Rattle.block_cache_gen.specs.Codes.{fixed_index, access_by, placed_code, expr_code, store_code, stored_code, set_code, compares, zero_of, copy_code, copied_from, write_code}
+use Rattle.block_cache_gen.specs.Codes.{fixed_index, access_by, placed_code, index_operand, operand, operand_part, operand_register, operand_unless, expr_code, store_code, stored_code, set_code, compares, zero_of, copy_code, copied_from, write_code}
 use Rattle.block_cache_gen.specs.StandsFor.{StandsFor, FitsHomes}
 use Rattle.block_cache_gen.specs.Accesses.{access_of, accessed_by, accesses, word_number, block_in, slots_after, seen_of_all}
 use Rattle.block_cache_gen.specs.Assignments.{Assigns, assigned, by_mode, words_written, write_by, seen_of_set}
@@ -36,6 +37,8 @@ use Rattle.block_cache_gen.proofs.AccessLaws.{seen_of_all-append}
 use Rattle.block_cache_gen.proofs.HomeFacts.{block_words-is}
 use Rattle.held_registers.proofs.Copies.{runs-copy}
 use Rattle.block_cache_gen.proofs.HeldScalars.{array-free}
+use Rattle.block_cache_gen.proofs.HeldOperands.{IsApart, operand-apart, operand-stays, operand-unless}
+use Rattle.block_cache_gen.proofs.OperandRuns.{LeavesAt, RunsValue, runs-operand}
 use Rattle.block_cache_gen.proofs.RegisterWrites.{register-inside, register-word, zero-word, stands-scalar_set}
 use Rattle.block_cache_gen.proofs.Stands.{stands-like, stands-set}
 use Rattle.block_cache_gen.proofs.Stores.{fits-with_word, with_word-by_mode}
@@ -98,28 +101,28 @@ module _ (o : Parts) (fits : IsInRange o) where
         banks = binds.banks ∙ sets.banks;
       }))
 
-  runs-store : (mode : Mode) (k b a n : ℕ) (words : List ℤ) (value : ℤ) (s : State)
+  runs-store : (mode : Mode) (k v b a n : ℕ) (words : List ℤ) (value : ℤ) (s : State)
       → IsShaped o s → slot s k ≡ Bound b a words
-      → register s 0 ≡ value → register s 1 ≡ pos n → StandsAt o s.place (store_code mode k) → RunsThrough o s
-      (store_code mode k) [] (Binds k (Bound b a (words_written mode words (n % block_words o) value)) s)
-  runs-store Public k b a n words value s shaped held has place at =
-      runs-stw 0 k b a n words value s shaped held has place at
-  runs-store Real k b a n words value s shaped held has place at =
-      runs-rewrite 0 k b a n words value s shaped held (λ t sets. sets.others 0 (λ same. absurd (omega arith)) ∙ has)
-      place at
-  runs-store Mirrored k b a n words value s shaped held has place at =
+      → register s v ≡ value → v ≢ 2 → register s 1 ≡ pos n → StandsAt o s.place (store_code mode k v) → RunsThrough o s
+      (store_code mode k v) [] (Binds k (Bound b a (words_written mode words (n % block_words o) value)) s)
+  runs-store Public k v b a n words value s shaped held has other place at =
+      runs-stw v k b a n words value s shaped held has place at
+  runs-store Real k v b a n words value s shaped held has other place at =
+      runs-rewrite v k b a n words value s shaped held (λ t sets. sets.others v other ∙ has) place at
+  runs-store Mirrored k v b a n words value s shaped held has other place at =
       runs-rewrite 2 k b a n words (word_in words (n % block_words o)) s shaped held (λ t sets. sets.value) place at
 
 module _ (o : Parts) (fits : IsInRange o) (f : Setting) (homes : HasHomes o f) (store : Store)
     (store_fits : FitsHomes f store) where
   -- a word of a resident variable is written
   runs-put : (mode : Mode) (x : List ℕ) (label : Label) (shape : Shape) → context_of f.decls x ≡ Some (label, shape)
-      → (home_of f x).resident ≡ true → register_for f x ≡ None → (n : ℕ) → n < (home_of f x).length → (value : ℤ)
-      → IsWord value → (u : State) → IsShaped o u → StandsFor f u store → register u 0 ≡ value → register u 1 ≡ pos ((home_of f x).word + n)
-      → StandsAt o u.place (store_code mode (home_of f x).slot)
-      → RunsThrough o u (store_code mode (home_of f x).slot) []
+      → (home_of f x).resident ≡ true → register_for f x ≡ None → (n : ℕ) → n < (home_of f x).length → (v : ℕ)
+      → v ≢ 2 → (value : ℤ) → IsWord value → (u : State) → IsShaped o u → StandsFor f u store → register u v ≡ value
+      → register u 1 ≡ pos ((home_of f x).word + n)
+      → StandsAt o u.place (store_code mode (home_of f x).slot v)
+      → RunsThrough o u (store_code mode (home_of f x).slot v) []
       (Assigns f (by_mode mode (with_word store (variable_number f.decls x) n value) store))
-  runs-put mode x label shape known resident free n within value is u shaped stands has place at =
+  runs-put mode x label shape known resident free n within v other value is u shaped stands has place at =
       let h = home_of f x in
       let home = homes.residents x label shape known resident in
       let k = variable_number f.decls x in
@@ -137,17 +140,17 @@ module _ (o : Parts) (fits : IsInRange o) (f : Setting) (homes : HasHomes o f) (
       let same_words : words_written mode words (at_word % block_words o) value ≡ set words at_word word =
       ap (λ m. words_written mode words m value) (mod-eq_of_lt (omega (arith, home.inside, within)))
       ∙ ap (λ z. set words at_word (by_mode mode value z)) reads in
-      runs-weaker u (store_code mode h.slot) [] [] (Binds h.slot found u)
+      runs-weaker u (store_code mode h.slot v) [] [] (Binds h.slot found u)
       (Assigns f (by_mode mode (with_word store k n value) store))
-      (runs-store o fits mode h.slot h.bank h.block at_word words value u shaped held.holds has place at)
+      (runs-store o fits mode h.slot v h.bank h.block at_word words value u shaped held.holds has other place at)
       refl
-      (λ v shape'' binds.
-      let slots : v.slots ≡ set u.slots h.slot (Bound h.bank h.block (set words at_word word)) =
+      (λ after shape'' binds.
+      let slots : after.slots ≡ set u.slots h.slot (Bound h.bank h.block (set words at_word word)) =
       binds.slots ∙ ap (λ l. set u.slots h.slot (Bound h.bank h.block l)) same_words in
       record {
         stands =
-            subst (StandsFor f v) (with_word-by_mode mode store k n value)
-            (stands-like f (set_slot u h.slot (Bound h.bank h.block (set words at_word word))) v
+            subst (StandsFor f after) (with_word-by_mode mode store k n value)
+            (stands-like f (set_slot u h.slot (Bound h.bank h.block (set words at_word word))) after
             (with_word store k n word) slots binds.banks binds.above
             (stands-resident_set o f homes u shaped.slot_count store store_fits stands x label shape known resident free n
             within words held.holds size word));
@@ -157,58 +160,59 @@ module _ (o : Parts) (fits : IsInRange o) (f : Setting) (homes : HasHomes o f) (
 
   -- a register that holds a scalar is written
   runs-copied : (mode : Mode) (x : List ℕ) (label : Label) → context_of f.decls x ≡ Some (label, Scalar) → (r : ℕ)
-      → register_for f x ≡ Some r → (l : Label) (value : ℤ) (u : State) → IsShaped o u → StandsFor f u store
-      → register u 0 ≡ value → StandsAt o u.place (copy_code l r (copied_from mode r))
-      → RunsThrough o u (copy_code l r (copied_from mode r)) []
+      → register_for f x ≡ Some r → (l : Label) (v : ℕ) (value : ℤ) (u : State) → IsShaped o u → StandsFor f u store
+      → register u v ≡ value → StandsAt o u.place (copy_code l r (copied_from mode r v))
+      → RunsThrough o u (copy_code l r (copied_from mode r v)) []
       (Assigns f (by_mode mode (with_word store (variable_number f.decls x) 0 value) store))
-  runs-copied mode x label known r held l value u shaped stands first at =
+  runs-copied mode x label known r held l v value u shaped stands first at =
       let k = variable_number f.decls x in
       let old = scalar store k in
       let word = by_mode mode value old in
-      let has : register u (copied_from mode r) ≡ word =
+      let has : register u (copied_from mode r v) ≡ word =
       copied mode old first (register-word f homes.held u store stands x r held) in
-      let is : IsWord word = subst IsWord has (IsWord-register o u shaped (copied_from mode r)) in
-      runs-weaker u (copy_code l r (copied_from mode r)) [] [] (Sets u r word)
+      let is : IsWord word = subst IsWord has (IsWord-register o u shaped (copied_from mode r v)) in
+      runs-weaker u (copy_code l r (copied_from mode r v)) [] [] (Sets u r word)
       (Assigns f (by_mode mode (with_word store k 0 value) store))
-      (runs-copy o fits r (copied_from mode r) (zero_of l) word u shaped
+      (runs-copy o fits r (copied_from mode r v) (zero_of l) word u shaped
       (register-inside f homes.held u store stands x r held) is has
       (zero-word f homes.held u store stands x r held l) at)
       refl
-      (λ v shape sets. record {
+      (λ t shape sets. record {
         stands =
-            subst (StandsFor f v) (with_word-by_mode mode store k 0 value)
-            (stands-scalar_set f homes.held u store stands x r held store_fits o homes label known word v sets);
+            subst (StandsFor f t) (with_word-by_mode mode store k 0 value)
+            (stands-scalar_set f homes.held u store stands x r held store_fits o homes label known word t sets);
         fits =
-            let fits = subst IsWord first (IsWord-register o u shaped 0) in
+            let fits = subst IsWord first (IsWord-register o u shaped v) in
             by_mode-fits mode f (with_word store k 0 value) store (fits-with_word f store k 0 value fits store_fits)
             store_fits;
       })
     where
-      copied : (mode : Mode) (old : ℤ) → register u 0 ≡ value → register u r ≡ old
-          → register u (copied_from mode r) ≡ by_mode mode value old
+      copied : (mode : Mode) (old : ℤ) → register u v ≡ value → register u r ≡ old
+          → register u (copied_from mode r v) ≡ by_mode mode value old
       copied Public old first kept = first
       copied Real old first kept = first
       copied Mirrored old first kept = kept
 
   -- a scalar is written
   runs-written : (mode : Mode) (x : List ℕ) (label : Label) → context_of f.decls x ≡ Some (label, Scalar) → (l : Label)
-      (value : ℤ) (t : State) → IsShaped o t → StandsFor f t store → register t 0 ≡ value → (found : Option ℕ)
-      → register_for f x ≡ found → StandsAt o t.place (write_code found l mode (home_of f x))
-      → RunsThrough o t (write_code found l mode (home_of f x)) []
+      (v : ℕ) → IsApart 0 v → (value : ℤ) (t : State) → IsShaped o t → StandsFor f t store → register t v ≡ value
+      → (found : Option ℕ) → register_for f x ≡ found → StandsAt o t.place (write_code found l mode (home_of f x) v)
+      → RunsThrough o t (write_code found l mode (home_of f x) v) []
       (Assigns f (by_mode mode (with_word store (variable_number f.decls x) 0 value) store))
-  runs-written mode x label known l value t shaped stands first (Some r) held at =
-      runs-copied mode x label known r held l value t shaped stands first at
-  runs-written mode x label known l value t shaped stands first None free at =
+  runs-written mode x label known l v apart value t shaped stands first (Some r) held at =
+      runs-copied mode x label known r held l v value t shaped stands first at
+  runs-written mode x label known l v apart value t shaped stands first None free at =
       let h = home_of f x in
       let home = homes.scalars x label known in
       let base = Li 1 (pos h.word) in
-      let is : IsWord value = subst IsWord first (IsWord-register o t shaped 0) in
-      runs-cons t base (store_code mode h.slot) [] [] (Sets t 1 (pos h.word))
+      let is : IsWord value = subst IsWord first (IsWord-register o t shaped v) in
+      runs-cons t base (store_code mode h.slot v) [] [] (Sets t 1 (pos h.word))
       (Assigns f (by_mode mode (with_word store (variable_number f.decls x) 0 value) store)) at
       (sets-li o fits t shaped 1 (pos h.word) (omega arith))
       (λ u shape sets at'.
-      runs-put mode x label Scalar known home.resident free 0 (omega (arith, home.length)) value is u shape
-      (stands-set sets (omega arith) stands) (sets.others 0 (λ same. absurd (omega arith)) ∙ first)
+      runs-put mode x label Scalar known home.resident free 0 (omega (arith, home.length)) v
+      (apart.apart 2 (omega arith) (omega arith)) value is u shape
+      (stands-set sets (omega arith) stands) (sets.others v (apart.apart 1 (omega arith) (omega arith)) ∙ first)
       (sets.value ∙ ap pos (omega arith)) at')
 
   -- an assignment to a scalar
@@ -222,30 +226,36 @@ module _ (o : Parts) (fits : IsInRange o) (f : Setting) (homes : HasHomes o f) (
       let l = label_of (context_of f.decls) (Variable x) in
       let value = evaluated f.decls store e in
       let before = accesses f store e in
-      let write = write_code (register_for f x) l mode h in
+      let q = operand f e in
+      let v = operand_register q 0 in
+      let write = write_code (register_for f x) l mode h v in
       let Done : State → Type 0 =
       Assigns f (by_mode mode (with_word store (variable_number f.decls x) 0 value) store) in
-      runs-append s (expr_code f mode 0 e) write (seen_of_all mode s.banks s.slots before) []
-      (LeavesWord f store before 0 value s) Done at
-      (runs-expression o fits f homes store store_fits mode e typed 0 (omega arith) s shaped stands)
+      runs-append s (operand_part q (expr_code f mode 0 e)) write (seen_of_all mode s.banks s.slots before) []
+      (LeavesAt f store before 0 v value s) Done at
+      (runs-operand o f store mode e q (λ r held. held) 0 s shaped stands
+      (runs-expression o fits f homes store store_fits mode e typed 0 (omega arith) s shaped stands))
       (λ t shape leaves at'.
-      runs-written mode x label known l value t shape leaves.stands leaves.value (register_for f x) refl at')
+      runs-written mode x label known l v (operand-apart f e q (λ r held. held) 0) value t shape leaves.stands leaves.value
+      (register_for f x) refl at')
 
   -- the same where the array is resident or isn't
   runs-set_by : (mode : Mode) (x : List ℕ) (label : Label) → context_of f.decls x ≡ Some (label, Array)
       → (i e : Tree) → TypedTree (context_of f.decls) i → TypedTree (context_of f.decls) e → 1 + height_of i ≤ 18
       → height_of e ≤ 18 → (s : State) → IsShaped o s → StandsFor f s store
-      → (near resident : Bool) → (home_of f x).resident ≡ resident
+      → (near resident : Bool) (from : ℕ) (index : List Instr) → from ≢ 2 → (near ≡ true → from ≡ 1)
+      → ((t : State) → IsShaped o t → StandsFor f t store → RunsValue o f store mode 1 from i index t)
+      → (home_of f x).resident ≡ resident
       → StandsAt o s.place
-      (expr_code f mode 0 e
-      ++ (access_by resident near f.profile.block_log mode (home_of f x) 1 (fixed_index (home_of f x) i)
-      (expr_code f mode 1 i)
-      ++ (store_code mode (home_of f x).slot ++ stored_code resident (home_of f x).slot)))
+      (operand_part (operand f e) (expr_code f mode 0 e)
+      ++ (access_by resident near f.profile.block_log mode (home_of f x) 1 from (fixed_index (home_of f x) i) index
+      ++ (store_code mode (home_of f x).slot (operand_register (operand f e) 0)
+      ++ stored_code resident (home_of f x).slot)))
       → RunsThrough o s
-      (expr_code f mode 0 e
-      ++ (access_by resident near f.profile.block_log mode (home_of f x) 1 (fixed_index (home_of f x) i)
-      (expr_code f mode 1 i)
-      ++ (store_code mode (home_of f x).slot ++ stored_code resident (home_of f x).slot)))
+      (operand_part (operand f e) (expr_code f mode 0 e)
+      ++ (access_by resident near f.profile.block_log mode (home_of f x) 1 from (fixed_index (home_of f x) i) index
+      ++ (store_code mode (home_of f x).slot (operand_register (operand f e) 0)
+      ++ stored_code resident (home_of f x).slot)))
       (seen_of_all mode s.banks s.slots
       (accesses f store e
       ++ (accesses f store i ++ accessed_by resident (access_of f store x (evaluated f.decls store i))))
@@ -255,7 +265,8 @@ module _ (o : Parts) (fits : IsInRange o) (f : Setting) (homes : HasHomes o f) (
       (block_in s.banks (home_of f x).bank (access_of f store x (evaluated f.decls store i)).block)
       (word_number f store x (evaluated f.decls store i) % words_a_block f) (evaluated f.decls store e))))
       (Assigns f (by_mode mode (assigned f.decls (SetElement x i e) store) store))
-  runs-set_by mode x label known i e typed_index typed room_index room s shaped stands near true resident at =
+  runs-set_by mode x label known i e typed_index typed room_index room s shaped stands near true from index_code other
+      own run resident at =
       let h = home_of f x in
       let k = variable_number f.decls x in
       let value = evaluated f.decls store e in
@@ -264,9 +275,12 @@ module _ (o : Parts) (fits : IsInRange o) (f : Setting) (homes : HasHomes o f) (
       let within = resident-within o fits f homes store store_fits x label Array known resident index in
       let before = accesses f store e in
       let then = accesses f store i in
-      let first = expr_code f mode 0 e in
-      let access = placed_code near h 1 (fixed_index h i) (expr_code f mode 1 i) in
-      let store_word = store_code mode h.slot in
+      let q = operand f e in
+      let v = operand_register q 0 in
+      let apart = operand-apart f e q (λ r held. held) 0 in
+      let first = operand_part q (expr_code f mode 0 e) in
+      let access = placed_code near h 1 from (fixed_index h i) index_code in
+      let store_word = store_code mode h.slot v in
       let seen_first = seen_of_all mode s.banks s.slots before in
       let seen_then = seen_of_all mode s.banks (slots_after s.banks s.slots before) then in
       let Done : State → Type 0 = Assigns f (by_mode mode (with_word store k n value) store) in
@@ -280,28 +294,29 @@ module _ (o : Parts) (fits : IsInRange o) (f : Setting) (homes : HasHomes o f) (
       runs-weaker s (first ++ (access ++ (store_word ++ []))) (seen_first ++ (seen_then ++ []))
       (seen_of_all mode s.banks s.slots (before ++ (then ++ [])) ++ []) Done Done
       (runs-append s first (access ++ (store_word ++ [])) seen_first (seen_then ++ [])
-      (LeavesWord f store before 0 value s) Done at
-      (runs-expression o fits f homes store store_fits mode e typed 0 (omega arith) s shaped stands)
+      (LeavesAt f store before 0 v value s) Done at
+      (runs-operand o f store mode e q (λ r held. held) 0 s shaped stands
+      (runs-expression o fits f homes store store_fits mode e typed 0 (omega arith) s shaped stands))
       (λ t shape leaves at'.
-      let is : IsWord value = subst IsWord leaves.value (IsWord-register o t shape 0) in
+      let is : IsWord value = subst IsWord leaves.value (IsWord-register o t shape v) in
       runs-append t access (store_word ++ []) seen_then [] (Placed t) Done at'
       (λ at''.
       runs-weaker t access (seen_of_all mode t.banks t.slots then) seen_then (Placed t) (Placed t)
-      (runs-placed o fits f homes store store_fits x label Array known resident mode 1 i t shape leaves.stands
-      (omega arith)
-      (runs-expression o fits f homes store store_fits mode i typed_index 1 room_index t shape leaves.stands)
-      near (fixed_index h i) refl at'')
+      (runs-placed o fits f homes store store_fits x label Array known resident mode 1 from i index_code t shape
+      leaves.stands (omega arith) other (run t shape leaves.stands) near own (fixed_index h i) refl at'')
       (ap (λ l. seen_of_all mode l t.slots then) leaves.banks ∙ ap (λ l. seen_of_all mode s.banks l then) leaves.slots)
       (λ u shape' done. done))
       (λ u shape' placed at''.
       subst (λ code. StandsAt o u.place code → RunsThrough o u code [] Done) (sym (append-nil store_word))
-      (runs-put mode x label Array known resident (array-free f homes.held x label known) n within value is u shape'
-      placed.stands
-      (placed.below 0 (omega arith) ∙ leaves.value) placed.value)
+      (runs-put mode x label Array known resident (array-free f homes.held x label known) n within v
+      (apart.apart 2 (omega arith) (omega arith)) value is u shape' placed.stands
+      (operand-stays f store e q (λ r held. held) 0 t u leaves.stands placed.stands
+      (λ r under. placed.below r (omega arith)) ∙ leaves.value) placed.value)
       at'')))
       shown
       (λ t shape done. done)
-  runs-set_by mode x label known i e typed_index typed room_index room s shaped stands near false turn at =
+  runs-set_by mode x label known i e typed_index typed room_index room s shaped stands near false from index_code other
+      own run turn at =
       let h = home_of f x in
       let home = homes.arrays x label known turn in
       let served = serves-within home.slot in
@@ -314,9 +329,12 @@ module _ (o : Parts) (fits : IsInRange o) (f : Setting) (homes : HasHomes o f) (
       let w = words_a_block f in
       let before = accesses f store e in
       let then = accesses f store i ++ access_of f store x index ∷ [] in
-      let first = expr_code f mode 0 e in
-      let access = access_by false near f.profile.block_log mode h 1 (fixed_index h i) (expr_code f mode 1 i) in
-      let store_word = store_code mode h.slot in
+      let q = operand f e in
+      let v = operand_register q 0 in
+      let apart = operand-apart f e q (λ r held. held) 0 in
+      let first = operand_part q (expr_code f mode 0 e) in
+      let access = access_by false near f.profile.block_log mode h 1 from (fixed_index h i) index_code in
+      let store_word = store_code mode h.slot v in
       let store_block = Stb h.slot in
       let seen_first = seen_of_all mode s.banks s.slots before in
       let seen_then = seen_of_all mode s.banks (slots_after s.banks s.slots before) then in
@@ -329,17 +347,18 @@ module _ (o : Parts) (fits : IsInRange o) (f : Setting) (homes : HasHomes o f) (
       runs-weaker s (first ++ (access ++ (store_word ++ store_block ∷ []))) (seen_first ++ (seen_then ++ write))
       (seen_of_all mode s.banks s.slots (before ++ then) ++ write) Done Done
       (runs-append s first (access ++ (store_word ++ store_block ∷ [])) seen_first (seen_then ++ write)
-      (LeavesWord f store before 0 value s) Done at
-      (runs-expression o fits f homes store store_fits mode e typed 0 (omega arith) s shaped stands)
+      (LeavesAt f store before 0 v value s) Done at
+      (runs-operand o f store mode e q (λ r held. held) 0 s shaped stands
+      (runs-expression o fits f homes store store_fits mode e typed 0 (omega arith) s shaped stands))
       (λ t shape leaves at'.
-      let is : IsWord value = subst IsWord leaves.value (IsWord-register o t shape 0) in
+      let is : IsWord value = subst IsWord leaves.value (IsWord-register o t shape v) in
       runs-append t access (store_word ++ store_block ∷ []) seen_then write
       (Accesses f store (accesses f store i) a 1 n t) Done at'
       (λ at''.
       runs-weaker t access (seen_of_all mode t.banks t.slots then) seen_then
       (Accesses f store (accesses f store i) a 1 n t) (Accesses f store (accesses f store i) a 1 n t)
-      (runs-access o fits f homes store store_fits x label known turn near mode 1 i t shape leaves.stands (omega arith)
-      (runs-expression o fits f homes store store_fits mode i typed_index 1 room_index t shape leaves.stands) at'')
+      (runs-access o fits f homes store store_fits x label known turn near mode 1 from i index_code t shape
+      leaves.stands (omega arith) other own (run t shape leaves.stands) at'')
       (ap (λ l. seen_of_all mode l t.slots then) leaves.banks ∙ ap (λ l. seen_of_all mode s.banks l then) leaves.slots)
       (λ u shape' done. done))
       (λ u shape' accessed at''.
@@ -349,10 +368,12 @@ module _ (o : Parts) (fits : IsInRange o) (f : Setting) (homes : HasHomes o f) (
       let written = words_written mode words (n % block_words o) value in
       let found = Bound h.bank b written in
       runs-append u store_word (store_block ∷ []) [] write (Binds h.slot found u) Done at''
-      (runs-store o fits mode h.slot h.bank b n words value u shape' held
-      (accessed.leaves.below 0 (omega arith) ∙ leaves.value) accessed.leaves.value)
-      (λ v shape'' binds at3.
-      let bound_here : slot v h.slot ≡ found =
+      (runs-store o fits mode h.slot v h.bank b n words value u shape' held
+      (operand-stays f store e q (λ r held'. held') 0 t u leaves.stands accessed.leaves.stands
+      (λ r under. accessed.leaves.below r (omega arith)) ∙ leaves.value)
+      (apart.apart 2 (omega arith) (omega arith)) accessed.leaves.value)
+      (λ after_store shape'' binds at3.
+      let bound_here : slot after_store h.slot ≡ found =
       ap (λ l. get_or l h.slot Unbound) binds.slots
       ∙ get_or-set_same u.slots h.slot found Unbound (omega (arith, shape'.slot_count, served)) in
       let reads : word_in words (n % w) ≡ get_or (words_of_number store k) n (pos 0) =
@@ -365,16 +386,16 @@ module _ (o : Parts) (fits : IsInRange o) (f : Setting) (homes : HasHomes o f) (
       ap (λ m. write_event h.bank b (words_written mode words (n % m) value) ∷ []) (block_words-is homes)
       ∙ ap (λ l. write_event h.bank b (words_written mode (block_in l h.bank b) (n % w) value) ∷ [])
       (accessed.leaves.banks ∙ leaves.banks) in
-      let slots : v.slots ≡ set u.slots h.slot (Bound h.bank b (set words (n % w) word)) =
+      let slots : after_store.slots ≡ set u.slots h.slot (Bound h.bank b (set words (n % w) word)) =
       binds.slots ∙ ap (λ l. set u.slots h.slot (Bound h.bank b l)) same_words in
-      let banks : set v.banks h.bank (set (bank_blocks v h.bank) b written)
+      let banks : set after_store.banks h.bank (set (bank_blocks after_store h.bank) b written)
       ≡ set u.banks h.bank (set (bank_blocks u h.bank) b (set words (n % w) word)) =
       ap (λ l. set l h.bank (set (get_or l h.bank []) b written)) binds.banks
       ∙ ap (λ l. set u.banks h.bank (set (bank_blocks u h.bank) b l)) same_words in
-      runs-weaker v (store_block ∷ []) (write_event h.bank b written ∷ []) write Done Done
-      (runs-one v store_block (write_event h.bank b written ∷ []) Done at3
+      runs-weaker after_store (store_block ∷ []) (write_event h.bank b written ∷ []) write Done Done
+      (runs-one after_store store_block (write_event h.bank b written ∷ []) Done at3
       (λ standing.
-      comes-stb o fits v shape'' h.slot h.bank b written Done standing bound_here
+      comes-stb o fits after_store shape'' h.slot h.bank b written Done standing bound_here
       (record {
         stands =
             subst (StandsFor f _) (with_word-by_mode mode store k n value)
@@ -397,5 +418,12 @@ module _ (o : Parts) (fits : IsInRange o) (f : Setting) (homes : HasHomes o f) (
       (seen_of_set f mode s.banks s.slots store (SetElement x i e))
       (Assigns f (by_mode mode (assigned f.decls (SetElement x i e) store) store))
   runs-set_element mode x label known i e typed_index typed room_index room s shaped stands at =
-      runs-set_by mode x label known i e typed_index typed room_index room s shaped stands
-      (compares f mode (home_of f x) i) (home_of f x).resident refl at
+      let near = compares f mode (home_of f x) i in
+      let q = index_operand f near i in
+      let apart = operand-apart f i q (operand-unless f i near) 1 in
+      runs-set_by mode x label known i e typed_index typed room_index room s shaped stands near (home_of f x).resident
+      (operand_register q 1) (operand_part q (expr_code f mode 1 i)) (apart.apart 2 (omega arith) (omega arith))
+      (λ e. ap (λ b. operand_register (operand_unless b (operand f i)) 1) e)
+      (λ t shape stands'. runs-operand o f store mode i q (operand-unless f i near) 1 t shape stands'
+      (runs-expression o fits f homes store store_fits mode i typed_index 1 room_index t shape stands'))
+      refl at

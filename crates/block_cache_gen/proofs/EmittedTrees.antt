@@ -12,28 +12,34 @@ use Rattle.lt_isa.specs.declared.instructions.Instr.TheVariants.{Li, Alu, Ldw, B
 use Rattle.lt_isa.specs.declared.symbols.Note.{Note}
 use Rattle.src_tree.specs.Contexts.{context_of}
 use Rattle.src_tree.specs.Labels.{label_of}
+use Rattle.src_tree.specs.Heights.{height_of}
 use Rattle.src_tree.specs.Limits.{tree_weight}
 use Rattle.src_tree.specs.Trees.{Tree, Element, Operation}
+use Rattle.src_tree.proofs.TreeHeights.{height-some}
 use Rattle.block_cache_gen.specs.declared.frames.CodeBuf.{CodeBuf}
 use Rattle.block_cache_gen.specs.declared.frames.Mode.{Mode}
 use Rattle.block_cache_gen.specs.declared.frames.Mode.TheVariants.{Public, Real, Mirrored}
 use Rattle.block_cache_gen.specs.Homes.{Home, Setting, home_of}
-use Rattle.block_cache_gen.specs.Codes.{access_by, found_by, is_cached, compares, compared_code, least_word, numbered_code, offset_code, shift_code, fixed_code, load_code, skips, access_code, fixed_index, operation_code, steps_at, expr_code}
+use Rattle.block_cache_gen.specs.Codes.{access_by, found_by, is_cached, compares, compared_code, least_word, numbered_code, offset_code, shift_code, fixed_code, load_code, skips, access_code, indexed_code, index_operand, fixed_index, operand, operand_part, operand_register, left_operand, operation_code, steps_at, expr_code}
 use Rattle.strength_reduction.specs.Steps.{Step, code_of}
-use Rattle.block_cache_gen.specs.Notes.{expr_notes, operation_notes, index_notes, compared_notes, loaded_notes, load_notes, access_mask, marked_by, unmarked, note_of}
-use Rattle.block_cache_gen.specs.Emitted.{Appended, no_notes, notes_in, access_notes, OperationBy, EmitsOperation, EmitsExpr, EmitsAccess, EmitsFound}
+use Rattle.block_cache_gen.specs.Notes.{expr_notes, operand_mask, operation_notes, index_notes, compared_notes, loaded_notes, load_notes, access_mask, unmarked, note_of}
+use Rattle.block_cache_gen.specs.Emitted.{Appended, no_notes, notes_in, access_notes, OperationBy, EmitsOperation, EmitsOperand, EmitsExpr, EmitsAccess, EmitsFound}
 use Rattle.block_cache_gen.proofs.Emitting.{appended_then, appended_as, appended_length, silent_behind, silent_before, notes_both, notes_by}
+use Rattle.block_cache_gen.proofs.HeldOperands.{operand-short}
 use Rattle.block_cache_gen.proofs.Sizes.{expr_code_short}
 
 -- an access, by what is known of its index
 abbrev pub AccessBy : Setting → Mode → (near : Bool) → Home → (mask to : ℕ) → Tree → Option ℤ → CodeBuf → CodeBuf
     → Type 0
 AccessBy f mode near h mask to i fixed a c =
-    Appended a c (access_code near f.profile.block_log mode h to fixed (expr_code f mode to i))
+    let q = index_operand f near i in
+    let from = operand_register q to in
+    Appended a c (access_code near f.profile.block_log mode h to from fixed (operand_part q (expr_code f mode to i)))
     (λ place. notes_in mode
-    (index_notes fixed (expr_notes f mask to place i)
+    (index_notes fixed (operand_part q (expr_notes f mask to place i))
     ++ load_notes near fixed f h mask to
-    (place + length (access_code near f.profile.block_log Public h to fixed (expr_code f Public to i)))))
+    (place + length
+    (access_code near f.profile.block_log Public h to from fixed (operand_part q (expr_code f Public to i))))))
 
 -- secret code has no notes, so that it is no matter what these are
 notes_near : (mode : Mode) (f : Setting) (h : Home) (i : Tree) (notes : Bool → List Note)
@@ -54,12 +60,11 @@ compared_in Mirrored f h i mask to place = refl
 access_as : (f : Setting) (mode : Mode) (h : Home) (mask to : ℕ) (i : Tree) (a c : CodeBuf)
     → AccessBy f mode (compares f mode h i) h mask to i (fixed_index h i) a c → EmitsAccess f mode h mask to i a c
 access_as f mode h mask to i a c x =
-    let code : List Instr =
-    access_code (compares f mode h i) f.profile.block_log mode h to (fixed_index h i) (expr_code f mode to i) in
+    let code : List Instr = indexed_code f (compares f mode h i) mode h to i (expr_code f mode to i) in
     let notes : ℕ → Bool → List Note = λ place near.
-    index_notes (fixed_index h i) (expr_notes f mask to place i)
+    index_notes (fixed_index h i) (operand_part (index_operand f near i) (expr_notes f mask to place i))
     ++ load_notes near (fixed_index h i) f h mask to
-    (place + length (access_code near f.profile.block_log Public h to (fixed_index h i) (expr_code f Public to i))) in
+    (place + length (indexed_code f near Public h to i (expr_code f Public to i))) in
     appended_as a c code code (λ place. notes_in mode (notes place (compares f mode h i)))
     (λ place. notes_in mode (notes place (compares f Public h i))) refl (λ place. notes_near mode f h i (notes place)) x
 
@@ -76,10 +81,10 @@ further place xs ys = add_assoc place (length xs) (length ys) ∙ ap (λ n. plac
 -- the code of an access by a number
 abbrev pub EmitsFixed : Setting → Mode → Home → (mask to : ℕ) → ℤ → CodeBuf → CodeBuf → Type 0
 EmitsFixed f mode h mask to z a c =
-    Appended a c (access_by h.resident false f.profile.block_log mode h to (Some z) [])
+    Appended a c (access_by h.resident false f.profile.block_log mode h to to (Some z) [])
     (λ place. notes_in mode
     (loaded_notes h.resident false (Some z) f h mask to
-    (place + length (access_by h.resident false f.profile.block_log Public h to (Some z) []))))
+    (place + length (access_by h.resident false f.profile.block_log Public h to to (Some z) []))))
 
 -- the pieces of an access by a number that loads its block
 pub fixed_loaded : (f : Setting) (mode : Mode) (h : Home) (mask to : ℕ) (z : ℤ) (a b c : CodeBuf)
@@ -87,9 +92,9 @@ pub fixed_loaded : (f : Setting) (mode : Mode) (h : Home) (mask to : ℕ) (z : �
     → EmitsLoad f mode h mask to b c → EmitsFixed f mode h mask to z a c
 fixed_loaded f mode h mask to z a b c turn x y =
     let log = f.profile.block_log in
-    let P : Bool → Type 0 = λ r. Appended a c (access_by r false log mode h to (Some z) [])
+    let P : Bool → Type 0 = λ r. Appended a c (access_by r false log mode h to to (Some z) [])
     (λ place. notes_in mode
-    (loaded_notes r false (Some z) f h mask to (place + length (access_by r false log Public h to (Some z) [])))) in
+    (loaded_notes r false (Some z) f h mask to (place + length (access_by r false log Public h to to (Some z) [])))) in
     subst P (sym turn)
     (appended_as a c (fixed_code log h to z ++ load_code (skips mode h) h to)
     (fixed_code log h to z ++ load_code (skips mode h) h to)
@@ -113,88 +118,97 @@ access_fixed f mode h mask to i z a c is x =
     let P : Option ℤ → Type 0 = λ fixed. AccessBy f mode (compares f mode h i) h mask to i fixed a c in
     access_as f mode h mask to i a c (subst P (sym is) (by h.resident x))
   where
+    q : Option ℕ
+    q = index_operand f (compares f mode h i) i
+
     by : (r : Bool)
-        → Appended a c (access_by r false f.profile.block_log mode h to (Some z) [])
+        → Appended a c (access_by r false f.profile.block_log mode h to to (Some z) [])
         (λ place. notes_in mode
         (loaded_notes r false (Some z) f h mask to
-        (place + length (access_by r false f.profile.block_log Public h to (Some z) []))))
+        (place + length (access_by r false f.profile.block_log Public h to to (Some z) []))))
         → Appended a c
-        (access_by r (compares f mode h i) f.profile.block_log mode h to (Some z) (expr_code f mode to i))
+        (access_by r (compares f mode h i) f.profile.block_log mode h to (operand_register q to) (Some z)
+        (operand_part q (expr_code f mode to i)))
         (λ place. notes_in mode
         ([] ++ loaded_notes r (compares f mode h i) (Some z) f h mask to
         (place + length
-        (access_by r (compares f mode h i) f.profile.block_log Public h to (Some z) (expr_code f Public to i)))))
+        (access_by r (compares f mode h i) f.profile.block_log Public h to (operand_register q to) (Some z)
+        (operand_part q (expr_code f Public to i))))))
     by true y = y
     by false y = y
 
--- an expression, and what follows it
-pub expr_then : (f : Setting) (mode : Mode) (mask to : ℕ) (l : Tree) (code : List Instr) (second : ℕ → List Note)
-    (a b c : CodeBuf) → EmitsExpr f mode mask to l a b → Appended b c code (λ place. notes_in mode (second place))
-    → Appended a c (expr_code f mode to l ++ code)
-    (λ place. notes_in mode (expr_notes f mask to place l ++ second (place + length (expr_code f Public to l))))
-expr_then f mode mask to l code second a b c x y =
-    appended_as a c (expr_code f mode to l ++ code) (expr_code f mode to l ++ code)
-    (λ place. notes_in mode (expr_notes f mask to place l)
-    ++ notes_in mode (second (place + length (expr_code f mode to l))))
-    (λ place. notes_in mode (expr_notes f mask to place l ++ second (place + length (expr_code f Public to l))))
+-- an operand, and what follows it
+pub operand_then : (f : Setting) (mode : Mode) (mask to : ℕ) (q : Option ℕ) (l : Tree) (code : List Instr)
+    (second : ℕ → List Note) (a b c : CodeBuf) → EmitsOperand f mode mask to q l a b
+    → Appended b c code (λ place. notes_in mode (second place))
+    → Appended a c (operand_part q (expr_code f mode to l) ++ code)
+    (λ place. notes_in mode
+    (operand_part q (expr_notes f mask to place l) ++ second (place + length (operand_part q (expr_code f Public to l)))))
+operand_then f mode mask to q l code second a b c x y =
+    let first : Mode → List Instr = λ m. operand_part q (expr_code f m to l) in
+    let notes : ℕ → List Note = λ place. operand_part q (expr_notes f mask to place l) in
+    appended_as a c (first mode ++ code) (first mode ++ code)
+    (λ place. notes_in mode (notes place) ++ notes_in mode (second (place + length (first mode))))
+    (λ place. notes_in mode (notes place ++ second (place + length (first Public))))
     refl
-    (λ place. ap (λ ns. notes_in mode (expr_notes f mask to place l) ++ ns)
-    (notes_by mode (λ m. expr_code f m to l) (λ xs. second (place + length xs)))
-    ∙ notes_both mode (expr_notes f mask to place l) (second (place + length (expr_code f Public to l))))
-    (appended_then a b c (expr_code f mode to l) code (λ place. notes_in mode (expr_notes f mask to place l))
+    (λ place. ap (λ ns. notes_in mode (notes place) ++ ns)
+    (notes_by mode first (λ xs. second (place + length xs)))
+    ∙ notes_both mode (notes place) (second (place + length (first Public))))
+    (appended_then a b c (first mode) code (λ place. notes_in mode (notes place))
     (λ place. notes_in mode (second place)) x y)
 
 -- the pieces of an access by any other index are its code
 pub access_worked : (f : Setting) (mode : Mode) (h : Home) (mask to : ℕ) (i : Tree) (a b c : CodeBuf)
-    → fixed_index h i ≡ None → EmitsExpr f mode mask to i a b → EmitsFound f mode h mask to i b c
-    → EmitsAccess f mode h mask to i a c
+    → fixed_index h i ≡ None → EmitsOperand f mode mask to (index_operand f (compares f mode h i) i) i a b
+    → EmitsFound f mode h mask to i b c → EmitsAccess f mode h mask to i a c
 access_worked f mode h mask to i a b c is x y =
     let P : Option ℤ → Type 0 = λ fixed. AccessBy f mode (compares f mode h i) h mask to i fixed a c in
-    access_as f mode h mask to i a c (subst P (sym is) (by h.resident (compares f mode h i) y))
+    access_as f mode h mask to i a c
+    (subst P (sym is) (by h.resident (compares f mode h i) (index_operand f (compares f mode h i) i) x y))
   where
-    by : (r near : Bool)
-        → Appended b c (found_by r near f.profile.block_log mode h to)
+    by : (r near : Bool) (q : Option ℕ) → EmitsOperand f mode mask to q i a b
+        → Appended b c (found_by r near f.profile.block_log mode h to (operand_register q to))
         (λ place. notes_in mode
-        (loaded_notes r near None f h mask to (place + length (found_by r near f.profile.block_log Public h to))))
-        → Appended a c (access_by r near f.profile.block_log mode h to None (expr_code f mode to i))
+        (loaded_notes r near None f h mask to
+        (place + length (found_by r near f.profile.block_log Public h to (operand_register q to)))))
+        → Appended a c
+        (access_by r near f.profile.block_log mode h to (operand_register q to) None
+        (operand_part q (expr_code f mode to i)))
         (λ place. notes_in mode
-        (expr_notes f mask to place i
+        (operand_part q (expr_notes f mask to place i)
         ++ loaded_notes r near None f h mask to
-        (place + length (access_by r near f.profile.block_log Public h to None (expr_code f Public to i)))))
-    by true near z =
-        let found : List Instr = found_by true near f.profile.block_log mode h to in
-        let index : List Instr = expr_code f Public to i in
-        appended_as a c (expr_code f mode to i ++ found) (expr_code f mode to i ++ found)
-        (λ place. notes_in mode
-        (expr_notes f mask to place i
-        ++ loaded_notes true near None f h mask to (place + length index + length found)))
-        (λ place. notes_in mode
-        (expr_notes f mask to place i ++ loaded_notes true near None f h mask to (place + length (index ++ found))))
+        (place + length
+        (access_by r near f.profile.block_log Public h to (operand_register q to) None
+        (operand_part q (expr_code f Public to i))))))
+    by true near q x z =
+        let found : List Instr = found_by true near f.profile.block_log mode h to (operand_register q to) in
+        let index : Mode → List Instr = λ m. operand_part q (expr_code f m to i) in
+        let first : ℕ → List Note = λ place. operand_part q (expr_notes f mask to place i) in
+        let notes : ℕ → List Note = loaded_notes true near None f h mask to in
+        appended_as a c (index mode ++ found) (index mode ++ found)
+        (λ place. notes_in mode (first place ++ notes (place + length (index Public) + length found)))
+        (λ place. notes_in mode (first place ++ notes (place + length (index Public ++ found))))
         refl
-        (λ place. ap (λ n. notes_in mode (expr_notes f mask to place i ++ loaded_notes true near None f h mask to n))
-        (further place index found))
-        (expr_then f mode mask to i found (λ place. loaded_notes true near None f h mask to
-        (place + length found)) a b c
-        x z)
-    by false near z =
+        (λ place. ap (λ n. notes_in mode (first place ++ notes n)) (further place (index Public) found))
+        (operand_then f mode mask to q i found (λ place. notes (place + length found)) a b c x z)
+    by false near q x z =
         let log = f.profile.block_log in
-        let located : List Instr = numbered_code near h to ++ shift_code log h to in
+        let from = operand_register q to in
+        let located : List Instr = numbered_code near h to from ++ shift_code log h to in
         let skipped : List Instr = load_code (skips Public h) h to in
-        let index : List Instr = expr_code f Public to i in
-        appended_as a c (expr_code f mode to i ++ found_by false near log mode h to)
-        (expr_code f mode to i ++ located ++ load_code (skips mode h) h to)
-        (λ place. notes_in mode
-        (expr_notes f mask to place i
-        ++ loaded_notes false near None f h mask to (place + length index + length (located ++ skipped))))
-        (λ place. notes_in mode
-        (expr_notes f mask to place i
-        ++ loaded_notes false near None f h mask to (place + length (index ++ located ++ skipped))))
-        (sym (append_assoc (expr_code f mode to i) located (load_code (skips mode h) h to)))
-        (λ place. ap (λ n. notes_in mode (expr_notes f mask to place i ++ loaded_notes false near None f h mask to n))
-        (further place index (located ++ skipped)
-        ∙ ap (λ l. place + length l) (sym (append_assoc index located skipped))))
-        (expr_then f mode mask to i (found_by false near log mode h to)
-        (λ place. loaded_notes false near None f h mask to (place + length (located ++ skipped))) a b c x z)
+        let index : Mode → List Instr = λ m. operand_part q (expr_code f m to i) in
+        let first : ℕ → List Note = λ place. operand_part q (expr_notes f mask to place i) in
+        let notes : ℕ → List Note = loaded_notes false near None f h mask to in
+        appended_as a c (index mode ++ found_by false near log mode h to from)
+        (index mode ++ located ++ load_code (skips mode h) h to)
+        (λ place. notes_in mode (first place ++ notes (place + length (index Public) + length (located ++ skipped))))
+        (λ place. notes_in mode (first place ++ notes (place + length (index Public ++ located ++ skipped))))
+        (sym (append_assoc (index mode) located (load_code (skips mode h) h to)))
+        (λ place. ap (λ n. notes_in mode (first place ++ notes n))
+        (further place (index Public) (located ++ skipped)
+        ∙ ap (λ l. place + length l) (sym (append_assoc (index Public) located skipped))))
+        (operand_then f mode mask to q i (found_by false near log mode h to from)
+        (λ place. notes (place + length (located ++ skipped))) a b c x z)
 
 -- a comparison and its note
 pub compared_noted : (f : Setting) (mask to found : ℕ) (h : Home) (bound size : ℤ) (a b c : CodeBuf)
@@ -225,20 +239,25 @@ compared_noted f mask to found h bound size a b c is is_bound is_size x y =
     (silent_before a b c (code bound size) [] (λ place. note_of f found place ∷ []) x y)
 
 -- what follows the code of the index of a resident array
-pub found_placed : (f : Setting) (mode : Mode) (h : Home) (mask to : ℕ) (i : Tree) (b c : CodeBuf)
-    → h.resident ≡ true
-    → Appended b c (numbered_code (compares f mode h i) h to ++ offset_code h to)
+pub found_placed : (f : Setting) (mode : Mode) (h : Home) (mask to from : ℕ) (i : Tree) (b c : CodeBuf)
+    → from ≡ operand_register (index_operand f (compares f mode h i) i) to → h.resident ≡ true
+    → Appended b c (numbered_code (compares f mode h i) h to from ++ offset_code h to)
     (λ place. compared_notes (compares f mode h i) None f mask to
-    (place + length (numbered_code (compares f mode h i) h to)))
+    (place + length (numbered_code (compares f mode h i) h to from)))
     → EmitsFound f mode h mask to i b c
-found_placed f mode h mask to i b c is x =
+found_placed f mode h mask to from i b c same is x =
     let near = compares f mode h i in
-    let number : List Instr = numbered_code near h to in
+    let number : List Instr = numbered_code near h to from in
     let offset : List Instr = offset_code h to in
-    let P : Bool → Type 0 = λ r. Appended b c (found_by r near f.profile.block_log mode h to)
+    let R : ℕ → Type 0 = λ own. Appended b c (found_by h.resident near f.profile.block_log mode h to own)
     (λ place. notes_in mode
-    (loaded_notes r near None f h mask to (place + length (found_by r near f.profile.block_log Public h to)))) in
-    subst P (sym is)
+    (loaded_notes h.resident near None f h mask to
+    (place + length (found_by h.resident near f.profile.block_log Public h to own)))) in
+    let P : Bool → Type 0 = λ r. Appended b c (found_by r near f.profile.block_log mode h to from)
+    (λ place. notes_in mode
+    (loaded_notes r near None f h mask to (place + length (found_by r near f.profile.block_log Public h to from)))) in
+    subst R same
+    (subst P (sym is)
     (appended_as b c (number ++ offset) (number ++ offset)
     (λ place. compared_notes near None f mask to (place + length number))
     (λ place. notes_in mode (compared_notes near None f mask to (place + length (number ++ offset) - length offset)))
@@ -246,30 +265,34 @@ found_placed f mode h mask to i b c is x =
     (λ place.
     ap (compared_notes near None f mask to) (before place number offset)
     ∙ compared_in mode f h i mask to (place + length (number ++ offset) - length offset))
-    x)
+    x))
   where
     before : (place : ℕ) (xs ys : List Instr) → place + length xs ≡ place + length (xs ++ ys) - length ys
     before place xs ys = let size = length-append xs ys in omega arith
 
 -- what follows the code of any other index
-pub found_loaded : (f : Setting) (mode : Mode) (h : Home) (mask to : ℕ) (i : Tree) (b c d : CodeBuf)
-    → h.resident ≡ false
-    → Appended b c (numbered_code (compares f mode h i) h to ++ shift_code f.profile.block_log h to)
+pub found_loaded : (f : Setting) (mode : Mode) (h : Home) (mask to from : ℕ) (i : Tree) (b c d : CodeBuf)
+    → from ≡ operand_register (index_operand f (compares f mode h i) i) to → h.resident ≡ false
+    → Appended b c (numbered_code (compares f mode h i) h to from ++ shift_code f.profile.block_log h to)
     (λ place. compared_notes (compares f mode h i) None f mask to
-    (place + length (numbered_code (compares f mode h i) h to)))
+    (place + length (numbered_code (compares f mode h i) h to from)))
     → EmitsLoad f mode h mask to c d
     → EmitsFound f mode h mask to i b d
-found_loaded f mode h mask to i b c d turn x y =
+found_loaded f mode h mask to from i b c d same turn x y =
     let near = compares f mode h i in
     let log = f.profile.block_log in
-    let number : List Instr = numbered_code near h to in
+    let number : List Instr = numbered_code near h to from in
     let located : List Instr = number ++ shift_code log h to in
     let skipped : List Instr = load_code (is_cached h) h to in
     let load : ℕ → List Note = λ behind. if is_cached h then note_of f (access_mask mask to) behind ∷ [] else [] in
-    let P : Bool → Type 0 = λ r. Appended b d (found_by r near log mode h to)
+    let R : ℕ → Type 0 = λ own. Appended b d (found_by h.resident near log mode h to own)
+    (λ place. notes_in mode
+    (loaded_notes h.resident near None f h mask to (place + length (found_by h.resident near log Public h to own)))) in
+    let P : Bool → Type 0 = λ r. Appended b d (found_by r near log mode h to from)
     (λ place. notes_in mode (loaded_notes r near None f h mask to
-    (place + length (found_by r near log Public h to)))) in
-    subst P (sym turn)
+    (place + length (found_by r near log Public h to from)))) in
+    subst R same
+    (subst P (sym turn)
     (appended_as b d (located ++ load_code (skips mode h) h to) (located ++ load_code (skips mode h) h to)
     (λ place. compared_notes near None f mask to (place + length number)
     ++ notes_in mode (load (place + length located + length skipped)))
@@ -285,7 +308,7 @@ found_loaded f mode h mask to i b c d turn x y =
     (load (place + length (located ++ skipped))))
     (appended_then b c d located (load_code (skips mode h) h to)
     (λ place. compared_notes near None f mask to (place + length number))
-    (λ place. notes_in mode (load (place + length skipped))) x y))
+    (λ place. notes_in mode (load (place + length skipped))) x y)))
   where
     before : (place : ℕ) (xs ys zs : List Instr)
         → place + length xs ≡ place + length (xs ++ ys ++ zs) - length (ys ++ zs)
@@ -297,20 +320,18 @@ pub element_emitted : (f : Setting) (mode : Mode) (mask to : ℕ) (x : List ℕ)
     → EmitsExpr f mode mask to (Element x i) a c
 element_emitted f mode mask to x i h a b c is y z =
     let P : Home → Type 0 = λ k. Appended a c
-    (access_code (compares f mode k i) f.profile.block_log mode k to (fixed_index k i) (expr_code f mode to i)
-    ++ Ldw to k.slot to ∷ [])
+    (indexed_code f (compares f mode k i) mode k to i (expr_code f mode to i) ++ Ldw to k.slot to ∷ [])
     (λ place. notes_in mode (access_notes f k mask to i place)) in
     subst P is
-    (silent_behind a b c
-    (access_code (compares f mode h i) f.profile.block_log mode h to (fixed_index h i) (expr_code f mode to i))
+    (silent_behind a b c (indexed_code f (compares f mode h i) mode h to i (expr_code f mode to i))
     (Ldw to h.slot to ∷ []) (λ place. notes_in mode (access_notes f h mask to i place)) y z)
 
 -- the steps, or the right side and the operation
-pub steps_emitted : (f : Setting) (mode : Mode) (mask to : ℕ) (op : Op) (r : Tree) (steps : List Step) (code : List Instr)
+pub steps_emitted : (f : Setting) (mode : Mode) (mask to left : ℕ) (op : Op) (r : Tree) (steps : List Step) (code : List Instr)
     (a b : CodeBuf) → steps_at f op r ≡ Some steps → code ≡ code_of to steps → Appended a b code no_notes
-    → EmitsOperation f mode mask to op r a b
-steps_emitted f mode mask to op r steps code a b is same x =
-    let P : Option (List Step) → Type 0 = λ found. OperationBy f mode mask to op r found a b in
+    → EmitsOperation f mode mask to left op r a b
+steps_emitted f mode mask to left op r steps code a b is same x =
+    let P : Option (List Step) → Type 0 = λ found. OperationBy f mode mask to left op r found a b in
     subst P (sym is)
     (appended_as a b code (code_of to steps) no_notes
     (λ place. notes_in mode []) same (λ place. sym (nothing mode)) x)
@@ -331,52 +352,68 @@ pub found-none : (g : List Step → List Instr) (found : Option (List Step)) →
 found-none g None e = refl
 found-none g (Some steps) e = absurd (let f : ◌≡◌ {A = Option (List Instr)} None (Some (g steps)) = e in cc)
 
-pub steps_appended : (f : Setting) (mode : Mode) (mask to : ℕ) (op : Op) (r : Tree) (code : List Instr) (a b : CodeBuf)
-    → Some code ≡ option_map (code_of to) (steps_at f op r) → Appended a b code no_notes
-    → EmitsOperation f mode mask to op r a b
-steps_appended f mode mask to op r code a b e x =
+pub steps_appended : (f : Setting) (mode : Mode) (mask to left : ℕ) (op : Op) (r : Tree) (code : List Instr)
+    (a b : CodeBuf) → Some code ≡ option_map (code_of to) (steps_at f op r) → Appended a b code no_notes
+    → EmitsOperation f mode mask to left op r a b
+steps_appended f mode mask to left op r code a b e x =
     let known = found-some (code_of to) (steps_at f op r) code e in
-    steps_emitted f mode mask to op r known.0 code a b known.1 known.2 x
+    steps_emitted f mode mask to left op r known.0 code a b known.1 known.2 x
 
-pub right_emitted : (f : Setting) (mode : Mode) (mask to : ℕ) (op : Op) (r : Tree) (a b c : CodeBuf)
-    → steps_at f op r ≡ None → EmitsExpr f mode mask (to + 1) r a b → Appended b c (Alu op to to (to + 1) ∷ []) no_notes
-    → EmitsOperation f mode mask to op r a c
-right_emitted f mode mask to op r a b c is x y =
-    let P : Option (List Step) → Type 0 = λ found. OperationBy f mode mask to op r found a c in
+pub right_emitted : (f : Setting) (mode : Mode) (mask to left : ℕ) (op : Op) (r : Tree) (q : Option ℕ) (right : ℕ)
+    (a b c : CodeBuf) → steps_at f op r ≡ None → q ≡ operand f r → right ≡ operand_register q (to + 1)
+    → EmitsOperand f mode mask (to + 1) q r a b → Appended b c (Alu op to left right ∷ []) no_notes
+    → EmitsOperation f mode mask to left op r a c
+right_emitted f mode mask to left op r q right a b c is is_q is_right x y =
+    let P : Option (List Step) → Type 0 = λ found. OperationBy f mode mask to left op r found a c in
+    let Q : Option ℕ → ℕ → Type 0 = λ p rb. Appended a c
+    (operand_part p (expr_code f mode (to + 1) r) ++ Alu op to left rb ∷ [])
+    (λ place. notes_in mode (operand_part p (expr_notes f mask (to + 1) place r))) in
     subst P (sym is)
-    (silent_behind a b c (expr_code f mode (to + 1) r) (Alu op to to (to + 1) ∷ [])
-    (λ place. notes_in mode (expr_notes f mask (to + 1) place r)) x y)
+    (subst (λ p. Q p (operand_register p (to + 1))) is_q
+    (subst (Q q) is_right
+    (silent_behind a b c (operand_part q (expr_code f mode (to + 1) r)) (Alu op to left right ∷ [])
+    (λ place. notes_in mode (operand_part q (expr_notes f mask (to + 1) place r))) x y)))
 
-pub operation_emitted : (f : Setting) (mode : Mode) (mask to : ℕ) (op : Op) (l r : Tree) (other : ℕ) (a b c : CodeBuf)
-    → other ≡ marked_by (label_of (context_of f.decls) l) mask to
-    → EmitsExpr f mode mask to l a b → EmitsOperation f mode other to op r b c
+pub operation_emitted : (f : Setting) (mode : Mode) (mask to : ℕ) (op : Op) (l r : Tree) (q : Option ℕ)
+    (left other : ℕ) (a b c : CodeBuf)
+    → q ≡ left_operand f op l r → left ≡ operand_register q to
+    → other ≡ operand_mask q (label_of (context_of f.decls) l) mask to
+    → EmitsOperand f mode mask to q l a b → EmitsOperation f mode other to left op r b c
     → EmitsExpr f mode mask to (Operation op l r) a c
-operation_emitted f mode mask to op l r other a b c is x y =
+operation_emitted f mode mask to op l r q left other a b c is_q is_left is x y =
     let found = steps_at f op r in
-    let P : ℕ → Type 0 = λ m. Appended a c
-    (expr_code f mode to l ++ operation_code op to found (expr_code f mode (to + 1) r))
+    let label = label_of (context_of f.decls) l in
+    let rb = operand_register (operand f r) (to + 1) in
+    let right = operand_part (operand f r) (expr_code f mode (to + 1) r) in
+    let P : Option ℕ → ℕ → ℕ → Type 0 = λ p ra m. Appended a c
+    (operand_part p (expr_code f mode to l) ++ operation_code op to ra rb found right)
     (λ place. notes_in mode
-    (expr_notes f mask to place l
-    ++ operation_notes found (expr_notes f m (to + 1) (place + length (expr_code f Public to l)) r))) in
-    subst P is
-    (expr_then f mode mask to l (operation_code op to found (expr_code f mode (to + 1) r))
-    (λ place. operation_notes found (expr_notes f other (to + 1) place r)) a b c x y)
+    (operand_part p (expr_notes f mask to place l)
+    ++ operation_notes found
+    (operand_part (operand f r)
+    (expr_notes f m (to + 1) (place + length (operand_part p (expr_code f Public to l))) r)))) in
+    subst (λ p. P p (operand_register p to) (operand_mask p label mask to)) is_q
+    (subst (λ ra. P q ra (operand_mask q label mask to)) is_left
+    (subst (P q left) is
+    (operand_then f mode mask to q l (operation_code op to left rb found right)
+    (λ place. operation_notes found (operand_part (operand f r) (expr_notes f other (to + 1) place r))) a b c x y)))
 
 -- after the left side there is room for the right one
-pub room_for_right : (f : Setting) (mode : Mode) (mask to : ℕ) (l : Tree) (right : ℕ) (a b : CodeBuf)
-    → length a.code.items + 120 * (tree_weight l + right) ≤ most_instructions → EmitsExpr f mode mask to l a b
+pub room_for_right : (f : Setting) (mode : Mode) (mask to : ℕ) (q : Option ℕ) (l : Tree) (right : ℕ) (a b : CodeBuf)
+    → length a.code.items + 120 * (tree_weight l + right) ≤ most_instructions → EmitsOperand f mode mask to q l a b
     → length b.code.items + 120 * right ≤ most_instructions
-room_for_right f mode mask to l right a b room x =
-    let one = appended_length a b (expr_code f mode to l) _ x in
-    let short = expr_code_short f mode to l in
+room_for_right f mode mask to q l right a b room x =
+    let one = appended_length a b (operand_part q (expr_code f mode to l)) _ x in
+    let short = operand-short q (expr_code f mode to l) in
+    let most = expr_code_short f mode to l in
     omega arith
 
 -- and after an index for the rest of its access
-pub room_for_found : (f : Setting) (mode : Mode) (mask to : ℕ) (i : Tree) (a b : CodeBuf)
-    → length a.code.items + 120 * (1 + tree_weight i) ≤ most_instructions → EmitsExpr f mode mask to i a b
+pub room_for_found : (f : Setting) (mode : Mode) (mask to : ℕ) (q : Option ℕ) (i : Tree) (a b : CodeBuf)
+    → length a.code.items + 120 * (1 + tree_weight i) ≤ most_instructions → EmitsOperand f mode mask to q i a b
     → length b.code.items + 16 < 2 ^ 32
-room_for_found f mode mask to i a b room x =
-    let rest = room_for_right f mode mask to i 1 a b (omega arith) x in omega arith
+room_for_found f mode mask to q i a b room x =
+    let rest = room_for_right f mode mask to q i 1 a b (omega arith) x in omega arith
 
 -- the same of an expression that is such a tree
 pub element_appended : (f : Setting) (mode : Mode) (mask to : ℕ) (e : Tree) (x y : List ℕ) (i j : Tree) (h : Home)
@@ -388,29 +425,36 @@ element_appended f mode mask to e x y i j h a b c is same_name same_index home a
     subst P (sym is)
     (element_emitted f mode mask to x i h a b c (home ∙ ap (home_of f) same_name) (subst Q same_index access) read)
 
+-- steps have the registers that they use
+pub steps-low : (to : ℕ) (e : Tree) (op : Op) (l r : Tree) → e ≡ Operation op l r → to + height_of e ≤ 18 → to + 2 < 19
+steps-low to e op l r is high = let h = ap height_of is in omega (arith, height-some r)
+
 -- the pieces of an operation are its code
-pub operation_appended : (f : Setting) (mode : Mode) (mask to : ℕ) (e : Tree) (op : Op) (l r left again right : Tree)
-    (label : Label) (other : ℕ) (a b c : CodeBuf)
-    → e ≡ Operation op l r → left ≡ l → again ≡ l → right ≡ r → label ≡ label_of (context_of f.decls) again
-    → other ≡ marked_by label mask to → EmitsExpr f mode mask to left a b → EmitsOperation f mode other to op right b c
+pub operation_appended : (f : Setting) (mode : Mode) (mask to : ℕ) (e : Tree) (op : Op) (l r one left again right : Tree)
+    (label : Label) (q : Option ℕ) (register other : ℕ) (a b c : CodeBuf)
+    → e ≡ Operation op l r → one ≡ l → left ≡ l → again ≡ l → right ≡ r → q ≡ left_operand f op one right
+    → label ≡ label_of (context_of f.decls) again → register ≡ operand_register q to
+    → other ≡ operand_mask q label mask to → EmitsOperand f mode mask to q left a b
+    → EmitsOperation f mode other to register op right b c
     → EmitsExpr f mode mask to e a c
-operation_appended f mode mask to e op l r left again right label other a b c is is_left is_again is_right is_label
-    is_other x y =
+operation_appended f mode mask to e op l r one left again right label q register other a b c is is_one is_left is_again
+    is_right is_q is_label is_register is_other x y =
     let P : Tree → Type 0 = λ t. EmitsExpr f mode mask to t a c in
-    let Q : Tree → Type 0 = λ t. EmitsExpr f mode mask to t a b in
-    let R : Tree → Type 0 = λ t. EmitsOperation f mode other to op t b c in
+    let Q : Tree → Type 0 = λ t. EmitsOperand f mode mask to q t a b in
+    let R : Tree → Type 0 = λ t. EmitsOperation f mode other to register op t b c in
     subst P (sym is)
-    (operation_emitted f mode mask to op l r other a b c
-    (is_other ∙ ap (λ k. marked_by k mask to) (is_label ∙ ap (label_of (context_of f.decls)) is_again))
+    (operation_emitted f mode mask to op l r q register other a b c
+    (is_q ∙ ap (λ t. left_operand f op t right) is_one ∙ ap (left_operand f op l) is_right) is_register
+    (is_other ∙ ap (λ k. operand_mask q k mask to) (is_label ∙ ap (label_of (context_of f.decls)) is_again))
     (subst Q is_left x) (subst R is_right y))
 
 -- after the left side of an operation there is room for the right one
-pub room_behind_left : (f : Setting) (mode : Mode) (mask to : ℕ) (e : Tree) (op : Op) (l r left right : Tree)
-    (a b : CodeBuf) → length a.code.items + 120 * tree_weight e ≤ most_instructions
-    → e ≡ Operation op l r → left ≡ l → right ≡ r → EmitsExpr f mode mask to left a b
+pub room_behind_left : (f : Setting) (mode : Mode) (mask to : ℕ) (q : Option ℕ) (e : Tree) (op : Op)
+    (l r left right : Tree) (a b : CodeBuf) → length a.code.items + 120 * tree_weight e ≤ most_instructions
+    → e ≡ Operation op l r → left ≡ l → right ≡ r → EmitsOperand f mode mask to q left a b
     → length b.code.items + 120 * (1 + tree_weight right) ≤ most_instructions
-room_behind_left f mode mask to e op l r left right a b room is is_left is_right x =
+room_behind_left f mode mask to q e op l r left right a b room is is_left is_right x =
     let w = ap tree_weight is in
     let v = ap tree_weight is_left in
     let u = ap tree_weight is_right in
-    room_for_right f mode mask to left (1 + tree_weight right) a b (omega arith) x
+    room_for_right f mode mask to q left (1 + tree_weight right) a b (omega arith) x

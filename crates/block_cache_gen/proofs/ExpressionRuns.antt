@@ -1,9 +1,11 @@
 -- The code of an expression, run, leaves its value, and is seen to make its accesses.
-use Rattle.std.proofs.Common.{◌≡◌, ℕ, ◌+◌, ◌/◌, ◌%◌, ◌<◌, ◌≤◌, Bool, true, false, ℤ, pos, List, [], ◌∷◌, ◌++◌, append-nil, Option, Some, None, refl, sym, ap, ◌∙◌, subst, arith}
+use Rattle.std.proofs.Common.{◌≡◌, ◌≢◌, ℕ, ◌+◌, ◌/◌, ◌%◌, ◌<◌, ◌≤◌, Bool, true, false, ℤ, pos, List, [], ◌∷◌, ◌++◌, append-nil, Option, Some, None, refl, sym, ap, ◌∙◌, subst, arith}
+use Rattle.std.specs.Prelude.{is_some}
 use Rattle.gr_word.specs.Words.{applied, IsWord}
 use Rattle.gr_word.specs.declared.variables.Label.{Label}
 use Rattle.gr_word.specs.declared.variables.Label.TheVariants.{Public}
 use Rattle.gr_word.specs.declared.variables.Shape.TheVariants.{Scalar, Array}
+use Rattle.lt_isa.specs.declared.instructions.Instr.{Instr}
 use Rattle.lt_isa.specs.declared.instructions.Instr.TheVariants.{Li, Alu, Ldw}
 use Rattle.lt_isa.specs.Object.{Parts}
 use Rattle.lt_isa.specs.Ranges.{IsInRange}
@@ -22,7 +24,7 @@ use Rattle.src_tree.specs.Typing.{TypedTree}
 use Rattle.src_tree.proofs.TreeHeights.{height-some}
 use Rattle.block_cache_gen.specs.declared.frames.Mode.{Mode}
 use Rattle.block_cache_gen.specs.Homes.{Setting, HasHomes, home_of, words_a_block, start_of_home, register_for}
-use Rattle.block_cache_gen.specs.Codes.{fixed_index, scalar_code, access_by, placed_code, operation_code, steps_at, expr_code, compares, copy_code}
+use Rattle.block_cache_gen.specs.Codes.{fixed_index, scalar_code, access_by, placed_code, index_operand, operand, operand_part, operand_register, operand_unless, left_operand, operation_code, steps_at, expr_code, compares, copy_code}
 use Rattle.gr_word.specs.declared.operations.Op.{Op}
 use Rattle.strength_reduction.specs.Steps.{Step, numbered, words_after, code_of}
 use Rattle.step_code.proofs.StepRuns.{Leaves, runs-steps}
@@ -36,6 +38,8 @@ use Rattle.block_cache_gen.proofs.AccessLaws.{slots_after-append, seen_of_all-ap
 use Rattle.block_cache_gen.proofs.HomeFacts.{block_words-is, word-block, word-place}
 use Rattle.block_cache_gen.proofs.HeldScalars.{array-free}
 use Rattle.block_cache_gen.proofs.RegisterWrites.{register-word, zero-word}
+use Rattle.block_cache_gen.proofs.HeldOperands.{IsOperandOf, operand-apart, operand-stays, operand-unless}
+use Rattle.block_cache_gen.proofs.OperandRuns.{LeavesAt, RunsExpr, RunsValue, runs-operand}
 use Rattle.block_cache_gen.proofs.Stands.{stands-like, stands-set}
 use Rattle.block_cache_gen.proofs.ResidentRuns.{runs-placed, runs-read, resident-within}
 use Rattle.block_cache_gen.proofs.AccessRuns.{Accesses, runs-access, word-within}
@@ -124,31 +128,27 @@ module _ (o : Parts) (fits : IsInRange o) (f : Setting) (homes : HasHomes o f) (
 
   -- an element, where what the code of its index does is known
   runs-element : (mode : Mode) (x : List ℕ) (i : Tree) (label : Label) → context_of f.decls x ≡ Some (label, Array)
-      → (to : ℕ) → to + 2 < 19 → (s : State) → IsShaped o s → StandsFor f s store
-      → (StandsAt o s.place (expr_code f mode to i)
-      → RunsThrough o s (expr_code f mode to i) (seen_of_all mode s.banks s.slots (accesses f store i))
-      (LeavesWord f store (accesses f store i) to (evaluated f.decls store i) s))
-      → (near resident : Bool) → (home_of f x).resident ≡ resident
+      → (to from : ℕ) (index : List Instr) → to + 2 < 19 → from ≢ to + 1 → (s : State) → IsShaped o s
+      → StandsFor f s store → RunsValue o f store mode to from i index s
+      → (near resident : Bool) → (near ≡ true → from ≡ to) → (home_of f x).resident ≡ resident
       → StandsAt o s.place
-      (access_by resident near f.profile.block_log mode (home_of f x) to (fixed_index (home_of f x) i)
-      (expr_code f mode to i)
+      (access_by resident near f.profile.block_log mode (home_of f x) to from (fixed_index (home_of f x) i) index
       ++ Ldw to (home_of f x).slot to ∷ [])
       → RunsThrough o s
-      (access_by resident near f.profile.block_log mode (home_of f x) to (fixed_index (home_of f x) i)
-      (expr_code f mode to i)
+      (access_by resident near f.profile.block_log mode (home_of f x) to from (fixed_index (home_of f x) i) index
       ++ Ldw to (home_of f x).slot to ∷ [])
       (seen_of_all mode s.banks s.slots
       (accesses f store i ++ accessed_by resident (access_of f store x (evaluated f.decls store i))))
       (LeavesWord f store
       (accesses f store i ++ accessed_by resident (access_of f store x (evaluated f.decls store i))) to
       (element store (variable_number f.decls x) (evaluated f.decls store i)) s)
-  runs-element mode x i label known to small s shaped stands run near true resident at =
+  runs-element mode x i label known to from found small other s shaped stands run near true own resident at =
       let h = home_of f x in
       let index = evaluated f.decls store i in
       let n = word_number f store x index in
       let value = element store (variable_number f.decls x) index in
       let before = accesses f store i in
-      let code = placed_code near h to (fixed_index h i) (expr_code f mode to i) in
+      let code = placed_code near h to from (fixed_index h i) found in
       let load = Ldw to h.slot to in
       let seen = seen_of_all mode s.banks s.slots before in
       let same : before ≡ before ++ [] = sym (append-nil before) in
@@ -158,8 +158,8 @@ module _ (o : Parts) (fits : IsInRange o) (f : Setting) (homes : HasHomes o f) (
       same
       (runs-weaker s (code ++ load ∷ []) (seen ++ []) seen Done Done
       (runs-append s code (load ∷ []) seen [] (LeavesWord f store before to (pos (h.word + n)) s) Done at
-      (runs-placed o fits f homes store store_fits x label Array known resident mode to i s shaped stands small run
-      near (fixed_index h i) refl)
+      (runs-placed o fits f homes store store_fits x label Array known resident mode to from i found s shaped stands
+      small other run near own (fixed_index h i) refl)
       (λ t shape placed at'.
       runs-weaker t (load ∷ []) [] [] (Sets t to value) Done
       (runs-read o fits f homes store store_fits x label Array known resident to n t shape placed.stands
@@ -175,20 +175,21 @@ module _ (o : Parts) (fits : IsInRange o) (f : Setting) (homes : HasHomes o f) (
       })))
       (append-nil seen)
       (λ t shape done. done))
-  runs-element mode x i label known to small s shaped stands run near false turn at =
+  runs-element mode x i label known to from found small other s shaped stands run near false own turn at =
       let h = home_of f x in
       let index = evaluated f.decls store i in
       let n = word_number f store x index in
       let a = access_of f store x index in
       let value = element store (variable_number f.decls x) index in
       let before = accesses f store i in
-      let code = access_by false near f.profile.block_log mode h to (fixed_index h i) (expr_code f mode to i) in
+      let code = access_by false near f.profile.block_log mode h to from (fixed_index h i) found in
       let load = Ldw to h.slot to in
       let seen = seen_of_all mode s.banks s.slots (before ++ a ∷ []) in
       let Done : State → Type 0 = LeavesWord f store (before ++ a ∷ []) to value s in
       runs-weaker s (code ++ load ∷ []) (seen ++ []) seen Done Done
       (runs-append s code (load ∷ []) seen [] (Accesses f store before a to n s) Done at
-      (runs-access o fits f homes store store_fits x label known turn near mode to i s shaped stands small run)
+      (runs-access o fits f homes store store_fits x label known turn near mode to from i found s shaped stands small
+      other own run)
       (λ t shape accessed at'.
       let named : word_named o (register t to) ≡ n % words_a_block f =
       ap (λ word. word_named o word) accessed.leaves.value ∙ ap (λ w. n % w) (block_words-is homes) in
@@ -209,26 +210,22 @@ module _ (o : Parts) (fits : IsInRange o) (f : Setting) (homes : HasHomes o f) (
       (append-nil seen)
       (λ t shape done. done)
 
-  -- an operation on two expressions, where what the code of each does is known
-  runs-operation : (mode : Mode) (op : Op) (left right : Tree) (to : ℕ) → to + 2 < 19 → (s : State) → IsShaped o s
-      → StandsFor f s store
-      → (StandsAt o s.place (expr_code f mode to left)
-      → RunsThrough o s (expr_code f mode to left) (seen_of_all mode s.banks s.slots (accesses f store left))
-      (LeavesWord f store (accesses f store left) to (evaluated f.decls store left) s))
-      → ((t : State) → IsShaped o t → StandsFor f t store → StandsAt o t.place (expr_code f mode (to + 1) right)
-      → RunsThrough o t (expr_code f mode (to + 1) right) (seen_of_all mode t.banks t.slots (accesses f store right))
-      (LeavesWord f store (accesses f store right) (to + 1) (evaluated f.decls store right) t))
-      → StandsAt o s.place (expr_code f mode to left ++ (expr_code f mode (to + 1) right ++ Alu op to to (to + 1) ∷ []))
-      → RunsThrough o s (expr_code f mode to left ++ (expr_code f mode (to + 1) right ++ Alu op to to (to + 1) ∷ []))
+  -- an operation on two operands, where what the code of each does is known
+  runs-operation : (mode : Mode) (op : Op) (left right : Tree) (to ra rb : ℕ) (first second : List Instr) → to + 2 < 19
+      → (s : State) → IsShaped o s → StandsFor f s store
+      → RunsValue o f store mode to ra left first s
+      → ((t : State) → IsShaped o t → StandsFor f t store → RunsValue o f store mode (to + 1) rb right second t)
+      → ((t u : State) → StandsFor f t store → StandsFor f u store → ((r : ℕ) → r ≤ to → register u r ≡ register t r)
+      → register u ra ≡ register t ra)
+      → StandsAt o s.place (first ++ (second ++ Alu op to ra rb ∷ []))
+      → RunsThrough o s (first ++ (second ++ Alu op to ra rb ∷ []))
       (seen_of_all mode s.banks s.slots (accesses f store left ++ accesses f store right))
       (LeavesWord f store (accesses f store left ++ accesses f store right) to
       (applied op (evaluated f.decls store left) (evaluated f.decls store right)) s)
-  runs-operation mode op left right to room s shaped stands run then_run at =
+  runs-operation mode op left right to ra rb first second room s shaped stands run then_run stays at =
       let a = evaluated f.decls store left in
       let b = evaluated f.decls store right in
-      let first = expr_code f mode to left in
-      let second = expr_code f mode (to + 1) right in
-      let join = Alu op to to (to + 1) in
+      let join = Alu op to ra rb in
       let before = accesses f store left in
       let then = accesses f store right in
       let seen_first = seen_of_all mode s.banks s.slots before in
@@ -236,23 +233,24 @@ module _ (o : Parts) (fits : IsInRange o) (f : Setting) (homes : HasHomes o f) (
       let Done : State → Type 0 = LeavesWord f store (before ++ then) to (applied op a b) s in
       runs-weaker s (first ++ (second ++ join ∷ [])) (seen_first ++ (seen_then ++ []))
       (seen_of_all mode s.banks s.slots (before ++ then)) Done Done
-      (runs-append s first (second ++ join ∷ []) seen_first (seen_then ++ []) (LeavesWord f store before to a s) Done at
+      (runs-append s first (second ++ join ∷ []) seen_first (seen_then ++ []) (LeavesAt f store before to ra a s) Done at
       run
       (λ t shape leaves at'.
-      runs-append t second (join ∷ []) seen_then [] (LeavesWord f store then (to + 1) b t) Done at'
+      runs-append t second (join ∷ []) seen_then [] (LeavesAt f store then (to + 1) rb b t) Done at'
       (λ at''.
-      runs-weaker t second (seen_of_all mode t.banks t.slots then) seen_then (LeavesWord f store then (to + 1) b t)
-      (LeavesWord f store then (to + 1) b t)
+      runs-weaker t second (seen_of_all mode t.banks t.slots then) seen_then (LeavesAt f store then (to + 1) rb b t)
+      (LeavesAt f store then (to + 1) rb b t)
       (then_run t shape leaves.stands at'')
       (ap (λ l. seen_of_all mode l t.slots then) leaves.banks ∙ ap (λ l. seen_of_all mode s.banks l then) leaves.slots)
       (λ u shape' h. h))
       (λ u shape' leaves' at''.
-      let value : applied op (register u to) (register u (to + 1)) ≡ applied op a b =
-      ap (λ v. applied op v (register u (to + 1))) (leaves'.below to (omega arith) ∙ leaves.value)
+      let kept = stays t u leaves.stands leaves'.stands (λ r under. leaves'.below r (omega arith)) in
+      let value : applied op (register u ra) (register u rb) ≡ applied op a b =
+      ap (λ v. applied op v (register u rb)) (kept ∙ leaves.value)
       ∙ ap (λ v. applied op a v) leaves'.value in
       runs-weaker u (join ∷ []) [] [] (Sets u to (applied op a b)) Done
       (runs-one u join [] (Sets u to (applied op a b)) at''
-      (sets-alu o fits u shape' op to to (to + 1) (applied op a b) (omega arith) value))
+      (sets-alu o fits u shape' op to ra rb (applied op a b) (omega arith) value))
       refl
       (λ v shape'' sets. record {
         value = sets.value;
@@ -318,25 +316,42 @@ module _ (o : Parts) (fits : IsInRange o) (f : Setting) (homes : HasHomes o f) (
       (subst (λ l. RunsThrough o s (first ++ code_of to steps) (seen_of_all mode s.banks s.slots l)
       (LeavesWord f store l to result s)) same runs)
 
-  -- an operation
+  -- an operation, whose left side is in a register of its own if steps replace the operation
   runs-either : (mode : Mode) (op : Op) (left right : Tree) (to : ℕ) → to + 2 < 19 → (s : State) → IsShaped o s
-      → StandsFor f s store
-      → (StandsAt o s.place (expr_code f mode to left)
-      → RunsThrough o s (expr_code f mode to left) (seen_of_all mode s.banks s.slots (accesses f store left))
-      (LeavesWord f store (accesses f store left) to (evaluated f.decls store left) s))
-      → ((t : State) → IsShaped o t → StandsFor f t store → StandsAt o t.place (expr_code f mode (to + 1) right)
-      → RunsThrough o t (expr_code f mode (to + 1) right) (seen_of_all mode t.banks t.slots (accesses f store right))
-      (LeavesWord f store (accesses f store right) (to + 1) (evaluated f.decls store right) t))
+      → StandsFor f s store → (q : Option ℕ) → IsOperandOf f left q
+      → RunsExpr o f store mode to left s
+      → ((t : State) → IsShaped o t → StandsFor f t store → RunsExpr o f store mode (to + 1) right t)
       → (found : Option (List Step)) → steps_at f op right ≡ found
-      → StandsAt o s.place (expr_code f mode to left ++ operation_code op to found (expr_code f mode (to + 1) right))
-      → RunsThrough o s (expr_code f mode to left ++ operation_code op to found (expr_code f mode (to + 1) right))
+      → ((steps : List Step) → found ≡ Some steps → q ≡ None)
+      → StandsAt o s.place
+      (operand_part q (expr_code f mode to left)
+      ++ operation_code op to (operand_register q to) (operand_register (operand f right) (to + 1)) found
+      (operand_part (operand f right) (expr_code f mode (to + 1) right)))
+      → RunsThrough o s
+      (operand_part q (expr_code f mode to left)
+      ++ operation_code op to (operand_register q to) (operand_register (operand f right) (to + 1)) found
+      (operand_part (operand f right) (expr_code f mode (to + 1) right)))
       (seen_of_all mode s.banks s.slots (accesses f store left ++ accesses f store right))
       (LeavesWord f store (accesses f store left ++ accesses f store right) to
       (applied op (evaluated f.decls store left) (evaluated f.decls store right)) s)
-  runs-either mode op left right to room s shaped stands run then_run None e at =
-      runs-operation mode op left right to room s shaped stands run then_run at
-  runs-either mode op left right to room s shaped stands run then_run (Some steps) e at =
-      runs-stepped mode op left right steps (steps-of f op right steps e) to room s shaped stands run at
+  runs-either mode op left right to room s shaped stands q is run then_run None e own at =
+      let p = operand f right in
+      runs-operation mode op left right to (operand_register q to) (operand_register p (to + 1))
+      (operand_part q (expr_code f mode to left)) (operand_part p (expr_code f mode (to + 1) right)) room s shaped stands
+      (runs-operand o f store mode left q is to s shaped stands run)
+      (λ t shape stands'.
+      runs-operand o f store mode right p (λ r held. held) (to + 1) t shape stands' (then_run t shape stands'))
+      (operand-stays f store left q is to) at
+  runs-either mode op left right to room s shaped stands q is run then_run (Some steps) e own at =
+      let first = expr_code f mode to left in
+      let before = accesses f store left ++ accesses f store right in
+      let Done : State → Type 0 =
+      LeavesWord f store before to (applied op (evaluated f.decls store left) (evaluated f.decls store right)) s in
+      subst (λ p. StandsAt o s.place (operand_part p first ++ code_of to steps)
+      → RunsThrough o s (operand_part p first ++ code_of to steps) (seen_of_all mode s.banks s.slots before) Done)
+      (sym (own steps refl))
+      (runs-stepped mode op left right steps (steps-of f op right steps e) to room s shaped stands run)
+      at
 
   -- an expression
   pub runs-expression : (mode : Mode) (e : Tree) → TypedTree (context_of f.decls) e → (to : ℕ) → to + height_of e ≤ 18
@@ -351,11 +366,18 @@ module _ (o : Parts) (fits : IsInRange o) (f : Setting) (homes : HasHomes o f) (
   runs-expression mode (Variable x) typed to room s shaped stands at =
       runs-scalar x typed.0 typed.1 to (omega arith) s shaped stands (register_for f x) refl at
   runs-expression mode (Element x i) typed to room s shaped stands at =
-      runs-element mode x i typed.0.0 typed.0.1 to (omega (arith, height-some i)) s shaped stands
-      (runs-expression mode i typed.1.0 to (omega arith) s shaped stands) (compares f mode (home_of f x) i)
-      (home_of f x).resident refl at
+      let near = compares f mode (home_of f x) i in
+      let q = index_operand f near i in
+      let low : to + 2 < 19 = omega (arith, height-some i) in
+      let apart = operand-apart f i q (operand-unless f i near) to in
+      runs-element mode x i typed.0.0 typed.0.1 to (operand_register q to) (operand_part q (expr_code f mode to i)) low
+      (apart.apart (to + 1) (omega arith) (omega arith)) s shaped stands
+      (runs-operand o f store mode i q (operand-unless f i near) to s shaped stands
+      (runs-expression mode i typed.1.0 to (omega arith) s shaped stands))
+      near (home_of f x).resident (λ e. ap (λ b. operand_register (operand_unless b (operand f i)) to) e) refl at
   runs-expression mode (Operation op left right) typed to room s shaped stands at =
       runs-either mode op left right to (omega (arith, height-some right)) s shaped stands
+      (left_operand f op left right) (operand-unless f left (is_some (steps_at f op right)))
       (runs-expression mode left typed.0 to (omega arith) s shaped stands)
       (λ t shape stands'. runs-expression mode right typed.1 (to + 1) (omega arith) t shape stands')
-      (steps_at f op right) refl at
+      (steps_at f op right) refl (λ steps e. ap (λ g. operand_unless (is_some g) (operand f left)) e) at

@@ -1,4 +1,4 @@
--- Runs of the code that puts into registers what they hold for the whole run: afterwards the machine represents the store
+-- Runs of the code that loads the words that registers hold for the whole run: afterwards the machine represents the store
 -- that it represented with each scalar in its slot.
 use Rattle.std.proofs.Common.{◌≡◌, ◌≢◌, ℕ, suc, ◌+◌, ◌-◌, ◌<◌, Bool, false, ℤ, pos, List, [], ◌∷◌, length, get_or, Option, Some, None, refl, sym, ap, ◌∙◌, subst, ⊎_elim, arith, mod-eq_of_lt}
 use Rattle.std.specs.Prelude.{nat_lt, if◌then◌else◌}

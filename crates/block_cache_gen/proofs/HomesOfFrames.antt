@@ -9,14 +9,11 @@ use Rattle.src_tree.specs.Trees.{Source, source_of}
 use Rattle.src_tree.proofs.VariableNumbers.{number-below}
 use Rattle.scratch_alloc.specs.Plans.{Plan, IsSoundPlan, IsSoundByPin, pin_of_slot, no_decl, no_place}
 use Rattle.scratch_alloc.proofs.Serving.{serves-within}
-use Rattle.held_registers.specs.declared.registers.Held.TheVariants.{Scalar}
-use Rattle.held_registers.proofs.Found.{scalar-held}
 use Rattle.block_cache_gen.specs.declared.frames.Frame.{Frame}
 use Rattle.block_cache_gen.specs.Homes.{Pin, no_home}
 use Rattle.block_cache_gen.specs.ServedBlocks.{block_served, first_blocks}
 use Rattle.block_cache_gen.specs.Settings.{IsFrame, homes_at, plan_of, setting_of}
 use Rattle.block_cache_gen.proofs.FrameParts.{frame_places, frame_slots}
-use Rattle.block_cache_gen.proofs.HeldScalars.{held-inside}
 use Rattle.block_cache_gen.proofs.RangesOfCode.{HomeFits, HomesFit}
 use Rattle.block_cache_gen.proofs.ServedBlocks.{served-home, first-all}
 use Rattle.block_cache_gen.proofs.Settled.{get_or-homes_at, length-homes_at, place-length}
@@ -79,9 +76,7 @@ home_fits-at f is k below =
 pub homes_fit : (f : Frame) → IsFrame f → HomesFit (length f.places.now.blocks.items) (setting_of f)
 homes_fit f is = record {
   block_log = is.profile.block_log.1;
-  registers = λ x r held.
-      let n = variable_number f.program.now.decls.items x in
-      (held-inside is.held r (Scalar n) (scalar-held f.held.now n r held)).0;
+  held = is.held;
   pins = λ slot p pinned. (is.plan.pins slot p pinned).bank;
   homes = λ x label shape known.
       home_fits-at f is (variable_number f.program.now.decls.items x)

@@ -51,22 +51,22 @@ power-of n is = found 0 21 is
 
 module _ (o : Parts) (fits : IsInRange o) where
   -- an index modulo the length, by an operation that reduces it
-  runs-reducing : (op : Op) (by : ℤ) (h : Home) (to : ℕ) (s : State) (index : ℤ)
-      → IsShaped o s → register s to ≡ index → to + 2 < 19 → applied op index by ≡ pos (unsigned_of index % h.length)
-      → StandsAt o s.place (Li (to + 1) by ∷ Alu op to to (to + 1) ∷ []) → RunsThrough o s
-      (Li (to + 1) by ∷ Alu op to to (to + 1) ∷ []) [] (Reduces to (unsigned_of index % h.length) s)
-  runs-reducing op by h to s index shaped has below reduces at =
+  runs-reducing : (op : Op) (by : ℤ) (h : Home) (to from : ℕ) (s : State) (index : ℤ)
+      → IsShaped o s → register s from ≡ index → from ≢ to + 1 → to + 2 < 19
+      → applied op index by ≡ pos (unsigned_of index % h.length)
+      → StandsAt o s.place (Li (to + 1) by ∷ Alu op to from (to + 1) ∷ []) → RunsThrough o s
+      (Li (to + 1) by ∷ Alu op to from (to + 1) ∷ []) [] (Reduces to (unsigned_of index % h.length) s)
+  runs-reducing op by h to from s index shaped has other below reduces at =
       let word = unsigned_of index % h.length in
-      runs-cons s (Li (to + 1) by) (Alu op to to (to + 1) ∷ []) [] [] (Sets s (to + 1) by) _ at
+      runs-cons s (Li (to + 1) by) (Alu op to from (to + 1) ∷ []) [] [] (Sets s (to + 1) by) _ at
       (sets-li o fits s shaped (to + 1) by (omega arith))
       (λ t shape sets at'.
-      let other : to ≢ to + 1 = λ same. absurd (omega arith) in
-      let result : applied op (register t to) (register t (to + 1)) ≡ pos word =
-      ap (λ a. applied op a (register t (to + 1))) (sets.others to other ∙ has) ∙ ap (applied op index) sets.value
+      let result : applied op (register t from) (register t (to + 1)) ≡ pos word =
+      ap (λ a. applied op a (register t (to + 1))) (sets.others from other ∙ has) ∙ ap (applied op index) sets.value
       ∙ reduces in
-      runs-weaker t (Alu op to to (to + 1) ∷ []) [] [] (Sets t to (pos word)) _
-      (runs-one t (Alu op to to (to + 1)) [] (Sets t to (pos word)) at'
-      (sets-alu o fits t shape op to to (to + 1) (pos word) (omega arith) result))
+      runs-weaker t (Alu op to from (to + 1) ∷ []) [] [] (Sets t to (pos word)) _
+      (runs-one t (Alu op to from (to + 1)) [] (Sets t to (pos word)) at'
+      (sets-alu o fits t shape op to from (to + 1) (pos word) (omega arith) result))
       refl
       (λ u shape' sets'. record {
         word = sets'.value;
@@ -81,18 +81,20 @@ module _ (o : Parts) (fits : IsInRange o) where
       ∙ ap (λ n. pos (unsigned_of index % n)) is
 
   -- an index becomes a number of the array's words
-  pub runs-reduced : (h : Home) (to : ℕ) (s : State) (index : ℤ) → IsShaped o s → register s to ≡ index → to + 2 < 19
-      → 1 ≤ h.length → h.length ≤ 1048576 → StandsAt o s.place (reduced_code h to)
-      → RunsThrough o s (reduced_code h to) [] (Reduces to (unsigned_of index % h.length) s)
-  runs-reduced h to s index shaped has below least most =
-      cond_both (is_masked h) (Li (to + 1) (pos (h.length - 1)) ∷ Alu And to to (to + 1) ∷ [])
-      (Li (to + 1) (pos h.length) ∷ Alu Remu to to (to + 1) ∷ [])
+  pub runs-reduced : (h : Home) (to from : ℕ) (s : State) (index : ℤ) → IsShaped o s → register s from ≡ index
+      → from ≢ to + 1 → to + 2 < 19
+      → 1 ≤ h.length → h.length ≤ 1048576 → StandsAt o s.place (reduced_code h to from)
+      → RunsThrough o s (reduced_code h to from) [] (Reduces to (unsigned_of index % h.length) s)
+  runs-reduced h to from s index shaped has other below least most =
+      cond_both (is_masked h) (Li (to + 1) (pos (h.length - 1)) ∷ Alu And to from (to + 1) ∷ [])
+      (Li (to + 1) (pos h.length) ∷ Alu Remu to from (to + 1) ∷ [])
       (λ code. StandsAt o s.place code → RunsThrough o s code [] (Reduces to (unsigned_of index % h.length) s))
       (λ masked.
-      runs-reducing And (pos (h.length - 1)) h to s index shaped has below
+      runs-reducing And (pos (h.length - 1)) h to from s index shaped has other below
       (masks h index (and_parts (is_cached h) (is_power h.length) masked).1))
       (λ not_masked.
-      runs-reducing Remu (pos h.length) h to s index shaped has below (remu_small index h.length least (omega arith)))
+      runs-reducing Remu (pos h.length) h to from s index shaped has other below
+      (remu_small index h.length least (omega arith)))
 
   -- The branch over the remainder is taken if the index is below the length, and then the index is the number of the
   -- word.
@@ -127,7 +129,8 @@ module _ (o : Parts) (fits : IsInRange o) where
       let same : Keeps to t u =
       record { below = λ r under. on.below r (omega arith); above = on.above; slots = on.slots; banks = on.banks } in
       runs-weaker u rest [] [] (Reduces to word u) (Reduces to word s)
-      (runs-reducing Remu (pos h.length) h to u index shape (on.below to (omega arith) ∙ has) below
+      (runs-reducing Remu (pos h.length) h to to u index shape (on.below to (omega arith) ∙ has)
+      (λ same'. absurd (omega arith)) below
       (remu_small index h.length least (omega arith)) at')
       refl
       (λ v shape' reduces. record {
@@ -169,13 +172,14 @@ module _ (o : Parts) (fits : IsInRange o) where
       below least most (compared Lt sum bound) test (near-index index h.length word (omega arith)) at3)))
 
   -- with a comparison or without one
-  pub runs-numbered : (near : Bool) (h : Home) (to : ℕ) (s : State) (index : ℤ) → IsShaped o s → register s to ≡ index
-      → to + 2 < 19 → 1 ≤ h.length → h.length ≤ 1048576 → StandsAt o s.place (numbered_code near h to)
-      → RunsThrough o s (numbered_code near h to) [] (Reduces to (unsigned_of index % h.length) s)
-  runs-numbered true h to s index shaped has below least most at =
-      runs-compared h to s index shaped has below least most at
-  runs-numbered false h to s index shaped has below least most at =
-      runs-reduced h to s index shaped has below least most at
+  pub runs-numbered : (near : Bool) (h : Home) (to from : ℕ) (s : State) (index : ℤ) → IsShaped o s
+      → register s from ≡ index → from ≢ to + 1 → (near ≡ true → from ≡ to)
+      → to + 2 < 19 → 1 ≤ h.length → h.length ≤ 1048576 → StandsAt o s.place (numbered_code near h to from)
+      → RunsThrough o s (numbered_code near h to from) [] (Reduces to (unsigned_of index % h.length) s)
+  runs-numbered true h to from s index shaped has other own below least most at =
+      runs-compared h to s index shaped (ap (register s) (sym (own refl)) ∙ has) below least most at
+  runs-numbered false h to from s index shaped has other own below least most at =
+      runs-reduced h to from s index shaped has other below least most at
 
   -- the block, from the word
   pub runs-block : (block_log : ℕ) (h : Home) (to : ℕ) (s : State) (word : ℕ)

@@ -1,6 +1,7 @@
 pub mod BaseMask
 pub mod BaseMarks
 pub mod HeldLabels
+pub mod OperandLabels
 pub mod KnownNames
 pub mod ServedBlocks
 pub mod FrameParts
@@ -15,6 +16,8 @@ pub mod Settled
 pub mod Stores
 pub mod Kept
 pub mod HeldScalars
+pub mod HeldOperands
+pub mod OperandRuns
 pub mod Stands
 pub mod NearIndexes
 pub mod RegisterWrites
@@ -34,6 +37,7 @@ pub mod NoteClaims
 pub mod NotesOfCode
 pub mod KeptRegisters
 pub mod AccessLabels
+pub mod OperandPasses
 pub mod PublicAccesses
 pub mod PublicExpressions
 pub mod PublicGuards

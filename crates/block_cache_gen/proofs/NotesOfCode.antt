@@ -1,6 +1,6 @@
 -- The places of the notes of public code: after its first instruction, each at one of its instructions.
 use Rattle.std.proofs.Common.{◌≡◌, ℕ, ◌+◌, ◌-◌, ◌<◌, ◌≤◌, Bool, true, false, ℤ, List, [], ◌∷◌, ◌++◌, length, length-append, Option, Some, None, ap, ◌∙◌, arith, pos}
-use Rattle.std.specs.Prelude.{if◌then◌else◌}
+use Rattle.std.specs.Prelude.{if◌then◌else◌, is_some}
 use Rattle.lt_isa.specs.declared.symbols.Note.{Note}
 use Rattle.lt_isa.specs.declared.instructions.Instr.{Instr}
 use Rattle.lt_isa.specs.declared.instructions.Instr.TheVariants.{Li, Alu, Ldw}
@@ -10,13 +10,13 @@ use Rattle.src_tree.specs.Trees.{Tree, Number, Variable, Element, Operation}
 use Rattle.stretches.proofs.Passed.{LieBetween, lie_wider, lie_both}
 use Rattle.block_cache_gen.specs.declared.frames.Mode.TheVariants.{Public, Real, Mirrored}
 use Rattle.block_cache_gen.specs.Homes.{Home, Setting, home_of, register_for}
-use Rattle.block_cache_gen.specs.Codes.{is_cached, compares, compared_code, numbered_code, fixed_index, shift_code, offset_code, located_code, load_code, skips, access_by, access_code, operation_code, steps_at, expr_code, is_masked, scalar_code, write_code}
+use Rattle.block_cache_gen.specs.Codes.{is_cached, compares, compared_code, numbered_code, fixed_index, shift_code, offset_code, located_code, load_code, skips, access_by, access_code, operand, operand_part, operand_register, operand_unless, left_operand, index_operand, indexed_code, operation_code, steps_at, expr_code, is_masked, scalar_code, write_code}
 use Rattle.gr_word.specs.declared.variables.Label.{Label}
 use Rattle.block_cache_gen.specs.declared.frames.Mode.{Mode}
 use Rattle.gr_word.specs.declared.operations.Op.{Op}
 use Rattle.gr_word.specs.declared.operations.Op.TheVariants.{And, Remu}
 use Rattle.strength_reduction.specs.Steps.{Step, code_of}
-use Rattle.block_cache_gen.specs.Notes.{marked_by, access_mask, note_of, compared_notes, loading_code, loaded_notes, load_notes, index_notes, operation_notes, expr_notes}
+use Rattle.block_cache_gen.specs.Notes.{operand_mask, access_mask, note_of, compared_notes, loading_code, loaded_notes, load_notes, index_notes, operation_notes, expr_notes}
 use Rattle.block_cache_gen.proofs.Sizes.{numbered_some}
 
 -- a located word takes two instructions at least, and more than its index
@@ -25,14 +25,14 @@ index_length (Some z) index = 0
 index_length None index = length index
 
 -- at least two instructions follow the index
-pub located-longer : (near : Bool) (block_log : ℕ) (h : Home) (to : ℕ) (fixed : Option ℤ) (index : List Instr)
-    → index_length fixed index + 2 ≤ length (located_code near block_log h to fixed index)
-located-longer near block_log h to (Some z) index = omega arith
-located-longer near block_log h to None index =
+pub located-longer : (near : Bool) (block_log : ℕ) (h : Home) (to from : ℕ) (fixed : Option ℤ) (index : List Instr)
+    → index_length fixed index + 2 ≤ length (located_code near block_log h to from fixed index)
+located-longer near block_log h to from (Some z) index = omega arith
+located-longer near block_log h to from None index =
     omega (
       arith,
-      length-append index (numbered_code near h to ++ shift_code block_log h to),
-      length-append (numbered_code near h to) (shift_code block_log h to),
+      length-append index (numbered_code near h to from ++ shift_code block_log h to),
+      length-append (numbered_code near h to from) (shift_code block_log h to),
     )
 
 load_longer : (skip : Bool) (h : Home) (to : ℕ) → 1 ≤ length (load_code skip h to)
@@ -40,30 +40,31 @@ load_longer true h to = omega arith
 load_longer false h to = omega arith
 
 -- and one more in an access
-pub access-longer : (near : Bool) (block_log : ℕ) (h : Home) (to : ℕ) (fixed : Option ℤ) (index : List Instr)
-    → length (located_code near block_log h to fixed index) + 1
-    ≤ length (located_code near block_log h to fixed index ++ load_code (skips Public h) h to)
-access-longer near block_log h to fixed index =
+pub access-longer : (near : Bool) (block_log : ℕ) (h : Home) (to from : ℕ) (fixed : Option ℤ) (index : List Instr)
+    → length (located_code near block_log h to from fixed index) + 1
+    ≤ length (located_code near block_log h to from fixed index ++ load_code (skips Public h) h to)
+access-longer near block_log h to from fixed index =
     omega (
       arith,
-      length-append (located_code near block_log h to fixed index) (load_code (skips Public h) h to),
+      length-append (located_code near block_log h to from fixed index) (load_code (skips Public h) h to),
       load_longer (skips Public h) h to,
     )
 
 -- an access is longer than its index
-pub access-more : (resident near : Bool) (block_log : ℕ) (h : Home) (to : ℕ) (fixed : Option ℤ) (index : List Instr)
-    → index_length fixed index + 1 ≤ length (access_by resident near block_log Public h to fixed index)
-access-more true near block_log h to (Some z) index = omega arith
-access-more true near block_log h to None index =
+pub access-more : (resident near : Bool) (block_log : ℕ) (h : Home) (to from : ℕ) (fixed : Option ℤ)
+    (index : List Instr)
+    → index_length fixed index + 1 ≤ length (access_by resident near block_log Public h to from fixed index)
+access-more true near block_log h to from (Some z) index = omega arith
+access-more true near block_log h to from None index =
     omega (
       arith,
-      length-append index (numbered_code near h to ++ offset_code h to),
-      length-append (numbered_code near h to) (offset_code h to),
-      numbered_some near h to,
+      length-append index (numbered_code near h to from ++ offset_code h to),
+      length-append (numbered_code near h to from) (offset_code h to),
+      numbered_some near h to from,
     )
-access-more false near block_log h to fixed index =
-    let longer = located-longer near block_log h to fixed index in
-    let more = access-longer near block_log h to fixed index in
+access-more false near block_log h to from fixed index =
+    let longer = located-longer near block_log h to from fixed index in
+    let more = access-longer near block_log h to from fixed index in
     omega arith
 
 -- the note of a load
@@ -79,24 +80,24 @@ compared-lie true f mask to place p q low high = ((low, high), tt)
 compared-lie false f mask to place p q low high = tt
 
 -- before the number of the block is computed there is at most the note of a comparison
-pub located-lie : (f : Setting) (h : Home) (mask to p : ℕ) (near : Bool) (fixed : Option ℤ) (index : List Instr)
-    → LieBetween p (p + length (located_code near f.profile.block_log h to fixed index))
+pub located-lie : (f : Setting) (h : Home) (mask to from p : ℕ) (near : Bool) (fixed : Option ℤ) (index : List Instr)
+    → LieBetween p (p + length (located_code near f.profile.block_log h to from fixed index))
     (compared_notes near fixed f mask to
-    (p + length (located_code near f.profile.block_log h to fixed index)
+    (p + length (located_code near f.profile.block_log h to from fixed index)
     - length (shift_code f.profile.block_log h to)))
-located-lie f h mask to p near (Some z) index = tt
-located-lie f h mask to p false None index = tt
-located-lie f h mask to p true None index =
+located-lie f h mask to from p near (Some z) index = tt
+located-lie f h mask to from p false None index = tt
+located-lie f h mask to from p true None index =
     let shift = shift_code f.profile.block_log h to in
     let size : length (index ++ (compared_code h to ++ shift)) ≡ length index + 10 =
     length-append index (compared_code h to ++ shift) in
     compared-lie true f mask to _ p _ (omega arith) (omega arith)
 
 -- the place of the note of a comparison in the code of an access that loads
-pub loading-behind : (f : Setting) (h : Home) (to p : ℕ) (index : List Instr)
-    → p + length (access_by false true f.profile.block_log Public h to None index) - length (loading_code f h to)
+pub loading-behind : (f : Setting) (h : Home) (to from p : ℕ) (index : List Instr)
+    → p + length (access_by false true f.profile.block_log Public h to from None index) - length (loading_code f h to)
     ≡ p + length index + 6
-loading-behind f h to p index =
+loading-behind f h to from p index =
     let log = f.profile.block_log in
     let load = load_code (is_cached h) h to in
     omega (
@@ -107,33 +108,34 @@ loading-behind f h to p index =
     )
 
 -- the note of a comparison, or of a load
-pub loaded-lie : (f : Setting) (h : Home) (mask to p : ℕ) (resident near : Bool) (fixed : Option ℤ)
+pub loaded-lie : (f : Setting) (h : Home) (mask to from p : ℕ) (resident near : Bool) (fixed : Option ℤ)
     (index : List Instr)
-    → LieBetween p (p + length (access_by resident near f.profile.block_log Public h to fixed index) + 1)
+    → LieBetween p (p + length (access_by resident near f.profile.block_log Public h to from fixed index) + 1)
     (loaded_notes resident near fixed f h mask to
-    (p + length (access_by resident near f.profile.block_log Public h to fixed index)))
-loaded-lie f h mask to p true near (Some z) index = tt
-loaded-lie f h mask to p true true None index =
+    (p + length (access_by resident near f.profile.block_log Public h to from fixed index)))
+loaded-lie f h mask to from p true near (Some z) index = tt
+loaded-lie f h mask to from p true true None index =
     let size = length-append index (compared_code h to ++ offset_code h to) in
     let rest = length-append (compared_code h to) (offset_code h to) in
     ((omega (arith, size, rest), omega (arith, size, rest)), tt)
-loaded-lie f h mask to p true false None index = tt
-loaded-lie f h mask to p false near fixed index =
-    let code = access_by false near f.profile.block_log Public h to fixed index in
-    let more = access-more false near f.profile.block_log h to fixed index in
+loaded-lie f h mask to from p true false None index = tt
+loaded-lie f h mask to from p false near fixed index =
+    let code = access_by false near f.profile.block_log Public h to from fixed index in
+    let more = access-more false near f.profile.block_log h to from fixed index in
     lie_both p (p + length code + 1) (compared_notes near fixed f mask to
     (p + length code - length (loading_code f h to)))
     (if is_cached h then note_of f (access_mask mask to) (p + length code) ∷ [] else []) (compared near fixed)
     (load-lies f h mask to (p + length code) p (p + length code + 1) (is_cached h) (omega arith) (omega arith))
   where
     compared : (near : Bool) (fixed : Option ℤ)
-        → LieBetween p (p + length (access_by false near f.profile.block_log Public h to fixed index) + 1)
+        → LieBetween p (p + length (access_by false near f.profile.block_log Public h to from fixed index) + 1)
         (compared_notes near fixed f mask to
-        (p + length (access_by false near f.profile.block_log Public h to fixed index) - length (loading_code f h to)))
+        (p + length (access_by false near f.profile.block_log Public h to from fixed index)
+        - length (loading_code f h to)))
     compared near (Some z) = tt
     compared false None = tt
     compared true None =
-        let size = loading-behind f h to p index in
+        let size = loading-behind f h to from p index in
         compared-lie true f mask to _ p _ (omega (arith, size)) (omega (arith, size))
 
 -- the notes of an index
@@ -143,24 +145,32 @@ index-lie (Some z) p index notes lie = tt
 index-lie None p index notes lie = lie
 
 -- the notes of an access
-pub access-lie : (f : Setting) (near : Bool) (h : Home) (mask to p : ℕ) (fixed : Option ℤ) (index : List Instr)
+pub access-lie : (f : Setting) (near : Bool) (h : Home) (mask to from p : ℕ) (fixed : Option ℤ) (index : List Instr)
     (notes : List Note) → LieBetween p (p + length index) notes
-    → LieBetween p (p + length (access_code near f.profile.block_log Public h to fixed index) + 1)
+    → LieBetween p (p + length (access_code near f.profile.block_log Public h to from fixed index) + 1)
     (index_notes fixed notes
-    ++ load_notes near fixed f h mask to (p + length (access_code near f.profile.block_log Public h to fixed index)))
-access-lie f near h mask to p fixed index notes lie =
-    let size = length (access_code near f.profile.block_log Public h to fixed index) in
-    let more = access-more h.resident near f.profile.block_log h to fixed index in
+    ++ load_notes near fixed f h mask to
+    (p + length (access_code near f.profile.block_log Public h to from fixed index)))
+access-lie f near h mask to from p fixed index notes lie =
+    let size = length (access_code near f.profile.block_log Public h to from fixed index) in
+    let more = access-more h.resident near f.profile.block_log h to from fixed index in
     lie_both p (p + size + 1) (index_notes fixed notes) (load_notes near fixed f h mask to (p + size))
     (lie_wider p (p + index_length fixed index) p (p + size + 1) (index_notes fixed notes) (omega arith)
     (omega arith) (index-lie fixed p index notes lie))
-    (loaded-lie f h mask to p h.resident near fixed index)
+    (loaded-lie f h mask to from p h.resident near fixed index)
+
+-- the notes of an operand
+pub operand-lie : (q : Option ℕ) (p : ℕ) (code : List Instr) (notes : List Note) → LieBetween p (p + length code) notes
+    → LieBetween p (p + length (operand_part q code)) (operand_part q notes)
+operand-lie (Some r) p code notes lie = tt
+operand-lie None p code notes lie = lie
 
 scalar_longer : (r : Option ℕ) (h : Home) (to : ℕ) → 1 ≤ length (scalar_code r h to)
 scalar_longer None h to = omega arith
 scalar_longer (Some r) h to = omega arith
 
--- an expression has some code
+-- An expression has some code. Of an operation whose operands have none the operation is left, and steps follow the
+-- code of the left side.
 pub expression-longer : (f : Setting) (e : Tree) (to : ℕ) → 1 ≤ length (expr_code f Public to e)
 expression-longer f (Number z) to = omega arith
 expression-longer f (Variable x) to = scalar_longer (register_for f x) (home_of f x) to
@@ -168,39 +178,49 @@ expression-longer f (Element x i) to =
     let h = home_of f x in
     omega (
       arith,
-      length-append
-          (access_code (compares f Public h i) f.profile.block_log Public h to (fixed_index h i)
-          (expr_code f Public to i))
+      length-append (indexed_code f (compares f Public h i) Public h to i (expr_code f Public to i))
           (Ldw to h.slot to ∷ []),
     )
 expression-longer f (Operation op a b) to =
-    omega (
-      arith,
-      length-append (expr_code f Public to a) (operation_code op to (steps_at f op b) (expr_code f Public (to + 1) b)),
-      expression-longer f a to,
-    )
+    by (operand f a) (operand_register (operand f b) (to + 1)) (operand_part (operand f b) (expr_code f Public (to + 1) b))
+    (steps_at f op b) (expression-longer f a to)
+  where
+    by : (q : Option ℕ) (right : ℕ) (second : List Instr) (found : Option (List Step))
+        → 1 ≤ length (expr_code f Public to a)
+        → 1 ≤ length (operand_part (operand_unless (is_some found) q) (expr_code f Public to a)
+        ++ operation_code op to (operand_register (operand_unless (is_some found) q) to) right found second)
+    by q right second None some =
+        omega (
+          arith,
+          length-append (operand_part q (expr_code f Public to a)) (second ++ Alu op to (operand_register q to) right ∷ []),
+          length-append second (Alu op to (operand_register q to) right ∷ []),
+        )
+    by q right second (Some steps) some =
+        omega (arith, length-append (expr_code f Public to a) (code_of to steps), some)
 
 -- so has what writes a scalar
-pub write-longer : (r : Option ℕ) (l : Label) (mode : Mode) (h : Home) → 1 ≤ length (write_code r l mode h)
-write-longer (Some r) l mode h = omega arith
-write-longer None l Public h = omega arith
-write-longer None l Real h = omega arith
-write-longer None l Mirrored h = omega arith
+pub write-longer : (r : Option ℕ) (l : Label) (mode : Mode) (h : Home) (value : ℕ)
+    → 1 ≤ length (write_code r l mode h value)
+write-longer (Some r) l mode h value = omega arith
+write-longer None l Public h value = omega arith
+write-longer None l Real h value = omega arith
+write-longer None l Mirrored h value = omega arith
 
 -- the notes of an operation, by those of its sides
-operation-lie : (f : Setting) (op : Op) (to p : ℕ) (first : List Instr) (before : List Note) (second : List Instr)
-    (later : List Note) (found : Option (List Step)) → LieBetween p (p + length first) before
+operation-lie : (f : Setting) (op : Op) (to left right p : ℕ) (first : List Instr) (before : List Note)
+    (second : List Instr) (later : List Note) (found : Option (List Step)) → LieBetween p (p + length first) before
     → LieBetween (p + length first) (p + length first + length second) later
-    → LieBetween p (p + length (first ++ operation_code op to found second)) (before ++ operation_notes found later)
-operation-lie f op to p first before second later None one two =
-    let behind = second ++ Alu op to to (to + 1) ∷ [] in
+    → LieBetween p (p + length (first ++ operation_code op to left right found second))
+    (before ++ operation_notes found later)
+operation-lie f op to left right p first before second later None one two =
+    let behind = second ++ Alu op to left right ∷ [] in
     let size : length (first ++ behind) ≡ length first + (length second + 1) = length-append first behind
-    ∙ ap (λ (n : ℕ). length first + n) (length-append second (Alu op to to (to + 1) ∷ [])) in
+    ∙ ap (λ (n : ℕ). length first + n) (length-append second (Alu op to left right ∷ [])) in
     lie_both p (p + length (first ++ behind)) before later
     (lie_wider p (p + length first) p (p + length (first ++ behind)) before (omega arith) (omega arith) one)
     (lie_wider (p + length first) (p + length first + length second) p (p + length (first ++ behind)) later
     (omega arith) (omega arith) two)
-operation-lie f op to p first before second later (Some steps) one two =
+operation-lie f op to left right p first before second later (Some steps) one two =
     let size = length-append first (code_of to steps) in
     lie_both p (p + length (first ++ code_of to steps)) before []
     (lie_wider p (p + length first) p (p + length (first ++ code_of to steps)) before (omega arith) (omega arith) one)
@@ -213,17 +233,23 @@ expression-lies f (Number z) mask to p = tt
 expression-lies f (Variable x) mask to p = tt
 expression-lies f (Element x i) mask to p =
     let h = home_of f x in
-    let index = expr_code f Public to i in
-    let code = access_code (compares f Public h i) f.profile.block_log Public h to (fixed_index h i) index in
+    let near = compares f Public h i in
+    let q = index_operand f near i in
+    let code = indexed_code f near Public h to i (expr_code f Public to i) in
     let notes = expr_notes f mask to p (Element x i) in
     let size : length (code ++ Ldw to h.slot to ∷ []) ≡ length code + 1 = length-append code (Ldw to h.slot to ∷ []) in
     lie_wider p (p + length code + 1) p (p + length (code ++ Ldw to h.slot to ∷ [])) notes (omega arith) (omega arith)
-    (access-lie f (compares f Public h i) h mask to p (fixed_index h i) index (expr_notes f mask to p i)
-    (expression-lies f i mask to p))
+    (access-lie f near h mask to (operand_register q to) p (fixed_index h i) (operand_part q (expr_code f Public to i))
+    (operand_part q (expr_notes f mask to p i))
+    (operand-lie q p (expr_code f Public to i) (expr_notes f mask to p i) (expression-lies f i mask to p)))
 expression-lies f (Operation op a b) mask to p =
-    let first = expr_code f Public to a in
+    let q = left_operand f op a b in
+    let first = operand_part q (expr_code f Public to a) in
+    let second = expr_code f Public (to + 1) b in
     let mid = p + length first in
-    let mask' = marked_by (label_of (context_of f.decls) a) mask to in
-    operation-lie f op to p first (expr_notes f mask to p a) (expr_code f Public (to + 1) b)
-    (expr_notes f mask' (to + 1) mid b) (steps_at f op b) (expression-lies f a mask to p)
-    (expression-lies f b mask' (to + 1) mid)
+    let mask' = operand_mask q (label_of (context_of f.decls) a) mask to in
+    operation-lie f op to (operand_register q to) (operand_register (operand f b) (to + 1)) p first
+    (operand_part q (expr_notes f mask to p a)) (operand_part (operand f b) second)
+    (operand_part (operand f b) (expr_notes f mask' (to + 1) mid b)) (steps_at f op b)
+    (operand-lie q p (expr_code f Public to a) (expr_notes f mask to p a) (expression-lies f a mask to p))
+    (operand-lie (operand f b) mid second (expr_notes f mask' (to + 1) mid b) (expression-lies f b mask' (to + 1) mid))

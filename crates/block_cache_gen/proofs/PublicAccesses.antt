@@ -1,5 +1,5 @@
 -- The public code of an access is passed: the word of an array, with its block in the array's slot.
-use Rattle.std.proofs.Common.{pos, ◌==◌, ◌≡◌, ℕ, ◌+◌, ◌-◌, ◌<◌, ◌≤◌, Bool, true, false, not, ◌&&◌, ℤ, List, [], ◌∷◌, ◌++◌, length, length-append, append_assoc, Option, Some, None, refl, sym, ap, ◌∙◌, subst, ⊎_elim, arith}
+use Rattle.std.proofs.Common.{pos, ◌==◌, ◌≡◌, ◌≢◌, ℕ, ◌+◌, ◌-◌, ◌<◌, ◌≤◌, Bool, true, false, not, ◌&&◌, ℤ, List, [], ◌∷◌, ◌++◌, length, length-append, append_assoc, Option, Some, None, refl, sym, ap, ◌∙◌, subst, ⊎_elim, arith}
 use Rattle.std.specs.Prelude.{if◌then◌else◌}
 use Rattle.lt_isa.specs.declared.instructions.Instr.TheVariants.{Li, Alu}
 use Rattle.gr_word.specs.declared.operations.Op.TheVariants.{Add}
@@ -15,7 +15,7 @@ use Rattle.src_tree.specs.Contexts.{context_of}
 use Rattle.src_tree.specs.Labels.{label_of, secret_label}
 use Rattle.src_tree.specs.Heights.{height_of}
 use Rattle.src_tree.specs.Trees.{Tree}
-use Rattle.src_tree.specs.Typing.{DeclaredOnce}
+use Rattle.src_tree.specs.Typing.{TypedTree, DeclaredOnce}
 use Rattle.trace_patterns.specs.Known.{Known, is_secret, bank_known, set_bank, set_secret, FitsClaim, note_known}
 use Rattle.trace_patterns.specs.Rules.{claimed_at}
 use Rattle.stretches.specs.Standing.{StandsAt}
@@ -24,37 +24,32 @@ use Rattle.stretches.proofs.Standing.{standing-first, standing-rest}
 use Rattle.stretches.proofs.Passed.{passes-then, passes-to, passes-goes, passes-noted, no_note-before, no_note-behind, notes-before, notes-behind, no_note-there, notes-within, noted, bank-same, secret-same, rules-li, One, NoMore, LieBetween, lie_wider, lie_both}
 use Rattle.block_cache_gen.specs.declared.frames.Mode.TheVariants.{Public}
 use Rattle.block_cache_gen.specs.Homes.{Home, Setting, HasHomes, Serves, home_of, pin_of}
-use Rattle.block_cache_gen.specs.Codes.{is_cached, is_masked, compares, compared_code, numbered_code, fixed_index, reduced_code, shift_code, offset_code, placed_code, located_code, load_code, access_by, access_code, expr_code}
+use Rattle.block_cache_gen.specs.Codes.{is_cached, is_masked, compares, compared_code, numbered_code, fixed_index, reduced_code, shift_code, offset_code, placed_code, located_code, load_code, access_by, operand, operand_part, operand_register, operand_unless, index_operand, indexed_code, expr_code}
 use Rattle.block_cache_gen.specs.Notes.{unmarked, access_mask, note_of, compared_notes, loading_code, loaded_notes, load_notes, index_notes, expr_notes}
 use Rattle.block_cache_gen.specs.Carries.{Carries}
 use Rattle.block_cache_gen.specs.PublicCode.{StandsNoted, HasLabel}
 use Rattle.block_cache_gen.specs.PublicIndexes.{shows_index, IndexIsPublic}
-use Rattle.block_cache_gen.proofs.KeptBelow.{LeavesPublic, KeptBelow, PassedBelow}
+use Rattle.block_cache_gen.proofs.HeldOperands.{IsOperandOf, operand-unless, operand-apart}
+use Rattle.block_cache_gen.proofs.OperandPasses.{ExprPasses, kept-here, passes-here, operand-passes}
+use Rattle.block_cache_gen.proofs.KeptBelow.{LeavesPublic, KeptBelow}
 use Rattle.block_cache_gen.proofs.NoteClaims.{leaves-without, leaves-later, claimed-register, note-fits, note-carries}
-use Rattle.block_cache_gen.proofs.NotesOfCode.{compared-lie, located-lie, index_length, located-longer, access-longer, load-lies, index-lie, expression-longer, expression-lies}
+use Rattle.block_cache_gen.proofs.NotesOfCode.{compared-lie, located-lie, index_length, located-longer, access-longer, load-lies, index-lie, operand-lie, expression-lies}
 use Rattle.block_cache_gen.proofs.BaseMarks.{unmarked-same, unmarked-other}
-use Rattle.block_cache_gen.proofs.KeptRegisters.{SameBelow, same-itself, same-set, same-bound, carries-same, kept-same, kept-itself}
+use Rattle.block_cache_gen.proofs.KeptRegisters.{SameBelow, same-itself, same-set, same-bound, carries-same, kept-same}
 use Rattle.block_cache_gen.proofs.AccessLabels.{shifted-numbered, reduced-numbered, offset_by, compared_known, compared_same, compared_word, divided_known, divided_same, divided_word, compared-by, fixed-numbered, asked_known, asked_same, asked_block, skipped_by, loaded-by}
 use Rattle.block_cache_gen.proofs.Sizes.{numbered_some}
 use Rattle.block_cache_gen.proofs.HomeFacts.{serves-oblivious, serves-cached, shows-cached, shown-low}
 
--- what passing the code of an expression means, at any place
-abbrev pub ExprPasses : Parts → Setting → Tree → Type 0
-ExprPasses o f e =
-    (mask to p : ℕ) (k holds : Known) → to + height_of e ≤ 18
-    → StandsNoted o p (expr_code f Public to e) (expr_notes f mask to p e) → HoldsAt o p k holds → Carries f holds
-    → LeavesPublic f mask to holds → PassedBelow o f mask to p e k holds
-
 -- the code of an access, and its notes
 abbrev pub array_code : Setting → ℕ → List ℕ → Tree → List Instr
 array_code f to x i =
-    access_code (compares f Public (home_of f x) i) f.profile.block_log Public (home_of f x) to
-    (fixed_index (home_of f x) i) (expr_code f Public to i)
+    indexed_code f (compares f Public (home_of f x) i) Public (home_of f x) to i (expr_code f Public to i)
 
 -- the notes of an access to an array
 abbrev pub array_notes : Setting → (mask to p : ℕ) → List ℕ → Tree → List Note
 array_notes f mask to p x i =
-    index_notes (fixed_index (home_of f x) i) (expr_notes f mask to p i)
+    index_notes (fixed_index (home_of f x) i)
+    (operand_part (index_operand f (compares f Public (home_of f x) i) i) (expr_notes f mask to p i))
     ++ load_notes (compares f Public (home_of f x) i) (fixed_index (home_of f x) i) f (home_of f x) mask to
     (p + length (array_code f to x i))
 
@@ -97,9 +92,8 @@ pub record AccessPassed (o : Parts) (f : Setting) (h : Home) (mask to : ℕ) (p 
 
 module _ (o : Parts) (f : Setting) (homes : HasHomes o f) (once : DeclaredOnce f.decls) where
   -- The number of a word is found, after the code of the index.
-  module _ (h : Home) (l : Label) (mask to : ℕ) (low : to + 2 < 19) (p : ℕ) (k holds : Known)
-      (leaves : LeavesPublic f mask to holds) (kept : KeptBelow f mask to holds k) (labelled : HasLabel k to l)
-      (none : claimed_at o p ≡ None) where
+  module _ (h : Home) (l : Label) (mask to : ℕ) (low : to + 2 < 19) (p : ℕ) (comes k holds : Known)
+      (here : HoldsAt o p comes k) (leaves : LeavesPublic f mask to holds) (kept : KeptBelow f mask to holds k) where
     -- the mask leaves the registers below and the number of the word public
     leaves_number : (m : Known) → SameBelow to k m → is_secret m to ≡ false
         → LeavesPublic f (unmarked mask to) (to + 1) m
@@ -108,10 +102,10 @@ module _ (o : Parts) (f : Setting) (homes : HasHomes o f) (once : DeclaredOnce f
         (leaves-later f mask to holds m leaves (λ s lt unmarks. same.registers s lt ∙ kept.publics s lt unmarks))
         (omega arith) (omega arith) (omega arith) word
 
-    compared_at : l ≡ label.Public → StandsAt o p (compared_code h to)
+    compared_at : HasLabel k to l → l ≡ label.Public → StandsAt o p (compared_code h to)
         → NotesBetween o p (p + 6 + 1) (note_of f (unmarked mask to) (p + 6) ∷ []) → p + 6 < length o.code
-        → NumberedAt o f l mask to p k holds (p + 6)
-    compared_at public stands between inside =
+        → NumberedAt o f l mask to p comes holds (p + 6)
+    compared_at labelled public stands between inside =
         let r = p + 6 in
         let note = note_of f (unmarked mask to) r in
         let claim = note_known note in
@@ -140,8 +134,10 @@ module _ (o : Parts) (f : Setting) (homes : HasHomes o f) (once : DeclaredOnce f
         record {
           last = last;
           held = claim;
-          passes = passes-goes o p (compared_code h to) k last goes stands
-              (λ s above below. quiet_before s above below between)
+          passes = passes-here o p (compared_code h to) comes k last here goes stands (omega arith)
+              (λ s above below. between s above (omega arith)
+              ∙ ap (option_map note_known) (no_note-before (p + 5) (p + 7) s (note ∷ [])
+              ((omega arith, omega arith), tt) (omega arith)))
               inside;
           here = AsClaimed last claim at fit;
           kept = record {
@@ -152,60 +148,67 @@ module _ (o : Parts) (f : Setting) (homes : HasHomes o f) (once : DeclaredOnce f
           };
           word = λ e. claimed-register f (unmarked mask to) r to (omega arith) ∙ unmarked-same mask to (omega arith);
         }
-      where
-        quiet_before : (s : ℕ) → p ≤ s → s < p + 6
-            → NotesBetween o p (p + 6 + 1) (note_of f (unmarked mask to) (p + 6) ∷ []) → claimed_at o s ≡ None
-        quiet_before s above below between =
-            ⊎_elim
-            (λ (lt : p < s). between s lt (omega arith)
-            ∙ ap (option_map note_known) (no_note-before (p + 5) (p + 7) s (note_of f (unmarked mask to) (p + 6) ∷ [])
-            ((omega arith, omega arith), tt) (omega arith)))
-            (λ (le : s ≤ p). let e : p ≡ s = omega arith in subst (λ (t : ℕ). claimed_at o t ≡ None) e none)
-            (cases_lt p s)
 
-    numbered_at : (near : Bool) → (near ≡ true → l ≡ label.Public) → StandsAt o p (numbered_code near h to)
-        → NotesBetween o p (p + length (numbered_code near h to) + 1)
-        (compared_notes near None f mask to (p + length (numbered_code near h to)))
-        → p + length (numbered_code near h to) < length o.code
-        → NumberedAt o f l mask to p k holds (p + length (numbered_code near h to))
-    numbered_at true public stands between inside = compared_at (public refl) stands between inside
-    numbered_at false public stands between inside =
-        let found = reduced-numbered o to low h p k kept.carries.registers in
-        let some = numbered_some false h to in
+    -- an index that is compared isn't in a register that holds it for the whole run
+    numbered_at : (q : Option ℕ) → operand_register q to ≢ to + 1 → HasLabel k (operand_register q to) l
+        → (near : Bool) → (near ≡ true → q ≡ None) → (near ≡ true → l ≡ label.Public)
+        → StandsAt o p (numbered_code near h to (operand_register q to))
+        → NotesBetween o p (p + length (numbered_code near h to (operand_register q to)) + 1)
+        (compared_notes near None f mask to (p + length (numbered_code near h to (operand_register q to))))
+        → p + length (numbered_code near h to (operand_register q to)) < length o.code
+        → NumberedAt o f l mask to p comes holds (p + length (numbered_code near h to (operand_register q to)))
+    numbered_at q apart labelled true own public stands between inside =
+        compared_at (ap (λ (r : Option ℕ). is_secret k (operand_register r to)) (sym (own refl)) ∙ labelled)
+        (public refl) stands between inside
+    numbered_at q apart labelled false own public stands between inside =
+        let from = operand_register q to in
+        let found = reduced-numbered o to low h from apart p k kept.carries.registers in
+        let some = numbered_some false h to from in
         record {
           last = found.after;
           held = found.after;
-          passes = passes-goes o p (reduced_code h to) k found.after found.goes stands
-              (λ s above below.
-              ⊎_elim
-              (λ (lt : p < s). between s lt (omega arith))
-              (λ (le : s ≤ p). let e : p ≡ s = omega arith in subst (λ (t : ℕ). claimed_at o t ≡ None) e none)
-              (cases_lt p s))
+          passes = passes-here o p (reduced_code h to from) comes k found.after here found.goes stands some
+              (λ s above below. between s above (omega arith))
               inside;
-          here = AsItComes found.after (between (p + length (reduced_code h to)) (omega arith) (omega arith));
+          here = AsItComes found.after (between (p + length (reduced_code h to from)) (omega arith) (omega arith));
           kept = kept-same f mask to holds k found.after kept found.same;
           word = λ e. found.word_is ∙ labelled ∙ ap secret_label e;
         }
 
-  module _ (h : Home) (i : Tree) (mask to : ℕ) (low : to + 2 < 19) (p : ℕ) (k holds : Known)
-      (here : HoldsAt o p k holds)
-      (carries : Carries f holds) (leaves : LeavesPublic f mask to holds) where
+  module _ (h : Home) (i : Tree) (typed : TypedTree (context_of f.decls) i) (mask to : ℕ) (low : to + 2 < 19) (p : ℕ)
+      (k holds : Known) (here : HoldsAt o p k holds) (carries : Carries f holds)
+      (leaves : LeavesPublic f mask to holds) where
     held_kept : KeptBelow f mask to holds holds
-    held_kept = kept-itself f mask to holds carries (λ r lt unmarks. let h = leaves.lower r (omega arith) unmarks in h.1)
+    held_kept = kept-here f mask to holds (omega arith) carries leaves
+
+    -- the index, and what its code is
+    abbrev index_code : Option ℕ → List Instr
+    index_code q = operand_part q (expr_code f Public to i)
+
+    abbrev notes_of_index : Option ℕ → List Note
+    notes_of_index q = operand_part q (expr_notes f mask to p i)
+
+    index_notes-lie : (q : Option ℕ) → LieBetween p (p + length (index_code q)) (notes_of_index q)
+    index_notes-lie q =
+        operand-lie q p (expr_code f Public to i) (expr_notes f mask to p i) (expression-lies f i mask to p)
+
+    apart_of : (q : Option ℕ) → IsOperandOf f i q → operand_register q to ≢ to + 1
+    apart_of q is = let apart = operand-apart f i q is to in apart.apart (to + 1) (omega arith) (omega arith)
 
     -- by the code of the index, or as a number
-    located_by : (near : Bool) → (near ≡ true → label_of (context_of f.decls) i ≡ label.Public) → (fixed : Option ℤ)
-        → StandsAt o p (located_code near f.profile.block_log h to fixed (expr_code f Public to i))
-        → NotesBetween o p (p + length (located_code near f.profile.block_log h to fixed (expr_code f Public to i)))
-        (index_notes fixed (expr_notes f mask to p i)
+    located_by : (q : Option ℕ) → IsOperandOf f i q → (near : Bool) → (near ≡ true → q ≡ None)
+        → (near ≡ true → label_of (context_of f.decls) i ≡ label.Public) → (fixed : Option ℤ)
+        → StandsAt o p (located_code near f.profile.block_log h to (operand_register q to) fixed (index_code q))
+        → NotesBetween o p (p + length (located_code near f.profile.block_log h to (operand_register q to) fixed (index_code q)))
+        (index_notes fixed (notes_of_index q)
         ++ compared_notes near fixed f mask to
-        (p + length (located_code near f.profile.block_log h to fixed (expr_code f Public to i))
+        (p + length (located_code near f.profile.block_log h to (operand_register q to) fixed (index_code q))
         - length (shift_code f.profile.block_log h to)))
-        → p + length (located_code near f.profile.block_log h to fixed (expr_code f Public to i)) < length o.code
+        → p + length (located_code near f.profile.block_log h to (operand_register q to) fixed (index_code q)) < length o.code
         → to + height_of i ≤ 18 → ExprPasses o f i → (h.bank < 2 → label_of (context_of f.decls) i ≡ label.Public)
         → LocatedAt o f h mask to p k holds
-        (p + length (located_code near f.profile.block_log h to fixed (expr_code f Public to i)))
-    located_by near open_index (Some z) stands between inside high index public =
+        (p + length (located_code near f.profile.block_log h to (operand_register q to) fixed (index_code q)))
+    located_by q is near own open_index (Some z) stands between inside high index public =
         let l = fixed-numbered o to low f.profile.block_log h z p holds carries.registers in
         record {
           last = l.after;
@@ -214,9 +217,10 @@ module _ (o : Parts) (f : Setting) (homes : HasHomes o f) (once : DeclaredOnce f
           word = λ cached. l.word_is;
           block = λ cached. l.block_is;
         }
-    located_by near open_index None stands between inside high index public =
-        let code = expr_code f Public to i in
-        let number = numbered_code near h to in
+    located_by q is near own open_index None stands between inside high index public =
+        let code = index_code q in
+        let from = operand_register q to in
+        let number = numbered_code near h to from in
         let shift = shift_code f.profile.block_log h to in
         let rest = number ++ shift in
         let mid = p + length code in
@@ -224,30 +228,25 @@ module _ (o : Parts) (f : Setting) (homes : HasHomes o f) (once : DeclaredOnce f
         let last = p + length (code ++ rest) in
         let size : length (code ++ rest) ≡ length code + length rest = length-append code rest in
         let rest_size : length rest ≡ length number + length shift = length-append number shift in
-        let some = expression-longer f i to in
-        let some_number = numbered_some near h to in
-        let before = expr_notes f mask to p i in
+        let some_number = numbered_some near h to from in
+        let before = notes_of_index q in
         let behind = compared_notes near None f mask to next in
         let place : last - length shift ≡ next = omega arith in
         let all : NotesBetween o p last (before ++ behind) =
         subst (λ (n : ℕ). NotesBetween o p last (before ++ compared_notes near None f mask to n)) place between in
-        let lie_before : LieBetween p mid before = expression-lies f i mask to p in
+        let lie_before : LieBetween p mid before = index_notes-lie q in
         let lie_behind : LieBetween mid (next + 1) behind =
         compared-lie near f mask to next mid (next + 1) (omega arith) (omega arith) in
         let lie_wide : LieBetween mid last behind =
         compared-lie near f mask to next mid last (omega arith) (omega arith) in
         let later : NotesBetween o mid last behind =
         notes-behind o p mid last before behind lie_before lie_wide all (omega arith) in
-        let first = index mask to p k holds high
-        (record {
-          code_stands = standing-first code rest stands;
-          noted = notes-before o p mid last before behind lie_before lie_wide all (omega arith);
-          behind = omega arith;
-        }) here carries leaves in
+        let first = operand-passes o f homes i typed q is index mask to p k holds high (omega arith) last behind
+        (standing-first code rest stands) all lie_wide (omega arith) (omega arith) here carries leaves in
         let stands_rest = standing-rest code rest stands in
-        let second = numbered_at h (label_of (context_of f.decls) i) mask to low mid first.last holds leaves first.kept
-        first.labelled (no_note-there o p mid last before behind lie_before lie_wide all (omega arith) (omega arith))
-        near open_index (standing-first number shift stands_rest)
+        let second = numbered_at h (label_of (context_of f.decls) i) mask to low mid first.last first.held holds
+        first.here leaves first.kept q (apart_of q is) first.labelled near own open_index
+        (standing-first number shift stands_rest)
         (notes-within o mid last mid (next + 1) behind (omega arith) (omega arith) later) (omega arith) in
         let l = shifted-numbered o to low f.profile.block_log h next second.held second.kept.carries.registers in
         let quiet_after : (r : ℕ) → next < r → r < last → claimed_at o r ≡ None = (λ r above below.
@@ -375,10 +374,7 @@ module _ (o : Parts) (f : Setting) (homes : HasHomes o f) (once : DeclaredOnce f
       loaded_if true is stands size between = loaded_claimed (ltb-true (home_of f x).bank 2 is) size between stands
       loaded_if false is stands size between = loaded_plainly (ltb-false (home_of f x).bank 2 is) size between stands
 
-  -- The place of a resident array's word is found.
-  module _ (h : Home) (i : Tree) (mask to : ℕ) (low : to + 2 < 19) (p : ℕ) (k holds : Known)
-      (here : HoldsAt o p k holds) (carries : Carries f holds) (leaves : LeavesPublic f mask to holds) (near : Bool)
-      (open_index : near ≡ true → label_of (context_of f.decls) i ≡ label.Public) where
+    -- The place of a resident array's word is found.
     -- the number of the first word is added, unless that is 0
     offset_at : (q : ℕ) (comes found : Known) → HoldsAt o q comes found → KeptBelow f mask to holds found
         → (shows_index h ≡ true → is_secret found to ≡ false) → (first : Bool)
@@ -412,16 +408,18 @@ module _ (o : Parts) (f : Setting) (homes : HasHomes o f) (once : DeclaredOnce f
           word = λ shows. l.word_is ∙ word shows;
         }
 
-    placed_by : (fixed : Option ℤ) → StandsAt o p (placed_code near h to fixed (expr_code f Public to i))
-        → NotesBetween o p (p + length (placed_code near h to fixed (expr_code f Public to i)) + 1)
-        (index_notes fixed (expr_notes f mask to p i)
+    placed_by : (q : Option ℕ) → IsOperandOf f i q → (near : Bool) → (near ≡ true → q ≡ None)
+        → (near ≡ true → label_of (context_of f.decls) i ≡ label.Public) → (fixed : Option ℤ)
+        → StandsAt o p (placed_code near h to (operand_register q to) fixed (index_code q))
+        → NotesBetween o p (p + length (placed_code near h to (operand_register q to) fixed (index_code q)) + 1)
+        (index_notes fixed (notes_of_index q)
         ++ compared_notes near fixed f mask to
-        (p + length (placed_code near h to fixed (expr_code f Public to i)) - length (offset_code h to)))
-        → p + length (placed_code near h to fixed (expr_code f Public to i)) < length o.code
+        (p + length (placed_code near h to (operand_register q to) fixed (index_code q)) - length (offset_code h to)))
+        → p + length (placed_code near h to (operand_register q to) fixed (index_code q)) < length o.code
         → to + height_of i ≤ 18 → ExprPasses o f i
         → (shows_index h ≡ true → label_of (context_of f.decls) i ≡ label.Public)
-        → PlacedAt o f h mask to p k holds (p + length (placed_code near h to fixed (expr_code f Public to i)))
-    placed_by (Some z) stands between inside high index public =
+        → PlacedAt o f h mask to p k holds (p + length (placed_code near h to (operand_register q to) fixed (index_code q)))
+    placed_by q is near own open_index (Some z) stands between inside high index public =
         let one = set_secret holds to false in
         let sized = carries.registers in
         record {
@@ -430,15 +428,15 @@ module _ (o : Parts) (f : Setting) (homes : HasHomes o f) (once : DeclaredOnce f
           passes = passes-noted o p _ _ k holds one here
               (One p _ _ holds one one (rules-li o p holds to _) (NoMore (p + 1) one)) stands
               (λ s above below. between s above (omega arith)) inside;
-          kept = kept-same f mask to holds holds one
-              (kept-itself f mask to holds carries (λ r lt unmarks. let h = leaves.lower r (omega arith) unmarks in h.1))
+          kept = kept-same f mask to holds holds one held_kept
               (same-set to holds holds to false (omega arith) (omega arith) (same-itself to holds));
           word = λ shows. secret-same holds to false (omega arith);
           here = AsItComes one (between (p + 1) (omega arith) (omega arith));
         }
-    placed_by None stands between inside high index public =
-        let code = expr_code f Public to i in
-        let number = numbered_code near h to in
+    placed_by q is near own open_index None stands between inside high index public =
+        let code = index_code q in
+        let from = operand_register q to in
+        let number = numbered_code near h to from in
         let offset = offset_code h to in
         let rest = number ++ offset in
         let mid = p + length code in
@@ -446,31 +444,25 @@ module _ (o : Parts) (f : Setting) (homes : HasHomes o f) (once : DeclaredOnce f
         let last = p + length (code ++ rest) in
         let size : length (code ++ rest) ≡ length code + length rest = length-append code rest in
         let rest_size : length rest ≡ length number + length offset = length-append number offset in
-        let some = expression-longer f i to in
-        let some_number = numbered_some near h to in
-        let before = expr_notes f mask to p i in
+        let some_number = numbered_some near h to from in
+        let before = notes_of_index q in
         let behind = compared_notes near None f mask to next in
         let place : last - length offset ≡ next = omega arith in
         let all : NotesBetween o p (last + 1) (before ++ behind) =
         subst (λ (n : ℕ). NotesBetween o p (last + 1) (before ++ compared_notes near None f mask to n)) place between in
-        let lie_before : LieBetween p mid before = expression-lies f i mask to p in
+        let lie_before : LieBetween p mid before = index_notes-lie q in
         let lie_behind : LieBetween mid (next + 1) behind =
         compared-lie near f mask to next mid (next + 1) (omega arith) (omega arith) in
         let lie_wide : LieBetween mid (last + 1) behind =
         compared-lie near f mask to next mid (last + 1) (omega arith) (omega arith) in
         let later : NotesBetween o mid (last + 1) behind =
         notes-behind o p mid (last + 1) before behind lie_before lie_wide all (omega arith) in
-        let first = index mask to p k holds high
-        (record {
-          code_stands = standing-first code rest stands;
-          noted = notes-before o p mid (last + 1) before behind lie_before lie_wide all (omega arith);
-          behind = omega arith;
-        }) here carries leaves in
+        let first = operand-passes o f homes i typed q is index mask to p k holds high (omega arith) (last + 1) behind
+        (standing-first code rest stands) all lie_wide (omega arith) (omega arith) here carries leaves in
         let stands_rest = standing-rest code rest stands in
-        let second = numbered_at h (label_of (context_of f.decls) i) mask to low mid first.last holds leaves first.kept
-        first.labelled (no_note-there o p mid (last + 1) before behind lie_before lie_wide all (omega arith)
-        (omega arith))
-        near open_index (standing-first number offset stands_rest)
+        let second = numbered_at h (label_of (context_of f.decls) i) mask to low mid first.last first.held holds
+        first.here leaves first.kept q (apart_of q is) first.labelled near own open_index
+        (standing-first number offset stands_rest)
         (notes-within o mid (last + 1) mid (next + 1) behind (omega arith) (omega arith) later) (omega arith) in
         let quiet_after : (r : ℕ) → next < r → r < last + 1 → claimed_at o r ≡ None = (λ r above below.
         later r (omega arith) below
@@ -495,26 +487,30 @@ module _ (o : Parts) (f : Setting) (homes : HasHomes o f) (once : DeclaredOnce f
   -- a whole access, of an array that is resident or isn't
   abbrev code_by : (resident near : Bool) → ℕ → List ℕ → Tree → List Instr
   code_by b near to x i =
-      access_by b near f.profile.block_log Public (home_of f x) to (fixed_index (home_of f x) i)
-      (expr_code f Public to i)
+      access_by b near f.profile.block_log Public (home_of f x) to (operand_register (index_operand f near i) to)
+      (fixed_index (home_of f x) i) (operand_part (index_operand f near i) (expr_code f Public to i))
 
-  passes_by : (x : List ℕ) (l : Label) (i : Tree) (mask to p : ℕ) (k holds : Known)
+  -- an index that is compared is copied
+  compared_own : (i : Tree) (near : Bool) → near ≡ true → index_operand f near i ≡ None
+  compared_own i near e = ap (λ (b : Bool). operand_unless b (operand f i)) e
+
+  passes_by : (x : List ℕ) (l : Label) (i : Tree) → TypedTree (context_of f.decls) i → (mask to p : ℕ) (k holds : Known)
       → context_of f.decls x ≡ Some (l, Array) → (b near : Bool) → (home_of f x).resident ≡ b
       → (near ≡ true → label_of (context_of f.decls) i ≡ label.Public)
       → (shows_index (home_of f x) ≡ true → label_of (context_of f.decls) i ≡ label.Public)
       → ExprPasses o f i → to + height_of i ≤ 18 → to + 2 < 19
       → StandsAt o p (code_by b near to x i)
       → NotesBetween o p (p + length (code_by b near to x i) + 1)
-      (index_notes (fixed_index (home_of f x) i) (expr_notes f mask to p i)
+      (index_notes (fixed_index (home_of f x) i) (operand_part (index_operand f near i) (expr_notes f mask to p i))
       ++ loaded_notes b near (fixed_index (home_of f x) i) f (home_of f x) mask to (p + length (code_by b near to x i)))
       → p + length (code_by b near to x i) < length o.code → HoldsAt o p k holds → Carries f holds
       → LeavesPublic f mask to holds
       → AccessPassed o f (home_of f x) mask to p k holds (p + length (code_by b near to x i))
-  passes_by x l i mask to p k holds declared true near is open_index public index high low stands between inside here
+  passes_by x l i typed mask to p k holds declared true near is open_index public index high low stands between inside here
       carries leaves =
       let h = home_of f x in
-      let found = placed_by h i mask to low p k holds here carries leaves near open_index
-      (fixed_index h i) stands between
+      let found = placed_by h i typed mask to low p k holds here carries leaves (index_operand f near i)
+      (operand-unless f i near) near (compared_own i near) open_index (fixed_index h i) stands between
       inside high index public in
       let home = homes.residents x l Array declared is in
       let pin = homes.pins h.slot (pin_of h) home.pinned in
@@ -527,20 +523,22 @@ module _ (o : Parts) (f : Setting) (homes : HasHomes o f) (once : DeclaredOnce f
         bound = found.kept.carries.pinned h.slot (pin_of h) home.pinned pin.few pin.apart;
         word = found.word;
       }
-  passes_by x l i mask to p k holds declared false near turn open_index public index high low stands between inside here
+  passes_by x l i typed mask to p k holds declared false near turn open_index public index high low stands between inside here
       carries leaves =
       let h = home_of f x in
       let fixed = fixed_index h i in
-      let code = expr_code f Public to i in
+      let q_of_index = index_operand f near i in
+      let from = operand_register q_of_index to in
+      let code = operand_part q_of_index (expr_code f Public to i) in
       let shift = shift_code f.profile.block_log h to in
-      let first = located_code near f.profile.block_log h to fixed code in
+      let first = located_code near f.profile.block_log h to from fixed code in
       let load = load_code (is_cached h) h to in
       let q = p + length first in
       let r = p + length (first ++ load) in
       let size : length (first ++ load) ≡ length first + length load = length-append first load in
-      let longer = located-longer near f.profile.block_log h to fixed code in
-      let more = access-longer near f.profile.block_log h to fixed code in
-      let notes = index_notes fixed (expr_notes f mask to p i) in
+      let longer = located-longer near f.profile.block_log h to from fixed code in
+      let more = access-longer near f.profile.block_log h to from fixed code in
+      let notes = index_notes fixed (operand_part q_of_index (expr_notes f mask to p i)) in
       let compared = compared_notes near fixed f mask to (q - length shift) in
       let before = notes ++ compared in
       let behind = if is_cached h then note_of f (access_mask mask to) r ∷ [] else [] in
@@ -553,15 +551,17 @@ module _ (o : Parts) (f : Setting) (homes : HasHomes o f) (once : DeclaredOnce f
       between in
       let lie_before : LieBetween p q before = lie_both p q notes compared
       (lie_wider p (p + index_length fixed code) p q notes (omega arith) (omega arith)
-      (index-lie fixed p code (expr_notes f mask to p i) (expression-lies f i mask to p)))
-      (located-lie f h mask to p near fixed code) in
+      (index-lie fixed p code (operand_part q_of_index (expr_notes f mask to p i))
+      (index_notes-lie h i typed mask to low p k holds here carries leaves q_of_index)))
+      (located-lie f h mask to from p near fixed code) in
       let lie_behind : LieBetween q (r + 1) behind = load-lies f h mask to r q (r + 1) (is_cached h) (omega arith)
       (omega arith) in
-      let found = located_by h i mask to low p k holds here carries leaves near open_index fixed
+      let found = located_by h i typed mask to low p k holds here carries leaves q_of_index (operand-unless f i near) near
+      (compared_own i near) open_index fixed
       (standing-first first load stands)
       (notes-before o p q (r + 1) before behind lie_before lie_behind all (omega arith))
       (omega arith) high index (λ low_bank. public (shows-cached h turn low_bank)) in
-      let held = loaded_if h i mask to low p k holds here carries leaves x l declared turn q r found.last found.kept
+      let held = loaded_if h i typed mask to low p k holds here carries leaves x l declared turn q r found.last found.kept
       found.word
       found.block (no_note-there o p q (r + 1) before behind lie_before lie_behind all (omega arith) (omega arith))
       inside (is_cached h) refl (standing-rest first load stands) (omega arith)
@@ -589,14 +589,14 @@ module _ (o : Parts) (f : Setting) (homes : HasHomes o f) (once : DeclaredOnce f
       let label = and_parts (not (is_masked h)) secret part.1 in
       label_public (label_of (context_of f.decls) i) label.1
 
-  pub access-passes : (x : List ℕ) (l : Label) (i : Tree) (mask to p : ℕ) (k holds : Known)
-      → context_of f.decls x ≡ Some (l, Array) → IndexIsPublic f x i
+  pub access-passes : (x : List ℕ) (l : Label) (i : Tree) → TypedTree (context_of f.decls) i → (mask to p : ℕ)
+      (k holds : Known) → context_of f.decls x ≡ Some (l, Array) → IndexIsPublic f x i
       → ExprPasses o f i → to + height_of i ≤ 18 → to + 2 < 19
       → StandsAt o p (array_code f to x i)
       → NotesBetween o p (p + length (array_code f to x i) + 1) (array_notes f mask to p x i)
       → p + length (array_code f to x i) < length o.code → HoldsAt o p k holds → Carries f holds
       → LeavesPublic f mask to holds
       → AccessPassed o f (home_of f x) mask to p k holds (p + length (array_code f to x i))
-  access-passes x l i mask to p k holds declared public index high low stands between inside here carries leaves =
-      passes_by x l i mask to p k holds declared (home_of f x).resident (compares f Public (home_of f x) i) refl
+  access-passes x l i typed mask to p k holds declared public index high low stands between inside here carries leaves =
+      passes_by x l i typed mask to p k holds declared (home_of f x).resident (compares f Public (home_of f x) i) refl
       (compares-public (home_of f x) i) public index high low stands between inside here carries leaves

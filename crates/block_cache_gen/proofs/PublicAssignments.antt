@@ -1,7 +1,8 @@
 -- The public code of an assignment is passed, at any place.
-use Rattle.std.proofs.Common.{◌≡◌, ℕ, ◌+◌, ◌<◌, ◌≤◌, Bool, true, false, ◌||◌, ◌&&◌, pos, List, [], ◌∷◌, ◌++◌, length, length-append, Option, Some, None, refl, sym, ap, ◌∙◌, subst, arith}
+use Rattle.std.proofs.Common.{◌≡◌, ◌≢◌, ℕ, ◌+◌, ◌<◌, ◌≤◌, Bool, true, false, ◌||◌, ◌&&◌, pos, List, [], ◌∷◌, ◌++◌, length, length-append, Option, Some, None, refl, sym, ap, ◌∙◌, subst, arith}
 use Rattle.std.specs.Option.{option_map}
 use Rattle.std.proofs.lemmas.Bool.{eqb-true}
+use Rattle.std.proofs.lemmas.List.{append-nil}
 use Rattle.gr_word.specs.declared.variables.Label.{Label}
 use Rattle.gr_word.specs.declared.variables.Label.TheVariants as label
 use Rattle.gr_word.specs.declared.variables.Shape.TheVariants.{Scalar, Array}
@@ -17,22 +18,25 @@ use Rattle.src_tree.specs.Typing.{TypedStatement, Flows, DeclaredOnce}
 use Rattle.bank_alloc.specs.Apart.{scalar_bank}
 use Rattle.trace_patterns.specs.Known.{Known, is_secret, bank_known, set_secret, note_known}
 use Rattle.trace_patterns.specs.Rules.{claimed_at}
-use Rattle.stretches.specs.Passing.{HoldsAt, AsItComes, Passes}
+use Rattle.stretches.specs.Passing.{HoldsAt, NotesBetween, Passes}
 use Rattle.stretches.proofs.Standing.{standing-first, standing-rest}
-use Rattle.stretches.proofs.Passed.{passes-then, passes-to, passes-goes, passes-noted, GoesOn, NoMore, One, rules-li, rules-alu, rules-stw, rules-stb, secret-same, secret-other, notes-before, notes-behind, no_note-there, notes-within, no_note-behind, LieBetween, lie_wider, lie_both}
+use Rattle.stretches.proofs.Passed.{passes-then, passes-to, passes-noted, GoesOn, NoMore, One, rules-li, rules-alu, rules-stw, rules-stb, secret-same, secret-other, notes-behind, notes-within, no_note-behind, LieBetween, lie_wider, lie_both}
 use Rattle.block_cache_gen.specs.declared.frames.Mode.TheVariants.{Public}
 use Rattle.block_cache_gen.specs.Homes.{Setting, HasHomes, home_of, register_for}
-use Rattle.block_cache_gen.specs.Codes.{compares, stored_code, expr_code, set_code, zero_of, write_code}
-use Rattle.block_cache_gen.specs.Notes.{marked_by, expr_notes, set_notes, base_mask}
+use Rattle.block_cache_gen.specs.Codes.{compares, operand, operand_part, operand_register, index_operand, stored_code, expr_code, set_code, zero_of, write_code}
+use Rattle.block_cache_gen.specs.Notes.{operand_mask, expr_notes, set_notes, base_mask}
 use Rattle.block_cache_gen.specs.Carries.{Carries}
 use Rattle.block_cache_gen.specs.PublicIndexes.{SetHasPublicIndexes}
 use Rattle.block_cache_gen.specs.PublicCode.{HasLabel, StandsNoted, PassedSet}
-use Rattle.block_cache_gen.proofs.NotesOfCode.{write-longer, expression-longer, expression-lies, access-lie}
+use Rattle.block_cache_gen.proofs.NotesOfCode.{write-longer, operand-lie, expression-lies, access-lie}
+use Rattle.block_cache_gen.proofs.HeldOperands.{operand-apart}
+use Rattle.block_cache_gen.proofs.OperandLabels.{is-operand}
+use Rattle.block_cache_gen.proofs.OperandPasses.{passes-here, leaves-operand, operand-later, operand-passes}
 use Rattle.block_cache_gen.proofs.KeptRegisters.{same-itself, same-set, carries-same, carries-copied}
 use Rattle.block_cache_gen.proofs.HeldLabels.{register-label, register-low, zero-label}
 use Rattle.held_registers.proofs.Copies.{secret_copy}
 use Rattle.block_cache_gen.proofs.PublicAccesses.{array_code, array_notes, access-passes}
-use Rattle.block_cache_gen.proofs.PublicExpressions.{expression-passes, resident_bound, leaves-labelled, label-kept}
+use Rattle.block_cache_gen.proofs.PublicExpressions.{expression-passes, resident_bound}
 use Rattle.block_cache_gen.proofs.HomeFacts.{shows-plain, plain-array}
 use Rattle.block_cache_gen.proofs.NoteClaims.{leaves-base}
 
@@ -76,12 +80,12 @@ record WritePassed (o : Parts) (f : Setting) (p : ℕ) (code : List Instr) (k : 
   carries : Carries f last
 
 module _ (o : Parts) (f : Setting) (homes : HasHomes o f) (once : DeclaredOnce f.decls) where
-  -- a value is written to a scalar, by the register that holds it
+  -- a value in a register is written to a scalar, by the register that holds that
   abbrev WritePasses : List ℕ → Option ℕ → Label → Type 0
   WritePasses x found value =
-      (p : ℕ) (k : Known) → Carries f k → HasLabel k 0 value
+      (from p : ℕ) (k : Known) → from ≢ 1 → Carries f k → HasLabel k from value
       → WritePassed o f p
-      (write_code found (label_of (context_of f.decls) (Variable x)) Public (home_of f x)) k
+      (write_code found (label_of (context_of f.decls) (Variable x)) Public (home_of f x) from) k
 
   module _ (code : Label) (x : List ℕ) (l value : Label) (declared : context_of f.decls x ≡ Some (l, Scalar))
       (flows : Flows (higher code value) (label_at (context_of f.decls) x)) where
@@ -89,14 +93,14 @@ module _ (o : Parts) (f : Setting) (homes : HasHomes o f) (once : DeclaredOnce f
     label_is = ap label_or_public declared
 
     copy_passes : (r : ℕ) → register_for f x ≡ Some r → WritePasses x (Some r) value
-    copy_passes r is p k carries labelled =
+    copy_passes r is from p k apart carries labelled =
         let own = label_at (context_of f.decls) x in
-        let joined = is_secret k 0 || is_secret k (zero_of own) in
+        let joined = is_secret k from || is_secret k (zero_of own) in
         let zero = carries.held (zero_of own) own (zero-label f homes.held x l Scalar declared r is own) in
         let last = set_secret k r joined in
         record {
           last = last;
-          goes = One p _ [] k last last (rules-alu o p k Add r 0 (zero_of own)) (NoMore (p + 1) last);
+          goes = One p _ [] k last last (rules-alu o p k Add r from (zero_of own)) (NoMore (p + 1) last);
           carries
               = carries-copied f k r l joined carries (register-label f homes.held x l Scalar declared r is)
               (register-low f homes.held x l Scalar declared r is)
@@ -107,7 +111,7 @@ module _ (o : Parts) (f : Setting) (homes : HasHomes o f) (once : DeclaredOnce f
         }
 
     word_passes : WritePasses x None value
-    word_passes p k carries labelled =
+    word_passes from p k apart carries labelled =
         let h = home_of f x in
         let scalar = homes.scalars x l declared in
         let home = homes.residents x l Scalar declared scalar.resident in
@@ -117,17 +121,17 @@ module _ (o : Parts) (f : Setting) (homes : HasHomes o f) (once : DeclaredOnce f
         (same-set 1 k k 1 false (omega arith) (omega arith) (same-itself 1 k)) in
         let bound : bank_known one h.slot ≡ Some h.bank =
         resident_bound o f homes one x l Scalar declared scalar.resident carried in
-        let public : h.bank ≡ 0 → is_secret one 0 ≡ false = (λ zero.
+        let public : h.bank ≡ 0 → is_secret one from ≡ false = (λ zero.
         let plain : l ≡ label.Public = low_label l (sym home.bank ∙ zero) in
-        secret-other k 1 0 false (λ e. absurd (omega arith)) ∙ labelled
+        secret-other k 1 from false apart ∙ labelled
         ∙ flows_public code value (subst (Flows (higher code value)) (label_is ∙ plain) flows)) in
         record {
           last = one;
           goes
               = One p _ _ k one one (rules-li o p k 1 (pos h.word))
               (One (p + 1) _ _ one one one
-              (rules-stw o (p + 1) one 0 h.slot 1 h.bank bound
-              (stored h.bank (is_secret one 0) (is_secret one 1) public (λ zero. secret-same k 1 false (omega arith))))
+              (rules-stw o (p + 1) one from h.slot 1 h.bank bound
+              (stored h.bank (is_secret one from) (is_secret one 1) public (λ zero. secret-same k 1 false (omega arith))))
               (NoMore (p + 1 + 1) one));
           carries = carried;
         }
@@ -135,6 +139,11 @@ module _ (o : Parts) (f : Setting) (homes : HasHomes o f) (once : DeclaredOnce f
     write_passes : (found : Option ℕ) → register_for f x ≡ found → WritePasses x found value
     write_passes None is = word_passes
     write_passes (Some r) is = copy_passes r is
+
+  -- a value is in no register that the code of an index uses
+  value_apart : (e : Tree) → operand_register (operand f e) 0 ≢ 1
+  value_apart e =
+      let apart = operand-apart f e (operand f e) (is-operand f e) 0 in apart.apart 1 (omega arith) (omega arith)
 
   -- an assignment to a variable is passed in public code
   pub set_variable-passes : (code : Label) (x : List ℕ) (e : Tree)
@@ -144,29 +153,30 @@ module _ (o : Parts) (f : Setting) (homes : HasHomes o f) (once : DeclaredOnce f
       → Carries f holds → PassedSet o f p (set_code f Public (SetVariable x e)) k
   set_variable-passes code x e typed public low p k holds stands here carries =
       let known = context_of f.decls in
-      let first = expr_code f Public 0 e in
-      let store = write_code (register_for f x) (label_of known (Variable x)) Public (home_of f x) in
-      let notes = expr_notes f (base_mask f) 0 p e in
+      let q = operand f e in
+      let from = operand_register q 0 in
+      let first = operand_part q (expr_code f Public 0 e) in
+      let store = write_code (register_for f x) (label_of known (Variable x)) Public (home_of f x) from in
+      let notes = operand_part q (expr_notes f (base_mask f) 0 p e) in
       let size : length (first ++ store) ≡ length first + length store = length-append first store in
       let inside = stands.behind in
       let mid = p + length first in
       let whole = p + length (first ++ store) in
-      let some = expression-longer f e 0 in
-      let more = write-longer (register_for f x) (label_of known (Variable x)) Public (home_of f x) in
-      let lie = expression-lies f e (base_mask f) 0 p in
-      let v = expression-passes o f homes once e typed.1.0 public (base_mask f) 0 p k holds (omega arith)
-      (record {
-        code_stands = standing-first first store stands.code_stands;
-        noted = notes-within o p whole p mid notes (omega arith) (omega arith) stands.noted;
-        behind = omega arith;
-      }) here carries (leaves-base f 0 holds) in
-      let w = write_passes code x typed.0.0 (label_of known e) typed.0.1 typed.1.1 (register_for f x) refl mid v.last
-      v.kept.carries v.labelled in
-      let quiet : (r : ℕ) → mid ≤ r → r < mid + length store → claimed_at o r ≡ None = (λ r above below.
+      let more = write-longer (register_for f x) (label_of known (Variable x)) Public (home_of f x) from in
+      let lie : LieBetween p mid notes = operand-lie q p (expr_code f Public 0 e) (expr_notes f (base_mask f) 0 p e)
+      (expression-lies f e (base_mask f) 0 p) in
+      let v = operand-passes o f homes e typed.1.0 q (is-operand f e)
+      (expression-passes o f homes once e typed.1.0 public) (base_mask f) 0 p k holds (omega arith) (omega arith)
+      whole [] (standing-first first store stands.code_stands)
+      (subst (NotesBetween o p whole) (sym (append-nil notes)) stands.noted) tt (omega arith) (omega arith) here carries
+      (leaves-base f 0 holds) in
+      let w = write_passes code x typed.0.0 (label_of known e) typed.0.1 typed.1.1 (register_for f x) refl from mid v.held
+      (value_apart e) v.kept.carries v.labelled in
+      let quiet : (r : ℕ) → mid < r → r < mid + length store → claimed_at o r ≡ None = (λ r above below.
       stands.noted r (omega arith) (omega arith)
-      ∙ ap (option_map note_known) (no_note-behind p mid r notes lie above)) in
-      let behind : Passes o mid v.last (mid + length store) w.last = passes-goes o mid store v.last w.last w.goes
-      (standing-rest first store stands.code_stands) quiet (omega arith) in
+      ∙ ap (option_map note_known) (no_note-behind p mid r notes lie (omega arith))) in
+      let behind : Passes o mid v.last (mid + length store) w.last = passes-here o mid store v.last v.held w.last v.here
+      w.goes (standing-rest first store stands.code_stands) more quiet (omega arith) in
       record {
         last = w.last;
         passes
@@ -184,53 +194,55 @@ module _ (o : Parts) (f : Setting) (homes : HasHomes o f) (once : DeclaredOnce f
   set_element-passes code x i e typed public low_index low p k holds stands here carries =
       let known = context_of f.decls in
       let h = home_of f x in
+      let near = compares f Public h i in
       let l = typed.0.0.0 in
       let declared : known x ≡ Some (l, Array) = typed.0.0.1 in
       let plain = plain-array o f homes x l declared in
-      let first = expr_code f Public 0 e in
+      let q = operand f e in
+      let from = operand_register q 0 in
+      let first = operand_part q (expr_code f Public 0 e) in
       let access = array_code f 1 x i in
-      let store = Stw 0 h.slot 1 ∷ stored_code h.resident h.slot in
-      let mask = marked_by (label_of known e) (base_mask f) 0 in
+      let store = Stw from h.slot 1 ∷ stored_code h.resident h.slot in
+      let mask = operand_mask q (label_of known e) (base_mask f) 0 in
       let size : length (first ++ (access ++ store)) ≡ length first + (length access + length store) =
       length-append first (access ++ store) ∙ ap (λ (n : ℕ). length first + n) (length-append access store) in
       let inside = stands.behind in
       let mid = p + length first in
       let r = mid + length access in
       let whole = p + length (first ++ (access ++ store)) in
-      let some = expression-longer f e 0 in
-      let before = expr_notes f (base_mask f) 0 p e in
+      let before = operand_part q (expr_notes f (base_mask f) 0 p e) in
       let later = array_notes f mask 1 mid x i in
-      let lie_before : LieBetween p mid before = expression-lies f e (base_mask f) 0 p in
-      let lie_access : LieBetween mid (r + 1) later = access-lie f (compares f Public h i) h mask 1 mid _
-      (expr_code f Public 1 i)
-      (expr_notes f mask 1 mid i) (expression-lies f i mask 1 mid) in
+      let q_of_index = index_operand f near i in
+      let lie_before : LieBetween p mid before = operand-lie q p (expr_code f Public 0 e)
+      (expr_notes f (base_mask f) 0 p e) (expression-lies f e (base_mask f) 0 p) in
+      let lie_access : LieBetween mid (r + 1) later = access-lie f near h mask 1 (operand_register q_of_index 1) mid _
+      (operand_part q_of_index (expr_code f Public 1 i)) (operand_part q_of_index (expr_notes f mask 1 mid i))
+      (operand-lie q_of_index mid (expr_code f Public 1 i) (expr_notes f mask 1 mid i)
+      (expression-lies f i mask 1 mid)) in
       let lie_later : LieBetween mid whole later = lie_wider mid (r + 1) mid whole later (omega arith)
       (omega arith) lie_access in
       let rest = standing-rest first (access ++ store) stands.code_stands in
-      let v = expression-passes o f homes once e typed.1.0 public.1 (base_mask f) 0 p k holds (omega arith)
-      (record {
-        code_stands = standing-first first (access ++ store) stands.code_stands;
-        noted = notes-before o p mid whole before later lie_before lie_later stands.noted (omega arith);
-        behind = omega arith;
-      }) here carries (leaves-base f 0 holds) in
-      let there : HoldsAt o mid v.last v.last = AsItComes v.last
-      (no_note-there o p mid whole before later lie_before lie_later stands.noted (omega arith) (omega arith)) in
-      let a = access-passes o f homes once x l i mask 1 mid v.last v.last declared public.0.0
+      let v = operand-passes o f homes e typed.1.0 q (is-operand f e)
+      (expression-passes o f homes once e typed.1.0 public.1) (base_mask f) 0 p k holds (omega arith) (omega arith)
+      whole later (standing-first first (access ++ store) stands.code_stands) stands.noted lie_later (omega arith)
+      (omega arith) here carries (leaves-base f 0 holds) in
+      let a = access-passes o f homes once x l i typed.0.1.0 mask 1 mid v.last v.held declared public.0.0
       (expression-passes o f homes once i typed.0.1.0 public.0.1) (omega arith) (omega arith)
       (standing-first access store rest)
       (notes-within o mid whole mid (r + 1) later (omega arith) (omega arith)
       (notes-behind o p mid whole before later lie_before lie_later stands.noted (omega arith)))
-      (omega arith) there v.kept.carries
-      (leaves-labelled f (label_of known e) (base_mask f) 0 v.last (omega arith) (leaves-base f 0 v.last) v.labelled) in
+      (omega arith) v.here v.kept.carries
+      (leaves-operand f q (label_of known e) (base_mask f) 0 v.held (omega arith) (leaves-base f 0 v.held) v.labelled) in
       let label_is : label_at known x ≡ l = ap label_or_public declared in
-      let value : h.bank ≡ 0 → is_secret a.held 0 ≡ false = (λ zero.
+      let value : h.bank ≡ 0 → is_secret a.held from ≡ false = (λ zero.
       let public_l : l ≡ label.Public = plain.0 zero in
-      label-kept f (label_of known e) (base_mask f) 0 1 v.last a.held (omega arith) (omega arith) v.labelled a.kept
+      operand-later o f homes e typed.1.0 q (is-operand f e) (base_mask f) 0 1 v.held a.held (omega arith) (omega arith)
+      v.labelled a.kept
       ∙ flows_public code (label_of known e) (subst (Flows (higher code (label_of known e))) (label_is
       ∙ public_l) typed.1.1)) in
       let goes : GoesOn o r store a.held a.held = One r _ _ a.held a.held a.held
-      (rules-stw o r a.held 0 h.slot 1 h.bank a.bound
-      (stored h.bank (is_secret a.held 0) (is_secret a.held 1) value (λ zero. a.word (shows-plain h zero))))
+      (rules-stw o r a.held from h.slot 1 h.bank a.bound
+      (stored h.bank (is_secret a.held from) (is_secret a.held 1) value (λ zero. a.word (shows-plain h zero))))
       (stored_goes o h.resident (r + 1) h.slot h.bank a.held a.bound) in
       let quiet : (s : ℕ) → r < s → s < r + length store → claimed_at o s ≡ None = (λ s above below.
       stands.noted s (omega arith) (omega arith)

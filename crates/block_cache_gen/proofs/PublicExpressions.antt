@@ -1,5 +1,7 @@
 -- The public code of an expression is passed, at any place.
-use Rattle.std.proofs.Common.{◌≡◌, ℕ, ◌+◌, ◌<◌, ◌≤◌, max, Bool, true, false, not, ◌||◌, ℤ, pos, List, [], ◌∷◌, ◌++◌, length, length-append, get_or, Option, Some, None, refl, sym, ap, ◌∙◌, arith}
+use Rattle.std.proofs.Common.{◌≡◌, ℕ, ◌+◌, ◌<◌, ◌≤◌, max, Bool, true, false, not, ◌||◌, ℤ, pos, List, [], ◌∷◌, ◌++◌, length, length-append, get_or, Option, Some, None, refl, sym, ap, ◌∙◌, subst, arith}
+use Rattle.std.specs.Prelude.{is_some}
+use Rattle.std.proofs.lemmas.List.{append-nil}
 use Rattle.std.specs.Option.{option_map}
 use Rattle.std.proofs.lemmas.Bool.{eq-eqb, ne_eqb}
 use Rattle.gr_word.specs.declared.variables.Label.{Label}
@@ -18,36 +20,32 @@ use Rattle.src_tree.specs.Typing.{TypedTree, DeclaredOnce}
 use Rattle.bank_alloc.specs.Apart.{scalar_bank}
 use Rattle.trace_patterns.specs.Known.{Known, is_secret, bank_known, is_marked, set_secret, note_known}
 use Rattle.trace_patterns.specs.Rules.{claimed_at}
-use Rattle.stretches.specs.Passing.{HoldsAt, AsItComes, Passes}
+use Rattle.lt_isa.specs.declared.symbols.Note.{Note}
+use Rattle.stretches.specs.Passing.{HoldsAt, NotesBetween, Passes}
 use Rattle.stretches.proofs.Standing.{standing-first, standing-rest, standing-head}
-use Rattle.stretches.proofs.Passed.{passes-then, passes-to, passes-one, passes-goes, passes-noted, NoMore, One, rules-li, rules-alu, rules-ldw, secret-same, notes-before, notes-behind, no_note-there, notes-within, no_note-behind, LieBetween, lie_wider, lie_both}
+use Rattle.stretches.proofs.Passed.{passes-then, passes-to, passes-one, passes-goes, passes-noted, NoMore, One, rules-li, rules-alu, rules-ldw, secret-same, notes-before, notes-behind, notes-within, no_note-behind, LieBetween, lie_wider, lie_both}
 use Rattle.block_cache_gen.specs.declared.frames.Mode.TheVariants.{Public}
 use Rattle.block_cache_gen.specs.Homes.{Setting, HasHomes, home_of, pin_of, register_for}
-use Rattle.block_cache_gen.specs.Codes.{scalar_code, operation_code, steps_at, expr_code}
+use Rattle.block_cache_gen.specs.Codes.{scalar_code, operand, operand_part, operand_register, operand_unless, operation_code, steps_at, expr_code}
 use Rattle.strength_reduction.specs.Steps.{Step, numbered, code_of}
 use Rattle.step_code.proofs.StepPasses.{passes-steps}
 use Rattle.block_cache_gen.proofs.StepsAt.{StepsOf, steps-of}
 use Rattle.src_tree.specs.Heights.{height_of}
 use Rattle.src_tree.proofs.TreeHeights.{height-some}
-use Rattle.block_cache_gen.specs.Notes.{marked_by, operation_notes, expr_notes}
+use Rattle.block_cache_gen.specs.Notes.{operand_mask, operation_notes, expr_notes}
 use Rattle.block_cache_gen.specs.Carries.{Carries}
 use Rattle.block_cache_gen.specs.PublicIndexes.{IndexIsPublic, HasPublicIndexes}
 use Rattle.block_cache_gen.specs.PublicCode.{HasLabel, StandsNoted}
 use Rattle.held_registers.specs.Held.{public_zero}
+use Rattle.block_cache_gen.proofs.OperandLabels.{is-operand}
 use Rattle.block_cache_gen.proofs.HeldLabels.{register-label, zero-label}
 use Rattle.block_cache_gen.proofs.KeptBelow.{LeavesPublic, KeptBelow}
-use Rattle.block_cache_gen.proofs.BaseMarks.{unmarked-same, unmarked-other}
-use Rattle.block_cache_gen.proofs.NoteClaims.{leaves-without, leaves-later, leaves-higher}
-use Rattle.block_cache_gen.proofs.NotesOfCode.{expression-longer, expression-lies}
-use Rattle.block_cache_gen.proofs.KeptRegisters.{SameBelow, same-itself, same-set, kept-same, kept-itself, or_false}
+use Rattle.block_cache_gen.proofs.OperandPasses.{ExprPasses, kept-here, leaves-operand, kept-then, operand-later, operand-passes}
+use Rattle.block_cache_gen.proofs.NoteClaims.{leaves-later}
+use Rattle.block_cache_gen.proofs.NotesOfCode.{expression-longer, expression-lies, operand-lie}
+use Rattle.block_cache_gen.proofs.KeptRegisters.{SameBelow, same-itself, same-set, kept-same, or_false}
 use Rattle.block_cache_gen.proofs.HomeFacts.{shows-plain, plain-array}
-use Rattle.block_cache_gen.proofs.PublicAccesses.{ExprPasses, array_code, array_notes, access-passes}
-
--- what is known where a setting is carried keeps itself
-pub kept-here : (f : Setting) (mask to : ℕ) (k : Known) → to < 19 → Carries f k → LeavesPublic f mask to k
-    → KeptBelow f mask to k k
-kept-here f mask to k low carries leaves =
-    kept-itself f mask to k carries (λ r lt unmarks. let h = leaves.lower r (omega arith) unmarks in h.1)
+use Rattle.block_cache_gen.proofs.PublicAccesses.{array_code, array_notes, access-passes}
 
 -- the bank of a resident variable
 pub resident_bound : (o : Parts) (f : Setting) → HasHomes o f → (k : Known) (x : List ℕ) (l : Label) (shape : Shape)
@@ -91,35 +89,6 @@ record PassedCode (o : Parts) (f : Setting) (mask to place : ℕ) (code : List I
   passes : Passes o place comes (place + length code) last
   kept : KeptBelow f mask to holds last
   labelled : HasLabel last to l
-
--- the mask after an expression
-marks_before : (l : Label) (mask to r : ℕ) → to < 32 → r < to → is_marked mask r ≡ false
-    → is_marked (marked_by l mask to) r ≡ false
-marks_before label.Public mask to r low lt unmarks =
-    unmarked-other mask to r low (omega arith) (λ e. absurd (omega arith)) ∙ unmarks
-marks_before label.Secret mask to r low lt unmarks = unmarks
-
--- after a value the mask of its label says which registers are public
-pub leaves-labelled : (f : Setting) (l : Label) (mask to : ℕ) (k : Known) → to < 19 → LeavesPublic f mask to k → HasLabel k to l
-    → LeavesPublic f (marked_by l mask to) (to + 1) k
-leaves-labelled f label.Public mask to k low leaves labelled =
-    leaves-without f mask to to (to + 1) k leaves (omega arith) (omega arith) low labelled
-leaves-labelled f label.Secret mask to k low leaves labelled = leaves-higher f mask to (to + 1) k (omega arith) leaves
-
--- a register keeps its label where the mask says it
-pub label-kept : (f : Setting) (l : Label) (mask to more : ℕ) (k m : Known) → to < 32 → to < more → HasLabel k to l
-    → KeptBelow f (marked_by l mask to) more k m → HasLabel m to l
-label-kept f label.Public mask to more k m low lt labelled kept = kept.publics to lt (unmarked-same mask to low)
-label-kept f label.Secret mask to more k m low lt labelled kept = kept.secrets to lt labelled
-
--- what is kept by one stretch and then by another with higher registers
-pub kept-then : (f : Setting) (l : Label) (mask to : ℕ) (k m n : Known) → to < 32 → KeptBelow f mask to k m
-    → KeptBelow f (marked_by l mask to) (to + 1) m n → KeptBelow f mask to k n
-kept-then f l mask to k m n low first second = record {
-  carries = second.carries;
-  publics = λ r lt unmarks. second.publics r (omega arith) (marks_before l mask to r low lt unmarks);
-  secrets = λ r lt secret. second.secrets r (omega arith) (first.secrets r lt secret);
-}
 
 module _ (o : Parts) (f : Setting) (homes : HasHomes o f) (once : DeclaredOnce f.decls) where
   number_passes : (z : ℤ) → ExprPasses o f (Number z)
@@ -210,17 +179,17 @@ module _ (o : Parts) (f : Setting) (homes : HasHomes o f) (once : DeclaredOnce f
       leaves in
       record { last = passed.last; passes = passed.passes; kept = passed.kept; labelled = passed.labelled }
 
-  element_passes : (x : List ℕ) (l : Label) (i : Tree) → context_of f.decls x ≡ Some (l, Array)
-      → IndexIsPublic f x i → ExprPasses o f i
+  element_passes : (x : List ℕ) (l : Label) (i : Tree) → TypedTree (context_of f.decls) i
+      → context_of f.decls x ≡ Some (l, Array) → IndexIsPublic f x i → ExprPasses o f i
       → ExprPasses o f (Element x i)
-  element_passes x l i declared public index mask to p k holds high stands here carries leaves =
+  element_passes x l i typed declared public index mask to p k holds high stands here carries leaves =
       let h = home_of f x in
       let code = array_code f to x i in
       let read = Ldw to h.slot to ∷ [] in
       let size : length (code ++ read) ≡ length code + 1 = length-append code read in
       let behind = stands.behind in
       let r = p + length code in
-      let a = access-passes o f homes once x l i mask to p k holds declared public index (omega arith)
+      let a = access-passes o f homes once x l i typed mask to p k holds declared public index (omega arith)
       (omega (arith, height-some i))
       (standing-first code read stands.code_stands)
       (notes-within o p (p + length (code ++ read)) p (r + 1) (array_notes f mask to p x i) (omega arith)
@@ -248,81 +217,88 @@ module _ (o : Parts) (f : Setting) (homes : HasHomes o f) (once : DeclaredOnce f
             × Shape)). secret_label (higher (label_or_public q) (label_of (context_of f.decls) i))) (sym declared);
       }
 
-  -- an operation on two expressions, by its code and its notes
+  -- an operation on two operands, by its code and its notes
+  abbrev operation_by : Op → Tree → Tree → Option (List Step) → ℕ → List Instr
+  operation_by op a b found to =
+      let q = operand_unless (is_some found) (operand f a) in
+      operand_part q (expr_code f Public to a)
+      ++ operation_code op to (operand_register q to) (operand_register (operand f b) (to + 1)) found
+      (operand_part (operand f b) (expr_code f Public (to + 1) b))
+
+  abbrev notes_by : Op → Tree → Tree → Option (List Step) → (mask to p : ℕ) → List Note
+  notes_by op a b found mask to p =
+      let q = operand_unless (is_some found) (operand f a) in
+      operand_part q (expr_notes f mask to p a)
+      ++ operation_notes found (operand_part (operand f b)
+      (expr_notes f (operand_mask q (label_of (context_of f.decls) a) mask to) (to + 1)
+      (p + length (operand_part q (expr_code f Public to a))) b))
+
   abbrev OperationPasses : Op → Tree → Tree → Option (List Step) → Type 0
   OperationPasses op a b found =
       (mask to p : ℕ) (k holds : Known) → to + (max (height_of a) (height_of b) + 1) ≤ 18
-      → StandsNoted o p (expr_code f Public to a ++ operation_code op to found (expr_code f Public (to + 1) b))
-      (expr_notes f mask to p a
-      ++ operation_notes found (expr_notes f (marked_by (label_of (context_of f.decls) a) mask to) (to + 1)
-      (p + length (expr_code f Public to a)) b))
+      → StandsNoted o p (operation_by op a b found to) (notes_by op a b found mask to p)
       → HoldsAt o p k holds → Carries f holds → LeavesPublic f mask to holds
-      → PassedCode o f mask to p (expr_code f Public to a ++ operation_code op to found (expr_code f Public (to + 1) b))
+      → PassedCode o f mask to p (operation_by op a b found to)
       (higher (label_of (context_of f.decls) a) (label_of (context_of f.decls) b)) k holds
 
-  operation_passes : (op : Op) (a b : Tree) → ExprPasses o f a → ExprPasses o f b → OperationPasses op a b None
-  operation_passes op a b left right mask to p k holds high stands here carries leaves =
+  operation_passes : (op : Op) (a b : Tree) → TypedTree (context_of f.decls) a → TypedTree (context_of f.decls) b
+      → ExprPasses o f a → ExprPasses o f b → OperationPasses op a b None
+  operation_passes op a b typed_a typed_b left right mask to p k holds high stands here carries leaves =
       let known = context_of f.decls in
-      let first = expr_code f Public to a in
-      let second = expr_code f Public (to + 1) b in
-      let join = Alu op to to (to + 1) ∷ [] in
+      let q = operand f a in
+      let q' = operand f b in
+      let first = operand_part q (expr_code f Public to a) in
+      let second = operand_part q' (expr_code f Public (to + 1) b) in
+      let from = operand_register q to in
+      let by = operand_register q' (to + 1) in
+      let join = Alu op to from by ∷ [] in
       let size : length (first ++ (second ++ join)) ≡ length first + (length second + 1) = length-append first
       (second ++ join)
       ∙ ap (λ (n : ℕ). length first + n) (length-append second join) in
       let behind = stands.behind in
       let mid = p + length first in
       let end = mid + length second in
-      let mask' = marked_by (label_of known a) mask to in
-      let some = expression-longer f a to in
-      let more = expression-longer f b (to + 1) in
-      let before = expr_notes f mask to p a in
-      let later = expr_notes f mask' (to + 1) mid b in
+      let mask' = operand_mask q (label_of known a) mask to in
+      let before = operand_part q (expr_notes f mask to p a) in
+      let later = operand_part q' (expr_notes f mask' (to + 1) mid b) in
       let whole = p + length (first ++ (second ++ join)) in
-      let lie_before : LieBetween p mid before = expression-lies f a mask to p in
-      let lie_later : LieBetween mid whole later = lie_wider mid end mid whole later (omega arith) (omega arith)
+      let lie_before : LieBetween p mid before =
+      operand-lie q p (expr_code f Public to a) (expr_notes f mask to p a) (expression-lies f a mask to p) in
+      let lie_end : LieBetween mid end later =
+      operand-lie q' mid (expr_code f Public (to + 1) b) (expr_notes f mask' (to + 1) mid b)
       (expression-lies f b mask' (to + 1) mid) in
+      let lie_later : LieBetween mid whole later = lie_wider mid end mid whole later (omega arith) (omega arith) lie_end in
       let rest = standing-rest first (second ++ join) stands.code_stands in
-      let l = left mask to p k holds (omega arith)
-      (record {
-        code_stands = standing-first first (second ++ join) stands.code_stands;
-        noted = notes-before o p mid whole before later lie_before lie_later stands.noted (omega arith);
-        behind = omega arith;
-      }) here carries leaves in
-      let there : HoldsAt o mid l.last l.last = AsItComes l.last
-      (no_note-there o p mid whole before later lie_before lie_later stands.noted (omega arith) (omega arith)) in
-      let leaves' : LeavesPublic f mask' (to + 1) l.last = leaves-labelled f (label_of known a) mask to l.last (omega arith)
-      (leaves-later f mask to holds l.last leaves l.kept.publics) l.labelled in
-      let r = right mask' (to + 1) mid l.last l.last (omega arith)
-      (record {
-        code_stands = standing-first second join rest;
-        noted = notes-within o mid whole mid end later (omega arith) (omega arith)
-            (notes-behind o p mid whole before later lie_before lie_later stands.noted (omega arith));
-        behind = omega arith;
-      }) there l.kept.carries leaves' in
+      let l = operand-passes o f homes a typed_a q (is-operand f a) left mask to p k holds (omega arith) (omega arith)
+      whole later (standing-first first (second ++ join) stands.code_stands) stands.noted lie_later (omega arith)
+      (omega arith) here carries leaves in
+      let leaves' : LeavesPublic f mask' (to + 1) l.held = leaves-operand f q (label_of known a) mask to l.held
+      (omega arith) (leaves-later f mask to holds l.held leaves l.kept.publics) l.labelled in
+      let between : NotesBetween o mid whole (later ++ []) =
+      subst (NotesBetween o mid whole) (sym (append-nil later))
+      (notes-behind o p mid whole before later lie_before lie_later stands.noted (omega arith)) in
+      let r = operand-passes o f homes b typed_b q' (is-operand f b) right mask' (to + 1) mid l.last l.held (omega arith)
+      (omega arith) whole [] (standing-first second join rest) between tt (omega arith) (omega arith) l.here
+      l.kept.carries leaves' in
       let sized = r.kept.carries.registers in
-      let last = set_secret r.last to (is_secret r.last to || is_secret r.last (to + 1)) in
-      let none : claimed_at o end ≡ None = stands.noted end (omega arith) (omega arith)
-      ∙ ap (option_map note_known) (no_note-behind p end end (before ++ later)
-      (lie_both p end before later (lie_wider p mid p end before (omega arith) (omega arith) lie_before)
-      (lie_wider mid end p end later (omega arith) (omega arith) (expression-lies f b mask' (to + 1) mid)))
-      (omega arith)) in
-      let step : Passes o end r.last (end + 1) last = passes-one o end r.last r.last last (Alu op to to (to + 1))
-      (AsItComes r.last none) (standing-head (Alu op to to (to + 1)) [] (standing-rest second join rest))
-      (rules-alu o end r.last op to to (to + 1)) (omega arith) in
+      let last = set_secret r.held to (is_secret r.held from || is_secret r.held by) in
+      let step : Passes o end r.last (end + 1) last = passes-one o end r.last r.held last (Alu op to from by)
+      r.here (standing-head (Alu op to from by) [] (standing-rest second join rest))
+      (rules-alu o end r.held op to from by) (omega arith) in
       record {
         last = last;
         passes = passes-then o p k mid l.last l.passes whole last
             (passes-then o mid l.last end r.last r.passes whole last
             (passes-to o end r.last (end + 1) whole last (omega arith) step));
         kept
-            = kept-same f mask to holds r.last last
-            (kept-then f (label_of known a) mask to holds l.last r.last (omega arith) l.kept r.kept)
-            (same-set to r.last r.last to _ (omega arith) (omega arith) (same-itself to r.last));
+            = kept-same f mask to holds r.held last
+            (kept-then f q (label_of known a) mask to holds l.held r.held (omega arith) l.kept r.kept)
+            (same-set to r.held r.held to _ (omega arith) (omega arith) (same-itself to r.held));
         labelled
-            = secret-same r.last to (is_secret r.last to || is_secret r.last (to + 1)) (omega arith)
-            ∙ ap (λ (b : Bool). b || is_secret r.last (to + 1)) (label-kept f (label_of known a) mask to
-            (to + 1) l.last r.last
-            (omega arith) (omega arith) l.labelled r.kept)
+            = secret-same r.held to (is_secret r.held from || is_secret r.held by) (omega arith)
+            ∙ ap (λ (b : Bool). b || is_secret r.held by)
+            (operand-later o f homes a typed_a q (is-operand f a) mask to (to + 1) l.held r.held (omega arith) (omega arith)
+            l.labelled r.kept)
             ∙ ap (λ (b : Bool). secret_label (label_of known a) || b) r.labelled
             ∙ higher_label (label_of known a) (label_of known b);
       }
@@ -379,10 +355,11 @@ module _ (o : Parts) (f : Setting) (homes : HasHomes o f) (once : DeclaredOnce f
             ∙ ap (λ (e : Tree). higher (label_of known a) (label_of known e)) (sym of.is));
       }
 
-  either_passes : (op : Op) (a b : Tree) → ExprPasses o f a → ExprPasses o f b → (found : Option (List Step))
-      → steps_at f op b ≡ found → OperationPasses op a b found
-  either_passes op a b left right None e = operation_passes op a b left right
-  either_passes op a b left right (Some steps) e = stepped_passes op a b steps (steps-of f op b steps e) left
+  either_passes : (op : Op) (a b : Tree) → TypedTree (context_of f.decls) a → TypedTree (context_of f.decls) b
+      → ExprPasses o f a → ExprPasses o f b → (found : Option (List Step)) → steps_at f op b ≡ found
+      → OperationPasses op a b found
+  either_passes op a b typed_a typed_b left right None e = operation_passes op a b typed_a typed_b left right
+  either_passes op a b typed_a typed_b left right (Some steps) e = stepped_passes op a b steps (steps-of f op b steps e) left
 
   operation-passed : (op : Op) (a b : Tree) → OperationPasses op a b (steps_at f op b) → ExprPasses o f (Operation op a b)
   operation-passed op a b passes mask to p k holds high stands here carries leaves =
@@ -395,8 +372,8 @@ module _ (o : Parts) (f : Setting) (homes : HasHomes o f) (once : DeclaredOnce f
   expression-passes (Variable x) typed public = scalar_passes x typed.0 typed.1
   expression-passes (Element x i) typed public =
       let used = typed.0 in
-      element_passes x used.0 i used.1 public.0 (expression-passes i typed.1.0 public.1)
+      element_passes x used.0 i typed.1.0 used.1 public.0 (expression-passes i typed.1.0 public.1)
   expression-passes (Operation op a b) typed public =
       operation-passed op a b
-      (either_passes op a b (expression-passes a typed.0 public.0) (expression-passes b typed.1 public.1)
+      (either_passes op a b typed.0 typed.1 (expression-passes a typed.0 public.0) (expression-passes b typed.1 public.1)
       (steps_at f op b) refl)

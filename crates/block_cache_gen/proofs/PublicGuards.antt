@@ -19,7 +19,8 @@ use Rattle.block_cache_gen.specs.PublicIndexes.{TestHasPublicIndexes}
 use Rattle.block_cache_gen.specs.PublicCode.{StandsNoted, PassedTest}
 use Rattle.block_cache_gen.proofs.NoteClaims.{leaves-base}
 use Rattle.block_cache_gen.proofs.NotesOfCode.{expression-longer, expression-lies}
-use Rattle.block_cache_gen.proofs.PublicExpressions.{expression-passes, leaves-labelled, label-kept}
+use Rattle.block_cache_gen.proofs.OperandPasses.{leaves-labelled, label-kept}
+use Rattle.block_cache_gen.proofs.PublicExpressions.{expression-passes}
 
 -- a guard's notes
 pub guard-lie : (f : Setting) (to p : ℕ) (t : Test)

@@ -1,6 +1,6 @@
 -- A public expression has a tree.
 use Rattle.std.proofs.Common.{◌≡◌, ℕ, ◌+◌, ◌-◌, ◌<◌, ◌/◌, ℤ, pos, Bool, true, false, ◌&&◌, ◌==◌, cond, List, [], ◌∷◌, Option, Some, None, refl, sym, ap, ◌∙◌, subst, arith}
-use Rattle.std.specs.Prelude.{if◌then◌else◌, IsTrue}
+use Rattle.std.specs.Prelude.{if◌then◌else◌, is_some, IsTrue}
 use Rattle.gr_word.specs.declared.operations.Op.{Op}
 use Rattle.gr_word.specs.declared.operations.Op.TheVariants.{Add, Remu, And, Shr}
 use Rattle.gr_word.specs.declared.variables.Label.{Label}
@@ -15,11 +15,13 @@ use Rattle.src_tree.specs.Typing.{TypedTree}
 use Rattle.trace_patterns.specs.SymStates.{SymSlot, AnySlot, RamSlot, Entry, Loaded}
 use Rattle.trace_patterns.specs.Single.{applied_trees, word_tree}
 use Rattle.block_cache_gen.specs.Homes.{Home, Setting, held_label, home_of, register_for, words_a_block, HasHomes}
-use Rattle.block_cache_gen.specs.Codes.{is_masked, fixed_index, fixed_word, steps_at}
+use Rattle.block_cache_gen.specs.Codes.{is_masked, fixed_index, fixed_word, operand, operand_unless, steps_at}
 use Rattle.strength_reduction.specs.Steps.{Step, Constant, Compute, left_by, reads_known, replaced}
-use Rattle.block_cache_gen.specs.PatternsOf.{word_named_by, word_read, tree_by, scalar_tree, pinned_slot, placed_tree, element_by, block_named_by, number_tree, reduced_tree, block_tree, block_loaded, element_slot, steps_tree, operation_tree, tree_of_expr}
+use Rattle.block_cache_gen.specs.PatternsOf.{word_named_by, word_read, tree_by, scalar_tree, operand_tree, pinned_slot, placed_tree, element_by, block_named_by, number_tree, reduced_tree, block_tree, block_loaded, element_slot, steps_tree, operation_tree, tree_of_expr}
 use Rattle.block_cache_gen.proofs.StepsAt.{steps-of}
 use Rattle.held_registers.specs.Held.{public_zero}
+use Rattle.block_cache_gen.proofs.HeldOperands.{IsOperandOf}
+use Rattle.block_cache_gen.proofs.OperandLabels.{is-operand, operand-label}
 use Rattle.block_cache_gen.proofs.HeldLabels.{register-label}
 use Rattle.block_cache_gen.proofs.HomeFacts.{plain-array}
 use Rattle.block_cache_gen.proofs.ArmInstructions.{IsSeen}
@@ -155,6 +157,14 @@ module _ (o : Parts) (f : Setting) (homes : HasHomes o f) where
       applied-known Add (tree_by r (held_label f r)) (Some (Reg public_zero))
       (Reg r, ap (tree_by r) (register-label f homes.held x Public Scalar declared r is)) (Reg public_zero, refl)
 
+  -- the tree of an operand that is public, by the register that holds it
+  operand-known : (e : Tree) → TypedTree (context_of f.decls) e → (q : Option ℕ) → IsOperandOf f e q
+      → label_of (context_of f.decls) e ≡ Public → IsKnown (tree_of_expr f e)
+      → IsKnown (operand_tree f q (tree_of_expr f e))
+  operand-known e typed None is public known = known
+  operand-known e typed (Some r) is public known =
+      (Reg r, ap (tree_by r) (operand-label f homes.held e typed r (is r refl) ∙ ap Some public))
+
   -- an element of plain memory
   element-known : (h : Home) (fixed : Option ℤ) (index : Option Value) → h.bank ≡ 0 → IsKnown index
       → IsKnown (word_read f (element_slot f h fixed index) (number_tree h fixed index))
@@ -187,19 +197,35 @@ module _ (o : Parts) (f : Setting) (homes : HasHomes o f) where
       let array = public-left (label_at known x) (label_of known i) public in
       let index = public-right (label_at known x) (label_of known i) public in
       let plain = plain-array o f homes x typed.0.0 typed.0.1 in
-      element_by-known (home_of f x).resident (home_of f x) (fixed_index (home_of f x) i) (tree_of_expr f i)
-      (plain.1 (sym same ∙ array))
-      (public-tree i typed.1.0 index)
+      element_by-known (home_of f x).resident (home_of f x) (fixed_index (home_of f x) i)
+      (operand_tree f (operand f i) (tree_of_expr f i)) (plain.1 (sym same ∙ array))
+      (operand-known i typed.1.0 (operand f i) (is-operand f i) index (public-tree i typed.1.0 index))
   public-tree (Operation op a b) typed public =
-      let known = context_of f.decls in
-      let left = public-tree a typed.0 (public-left (label_of known a) (label_of known b) public) in
-      let right = public-tree b typed.1 (public-right (label_of known a) (label_of known b) public) in
-      by (steps_at f op b) refl left right
+      by (steps_at f op b) refl (public-tree a typed.0 public_left) (public-tree b typed.1 public_right)
     where
+      public_left : label_of (context_of f.decls) a ≡ Public
+      public_left = public-left (label_of (context_of f.decls) a) (label_of (context_of f.decls) b) public
+
+      public_right : label_of (context_of f.decls) b ≡ Public
+      public_right = public-right (label_of (context_of f.decls) a) (label_of (context_of f.decls) b) public
+
       by : (found : Option (List Step)) → steps_at f op b ≡ found → IsKnown (tree_of_expr f a)
-          → IsKnown (tree_of_expr f b) → IsKnown (operation_tree op found (tree_of_expr f a) (tree_of_expr f b))
-      by None e left right = applied-known op (tree_of_expr f a) (tree_of_expr f b) left right
+          → IsKnown (tree_of_expr f b)
+          → IsKnown (operation_tree op found
+          (operand_tree f (operand_unless (is_some found) (operand f a)) (tree_of_expr f a))
+          (operand_tree f (operand f b) (tree_of_expr f b)))
+      by None e left right =
+          applied-known op (operand_tree f (operand f a) (tree_of_expr f a))
+          (operand_tree f (operand f b) (tree_of_expr f b))
+          (operand-known a typed.0 (operand f a) (is-operand f a) public_left left)
+          (operand-known b typed.1 (operand f b) (is-operand f b) public_right right)
       by (Some steps) e left right =
           let of = steps-of f op b steps e in
           let replaces = of.replaces in
           steps-known steps (tree_of_expr f a) replaces.reads left
+
+  -- so is that of a public operand
+  pub public-operand : (e : Tree) → TypedTree (context_of f.decls) e → label_of (context_of f.decls) e ≡ Public
+      → IsKnown (operand_tree f (operand f e) (tree_of_expr f e))
+  public-operand e typed public =
+      operand-known e typed (operand f e) (is-operand f e) public (public-tree e typed public)

@@ -1,6 +1,6 @@
 -- The code of expressions, guards and assignments is in its ranges, in all modes.
 use Rattle.std.proofs.Common.{◌≡◌, ℕ, ◌+◌, ◌-◌, ◌/◌, ◌^◌, ◌<◌, ◌≤◌, Bool, true, false, ℤ, pos, negsuc, ◌+ℤ◌, List, [], ◌∷◌, ◌++◌, Option, Some, None, refl, sym, subst, arith, ◌==◌}
-use Rattle.std.specs.Prelude.{All, if◌then◌else◌, FitsSigned}
+use Rattle.std.specs.Prelude.{All, if◌then◌else◌, is_some, FitsSigned}
 use Rattle.std.specs.Int.{w32, w64}
 use Rattle.std.proofs.lemmas.Int.{ints, fits_signed_from_abs}
 use Rattle.std.proofs.lemmas.List.Elements.{All-nil, All-cons, All-head, All-tail}
@@ -25,12 +25,13 @@ use Rattle.src_tree.specs.Typing.{TypedTree, TypedTest}
 use Rattle.block_cache_gen.specs.declared.frames.Mode.{Mode}
 use Rattle.block_cache_gen.specs.declared.frames.Mode.TheVariants.{Public, Real, Mirrored}
 use Rattle.block_cache_gen.specs.Homes.{Pin, pin_at, Home, Setting, home_of, register_for}
-use Rattle.held_registers.specs.Held.{secret_zero, public_zero}
+use Rattle.held_registers.specs.Held.{secret_zero, public_zero, IsSoundHeld}
 use Rattle.block_cache_gen.specs.TreeWords.{HasWords}
-use Rattle.block_cache_gen.specs.Codes.{is_masked, compares, least_word, numbered_code, fixed_index, fixed_word, shift_code, fixed_code, located_code, load_code, skips, access_by, placed_code, offset_code, stored_code, access_code, expr_code, guard_code, store_code, set_code, operation_code, steps_at, copy_code, scalar_code, copied_from, write_code}
+use Rattle.block_cache_gen.specs.Codes.{is_masked, compares, least_word, numbered_code, fixed_index, fixed_word, shift_code, fixed_code, located_code, load_code, skips, access_by, placed_code, offset_code, stored_code, access_code, index_operand, indexed_code, operand, operand_part, operand_register, left_operand, expr_code, guard_code, store_code, set_code, operation_code, steps_at, copy_code, scalar_code, copied_from, write_code}
 use Rattle.strength_reduction.specs.Steps.{Step, Constant, Compute, StepFits, numbered, code_of}
 use Rattle.step_code.proofs.Registers.{numbered-low}
 use Rattle.src_tree.proofs.TreeHeights.{height-some}
+use Rattle.block_cache_gen.proofs.HeldOperands.{operand-inside, operand-low, operand-unless}
 use Rattle.block_cache_gen.proofs.StepsAt.{steps-of}
 
 -- a home in its ranges, if there are this many banks
@@ -41,10 +42,10 @@ pub record HomeFits (banks : ℕ) (h : Home) : Type 0 where
   pub length : Within 1 max_length h.length
   pub slot : h.slot < 8
 
--- so is the home of each variable, a block has 512 words at most, and the machine has each register that holds a scalar
+-- so is the home of each variable, a block has 512 words at most, and what the registers hold is sound
 pub record HomesFit (banks : ℕ) (f : Setting) : Type 0 where
   pub block_log : f.profile.block_log ≤ 9
-  pub registers : (x : List ℕ) (r : ℕ) → register_for f x ≡ Some r → r < 32
+  pub held : IsSoundHeld f.decls f.held
   pub pins : (slot : ℕ) (p : Pin) → pin_at f slot ≡ Some p → p.bank < 2
   pub homes : (x : List ℕ) (label : Label) (shape : Shape) → context_of f.decls x ≡ Some (label, shape)
       → HomeFits banks (home_of f x)
@@ -110,17 +111,17 @@ module _ (banks : ℕ) where
   both xs ys first second = code-both banks xs ys first second
 
   module _ (h : Home) (home : HomeFits banks h) (to : ℕ) (low : to + 2 < 19) where
-    reduced_by : (masked : Bool)
-        → CodeFits banks (if masked then Li (to + 1) (pos (h.length - 1)) ∷ Alu And to to (to + 1) ∷ []
-        else Li (to + 1) (pos h.length) ∷ Alu Remu to to (to + 1) ∷ [])
-    reduced_by true =
+    reduced_by : (from : ℕ) → from < 32 → (masked : Bool)
+        → CodeFits banks (if masked then Li (to + 1) (pos (h.length - 1)) ∷ Alu And to from (to + 1) ∷ []
+        else Li (to + 1) (pos h.length) ∷ Alu Remu to from (to + 1) ∷ [])
+    reduced_by from inside true =
         let most = home.length.1 in
         li (to + 1) (pos (h.length - 1)) _ (omega arith) (small-word (h.length - 1) (omega arith))
-        (alu And to to (to + 1) [] (omega arith) (omega arith) (omega arith) none)
-    reduced_by false =
+        (alu And to from (to + 1) [] (omega arith) inside (omega arith) none)
+    reduced_by from inside false =
         let most = home.length.1 in
         li (to + 1) (pos h.length) _ (omega arith) (small-word h.length (omega arith))
-        (alu Remu to to (to + 1) [] (omega arith) (omega arith) (omega arith) none)
+        (alu Remu to from (to + 1) [] (omega arith) inside (omega arith) none)
 
     block_by : (block_log : ℕ) → block_log ≤ 9 → CodeFits banks (shift_code block_log h to)
     block_by block_log few =
@@ -155,8 +156,8 @@ module _ (banks : ℕ) where
         let is : least_word +ℤ pos n ≡ negsuc (9223372036854775807 - n) = omega (arith, ints) in
         subst IsWord (sym is) (record { sfits = omega arith })
 
-    numbered_by : (near : Bool) → CodeFits banks (numbered_code near h to)
-    numbered_by true =
+    numbered_by : (near : Bool) (from : ℕ) → from < 32 → CodeFits banks (numbered_code near h to from)
+    numbered_by true from inside =
         let most = home.length.1 in
         li (to + 1) least_word _ (omega arith) (record { sfits = omega arith })
         (alu Add (to + 1) (to + 1) to _ (omega arith) (omega arith) (omega arith)
@@ -164,14 +165,15 @@ module _ (banks : ℕ) where
         (Before (Br Lt (to + 1) (to + 2) (pos 3)) _ (omega arith, omega arith, small_offset_three)
         (li (to + 1) (pos h.length) _ (omega arith) (small-word h.length (omega arith))
         (alu Remu to to (to + 1) [] (omega arith) (omega arith) (omega arith) none)))))
-    numbered_by false = reduced_by (is_masked h)
+    numbered_by false from inside = reduced_by from inside (is_masked h)
 
-    located_by : (near : Bool) (block_log : ℕ) (fixed : Option ℤ) (index : List Instr) → block_log ≤ 9
-        → CodeFits banks index → CodeFits banks (located_code near block_log h to fixed index)
-    located_by near block_log (Some z) index few fit = fixed_by block_log z
-    located_by near block_log None index few fit =
-        both index (numbered_code near h to ++ shift_code block_log h to) fit
-        (both (numbered_code near h to) (shift_code block_log h to) (numbered_by near) (block_by block_log few))
+    located_by : (near : Bool) (block_log from : ℕ) (fixed : Option ℤ) (index : List Instr) → block_log ≤ 9 → from < 32
+        → CodeFits banks index → CodeFits banks (located_code near block_log h to from fixed index)
+    located_by near block_log from (Some z) index few inside fit = fixed_by block_log z
+    located_by near block_log from None index few inside fit =
+        both index (numbered_code near h to from ++ shift_code block_log h to) fit
+        (both (numbered_code near h to from) (shift_code block_log h to) (numbered_by near from inside)
+        (block_by block_log few))
 
     offset_by : (first : Bool)
         → CodeFits banks (if first then [] else Li (to + 1) (pos h.word) ∷ Alu Add to to (to + 1) ∷ [])
@@ -181,27 +183,28 @@ module _ (banks : ℕ) where
         li (to + 1) (pos h.word) _ (omega arith) (small-word h.word (omega arith))
         (alu Add to to (to + 1) [] (omega arith) (omega arith) (omega arith) none)
 
-    placed_by : (near : Bool) (fixed : Option ℤ) (index : List Instr) → CodeFits banks index
-        → CodeFits banks (placed_code near h to fixed index)
-    placed_by near (Some z) index fit =
+    placed_by : (near : Bool) (from : ℕ) (fixed : Option ℤ) (index : List Instr) → from < 32 → CodeFits banks index
+        → CodeFits banks (placed_code near h to from fixed index)
+    placed_by near from (Some z) index inside fit =
         let small = home.word in
         let least = home.length.0 in
         let most = home.length.1 in
         let below : fixed_word h z < h.length = mod-lt (unsigned_of z) (omega arith) in
         li to (pos (h.word + fixed_word h z)) [] (omega arith) (small-word (h.word + fixed_word h z) (omega arith)) none
-    placed_by near None index fit =
-        both index (numbered_code near h to ++ offset_code h to) fit
-        (both (numbered_code near h to) (offset_code h to) (numbered_by near) (offset_by (h.word == 0)))
+    placed_by near from None index inside fit =
+        both index (numbered_code near h to from ++ offset_code h to) fit
+        (both (numbered_code near h to from) (offset_code h to) (numbered_by near from inside) (offset_by (h.word == 0)))
 
-    pub access-fits : (near : Bool) (block_log : ℕ) (mode : Mode) (fixed : Option ℤ) (index : List Instr)
-        → block_log ≤ 9 → CodeFits banks index → CodeFits banks (access_code near block_log mode h to fixed index)
-    access-fits near block_log mode fixed index few fit = by h.resident
+    pub access-fits : (near : Bool) (block_log : ℕ) (mode : Mode) (from : ℕ) (fixed : Option ℤ) (index : List Instr)
+        → block_log ≤ 9 → from < 32 → CodeFits banks index
+        → CodeFits banks (access_code near block_log mode h to from fixed index)
+    access-fits near block_log mode from fixed index few inside fit = by h.resident
       where
-        by : (b : Bool) → CodeFits banks (access_by b near block_log mode h to fixed index)
-        by true = placed_by near fixed index fit
+        by : (b : Bool) → CodeFits banks (access_by b near block_log mode h to from fixed index)
+        by true = placed_by near from fixed index inside fit
         by false =
-            both (located_code near block_log h to fixed index) (load_code (skips mode h) h to)
-            (located_by near block_log fixed index few fit) (load_by (skips mode h))
+            both (located_code near block_log h to from fixed index) (load_code (skips mode h) h to)
+            (located_by near block_log from fixed index few inside fit) (load_by (skips mode h))
 
   -- steps
   steps-fit : (to : ℕ) (steps : List Step) → to + 2 < 19 → All StepFits steps → CodeFits banks (code_of to steps)
@@ -216,12 +219,13 @@ module _ (banks : ℕ) where
       (numbered-low to rd first.0 (omega arith)) (numbered-low to left first.1 (omega arith)) (numbered-low to right first.2 (omega arith))
       (steps-fit to steps room (All-tail StepFits (Compute op rd left right) steps fit))
 
-  operation-fits : (f : Setting) (op : Op) (to : ℕ) (b : Tree) (right : List Instr) → to + 2 < 19
-      → CodeFits banks right → CodeFits banks (operation_code op to (steps_at f op b) right)
-  operation-fits f op to b right room fit = by (steps_at f op b) refl
+  operation-fits : (f : Setting) (op : Op) (to ra rb : ℕ) (b : Tree) (right : List Instr) → to + 2 < 19
+      → ra < 32 → rb < 32 → CodeFits banks right → CodeFits banks (operation_code op to ra rb (steps_at f op b) right)
+  operation-fits f op to ra rb b right room first second fit = by (steps_at f op b) refl
     where
-      by : (found : Option (List Step)) → steps_at f op b ≡ found → CodeFits banks (operation_code op to found right)
-      by None e = both right _ fit (alu op to to (to + 1) [] (omega arith) (omega arith) (omega arith) none)
+      by : (found : Option (List Step)) → steps_at f op b ≡ found
+          → CodeFits banks (operation_code op to ra rb found right)
+      by None e = both right _ fit (alu op to ra rb [] (omega arith) first second none)
       by (Some steps) e =
           let known = steps-of f op b steps e in
           let replaces = known.replaces in
@@ -240,26 +244,39 @@ module _ (banks : ℕ) where
       let small = home.word in
       li to (pos h.word) _ low (small-word h.word (omega arith)) (ldw to h.slot to [] low home.slot low none)
 
+  -- an operand
+  operand-fits : (q : Option ℕ) (code : List Instr) → CodeFits banks code → CodeFits banks (operand_part q code)
+  operand-fits None code fit = fit
+  operand-fits (Some r) code fit = none
+
   -- an expression
   pub expression-fits : (f : Setting) (mode : Mode) → HomesFit banks f → (to : ℕ) (e : Tree)
       → TypedTree (context_of f.decls) e → HasWords e → to + height_of e ≤ 18 → CodeFits banks (expr_code f mode to e)
   expression-fits f mode homes to (Number z) typed words high = li to z [] (omega arith) words none
   expression-fits f mode homes to (Variable x) typed words high =
-      scalar-fits (home_of f x) (homes.homes x typed.0 _ typed.1) to (omega arith) (register_for f x) (homes.registers x)
+      scalar-fits (home_of f x) (homes.homes x typed.0 _ typed.1) to (omega arith) (register_for f x)
+      (operand-low f homes.held (Variable x))
   expression-fits f mode homes to (Element x i) typed words high =
       let home = homes.homes x typed.0.0 _ typed.0.1 in
-      both
-      (access_code (compares f mode (home_of f x) i) f.profile.block_log mode (home_of f x) to
-      (fixed_index (home_of f x) i) (expr_code f mode to i)) _
-      (access-fits (home_of f x) home to (omega (arith, height-some i)) (compares f mode (home_of f x) i) f.profile.block_log mode
-      (fixed_index (home_of f x) i)
-      (expr_code f mode to i) homes.block_log
-      (expression-fits f mode homes to i typed.1.0 words (omega arith)))
+      let near = compares f mode (home_of f x) i in
+      let q = index_operand f near i in
+      both (indexed_code f near mode (home_of f x) to i (expr_code f mode to i)) _
+      (access-fits (home_of f x) home to (omega (arith, height-some i)) near f.profile.block_log mode
+      (operand_register q to) (fixed_index (home_of f x) i) (operand_part q (expr_code f mode to i)) homes.block_log
+      (operand-inside f homes.held i q (operand-unless f i near) to (omega arith))
+      (operand-fits q (expr_code f mode to i) (expression-fits f mode homes to i typed.1.0 words (omega arith))))
       (ldw to (home_of f x).slot to [] (omega arith) home.slot (omega arith) none)
   expression-fits f mode homes to (Operation op a b) typed words high =
-      both (expr_code f mode to a) _ (expression-fits f mode homes to a typed.0 words.0 (omega arith))
-      (operation-fits f op to b (expr_code f mode (to + 1) b) (omega (arith, height-some b))
-      (expression-fits f mode homes (to + 1) b typed.1 words.1 (omega arith)))
+      let q = left_operand f op a b in
+      let p = operand f b in
+      both (operand_part q (expr_code f mode to a)) _
+      (operand-fits q (expr_code f mode to a) (expression-fits f mode homes to a typed.0 words.0 (omega arith)))
+      (operation-fits f op to (operand_register q to) (operand_register p (to + 1)) b
+      (operand_part p (expr_code f mode (to + 1) b)) (omega (arith, height-some b))
+      (operand-inside f homes.held a q (operand-unless f a (is_some (steps_at f op b))) to (omega arith))
+      (operand-inside f homes.held b p (λ r held. held) (to + 1) (omega (arith, height-some b)))
+      (operand-fits p (expr_code f mode (to + 1) b)
+      (expression-fits f mode homes (to + 1) b typed.1 words.1 (omega arith))))
 
   -- a guard
   pub guard-fits : (f : Setting) (mode : Mode) → HomesFit banks f → (to : ℕ) (t : Test)
@@ -270,11 +287,11 @@ module _ (banks : ℕ) where
       (expression-fits f mode homes to t.left typed.0 left high)
       (expression-fits f mode homes (to + 1) t.right typed.1 right higher)
 
-  store_by : (mode : Mode) (slot : ℕ) → slot < 8 → CodeFits banks (store_code mode slot)
-  store_by Public slot low = stw 0 slot 1 [] (omega arith) low (omega arith) none
-  store_by Real slot low =
-      ldw 2 slot 1 _ (omega arith) low (omega arith) (stw 0 slot 1 [] (omega arith) low (omega arith) none)
-  store_by Mirrored slot low =
+  store_by : (mode : Mode) (slot value : ℕ) → slot < 8 → value < 32 → CodeFits banks (store_code mode slot value)
+  store_by Public slot value low inside = stw value slot 1 [] inside low (omega arith) none
+  store_by Real slot value low inside =
+      ldw 2 slot 1 _ (omega arith) low (omega arith) (stw value slot 1 [] inside low (omega arith) none)
+  store_by Mirrored slot value low inside =
       ldw 2 slot 1 _ (omega arith) low (omega arith) (stw 2 slot 1 [] (omega arith) low (omega arith) none)
 
   stored_fits : (b : Bool) (slot : ℕ) → slot < 8 → CodeFits banks (stored_code b slot)
@@ -282,17 +299,18 @@ module _ (banks : ℕ) where
   stored_fits false slot low = stb slot [] low none
 
   write-fits : (h : Home) → HomeFits banks h → (l : Label) (mode : Mode) (found : Option ℕ)
-      → ((r : ℕ) → found ≡ Some r → r < 32) → CodeFits banks (write_code found l mode h)
-  write-fits h home l mode (Some r) register =
-      copy-fits l r (copied_from mode r) (register r refl) (from mode (register r refl))
+      → ((r : ℕ) → found ≡ Some r → r < 32) → (value : ℕ) → value < 32
+      → CodeFits banks (write_code found l mode h value)
+  write-fits h home l mode (Some r) register value inside =
+      copy-fits l r (copied_from mode r value) (register r refl) (from mode (register r refl))
     where
-      from : (mode : Mode) → r < 32 → copied_from mode r < 32
-      from Public low = omega arith
-      from Real low = omega arith
+      from : (mode : Mode) → r < 32 → copied_from mode r value < 32
+      from Public low = inside
+      from Real low = inside
       from Mirrored low = low
-  write-fits h home l mode None register =
+  write-fits h home l mode None register value inside =
       let small = home.word in
-      li 1 (pos h.word) _ (omega arith) (small-word h.word (omega arith)) (store_by mode h.slot home.slot)
+      li 1 (pos h.word) _ (omega arith) (small-word h.word (omega arith)) (store_by mode h.slot value home.slot inside)
 
   -- assignments
   pub set_variable-fits : (f : Setting) (mode : Mode) → HomesFit banks f → (x : List ℕ) (label : Label) (shape : Shape)
@@ -300,9 +318,12 @@ module _ (banks : ℕ) where
       → context_of f.decls x ≡ Some (label, shape) → TypedTree (context_of f.decls) e → HasWords e → height_of e ≤ 18
       → CodeFits banks (set_code f mode (SetVariable x e))
   set_variable-fits f mode homes x label shape e declared typed words low =
-      both (expr_code f mode 0 e) _ (expression-fits f mode homes 0 e typed words (omega arith))
+      let q = operand f e in
+      both (operand_part q (expr_code f mode 0 e)) _
+      (operand-fits q (expr_code f mode 0 e) (expression-fits f mode homes 0 e typed words (omega arith)))
       (write-fits (home_of f x) (homes.homes x label shape declared) (label_of (context_of f.decls) (Variable x)) mode
-      (register_for f x) (homes.registers x))
+      (register_for f x) (operand-low f homes.held (Variable x)) (operand_register q 0)
+      (operand-inside f homes.held e q (λ r held. held) 0 (omega arith)))
 
   -- the code of an assignment to an element is in its ranges
   pub set_element-fits : (f : Setting) (mode : Mode) → HomesFit banks f → (x : List ℕ) (i e : Tree)
@@ -310,13 +331,17 @@ module _ (banks : ℕ) where
       → height_of i ≤ 17 → height_of e ≤ 18 → CodeFits banks (set_code f mode (SetElement x i e))
   set_element-fits f mode homes x i e typed value index words low_index low =
       let home = homes.homes x typed.0.0 _ typed.0.1 in
-      let access = access_code (compares f mode (home_of f x) i) f.profile.block_log mode (home_of f x) 1
-      (fixed_index (home_of f x) i) (expr_code f mode 1 i) in
-      both (expr_code f mode 0 e) _ (expression-fits f mode homes 0 e value words (omega arith))
-      (both access _
-      (access-fits (home_of f x) home 1 (omega arith) (compares f mode (home_of f x) i) f.profile.block_log mode
-      (fixed_index (home_of f x) i)
-      (expr_code f mode 1 i) homes.block_log
-      (expression-fits f mode homes 1 i typed.1.0 index (omega arith)))
-      (both (store_code mode (home_of f x).slot) _ (store_by mode (home_of f x).slot home.slot)
+      let near = compares f mode (home_of f x) i in
+      let q = operand f e in
+      let p = index_operand f near i in
+      both (operand_part q (expr_code f mode 0 e)) _
+      (operand-fits q (expr_code f mode 0 e) (expression-fits f mode homes 0 e value words (omega arith)))
+      (both (indexed_code f near mode (home_of f x) 1 i (expr_code f mode 1 i)) _
+      (access-fits (home_of f x) home 1 (omega arith) near f.profile.block_log mode (operand_register p 1)
+      (fixed_index (home_of f x) i) (operand_part p (expr_code f mode 1 i)) homes.block_log
+      (operand-inside f homes.held i p (operand-unless f i near) 1 (omega arith))
+      (operand-fits p (expr_code f mode 1 i) (expression-fits f mode homes 1 i typed.1.0 index (omega arith))))
+      (both (store_code mode (home_of f x).slot (operand_register q 0)) _
+      (store_by mode (home_of f x).slot (operand_register q 0) home.slot
+      (operand-inside f homes.held e q (λ r held. held) 0 (omega arith)))
       (stored_fits (home_of f x).resident (home_of f x).slot home.slot)))

@@ -4,6 +4,7 @@ use Rattle.std.specs.Int.{bit_not}
 use Rattle.std.specs.Prelude.{if◌then◌else◌, All, IsTrue}
 use Rattle.std.proofs.lemmas.Bool.{lt-ltb}
 use Rattle.std.proofs.lemmas.Nat.{and_le_l}
+use Rattle.std.proofs.lemmas.List.{append-nil}
 use Rattle.std.proofs.lemmas.List.Elements.{All-nil, All-cons}
 use Rattle.gr_base.specs.Lists.{EachAfter}
 use Rattle.gr_base.proofs.AtLast.{at_last-push}
@@ -21,11 +22,12 @@ use Rattle.src_tree.specs.Limits.{tree_weight, test_weight}
 use Rattle.src_tree.specs.Trees.{Tree, Number, Variable, Element, Operation, Test, Statement, SetVariable, SetElement, Choice, Loop}
 use Rattle.block_cache_gen.specs.declared.frames.Mode.TheVariants.{Public}
 use Rattle.block_cache_gen.specs.Homes.{Pin, pin_at, Home, Setting, home_of, Held, label_by, register_for}
-use Rattle.block_cache_gen.specs.Codes.{is_cached, compares, compared_code, offset_code, access_by, fixed_index, stored_code, access_code, operation_code, steps_at, expr_code, guard_code, set_code, write_code}
+use Rattle.block_cache_gen.specs.Codes.{is_cached, compares, compared_code, offset_code, access_by, fixed_index, stored_code, access_code, operand, operand_part, operand_register, left_operand, index_operand, operation_code, steps_at, expr_code, guard_code, set_code, write_code}
 use Rattle.gr_word.specs.declared.operations.Op.{Op}
 use Rattle.strength_reduction.specs.Steps.{Step, code_of}
-use Rattle.block_cache_gen.specs.Notes.{unmarked, marked_by, is_used, claimed_where_used, claim_by, slot_claims, note_of, access_mask, compared_notes, loading_code, loaded_notes, load_notes, index_notes, operation_notes, expr_notes, guard_notes, set_notes, is_public, mask_to, base_mask}
+use Rattle.block_cache_gen.specs.Notes.{unmarked, marked_by, operand_mask, is_used, claimed_where_used, claim_by, slot_claims, note_of, access_mask, compared_notes, loading_code, loaded_notes, load_notes, index_notes, operation_notes, expr_notes, guard_notes, set_notes, is_public, mask_to, base_mask}
 use Rattle.block_cache_gen.proofs.NotesOfCode.{index_length, located-longer, access-longer, access-more, loading-behind, expression-longer}
+use Rattle.block_cache_gen.proofs.HeldOperands.{operand-short}
 use Rattle.block_cache_gen.proofs.PublicAccesses.{array_code, array_notes}
 
 -- Notes from one place on and before another, which rise, with masks of 32 registers, and the claims of a setting.
@@ -70,49 +72,53 @@ pub marked_by-below : (l : Label) (mask r : ℕ) → mask < 2 ^ 32 → marked_by
 marked_by-below label.Public mask r small = unmarked_below mask r small
 marked_by-below label.Secret mask r small = small
 
+operand_mask-below : (q : Option ℕ) (l : Label) (mask r : ℕ) → mask < 2 ^ 32 → operand_mask q l mask r < 2 ^ 32
+operand_mask-below None l mask r small = marked_by-below l mask r small
+operand_mask-below (Some held) l mask r small = small
+
 -- the notes of an access
 load_rises : (f : Setting) (mask to behind low high : ℕ) (cached : Bool) → mask < 2 ^ 32 → low ≤ behind → behind < high
     → NotesRise f low high (if cached then note_of f (access_mask mask to) behind ∷ [] else [])
 load_rises f mask to behind low high true small le lt = ((le, lt), (access_mask-below mask to small, refl), tt)
 load_rises f mask to behind low high false small le lt = tt
 
-loaded_rises : (f : Setting) (h : Home) (mask to p : ℕ) (b near : Bool) (fixed : Option ℤ) (index : List Instr)
+loaded_rises : (f : Setting) (h : Home) (mask to from p : ℕ) (b near : Bool) (fixed : Option ℤ) (index : List Instr)
     → mask < 2 ^ 32
     → NotesRise f (p + index_length fixed index + 1)
-    (p + length (access_by b near f.profile.block_log Public h to fixed index) + 1)
+    (p + length (access_by b near f.profile.block_log Public h to from fixed index) + 1)
     (loaded_notes b near fixed f h mask to
-    (p + length (access_by b near f.profile.block_log Public h to fixed index)))
-loaded_rises f h mask to p true near (Some z) index small = tt
-loaded_rises f h mask to p true true None index small =
+    (p + length (access_by b near f.profile.block_log Public h to from fixed index)))
+loaded_rises f h mask to from p true near (Some z) index small = tt
+loaded_rises f h mask to from p true true None index small =
     let size = length-append index (compared_code h to ++ offset_code h to) in
     let rest = length-append (compared_code h to) (offset_code h to) in
     ((omega (arith, size, rest), omega (arith, size, rest)), (unmarked_below mask to small, refl), tt)
-loaded_rises f h mask to p true false None index small = tt
-loaded_rises f h mask to p false near fixed index small = compared near fixed
+loaded_rises f h mask to from p true false None index small = tt
+loaded_rises f h mask to from p false near fixed index small = compared near fixed
   where
     load : (near : Bool) (fixed : Option ℤ) (low : ℕ)
-        → low ≤ p + length (access_by false near f.profile.block_log Public h to fixed index)
-        → NotesRise f low (p + length (access_by false near f.profile.block_log Public h to fixed index) + 1)
+        → low ≤ p + length (access_by false near f.profile.block_log Public h to from fixed index)
+        → NotesRise f low (p + length (access_by false near f.profile.block_log Public h to from fixed index) + 1)
         (if is_cached h then note_of f (access_mask mask to)
-        (p + length (access_by false near f.profile.block_log Public h to fixed index)) ∷ [] else [])
+        (p + length (access_by false near f.profile.block_log Public h to from fixed index)) ∷ [] else [])
     load near fixed low le =
-        load_rises f mask to (p + length (access_by false near f.profile.block_log Public h to fixed index)) low _
+        load_rises f mask to (p + length (access_by false near f.profile.block_log Public h to from fixed index)) low _
         (is_cached h) small le (omega arith)
 
     compared : (near : Bool) (fixed : Option ℤ)
         → NotesRise f (p + index_length fixed index + 1)
-        (p + length (access_by false near f.profile.block_log Public h to fixed index) + 1)
+        (p + length (access_by false near f.profile.block_log Public h to from fixed index) + 1)
         (loaded_notes false near fixed f h mask to
-        (p + length (access_by false near f.profile.block_log Public h to fixed index)))
+        (p + length (access_by false near f.profile.block_log Public h to from fixed index)))
     compared near (Some z) =
-        let more = access-more false near f.profile.block_log h to (Some z) index in
+        let more = access-more false near f.profile.block_log h to from (Some z) index in
         load near (Some z) _ (omega arith)
     compared false None =
-        let more = access-more false false f.profile.block_log h to None index in load false None _ (omega arith)
+        let more = access-more false false f.profile.block_log h to from None index in load false None _ (omega arith)
     compared true None =
-        let place = loading-behind f h to p index in
-        let more = access-longer true f.profile.block_log h to None index in
-        let longer = located-longer true f.profile.block_log h to None index in (
+        let place = loading-behind f h to from p index in
+        let more = access-longer true f.profile.block_log h to from None index in
+        let longer = located-longer true f.profile.block_log h to from None index in (
           (omega (arith, place), omega (arith, place)),
           (unmarked_below mask to small, refl),
           load true None _ (omega (arith, place)),
@@ -124,39 +130,49 @@ index_rises : (f : Setting) (fixed : Option ℤ) (p : ℕ) (index : List Instr) 
 index_rises f (Some z) p index notes rise = tt
 index_rises f None p index notes rise = rise
 
-pub access-rises : (f : Setting) (near : Bool) (h : Home) (mask to p : ℕ) (fixed : Option ℤ) (index : List Instr)
+pub access-rises : (f : Setting) (near : Bool) (h : Home) (mask to from p : ℕ) (fixed : Option ℤ) (index : List Instr)
     (notes : List Note) → mask < 2 ^ 32 → NotesRise f (p + 1) (p + length index) notes
-    → NotesRise f (p + 1) (p + length (access_code near f.profile.block_log Public h to fixed index) + 1)
+    → NotesRise f (p + 1) (p + length (access_code near f.profile.block_log Public h to from fixed index) + 1)
     (index_notes fixed notes
-    ++ load_notes near fixed f h mask to (p + length (access_code near f.profile.block_log Public h to fixed index)))
-access-rises f near h mask to p fixed index notes small rise =
-    let size = length (access_code near f.profile.block_log Public h to fixed index) in
+    ++ load_notes near fixed f h mask to (p + length (access_code near f.profile.block_log Public h to from fixed index)))
+access-rises f near h mask to from p fixed index notes small rise =
+    let size = length (access_code near f.profile.block_log Public h to from fixed index) in
     let mid = p + index_length fixed index + 1 in
-    let more = access-more h.resident near f.profile.block_log h to fixed index in
+    let more = access-more h.resident near f.profile.block_log h to from fixed index in
     rise-then f (p + 1) mid (p + size + 1) (index_notes fixed notes) (load_notes near fixed f h mask to (p + size))
     (omega arith) (omega arith)
     (rise-wider f (p + 1) (p + index_length fixed index) (p + 1) mid (index_notes fixed notes) (omega arith)
     (omega arith) (index_rises f fixed p index notes rise))
-    (loaded_rises f h mask to p h.resident near fixed index small)
+    (loaded_rises f h mask to from p h.resident near fixed index small)
+
+-- the notes of an operand
+operand-rises : (f : Setting) (q : Option ℕ) (p : ℕ) (code : List Instr) (notes : List Note)
+    → NotesRise f (p + 1) (p + length code) notes
+    → NotesRise f (p + 1) (p + length (operand_part q code)) (operand_part q notes)
+operand-rises f (Some r) p code notes rise = tt
+operand-rises f None p code notes rise = rise
 
 -- the notes of an operation, by those of its sides
-operation-rises : (f : Setting) (op : Op) (to p : ℕ) (first : List Instr) (before : List Note) (second : List Instr)
-    (later : List Note) (found : Option (List Step)) → 1 ≤ length first
+operation-rises : (f : Setting) (op : Op) (to left right p : ℕ) (first : List Instr) (before : List Note)
+    (second : List Instr) (later : List Note) (found : Option (List Step))
     → NotesRise f (p + 1) (p + length first) before
     → NotesRise f (p + length first + 1) (p + length first + length second) later
-    → NotesRise f (p + 1) (p + length (first ++ operation_code op to found second))
+    → NotesRise f (p + 1) (p + length (first ++ operation_code op to left right found second))
     (before ++ operation_notes found later)
-operation-rises f op to p first before second later None some one two =
-    let behind = second ++ Alu op to to (to + 1) ∷ [] in
-    let size : length (first ++ behind) ≡ length first + (length second + 1) = length-append first behind
-    ∙ ap (λ (n : ℕ). length first + n) (length-append second (Alu op to to (to + 1) ∷ [])) in
-    rise-then f (p + 1) (p + length first) (p + length (first ++ behind)) before later (omega arith) (omega arith) one
-    (rise-wider f (p + length first + 1) (p + length first + length second) (p + length first)
-    (p + length (first ++ behind)) later (omega arith) (omega arith) two)
-operation-rises f op to p first before second later (Some steps) some one two =
+operation-rises f op to left right p first before second later None one two =
+    let last = Alu op to left right ∷ [] in
+    let size : length (first ++ (second ++ last)) ≡ length first + (length second + 1) =
+    length-append first (second ++ last) ∙ ap (λ (n : ℕ). length first + n) (length-append second last) in
+    let mid = p + length first in
+    let whole = p + length (first ++ (second ++ last)) in
+    rise-then f (p + 1) (mid + 1) whole before later (omega arith) (omega arith)
+    (rise-wider f (p + 1) mid (p + 1) (mid + 1) before (omega arith) (omega arith) one)
+    (rise-wider f (mid + 1) (mid + length second) (mid + 1) whole later (omega arith) (omega arith) two)
+operation-rises f op to left right p first before second later (Some steps) one two =
     let size = length-append first (code_of to steps) in
-    rise-then f (p + 1) (p + length first) (p + length (first ++ code_of to steps)) before [] (omega arith)
-    (omega arith) one tt
+    let whole = p + length (first ++ code_of to steps) in
+    subst (NotesRise f (p + 1) whole) (sym (append-nil before))
+    (rise-wider f (p + 1) (p + length first) (p + 1) whole before (omega arith) (omega arith) one)
 
 -- the notes of an expression, of a guard, and of an assignment
 pub expression-rises : (f : Setting) (e : Tree) (mask to p : ℕ) → mask < 2 ^ 32
@@ -165,21 +181,29 @@ expression-rises f (Number z) mask to p small = tt
 expression-rises f (Variable x) mask to p small = tt
 expression-rises f (Element x i) mask to p small =
     let h = home_of f x in
+    let near = compares f Public h i in
+    let q = index_operand f near i in
     let code = array_code f to x i in
     let notes = expr_notes f mask to p (Element x i) in
     let size : length (code ++ Ldw to h.slot to ∷ []) ≡ length code + 1 = length-append code (Ldw to h.slot to ∷ []) in
     rise-wider f (p + 1) (p + length code + 1) (p + 1) (p + length (code ++ Ldw to h.slot to ∷ [])) notes (omega arith)
     (omega arith)
-    (access-rises f (compares f Public h i) h mask to p (fixed_index h i) (expr_code f Public to i)
-    (expr_notes f mask to p i) small
-    (expression-rises f i mask to p small))
+    (access-rises f near h mask to (operand_register q to) p (fixed_index h i)
+    (operand_part q (expr_code f Public to i)) (operand_part q (expr_notes f mask to p i)) small
+    (operand-rises f q p (expr_code f Public to i) (expr_notes f mask to p i) (expression-rises f i mask to p small)))
 expression-rises f (Operation op a b) mask to p small =
-    let first = expr_code f Public to a in
+    let q = left_operand f op a b in
+    let first = operand_part q (expr_code f Public to a) in
+    let second = expr_code f Public (to + 1) b in
     let mid = p + length first in
-    let mask' = marked_by (label_of (context_of f.decls) a) mask to in
-    operation-rises f op to p first (expr_notes f mask to p a) (expr_code f Public (to + 1) b)
-    (expr_notes f mask' (to + 1) mid b) (steps_at f op b) (expression-longer f a to) (expression-rises f a mask to p small)
-    (expression-rises f b mask' (to + 1) mid (marked_by-below (label_of (context_of f.decls) a) mask to small))
+    let l = label_of (context_of f.decls) a in
+    let mask' = operand_mask q l mask to in
+    operation-rises f op to (operand_register q to) (operand_register (operand f b) (to + 1)) p first
+    (operand_part q (expr_notes f mask to p a)) (operand_part (operand f b) second)
+    (operand_part (operand f b) (expr_notes f mask' (to + 1) mid b)) (steps_at f op b)
+    (operand-rises f q p (expr_code f Public to a) (expr_notes f mask to p a) (expression-rises f a mask to p small))
+    (operand-rises f (operand f b) mid second (expr_notes f mask' (to + 1) mid b)
+    (expression-rises f b mask' (to + 1) mid (operand_mask-below q l mask to small)))
 
 -- the mask of notes between statements
 mask_to-below : (decls : List Decl) (held : List Held) (r : ℕ) → mask_to decls held r < 2 ^ 32
@@ -217,30 +241,42 @@ guard-rises f to p t =
 pub set-rises : (f : Setting) (p : ℕ) (s : Statement)
     → NotesRise f (p + 1) (p + length (set_code f Public s)) (set_notes f p s)
 set-rises f p (SetVariable x e) =
-    let first = expr_code f Public 0 e in
-    let store = write_code (register_for f x) (label_of (context_of f.decls) (Variable x)) Public (home_of f x) in
+    let q = operand f e in
+    let first = operand_part q (expr_code f Public 0 e) in
+    let notes = operand_part q (expr_notes f (base_mask f) 0 p e) in
+    let store = write_code (register_for f x) (label_of (context_of f.decls) (Variable x)) Public (home_of f x)
+    (operand_register q 0) in
     let size : length (first ++ store) ≡ length first + length store = length-append first store in
-    rise-wider f (p + 1) (p + length first) (p + 1) (p + length (first ++ store)) (expr_notes f (base_mask f) 0 p e)
-    (omega arith) (omega arith) (expression-rises f e (base_mask f) 0 p (base_mask-below f))
+    rise-wider f (p + 1) (p + length first) (p + 1) (p + length (first ++ store)) notes
+    (omega arith) (omega arith)
+    (operand-rises f q p (expr_code f Public 0 e) (expr_notes f (base_mask f) 0 p e)
+    (expression-rises f e (base_mask f) 0 p (base_mask-below f)))
 set-rises f p (SetElement x i e) =
     let h = home_of f x in
-    let first = expr_code f Public 0 e in
+    let near = compares f Public h i in
+    let q = operand f e in
+    let q_of_index = index_operand f near i in
+    let first = operand_part q (expr_code f Public 0 e) in
+    let before = operand_part q (expr_notes f (base_mask f) 0 p e) in
     let access = array_code f 1 x i in
-    let store = Stw 0 h.slot 1 ∷ stored_code h.resident h.slot in
-    let mask = marked_by (label_of (context_of f.decls) e) (base_mask f) 0 in
-    let small = marked_by-below (label_of (context_of f.decls) e) (base_mask f) 0 (base_mask-below f) in
+    let store = Stw (operand_register q 0) h.slot 1 ∷ stored_code h.resident h.slot in
+    let l = label_of (context_of f.decls) e in
+    let mask = operand_mask q l (base_mask f) 0 in
+    let small = operand_mask-below q l (base_mask f) 0 (base_mask-below f) in
     let mid = p + length first in
     let whole = p + length (first ++ (access ++ store)) in
-    let some = expression-longer f e 0 in
     let size : length (first ++ (access ++ store)) ≡ length first + (length access + length store) =
     length-append first (access ++ store) ∙ ap (λ (n : ℕ). length first + n) (length-append access store) in
-    rise-then f (p + 1) mid whole (expr_notes f (base_mask f) 0 p e) (array_notes f mask 1 mid x i) (omega arith)
-    (omega arith) (expression-rises f e (base_mask f) 0 p (base_mask-below f))
-    (rise-wider f (mid + 1) (mid + length access + 1) mid whole (array_notes f mask 1 mid x i) (omega arith)
+    rise-then f (p + 1) (mid + 1) whole before (array_notes f mask 1 mid x i) (omega arith) (omega arith)
+    (rise-wider f (p + 1) mid (p + 1) (mid + 1) before (omega arith) (omega arith)
+    (operand-rises f q p (expr_code f Public 0 e) (expr_notes f (base_mask f) 0 p e)
+    (expression-rises f e (base_mask f) 0 p (base_mask-below f))))
+    (rise-wider f (mid + 1) (mid + length access + 1) (mid + 1) whole (array_notes f mask 1 mid x i) (omega arith)
     (omega arith)
-    (access-rises f (compares f Public h i) h mask 1 mid (fixed_index h i) (expr_code f Public 1 i)
-    (expr_notes f mask 1 mid i) small
-    (expression-rises f i mask 1 mid small)))
+    (access-rises f near h mask 1 (operand_register q_of_index 1) mid (fixed_index h i)
+    (operand_part q_of_index (expr_code f Public 1 i)) (operand_part q_of_index (expr_notes f mask 1 mid i)) small
+    (operand-rises f q_of_index mid (expr_code f Public 1 i) (expr_notes f mask 1 mid i)
+    (expression-rises f i mask 1 mid small))))
 set-rises f p (Choice t a b) = tt
 set-rises f p (Loop t a) = tt
 
@@ -366,20 +402,30 @@ pub expression-count : (f : Setting) (e : Tree) (mask to p : ℕ) → length (ex
 expression-count f (Number z) mask to p = omega arith
 expression-count f (Variable x) mask to p = omega arith
 expression-count f (Element x i) mask to p =
-    let count = access-count f (compares f Public (home_of f x) i) (home_of f x) mask to
-    (p + length (array_code f to x i)) (fixed_index (home_of f x) i)
-    (expr_notes f mask to p i) in
+    let near = compares f Public (home_of f x) i in
+    let q = index_operand f near i in
+    let notes = expr_notes f mask to p i in
+    let count = access-count f near (home_of f x) mask to (p + length (array_code f to x i))
+    (fixed_index (home_of f x) i) (operand_part q notes) in
+    let fewer = operand-short q notes in
     let index = expression-count f i mask to p in
     omega arith
 expression-count f (Operation op a b) mask to p =
-    let mid = p + length (expr_code f Public to a) in
-    let mask' = marked_by (label_of (context_of f.decls) a) mask to in
+    let q = left_operand f op a b in
+    let before = expr_notes f mask to p a in
+    let mid = p + length (operand_part q (expr_code f Public to a)) in
+    let mask' = operand_mask q (label_of (context_of f.decls) a) mask to in
     let later = expr_notes f mask' (to + 1) mid b in
-    let size = length-append (expr_notes f mask to p a) (operation_notes (steps_at f op b) later) in
-    let first = expression-count f a mask to p in
-    let second = expression-count f b mask' (to + 1) mid in
-    let fewer = operation-count (steps_at f op b) later in
-    omega arith
+    let right = operand_part (operand f b) later in
+    omega (
+      arith,
+      length-append (operand_part q before) (operation_notes (steps_at f op b) right),
+      operand-short q before,
+      expression-count f a mask to p,
+      operand-short (operand f b) later,
+      expression-count f b mask' (to + 1) mid,
+      operation-count (steps_at f op b) right,
+    )
 
 -- so has a guard
 pub guard-count : (f : Setting) (to p : ℕ) (t : Test) → length (guard_notes f to p t) ≤ 2 * test_weight t
@@ -394,18 +440,28 @@ guard-count f to p t =
 -- so has an assignment to a variable
 pub set_variable-count : (f : Setting) (p : ℕ) (x : List ℕ) (e : Tree)
     → length (set_notes f p (SetVariable x e)) ≤ 2 * tree_weight e
-set_variable-count f p x e = expression-count f e (base_mask f) 0 p
+set_variable-count f p x e =
+    let notes = expr_notes f (base_mask f) 0 p e in
+    omega (arith, operand-short (operand f e) notes, expression-count f e (base_mask f) 0 p)
 
 -- and one to an element
 pub set_element-count : (f : Setting) (p : ℕ) (x : List ℕ) (i e : Tree)
     → length (set_notes f p (SetElement x i e)) ≤ 2 * (1 + (tree_weight i + tree_weight e))
 set_element-count f p x i e =
-    let mid = p + length (expr_code f Public 0 e) in
-    let mask = marked_by (label_of (context_of f.decls) e) (base_mask f) 0 in
-    let size = length-append (expr_notes f (base_mask f) 0 p e) (array_notes f mask 1 mid x i) in
-    let count = access-count f (compares f Public (home_of f x) i) (home_of f x) mask 1
-    (mid + length (array_code f 1 x i)) (fixed_index (home_of f x) i)
-    (expr_notes f mask 1 mid i) in
-    let value = expression-count f e (base_mask f) 0 p in
-    let index = expression-count f i mask 1 mid in
-    omega arith
+    let near = compares f Public (home_of f x) i in
+    let q = operand f e in
+    let q_of_index = index_operand f near i in
+    let mid = p + length (operand_part q (expr_code f Public 0 e)) in
+    let mask = operand_mask q (label_of (context_of f.decls) e) (base_mask f) 0 in
+    let before = expr_notes f (base_mask f) 0 p e in
+    let notes = expr_notes f mask 1 mid i in
+    omega (
+      arith,
+      length-append (operand_part q before) (array_notes f mask 1 mid x i),
+      access-count f near (home_of f x) mask 1 (mid + length (array_code f 1 x i)) (fixed_index (home_of f x) i)
+          (operand_part q_of_index notes),
+      operand-short q before,
+      expression-count f e (base_mask f) 0 p,
+      operand-short q_of_index notes,
+      expression-count f i mask 1 mid,
+    )

@@ -1,5 +1,5 @@
 -- Runs of the code that finds the place of a resident variable's word in its block, and that reads it there.
-use Rattle.std.proofs.Common.{◌≡◌, ℕ, ◌+◌, ◌%◌, ◌^◌, ◌<◌, Bool, true, ℤ, pos, List, [], ◌∷◌, ◌++◌, get_or, append-nil, Option, Some, None, refl, sym, ap, ◌∙◌, subst, arith, mod-lt, mod-eq_of_lt, ◌==◌, eqb-true}
+use Rattle.std.proofs.Common.{◌≡◌, ◌≢◌, ℕ, ◌+◌, ◌%◌, ◌^◌, ◌<◌, Bool, true, ℤ, pos, List, [], ◌∷◌, ◌++◌, get_or, append-nil, Option, Some, None, refl, sym, ap, ◌∙◌, subst, arith, mod-lt, mod-eq_of_lt, ◌==◌, eqb-true}
 use Rattle.std.proofs.lemmas.Bool.{cond_both}
 use Rattle.std.proofs.lemmas.Nat.{pow_below}
 use Rattle.gr_word.specs.Words.{applied, unsigned_of}
@@ -7,28 +7,29 @@ use Rattle.gr_word.proofs.SmallNumbers.{add_small}
 use Rattle.gr_word.specs.declared.operations.Op.TheVariants.{Add}
 use Rattle.gr_word.specs.declared.variables.Label.{Label}
 use Rattle.gr_word.specs.declared.variables.Shape.{Shape}
+use Rattle.lt_isa.specs.declared.instructions.Instr.{Instr}
 use Rattle.lt_isa.specs.declared.instructions.Instr.TheVariants.{Li, Alu, Ldw}
 use Rattle.lt_isa.specs.Object.{Parts}
 use Rattle.lt_isa.specs.Ranges.{IsInRange}
 use Rattle.lt_isa.specs.Machine.{State, register, slot, word_in, slot_words}
 use Rattle.lt_isa.specs.Shape.{IsShaped}
 use Rattle.lt_isa.specs.Step.{word_named}
-use Rattle.stretches.specs.Standing.{StandsAt, greatest_costs}
-use Rattle.stretches.specs.Coming.{Comes, RunsThrough, Sets}
-use Rattle.stretches.proofs.Coming.{comes-here}
+use Rattle.stretches.specs.Standing.{StandsAt}
+use Rattle.stretches.specs.Coming.{RunsThrough, Sets}
 use Rattle.stretches.proofs.RunningThrough.{runs-cons, runs-one, runs-append, runs-weaker, sets-li, sets-alu, sets-ldw}
 use Rattle.src_tree.specs.Contexts.{context_of}
 use Rattle.src_tree.specs.Meaning.{Store, variable_number, words_of_number, evaluated}
 use Rattle.src_tree.specs.Trees.{Tree}
 use Rattle.block_cache_gen.specs.declared.frames.Mode.{Mode}
 use Rattle.block_cache_gen.specs.Homes.{Home, Setting, HasHomes, home_of, pin_of, register_for}
-use Rattle.block_cache_gen.specs.Codes.{fixed_index, fixed_word, numbered_code, offset_code, placed_code, expr_code}
+use Rattle.block_cache_gen.specs.Codes.{fixed_index, fixed_word, numbered_code, offset_code, placed_code}
 use Rattle.block_cache_gen.specs.StandsFor.{StandsFor, FitsHomes, HoldsBlock}
 use Rattle.block_cache_gen.specs.Accesses.{accesses, word_number, seen_of_all}
 use Rattle.block_cache_gen.specs.LeavesWord.{LeavesWord}
 use Rattle.block_cache_gen.proofs.Stands.{stands-like, stands-set}
 use Rattle.block_cache_gen.proofs.IndexRuns.{Reduces, runs-numbered}
 use Rattle.block_cache_gen.proofs.Kept.{keeps-set, keeps-on}
+use Rattle.block_cache_gen.proofs.OperandRuns.{LeavesAt, RunsValue, runs-nothing}
 use Rattle.block_cache_gen.proofs.AccessRuns.{fixed-is}
 
 -- the first word of a variable is added to a number
@@ -52,12 +53,6 @@ runs-adding o fits h to n s shaped has below small at =
       word = sets'.value;
       keeps = keeps-on (keeps-set to sets (omega arith) (omega arith)) (keeps-set to sets' (omega arith) (omega arith));
     }))
-
--- no code
-runs-nothing : {o : Parts} (s : State) (P : State → Type 0) → IsShaped o s → P s → RunsThrough o s [] [] P
-runs-nothing {o = o} s P shaped holds =
-    subst (λ p. Comes o s [] p (greatest_costs o []) P) (let e : s.place ≡ s.place + 0 = omega arith in e)
-    (comes-here s (greatest_costs o []) P shaped holds)
 
 -- so if nothing is to be added
 runs-offset : (o : Parts) (fits : IsInRange o) (h : Home) (to n : ℕ) (s : State) → IsShaped o s → register s to ≡ pos n
@@ -115,17 +110,15 @@ module _ (o : Parts) (fits : IsInRange o) (f : Setting) (homes : HasHomes o f) (
       (sets-ldw o fits s shaped to h.slot to h.bank h.block held.words value (omega arith) held.holds reads)
 
   -- the place of the word is found, after the code of the index
-  pub runs-placed : (mode : Mode) (to : ℕ) (i : Tree) (s : State) → IsShaped o s → StandsFor f s store → to + 2 < 19
-      → (StandsAt o s.place (expr_code f mode to i)
-      → RunsThrough o s (expr_code f mode to i) (seen_of_all mode s.banks s.slots (accesses f store i))
-      (LeavesWord f store (accesses f store i) to (evaluated f.decls store i) s))
-      → (near : Bool) (fixed : Option ℤ) → fixed_index (home_of f x) i ≡ fixed
-      → StandsAt o s.place (placed_code near (home_of f x) to fixed (expr_code f mode to i))
-      → RunsThrough o s (placed_code near (home_of f x) to fixed (expr_code f mode to i))
+  pub runs-placed : (mode : Mode) (to from : ℕ) (i : Tree) (code : List Instr) (s : State) → IsShaped o s
+      → StandsFor f s store → to + 2 < 19 → from ≢ to + 1 → RunsValue o f store mode to from i code s
+      → (near : Bool) → (near ≡ true → from ≡ to) → (fixed : Option ℤ) → fixed_index (home_of f x) i ≡ fixed
+      → StandsAt o s.place (placed_code near (home_of f x) to from fixed code)
+      → RunsThrough o s (placed_code near (home_of f x) to from fixed code)
       (seen_of_all mode s.banks s.slots (accesses f store i))
       (LeavesWord f store (accesses f store i) to
       (pos ((home_of f x).word + word_number f store x (evaluated f.decls store i))) s)
-  runs-placed mode to i s shaped stands small run near (Some z) is at =
+  runs-placed mode to from i code s shaped stands small other run near own (Some z) is at =
       let h = home_of f x in
       let place = pos (h.word + fixed_word h z) in
       subst
@@ -145,26 +138,25 @@ module _ (o : Parts) (fits : IsInRange o) (f : Setting) (homes : HasHomes o f) (
         slots = sets.slots;
         stands = stands-set sets (omega arith) stands;
       }))
-  runs-placed mode to i s shaped stands small run near None is at =
+  runs-placed mode to from i code s shaped stands small other run near own None is at =
       let h = home_of f x in
       let home = homes.residents x label shape known resident in
       let index = evaluated f.decls store i in
       let n = word_number f store x index in
       let before = accesses f store i in
       let seen = seen_of_all mode s.banks s.slots before in
-      let code = expr_code f mode to i in
+      let number = numbered_code near h to from in
       let Done : State → Type 0 = LeavesWord f store before to (pos (h.word + n)) s in
       let small_place : h.word + n < 2 ^ 63 =
       let most = pow_below o.profile.block_log 10 (omega (arith, fits.profile.block_log)) in
       omega (arith, home.inside, resident-within index, most) in
-      runs-weaker s (code ++ (numbered_code near h to ++ offset_code h to)) (seen ++ []) seen Done Done
-      (runs-append s code (numbered_code near h to ++ offset_code h to) seen []
-      (LeavesWord f store before to index s) Done at
+      runs-weaker s (code ++ (number ++ offset_code h to)) (seen ++ []) seen Done Done
+      (runs-append s code (number ++ offset_code h to) seen [] (LeavesAt f store before to from index s) Done at
       run
       (λ t shape leaves at'.
-      runs-append t (numbered_code near h to) (offset_code h to) [] []
+      runs-append t number (offset_code h to) [] []
       (Reduces to (unsigned_of index % h.length) t) Done at'
-      (runs-numbered o fits near h to t index shape leaves.value small home.length.0 home.length.1)
+      (runs-numbered o fits near h to from t index shape leaves.value other own small home.length.0 home.length.1)
       (λ u shape' reduces at''.
       let word : register u to ≡ pos n = reduces.word ∙ ap pos (resident_number-is index) in
       runs-weaker u (offset_code h to) [] [] (Reduces to (h.word + n) u) Done

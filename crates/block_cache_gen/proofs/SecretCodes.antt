@@ -17,23 +17,30 @@ use Rattle.src_tree.specs.Trees.{Tree, Number, Variable, Element, Operation, Tes
 use Rattle.block_cache_gen.specs.declared.frames.Mode.{Mode}
 use Rattle.block_cache_gen.specs.declared.frames.Mode.TheVariants.{Public, Real, Mirrored}
 use Rattle.block_cache_gen.specs.Homes.{Home, Setting, home_of, register_for}
-use Rattle.block_cache_gen.specs.Codes.{may_skip_loads, is_cached, is_masked, fixed_index, reduced_code, shift_code, located_code, offset_code, placed_code, stored_code, access_by, load_code, skips, access_code, expr_code, guard_code, store_code, set_code, operation_code, steps_at, compares, numbered_code, zero_of, scalar_code, write_code}
+use Rattle.block_cache_gen.specs.Codes.{may_skip_loads, is_cached, is_masked, fixed_index, reduced_code, shift_code, located_code, offset_code, placed_code, stored_code, access_by, load_code, skips, access_code, operand, operand_part, operand_register, left_operand, index_operand, indexed_code, expr_code, guard_code, store_code, set_code, operation_code, steps_at, compares, numbered_code, zero_of, scalar_code, write_code}
 use Rattle.gr_word.specs.declared.operations.Op.{Op}
 use Rattle.strength_reduction.specs.Steps.{Step}
 use Rattle.block_cache_gen.proofs.StepsAt.{steps-stores}
 use Rattle.block_cache_gen.specs.StoredWords.{is_held_register, set_stores, is_stw, stored_words, register_aside, registers_aside}
 
 -- an expression's code depends on the mode only in being public or secret
-access_code-mode : (f : Setting) (m n : Mode) (near far : Bool) (h : Home) (to : ℕ) (fixed : Option ℤ)
+indexed_code-mode : (f : Setting) (m n : Mode) (near far : Bool) (h : Home) (to : ℕ) (i : Tree)
     (one other : List Instr) → may_skip_loads m ≡ may_skip_loads n → near ≡ far → one ≡ other
-    → access_code near f.profile.block_log m h to fixed one ≡ access_code far f.profile.block_log n h to fixed other
-access_code-mode f m n near far h to fixed one other same alike index = by h.resident
+    → indexed_code f near m h to i one ≡ indexed_code f far n h to i other
+indexed_code-mode f m n near far h to i one other same alike index = by h.resident
   where
-    by : (b : Bool) → access_by b near f.profile.block_log m h to fixed one
-        ≡ access_by b far f.profile.block_log n h to fixed other
-    by true = λ i. placed_code (alike i) h to fixed (index i)
-    by false =
-        λ i. located_code (alike i) f.profile.block_log h to fixed (index i) ++ load_code (same i && is_cached h) h to
+    by : (b : Bool)
+        → access_by b near f.profile.block_log m h to (operand_register (index_operand f near i) to) (fixed_index h i)
+        (operand_part (index_operand f near i) one)
+        ≡ access_by b far f.profile.block_log n h to (operand_register (index_operand f far i) to) (fixed_index h i)
+        (operand_part (index_operand f far i) other)
+    by true = λ k.
+        placed_code (alike k) h to (operand_register (index_operand f (alike k) i) to) (fixed_index h i)
+        (operand_part (index_operand f (alike k) i) (index k))
+    by false = λ k.
+        located_code (alike k) f.profile.block_log h to (operand_register (index_operand f (alike k) i) to)
+        (fixed_index h i) (operand_part (index_operand f (alike k) i) (index k))
+        ++ load_code (same k && is_cached h) h to
 
 compares-mode : (f : Setting) (m n : Mode) (h : Home) (i : Tree) → may_skip_loads m ≡ may_skip_loads n
     → compares f m h i ≡ compares f n h i
@@ -47,13 +54,17 @@ expr_code-mode f m n to (Number z) same = refl
 expr_code-mode f m n to (Variable x) same = refl
 expr_code-mode f m n to (Element x i) same =
     ap (λ (code : List Instr). code ++ Ldw to (home_of f x).slot to ∷ [])
-    (access_code-mode f m n (compares f m (home_of f x) i) (compares f n (home_of f x) i) (home_of f x) to
-    (fixed_index (home_of f x) i) (expr_code f m to i) (expr_code f n to i) same
+    (indexed_code-mode f m n (compares f m (home_of f x) i) (compares f n (home_of f x) i) (home_of f x) to i
+    (expr_code f m to i) (expr_code f n to i) same
     (compares-mode f m n (home_of f x) i same) (expr_code-mode f m n to i same))
 expr_code-mode f m n to (Operation op a b) same =
     let left = expr_code-mode f m n to a same in
     let right = expr_code-mode f m n (to + 1) b same in
-    λ i. left i ++ operation_code op to (steps_at f op b) (right i)
+    let q = left_operand f op a b in
+    λ i.
+    operand_part q (left i)
+    ++ operation_code op to (operand_register q to) (operand_register (operand f b) (to + 1)) (steps_at f op b)
+    (operand_part (operand f b) (right i))
 
 -- so the codes of an assignment in the two secret modes are the same but for the register of its store
 element_aside : (first second last : List Instr) (one other : List Instr)
@@ -72,40 +83,43 @@ element_aside first second last one other same =
     ∙ sym (map-append register_aside first (second ++ (other ++ last)))
 
 -- what writes a scalar is the same but for the register that it stores or copies
-copy-aside : (held : Bool) (r z : ℕ) → held ≡ true
-    → (if held then Alu Add r 0 z else Alu Add r 0 z) ≡ (if held then Alu Add r 0 z else Alu Add r r z)
-copy-aside true r z is = refl
-copy-aside false r z is = absurd (let e : false ≡ true = is in cc)
+copy-aside : (held : Bool) (r z one other : ℕ) → held ≡ true
+    → (if held then Alu Add r 0 z else Alu Add r one z) ≡ (if held then Alu Add r 0 z else Alu Add r other z)
+copy-aside true r z one other is = refl
+copy-aside false r z one other is = absurd (let e : false ≡ true = is in cc)
 
 write-aside : (f : Setting) → IsSoundHeld f.decls f.held → (x : List ℕ) (found : Option ℕ) → register_for f x ≡ found
-    → (l : Label) (h : Home)
-    → registers_aside (write_code found l Real h) ≡ registers_aside (write_code found l Mirrored h)
-write-aside f sound x None is l h = refl
-write-aside f sound x (Some r) is l h =
+    → (l : Label) (h : Home) (value : ℕ)
+    → registers_aside (write_code found l Real h value) ≡ registers_aside (write_code found l Mirrored h value)
+write-aside f sound x None is l h value = refl
+write-aside f sound x (Some r) is l h value =
     let own : is_held_register r ≡ true = lt-ltb public_zero r (omega (arith, register-own f sound x r is)) in
-    ap (λ (i : Instr). i ∷ []) (copy-aside (is_held_register r) r (zero_of l) own)
+    ap (λ (i : Instr). i ∷ []) (copy-aside (is_held_register r) r (zero_of l) value r own)
 
 -- with and without effect the code is the same but for registers
 pub set_code-aside : (f : Setting) → IsSoundHeld f.decls f.held → (a : Statement)
     → registers_aside (set_code f Real a) ≡ registers_aside (set_code f Mirrored a)
 set_code-aside f sound (SetVariable x e) =
-    let same = expr_code-mode f Real Mirrored 0 e refl in
+    let q = operand f e in
+    let same = ap (operand_part q) (expr_code-mode f Real Mirrored 0 e refl) in
     let found = register_for f x in
     let l = label_of (context_of f.decls) (Variable x) in
     let h = home_of f x in
-    map-append register_aside (expr_code f Real 0 e) (write_code found l Real h)
-    ∙ (λ k. registers_aside (same k) ++ write-aside f sound x found refl l h k)
-    ∙ sym (map-append register_aside (expr_code f Mirrored 0 e) (write_code found l Mirrored h))
+    let from = operand_register q 0 in
+    map-append register_aside (operand_part q (expr_code f Real 0 e)) (write_code found l Real h from)
+    ∙ (λ k. registers_aside (same k) ++ write-aside f sound x found refl l h from k)
+    ∙ sym (map-append register_aside (operand_part q (expr_code f Mirrored 0 e)) (write_code found l Mirrored h from))
 set_code-aside f sound (SetElement x i e) =
     let h = home_of f x in
-    let fixed = fixed_index h i in
-    let value = expr_code-mode f Real Mirrored 0 e refl in
-    let access = access_code-mode f Real Mirrored false false h 1 fixed (expr_code f Real 1 i)
+    let q = operand f e in
+    let from = operand_register q 0 in
+    let value = ap (operand_part q) (expr_code-mode f Real Mirrored 0 e refl) in
+    let access = indexed_code-mode f Real Mirrored false false h 1 i (expr_code f Real 1 i)
     (expr_code f Mirrored 1 i) refl refl
     (expr_code-mode f Real Mirrored 1 i refl) in
-    element_aside (expr_code f Real 0 e) (access_code false f.profile.block_log Real h 1 fixed (expr_code f Real 1 i))
-    (stored_code h.resident h.slot) (store_code Real h.slot) (store_code Mirrored h.slot) refl
-    ∙ λ k. registers_aside (value k ++ (access k ++ (store_code Mirrored h.slot ++ stored_code h.resident h.slot)))
+    element_aside (operand_part q (expr_code f Real 0 e)) (indexed_code f false Real h 1 i (expr_code f Real 1 i))
+    (stored_code h.resident h.slot) (store_code Real h.slot from) (store_code Mirrored h.slot from) refl
+    ∙ λ k. registers_aside (value k ++ (access k ++ (store_code Mirrored h.slot from ++ stored_code h.resident h.slot)))
 set_code-aside f sound (Choice t a b) = refl
 set_code-aside f sound (Loop t a) = refl
 
@@ -113,12 +127,16 @@ set_code-aside f sound (Loop t a) = refl
 pub stored-append : (xs ys : List Instr) → stored_words (xs ++ ys) ≡ stored_words xs + stored_words ys
 stored-append xs ys = sum_by-append (λ i. cond (is_stw i) 1 0) xs ys
 
-reduced-stores : (h : Home) (to : ℕ) → stored_words (reduced_code h to) ≡ 0
-reduced-stores h to = by (is_masked h)
+operand-stores : (q : Option ℕ) (code : List Instr) → stored_words code ≡ 0 → stored_words (operand_part q code) ≡ 0
+operand-stores (Some r) code none = refl
+operand-stores None code none = none
+
+reduced-stores : (h : Home) (to from : ℕ) → stored_words (reduced_code h to from) ≡ 0
+reduced-stores h to from = by (is_masked h)
   where
     by : (masked : Bool)
-        → stored_words (if masked then Li (to + 1) (pos (h.length - 1)) ∷ Alu And to to (to + 1) ∷ []
-        else Li (to + 1) (pos h.length) ∷ Alu Remu to to (to + 1) ∷ [])
+        → stored_words (if masked then Li (to + 1) (pos (h.length - 1)) ∷ Alu And to from (to + 1) ∷ []
+        else Li (to + 1) (pos h.length) ∷ Alu Remu to from (to + 1) ∷ [])
         ≡ 0
     by true = refl
     by false = refl
@@ -131,20 +149,20 @@ offset-stores h to = by (h.word == 0)
     by true = refl
     by false = refl
 
-numbered-stores : (near : Bool) (h : Home) (to : ℕ) → stored_words (numbered_code near h to) ≡ 0
-numbered-stores true h to = refl
-numbered-stores false h to = reduced-stores h to
+numbered-stores : (near : Bool) (h : Home) (to from : ℕ) → stored_words (numbered_code near h to from) ≡ 0
+numbered-stores true h to from = refl
+numbered-stores false h to from = reduced-stores h to from
 
-located-stores : (near : Bool) (log : ℕ) (h : Home) (to : ℕ) (fixed : Option ℤ) (index : List Instr)
-    → stored_words index ≡ 0 → stored_words (located_code near log h to fixed index) ≡ 0
-located-stores near log h to (Some z) index none = refl
-located-stores near log h to None index none =
-    stored-append index (numbered_code near h to ++ shift_code log h to)
+located-stores : (near : Bool) (log : ℕ) (h : Home) (to from : ℕ) (fixed : Option ℤ) (index : List Instr)
+    → stored_words index ≡ 0 → stored_words (located_code near log h to from fixed index) ≡ 0
+located-stores near log h to from (Some z) index none = refl
+located-stores near log h to from None index none =
+    stored-append index (numbered_code near h to from ++ shift_code log h to)
     ∙ omega (
       arith,
       none,
-      stored-append (numbered_code near h to) (shift_code log h to),
-      numbered-stores near h to,
+      stored-append (numbered_code near h to from) (shift_code log h to),
+      numbered-stores near h to from,
       blocks,
     )
   where
@@ -155,34 +173,39 @@ load-stores : (skips_load : Bool) (h : Home) (to : ℕ) → stored_words (load_c
 load-stores true h to = refl
 load-stores false h to = refl
 
-access-stores : (f : Setting) (mode : Mode) (near : Bool) (h : Home) (to : ℕ) (fixed : Option ℤ) (index : List Instr)
-    → stored_words index ≡ 0 → stored_words (access_code near f.profile.block_log mode h to fixed index) ≡ 0
-access-stores f mode near h to fixed index none = by h.resident
+access-stores : (f : Setting) (mode : Mode) (near : Bool) (h : Home) (to from : ℕ) (fixed : Option ℤ)
+    (index : List Instr) → stored_words index ≡ 0
+    → stored_words (access_code near f.profile.block_log mode h to from fixed index) ≡ 0
+access-stores f mode near h to from fixed index none = by h.resident
   where
-    placed : (g : Option ℤ) → stored_words (placed_code near h to g index) ≡ 0
+    placed : (g : Option ℤ) → stored_words (placed_code near h to from g index) ≡ 0
     placed (Some z) = refl
     placed None =
         let offset = offset-stores h to in
-        stored-append index (numbered_code near h to ++ offset_code h to)
+        stored-append index (numbered_code near h to from ++ offset_code h to)
         ∙ omega (
           arith,
           none,
-          stored-append (numbered_code near h to) (offset_code h to),
-          numbered-stores near h to,
+          stored-append (numbered_code near h to from) (offset_code h to),
+          numbered-stores near h to from,
           offset,
         )
 
-    by : (b : Bool) → stored_words (access_by b near f.profile.block_log mode h to fixed index) ≡ 0
+    by : (b : Bool) → stored_words (access_by b near f.profile.block_log mode h to from fixed index) ≡ 0
     by true = placed fixed
     by false =
-        stored-append (located_code near f.profile.block_log h to fixed index) (load_code (skips mode h) h to)
-        ∙ omega (arith, located-stores near f.profile.block_log h to fixed index none, load-stores (skips mode h) h to)
+        stored-append (located_code near f.profile.block_log h to from fixed index) (load_code (skips mode h) h to)
+        ∙ omega (
+          arith,
+          located-stores near f.profile.block_log h to from fixed index none,
+          load-stores (skips mode h) h to,
+        )
 
-operation-stores : (op : Op) (to : ℕ) (found : Option (List Step)) (right : List Instr) → stored_words right ≡ 0
-    → stored_words (operation_code op to found right) ≡ 0
-operation-stores op to None right none =
-    stored-append right (Alu op to to (to + 1) ∷ []) ∙ ap (λ (n : ℕ). n + 0) none
-operation-stores op to (Some steps) right none = steps-stores to steps
+operation-stores : (op : Op) (to left right : ℕ) (found : Option (List Step)) (code : List Instr)
+    → stored_words code ≡ 0 → stored_words (operation_code op to left right found code) ≡ 0
+operation-stores op to left right None code none =
+    stored-append code (Alu op to left right ∷ []) ∙ ap (λ (n : ℕ). n + 0) none
+operation-stores op to left right (Some steps) code none = steps-stores to steps
 
 scalar-stores : (found : Option ℕ) (h : Home) (to : ℕ) → stored_words (scalar_code found h to) ≡ 0
 scalar-stores None h to = refl
@@ -194,17 +217,24 @@ expr-stores f mode to (Number z) = refl
 expr-stores f mode to (Variable x) = scalar-stores (register_for f x) (home_of f x) to
 expr-stores f mode to (Element x i) =
     let h = home_of f x in
-    let access = access_code (compares f mode h i) f.profile.block_log mode h to (fixed_index h i)
-    (expr_code f mode to i) in
-    stored-append access (Ldw to h.slot to ∷ [])
+    let near = compares f mode h i in
+    let q = index_operand f near i in
+    let index = operand_part q (expr_code f mode to i) in
+    stored-append (indexed_code f near mode h to i (expr_code f mode to i)) (Ldw to h.slot to ∷ [])
     ∙ ap (λ (n : ℕ). n + 0)
-    (access-stores f mode (compares f mode h i) h to (fixed_index h i) (expr_code f mode to i)
-    (expr-stores f mode to i))
+    (access-stores f mode near h to (operand_register q to) (fixed_index h i) index
+    (operand-stores q (expr_code f mode to i) (expr-stores f mode to i)))
 expr-stores f mode to (Operation op a b) =
-    let right = expr_code f mode (to + 1) b in
-    stored-append (expr_code f mode to a) (operation_code op to (steps_at f op b) right)
-    ∙ (λ k. expr-stores f mode to a k
-    + operation-stores op to (steps_at f op b) right (expr-stores f mode (to + 1) b) k)
+    let q = left_operand f op a b in
+    let left = operand_part q (expr_code f mode to a) in
+    let right = operand_part (operand f b) (expr_code f mode (to + 1) b) in
+    let none = operand-stores q (expr_code f mode to a) (expr-stores f mode to a) in
+    let none' = operand-stores (operand f b) (expr_code f mode (to + 1) b) (expr-stores f mode (to + 1) b) in
+    stored-append left
+    (operation_code op to (operand_register q to) (operand_register (operand f b) (to + 1)) (steps_at f op b) right)
+    ∙ (λ k. none k
+    + operation-stores op to (operand_register q to) (operand_register (operand f b) (to + 1)) (steps_at f op b) right
+    none' k)
 
 -- the code of a guard stores no word
 pub guard-stores : (f : Setting) (mode : Mode) (to : ℕ) (t : Test) → stored_words (guard_code f mode to t) ≡ 0
@@ -213,17 +243,17 @@ guard-stores f mode to t =
     ∙ λ k. expr-stores f mode to t.left k + expr-stores f mode (to + 1) t.right k
 
 -- an assignment stores one
-store-stores : (mode : Mode) (slot : ℕ) → stored_words (store_code mode slot) ≡ 1
-store-stores Public slot = refl
-store-stores Real slot = refl
-store-stores Mirrored slot = refl
+store-stores : (mode : Mode) (slot value : ℕ) → stored_words (store_code mode slot value) ≡ 1
+store-stores Public slot value = refl
+store-stores Real slot value = refl
+store-stores Mirrored slot value = refl
 
-write-stores : (mode : Mode) (found : Option ℕ) (l : Label) (h : Home)
-    → stored_words (write_code found l mode h) ≡ (if is_some found then 0 else 1)
-write-stores mode (Some r) l h = refl
-write-stores Public None l h = refl
-write-stores Real None l h = refl
-write-stores Mirrored None l h = refl
+write-stores : (mode : Mode) (found : Option ℕ) (l : Label) (h : Home) (value : ℕ)
+    → stored_words (write_code found l mode h value) ≡ (if is_some found then 0 else 1)
+write-stores mode (Some r) l h value = refl
+write-stores Public None l h value = refl
+write-stores Real None l h value = refl
+write-stores Mirrored None l h value = refl
 
 -- an assignment to a variable stores one word, or none if a register holds the variable
 pub variable-stores : (f : Setting) (mode : Mode) (x : List ℕ) (e : Tree)
@@ -231,9 +261,11 @@ pub variable-stores : (f : Setting) (mode : Mode) (x : List ℕ) (e : Tree)
 variable-stores f mode x e =
     let found = register_for f x in
     let l = label_of (context_of f.decls) (Variable x) in
-    let written = write-stores mode found l (home_of f x) in
-    stored-append (expr_code f mode 0 e) (write_code found l mode (home_of f x))
-    ∙ omega (arith, expr-stores f mode 0 e, written)
+    let q = operand f e in
+    let from = operand_register q 0 in
+    let written = write-stores mode found l (home_of f x) from in
+    stored-append (operand_part q (expr_code f mode 0 e)) (write_code found l mode (home_of f x) from)
+    ∙ omega (arith, operand-stores q (expr_code f mode 0 e) (expr-stores f mode 0 e), written)
 
 -- an assignment to an element stores one word
 last-stores : (b : Bool) (slot : ℕ) → stored_words (stored_code b slot) ≡ 0
@@ -244,14 +276,22 @@ pub element-stores : (f : Setting) (mode : Mode) (x : List ℕ) (i e : Tree)
     → stored_words (set_code f mode (SetElement x i e)) ≡ 1
 element-stores f mode x i e =
     let h = home_of f x in
-    let access = access_code (compares f mode h i) f.profile.block_log mode h 1 (fixed_index h i)
-    (expr_code f mode 1 i) in
-    let store = store_code mode h.slot in
+    let near = compares f mode h i in
+    let q = operand f e in
+    let value = operand_part q (expr_code f mode 0 e) in
+    let q_of_index = index_operand f near i in
+    let index = operand_part q_of_index (expr_code f mode 1 i) in
+    let access = indexed_code f near mode h 1 i (expr_code f mode 1 i) in
+    let store = store_code mode h.slot (operand_register q 0) in
     let last = stored_code h.resident h.slot in
-    stored-append (expr_code f mode 0 e) (access ++ (store ++ last))
-    ∙ (λ k. expr-stores f mode 0 e k + stored-append access (store ++ last) k)
-    ∙ (λ k.
-    0 + (access-stores f mode (compares f mode h i) h 1 (fixed_index h i) (expr_code f mode 1 i)
-    (expr-stores f mode 1 i) k
-    + stored-append store last k))
-    ∙ (λ k. 0 + (0 + (store-stores mode h.slot k + last-stores h.resident h.slot k)))
+    stored-append value (access ++ (store ++ last))
+    ∙ omega (
+      arith,
+      operand-stores q (expr_code f mode 0 e) (expr-stores f mode 0 e),
+      stored-append access (store ++ last),
+      access-stores f mode near h 1 (operand_register q_of_index 1) (fixed_index h i) index
+          (operand-stores q_of_index (expr_code f mode 1 i) (expr-stores f mode 1 i)),
+      stored-append store last,
+      store-stores mode h.slot (operand_register q 0),
+      last-stores h.resident h.slot,
+    )

@@ -13,7 +13,8 @@ use Rattle.block_cache_gen.specs.declared.frames.Mode.{Mode}
 use Rattle.block_cache_gen.specs.declared.frames.Mode.TheVariants.{Public, Real, Mirrored}
 use Rattle.block_cache_gen.specs.Assignments.{IsAssignment}
 use Rattle.block_cache_gen.specs.Homes.{Home, Setting, home_of, register_for}
-use Rattle.block_cache_gen.specs.Codes.{is_masked, compares, numbered_code, reduced_code, shift_code, offset_code, placed_code, stored_code, located_code, load_code, skips, access_by, access_code, fixed_index, operation_code, steps_at, expr_code, guard_code, store_code, set_code, scalar_code, write_code}
+use Rattle.block_cache_gen.specs.Codes.{is_masked, compares, numbered_code, reduced_code, shift_code, offset_code, placed_code, stored_code, located_code, load_code, skips, access_by, access_code, index_operand, indexed_code, fixed_index, operand, operand_part, operand_register, left_operand, operation_code, steps_at, expr_code, guard_code, store_code, set_code, scalar_code, write_code}
+use Rattle.block_cache_gen.proofs.HeldOperands.{operand-short}
 use Rattle.block_cache_gen.proofs.StepsAt.{operation-short}
 
 two_of : (b : Bool) (p q r s : Instr) → length (if b then p ∷ q ∷ [] else r ∷ s ∷ []) ≡ 2
@@ -21,31 +22,31 @@ two_of true p q r s = refl
 two_of false p q r s = refl
 
 -- a number of a word takes six instructions at most, and one at least
-pub reduced_two : (h : Home) (to : ℕ) → length (reduced_code h to) ≡ 2
-reduced_two h to = two_of (is_masked h) _ _ _ _
+pub reduced_two : (h : Home) (to from : ℕ) → length (reduced_code h to from) ≡ 2
+reduced_two h to from = two_of (is_masked h) _ _ _ _
 
-numbered_short : (near : Bool) (h : Home) (to : ℕ) → length (numbered_code near h to) ≤ 6
-numbered_short true h to = omega arith
-numbered_short false h to = omega (arith, reduced_two h to)
+numbered_short : (near : Bool) (h : Home) (to from : ℕ) → length (numbered_code near h to from) ≤ 6
+numbered_short true h to from = omega arith
+numbered_short false h to from = omega (arith, reduced_two h to from)
 
-pub numbered_some : (near : Bool) (h : Home) (to : ℕ) → 1 ≤ length (numbered_code near h to)
-numbered_some true h to = omega arith
-numbered_some false h to = omega (arith, reduced_two h to)
+pub numbered_some : (near : Bool) (h : Home) (to from : ℕ) → 1 ≤ length (numbered_code near h to from)
+numbered_some true h to from = omega arith
+numbered_some false h to from = omega (arith, reduced_two h to from)
 
 pub load_short : (skipped : Bool) (h : Home) (to : ℕ) → length (load_code skipped h to) ≤ 3
 load_short true h to = omega arith
 load_short false h to = omega arith
 
 -- ten instructions at most make of an index the numbers of a word and a block
-pub located_short : (near : Bool) (block_log : ℕ) (h : Home) (to : ℕ) (fixed : Option ℤ) (index : List Instr)
-    → length (located_code near block_log h to fixed index) ≤ length index + 10
-located_short near block_log h to (Some z) index = omega arith
-located_short near block_log h to None index =
+pub located_short : (near : Bool) (block_log : ℕ) (h : Home) (to from : ℕ) (fixed : Option ℤ) (index : List Instr)
+    → length (located_code near block_log h to from fixed index) ≤ length index + 10
+located_short near block_log h to from (Some z) index = omega arith
+located_short near block_log h to from None index =
     omega (
       arith,
-      length-append index (numbered_code near h to ++ shift_code block_log h to),
-      length-append (numbered_code near h to) (shift_code block_log h to),
-      numbered_short near h to,
+      length-append index (numbered_code near h to from ++ shift_code block_log h to),
+      length-append (numbered_code near h to from) (shift_code block_log h to),
+      numbered_short near h to from,
     )
 
 pub offset_short : (h : Home) (to : ℕ) → length (offset_code h to) ≤ 2
@@ -60,28 +61,38 @@ scalar_short None h to = omega arith
 scalar_short (Some r) h to = omega arith
 
 -- an access takes at most 13 instructions after the index
-pub access_short : (near : Bool) (block_log : ℕ) (mode : Mode) (h : Home) (to : ℕ) (fixed : Option ℤ)
-    (index : List Instr) → length (access_code near block_log mode h to fixed index) ≤ length index + 13
-access_short near block_log mode h to fixed index = by h.resident
+pub access_short : (near : Bool) (block_log : ℕ) (mode : Mode) (h : Home) (to from : ℕ) (fixed : Option ℤ)
+    (index : List Instr) → length (access_code near block_log mode h to from fixed index) ≤ length index + 13
+access_short near block_log mode h to from fixed index = by h.resident
   where
-    placed : (g : Option ℤ) → length (placed_code near h to g index) ≤ length index + 13
+    placed : (g : Option ℤ) → length (placed_code near h to from g index) ≤ length index + 13
     placed (Some z) = omega arith
     placed None =
         omega (
           arith,
-          length-append index (numbered_code near h to ++ offset_code h to),
-          length-append (numbered_code near h to) (offset_code h to),
-          numbered_short near h to,
+          length-append index (numbered_code near h to from ++ offset_code h to),
+          length-append (numbered_code near h to from) (offset_code h to),
+          numbered_short near h to from,
           offset_short h to,
         )
 
-    by : (b : Bool) → length (access_by b near block_log mode h to fixed index) ≤ length index + 13
+    by : (b : Bool) → length (access_by b near block_log mode h to from fixed index) ≤ length index + 13
     by true = placed fixed
     by false =
-        let e = length-append (located_code near block_log h to fixed index) (load_code (skips mode h) h to) in
-        let l = located_short near block_log h to fixed index in
+        let e = length-append (located_code near block_log h to from fixed index) (load_code (skips mode h) h to) in
+        let l = located_short near block_log h to from fixed index in
         let s = load_short (skips mode h) h to in
         omega arith
+
+-- so of an index that a register may hold
+pub indexed_short : (f : Setting) (near : Bool) (mode : Mode) (h : Home) (to : ℕ) (i : Tree) (index : List Instr)
+    → length (indexed_code f near mode h to i index) ≤ length index + 13
+indexed_short f near mode h to i index =
+    let q = index_operand f near i in
+    let s = access_short near f.profile.block_log mode h to (operand_register q to) (fixed_index h i)
+    (operand_part q index) in
+    let l = operand-short q index in
+    omega arith
 
 -- at most 16 instructions a node
 pub expr_code_short : (f : Setting) (mode : Mode) (to : ℕ) (e : Tree)
@@ -89,22 +100,25 @@ pub expr_code_short : (f : Setting) (mode : Mode) (to : ℕ) (e : Tree)
 expr_code_short f mode to (Number z) = omega arith
 expr_code_short f mode to (Variable x) = omega (arith, scalar_short (register_for f x) (home_of f x) to)
 expr_code_short f mode to (Element x i) =
-    let code =
-    access_code (compares f mode (home_of f x) i) f.profile.block_log mode (home_of f x) to
-    (fixed_index (home_of f x) i)
-    (expr_code f mode to i) in
-    let e = length-append code (Ldw to (home_of f x).slot to ∷ []) in
-    let s =
-    access_short (compares f mode (home_of f x) i) f.profile.block_log mode (home_of f x) to
-    (fixed_index (home_of f x) i)
-    (expr_code f mode to i) in
-    let h = expr_code_short f mode to i in
+    let h = home_of f x in
+    let near = compares f mode h i in
+    let code = indexed_code f near mode h to i (expr_code f mode to i) in
+    let e = length-append code (Ldw to h.slot to ∷ []) in
+    let s = indexed_short f near mode h to i (expr_code f mode to i) in
+    let k = expr_code_short f mode to i in
     omega arith
 expr_code_short f mode to (Operation op a b) =
-    let right = expr_code f mode (to + 1) b in
-    let e = length-append (expr_code f mode to a) (operation_code op to (steps_at f op b) right) in
+    let q = left_operand f op a b in
+    let left = operand_part q (expr_code f mode to a) in
+    let right = operand_part (operand f b) (expr_code f mode (to + 1) b) in
+    let ra = operand_register q to in
+    let rb = operand_register (operand f b) (to + 1) in
+    let e = length-append left (operation_code op to ra rb (steps_at f op b) right) in
     let h = expr_code_short f mode to a in
-    let k = operation-short f op to b right (expr_code_short f mode (to + 1) b) in
+    let l = operand-short q (expr_code f mode to a) in
+    let m = expr_code_short f mode (to + 1) b in
+    let n = operand-short (operand f b) (expr_code f mode (to + 1) b) in
+    let k = operation-short f op to ra rb b right (omega arith) in
     omega arith
 
 -- at most 16 instructions a unit of a guard's weight
@@ -117,43 +131,49 @@ guard_code_short f mode to t =
     omega arith
 
 -- a store takes two instructions at most
-pub store_short : (mode : Mode) (slot : ℕ) → length (store_code mode slot) ≤ 2
-store_short Public slot = omega arith
-store_short Real slot = omega arith
-store_short Mirrored slot = omega arith
+pub store_short : (mode : Mode) (slot value : ℕ) → length (store_code mode slot value) ≤ 2
+store_short Public slot value = omega arith
+store_short Real slot value = omega arith
+store_short Mirrored slot value = omega arith
 
 -- the store of a block is one instruction at most
 pub stored_short : (b : Bool) (slot : ℕ) → length (stored_code b slot) ≤ 1
 stored_short true slot = omega arith
 stored_short false slot = omega arith
 
-pub write_short : (r : Option ℕ) (l : Label) (mode : Mode) (h : Home) → length (write_code r l mode h) ≤ 3
-write_short (Some r) l mode h = omega arith
-write_short None l mode h = omega (arith, store_short mode h.slot)
+pub write_short : (r : Option ℕ) (l : Label) (mode : Mode) (h : Home) (value : ℕ)
+    → length (write_code r l mode h value) ≤ 3
+write_short (Some r) l mode h value = omega arith
+write_short None l mode h value = omega (arith, store_short mode h.slot value)
 
 -- at most 17 instructions a unit of an assignment's weight
 pub set_code_short : (f : Setting) (mode : Mode) (known : Context) (code : Label) (s : Statement) → IsAssignment s
     → length (set_code f mode s) ≤ 17 * statement_weight known code s
 set_code_short f mode known code (SetVariable x e) is =
     let h = home_of f x in
-    let write = write_code (register_for f x) (label_of (context_of f.decls) (Variable x)) mode h in
-    let l = length-append (expr_code f mode 0 e) write in
+    let label = label_of (context_of f.decls) (Variable x) in
+    let value = operand_register (operand f e) 0 in
+    let write = write_code (register_for f x) label mode h value in
+    let l = length-append (operand_part (operand f e) (expr_code f mode 0 e)) write in
     let k = expr_code_short f mode 0 e in
-    let s = write_short (register_for f x) (label_of (context_of f.decls) (Variable x)) mode h in
+    let p = operand-short (operand f e) (expr_code f mode 0 e) in
+    let s = write_short (register_for f x) label mode h value in
     omega arith
 set_code_short f mode known code (SetElement x i e) is =
     let h = home_of f x in
     let index = expr_code f mode 1 i in
-    let access = access_code (compares f mode h i) f.profile.block_log mode h 1 (fixed_index h i) index in
-    let last = store_code mode h.slot ++ stored_code h.resident h.slot in
-    let l = length-append (expr_code f mode 0 e) (access ++ last) in
+    let access = indexed_code f (compares f mode h i) mode h 1 i index in
+    let value = operand_register (operand f e) 0 in
+    let last = store_code mode h.slot value ++ stored_code h.resident h.slot in
+    let l = length-append (operand_part (operand f e) (expr_code f mode 0 e)) (access ++ last) in
     let m = length-append access last in
-    let n = length-append (store_code mode h.slot) (stored_code h.resident h.slot) in
+    let n = length-append (store_code mode h.slot value) (stored_code h.resident h.slot) in
     let t = stored_short h.resident h.slot in
-    let a = access_short (compares f mode h i) f.profile.block_log mode h 1 (fixed_index h i) index in
+    let a = indexed_short f (compares f mode h i) mode h 1 i index in
     let k = expr_code_short f mode 0 e in
+    let p = operand-short (operand f e) (expr_code f mode 0 e) in
     let j = expr_code_short f mode 1 i in
-    let s = store_short mode h.slot in
+    let s = store_short mode h.slot value in
     omega arith
 set_code_short f mode known code (Choice t a b) is = absurd is
 set_code_short f mode known code (Loop t a) is = absurd is

@@ -1,17 +1,36 @@
 -- No expression and no guard is made into no code; and secret code compares no index.
-use Rattle.std.proofs.Common.{◌≡◌, ℕ, ◌+◌, ◌≤◌, Bool, false, not, ◌&&◌, [], ◌∷◌, length, Option, Some, None, ap, arith}
+use Rattle.std.proofs.Common.{◌≡◌, ℕ, ◌+◌, ◌≤◌, Bool, false, not, ◌&&◌, List, [], ◌∷◌, ◌++◌, length, Option, Some, None, refl, ap, arith}
+use Rattle.std.specs.Prelude.{is_some}
 use Rattle.std.proofs.lemmas.List.{length-append}
-use Rattle.lt_isa.specs.declared.instructions.Instr.TheVariants.{Ldw}
+use Rattle.gr_word.specs.declared.operations.Op.{Op}
+use Rattle.lt_isa.specs.declared.instructions.Instr.{Instr}
+use Rattle.lt_isa.specs.declared.instructions.Instr.TheVariants.{Alu, Ldw}
+use Rattle.strength_reduction.specs.Steps.{Step}
 use Rattle.src_tree.specs.Contexts.{context_of}
 use Rattle.src_tree.specs.Labels.{label_of, secret_label}
-use Rattle.src_tree.specs.Trees.{Tree, Number, Variable, Element, Operation, Test}
+use Rattle.src_tree.specs.Trees.{Tree, Number, Variable, Element, Operation, Test, Statement, SetVariable, SetElement, Choice, Loop}
+use Rattle.gr_word.specs.declared.variables.Label.{Label}
 use Rattle.block_cache_gen.specs.declared.frames.Mode.{Mode}
+use Rattle.block_cache_gen.specs.declared.frames.Mode.TheVariants.{Public, Real, Mirrored}
+use Rattle.block_cache_gen.specs.Assignments.{IsAssignment}
 use Rattle.block_cache_gen.specs.Homes.{Home, Setting, home_of, register_for}
-use Rattle.block_cache_gen.specs.Codes.{may_skip_loads, is_masked, compares, scalar_code, expr_code, guard_code, access_code, fixed_index, operation_code, steps_at}
+use Rattle.block_cache_gen.specs.Codes.{may_skip_loads, is_masked, compares, scalar_code, expr_code, guard_code, set_code, store_code, stored_code, write_code, indexed_code, operand, operand_part, operand_register, operand_unless, left_operand, operation_code, steps_at}
 
 scalar_code-some : (r : Option ℕ) (h : Home) (to : ℕ) → 1 ≤ length (scalar_code r h to)
 scalar_code-some (Some r) h to = omega arith
 scalar_code-some None h to = omega arith
+
+-- so does an operation, whose left side is in a register of its own if steps replace the operation
+operation-some : (op : Op) (to : ℕ) (q : Option ℕ) (rb : ℕ) (found : Option (List Step)) (left right : List Instr)
+    → 1 ≤ length left → ((steps : List Step) → found ≡ Some steps → q ≡ None)
+    → 1 ≤ length (operand_part q left ++ operation_code op to (operand_register q to) rb found right)
+operation-some op to q rb None left right some own =
+    let last = Alu op to (operand_register q to) rb ∷ [] in
+    omega (arith, length-append (operand_part q left) (right ++ last), length-append right last)
+operation-some op to q rb (Some steps) left right some own =
+    let code = operation_code op to (operand_register q to) rb (Some steps) right in
+    let none = ap (λ p. length (operand_part p left)) (own steps refl) in
+    omega (arith, length-append (operand_part q left) code, none)
 
 -- an expression has an instruction at least, and so has a guard
 pub expr_code-some : (f : Setting) (m : Mode) (to : ℕ) (e : Tree) → 1 ≤ length (expr_code f m to e)
@@ -20,21 +39,55 @@ expr_code-some f m to (Variable x) = scalar_code-some (register_for f x) (home_o
 expr_code-some f m to (Element x i) =
     omega (
       arith,
-      length-append (access_code (compares f m (home_of f x) i) f.profile.block_log m (home_of f x) to
-          (fixed_index (home_of f x) i) (expr_code f m to i)) (Ldw to (home_of f x).slot to ∷ []),
+      length-append (indexed_code f (compares f m (home_of f x) i) m (home_of f x) to i (expr_code f m to i))
+          (Ldw to (home_of f x).slot to ∷ []),
     )
 expr_code-some f m to (Operation op a b) =
-    omega (
-      arith,
-      expr_code-some f m to a,
-      length-append (expr_code f m to a) (operation_code op to (steps_at f op b) (expr_code f m (to + 1) b)),
-    )
+    let q = left_operand f op a b in
+    let right = operand_part (operand f b) (expr_code f m (to + 1) b) in
+    operation-some op to q (operand_register (operand f b) (to + 1)) (steps_at f op b) (expr_code f m to a) right
+    (expr_code-some f m to a) (λ steps found. ap (λ g. operand_unless (is_some g) (operand f a)) found)
 
 -- no guard is made into no code
 pub guard_code-some : (f : Setting) (m : Mode) (to : ℕ) (t : Test) → 1 ≤ length (guard_code f m to t)
 guard_code-some f m to t =
     omega
     (arith, expr_code-some f m to t.left, length-append (expr_code f m to t.left) (expr_code f m (to + 1) t.right))
+
+write_code-some : (r : Option ℕ) (l : Label) (m : Mode) (h : Home) (value : ℕ) → 1 ≤ length (write_code r l m h value)
+write_code-some (Some r) l m h value = omega arith
+write_code-some None l m h value = omega arith
+
+store_code-some : (m : Mode) (slot value : ℕ) → 1 ≤ length (store_code m slot value)
+store_code-some Public slot value = omega arith
+store_code-some Real slot value = omega arith
+store_code-some Mirrored slot value = omega arith
+
+-- no assignment is made into no code
+pub set_code-some : (f : Setting) (m : Mode) (s : Statement) → IsAssignment s → 1 ≤ length (set_code f m s)
+set_code-some f m (SetVariable x e) is =
+    let value = operand_register (operand f e) 0 in
+    let label = label_of (context_of f.decls) (Variable x) in
+    let write = write_code (register_for f x) label m (home_of f x) value in
+    omega (
+      arith,
+      write_code-some (register_for f x) label m (home_of f x) value,
+      length-append (operand_part (operand f e) (expr_code f m 0 e)) write,
+    )
+set_code-some f m (SetElement x i e) is =
+    let h = home_of f x in
+    let store = store_code m h.slot (operand_register (operand f e) 0) in
+    let access = indexed_code f (compares f m h i) m h 1 i (expr_code f m 1 i) in
+    let last = stored_code h.resident h.slot in
+    omega (
+      arith,
+      store_code-some m h.slot (operand_register (operand f e) 0),
+      length-append (operand_part (operand f e) (expr_code f m 0 e)) (access ++ (store ++ last)),
+      length-append access (store ++ last),
+      length-append store last,
+    )
+set_code-some f m (Choice t a b) is = absurd is
+set_code-some f m (Loop t a) is = absurd is
 
 -- secret code compares no index with a length
 pub compares-secret : (f : Setting) (m : Mode) (h : Home) (i : Tree) → may_skip_loads m ≡ false

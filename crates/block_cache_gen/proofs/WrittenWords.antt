@@ -23,7 +23,7 @@ use Rattle.block_cache_gen.specs.declared.frames.Mode.{Mode}
 use Rattle.block_cache_gen.specs.declared.frames.Mode.TheVariants.{Public, Real, Mirrored}
 use Rattle.block_cache_gen.specs.Assignments.{IsAssignment}
 use Rattle.block_cache_gen.specs.Homes.{Home, Setting, home_of, register_for}
-use Rattle.block_cache_gen.specs.Codes.{zero_of, copied_from, is_masked, fixed_index, scalar_code, compares, least_word, numbered_code, reduced_code, shift_code, offset_code, placed_code, located_code, load_code, skips, access_by, access_code, stored_code, operation_code, steps_at, expr_code, store_code, write_code, set_code}
+use Rattle.block_cache_gen.specs.Codes.{zero_of, copied_from, is_masked, fixed_index, scalar_code, compares, least_word, numbered_code, reduced_code, shift_code, offset_code, placed_code, located_code, load_code, skips, access_by, access_code, operand, operand_part, operand_register, left_operand, index_operand, indexed_code, stored_code, operation_code, steps_at, expr_code, store_code, write_code, set_code}
 use Rattle.block_cache_gen.specs.StoredWords.{is_held_register, is_write, written_words}
 use Rattle.block_cache_gen.proofs.HeldLabels.{register-own}
 use Rattle.block_cache_gen.proofs.StepsAt.{steps-of}
@@ -50,19 +50,19 @@ low-plain r low = le-ltb public_zero r (omega arith)
 
 -- the code of an access
 module _ (to : ℕ) (low : to + 2 < 21) where
-  reduced-writes : (h : Home) → written_words (reduced_code h to) ≡ 0
-  reduced-writes h = by (is_masked h)
+  reduced-writes : (h : Home) (from : ℕ) → written_words (reduced_code h to from) ≡ 0
+  reduced-writes h from = by (is_masked h)
     where
       by : (masked : Bool)
-          → written_words (if masked then Li (to + 1) (pos (h.length - 1)) ∷ Alu And to to (to + 1) ∷ []
-          else Li (to + 1) (pos h.length) ∷ Alu Remu to to (to + 1) ∷ [])
+          → written_words (if masked then Li (to + 1) (pos (h.length - 1)) ∷ Alu And to from (to + 1) ∷ []
+          else Li (to + 1) (pos h.length) ∷ Alu Remu to from (to + 1) ∷ [])
           ≡ 0
       by true =
-          none-more (Li (to + 1) (pos (h.length - 1))) (Alu And to to (to + 1) ∷ []) refl
-          (none-more (Alu And to to (to + 1)) [] (low-plain to (omega arith)) refl)
+          none-more (Li (to + 1) (pos (h.length - 1))) (Alu And to from (to + 1) ∷ []) refl
+          (none-more (Alu And to from (to + 1)) [] (low-plain to (omega arith)) refl)
       by false =
-          none-more (Li (to + 1) (pos h.length)) (Alu Remu to to (to + 1) ∷ []) refl
-          (none-more (Alu Remu to to (to + 1)) [] (low-plain to (omega arith)) refl)
+          none-more (Li (to + 1) (pos h.length)) (Alu Remu to from (to + 1) ∷ []) refl
+          (none-more (Alu Remu to from (to + 1)) [] (low-plain to (omega arith)) refl)
 
   shift-writes : (log : ℕ) (h : Home) → written_words (shift_code log h to) ≡ 0
   shift-writes log h =
@@ -87,9 +87,9 @@ module _ (to : ℕ) (low : to + 2 < 21) where
   load-writes true h = refl
   load-writes false h = refl
 
-  numbered-writes : (near : Bool) (h : Home) → written_words (numbered_code near h to) ≡ 0
-  numbered-writes false h = reduced-writes h
-  numbered-writes true h =
+  numbered-writes : (near : Bool) (h : Home) (from : ℕ) → written_words (numbered_code near h to from) ≡ 0
+  numbered-writes false h from = reduced-writes h from
+  numbered-writes true h from =
       let one = Alu Remu to to (to + 1) in
       let two = Li (to + 1) (pos h.length) in
       let three = Br Lt (to + 1) (to + 2) (pos 3) in
@@ -101,29 +101,31 @@ module _ (to : ℕ) (low : to + 2 < 21) where
       (none-more three (two ∷ one ∷ []) refl
       (none-more two (one ∷ []) refl (none-more one [] (low-plain to (omega arith)) refl)))))
 
-  located-writes : (near : Bool) (log : ℕ) (h : Home) (fixed : Option ℤ) (index : List Instr)
-      → written_words index ≡ 0 → written_words (located_code near log h to fixed index) ≡ 0
-  located-writes near log h (Some z) index none = refl
-  located-writes near log h None index none =
-      none-then index (numbered_code near h to ++ shift_code log h to) none
-      (none-then (numbered_code near h to) (shift_code log h to) (numbered-writes near h) (shift-writes log h))
+  located-writes : (near : Bool) (log : ℕ) (h : Home) (from : ℕ) (fixed : Option ℤ) (index : List Instr)
+      → written_words index ≡ 0 → written_words (located_code near log h to from fixed index) ≡ 0
+  located-writes near log h from (Some z) index none = refl
+  located-writes near log h from None index none =
+      none-then index (numbered_code near h to from ++ shift_code log h to) none
+      (none-then (numbered_code near h to from) (shift_code log h to) (numbered-writes near h from)
+      (shift-writes log h))
 
-  placed-writes : (near : Bool) (h : Home) (fixed : Option ℤ) (index : List Instr) → written_words index ≡ 0
-      → written_words (placed_code near h to fixed index) ≡ 0
-  placed-writes near h (Some z) index none = refl
-  placed-writes near h None index none =
-      none-then index (numbered_code near h to ++ offset_code h to) none
-      (none-then (numbered_code near h to) (offset_code h to) (numbered-writes near h) (offset-writes h))
+  placed-writes : (near : Bool) (h : Home) (from : ℕ) (fixed : Option ℤ) (index : List Instr)
+      → written_words index ≡ 0 → written_words (placed_code near h to from fixed index) ≡ 0
+  placed-writes near h from (Some z) index none = refl
+  placed-writes near h from None index none =
+      none-then index (numbered_code near h to from ++ offset_code h to) none
+      (none-then (numbered_code near h to from) (offset_code h to) (numbered-writes near h from) (offset-writes h))
 
-  access-writes : (f : Setting) (mode : Mode) (near : Bool) (h : Home) (fixed : Option ℤ) (index : List Instr)
-      → written_words index ≡ 0 → written_words (access_code near f.profile.block_log mode h to fixed index) ≡ 0
-  access-writes f mode near h fixed index none = by h.resident
+  access-writes : (f : Setting) (mode : Mode) (near : Bool) (h : Home) (from : ℕ) (fixed : Option ℤ)
+      (index : List Instr) → written_words index ≡ 0
+      → written_words (access_code near f.profile.block_log mode h to from fixed index) ≡ 0
+  access-writes f mode near h from fixed index none = by h.resident
     where
-      by : (b : Bool) → written_words (access_by b near f.profile.block_log mode h to fixed index) ≡ 0
-      by true = placed-writes near h fixed index none
+      by : (b : Bool) → written_words (access_by b near f.profile.block_log mode h to from fixed index) ≡ 0
+      by true = placed-writes near h from fixed index none
       by false =
-          none-then (located_code near f.profile.block_log h to fixed index) (load_code (skips mode h) h to)
-          (located-writes near f.profile.block_log h fixed index none) (load-writes (skips mode h) h)
+          none-then (located_code near f.profile.block_log h to from fixed index) (load_code (skips mode h) h to)
+          (located-writes near f.profile.block_log h from fixed index none) (load-writes (skips mode h) h)
 
   scalar-writes : (found : Option ℕ) (h : Home) → written_words (scalar_code found h to) ≡ 0
   scalar-writes None h = refl
@@ -140,13 +142,19 @@ module _ (to : ℕ) (low : to + 2 < 21) where
       (low-plain (numbered to rd) (omega (arith, numbered-to to rd first.0)))
       (steps-writes steps (All-tail StepFits (Compute op rd left right) steps fits))
 
-  operation-writes : (f : Setting) (op : Op) (b : Tree) (found : Option (List Step)) → steps_at f op b ≡ found
-      → (right : List Instr) → written_words right ≡ 0 → written_words (operation_code op to found right) ≡ 0
-  operation-writes f op b None is right none =
-      none-then right (Alu op to to (to + 1) ∷ []) none
-      (none-more (Alu op to to (to + 1)) [] (low-plain to (omega arith)) refl)
-  operation-writes f op b (Some steps) is right none =
+  operation-writes : (f : Setting) (op : Op) (b : Tree) (left right : ℕ) (found : Option (List Step))
+      → steps_at f op b ≡ found → (code : List Instr) → written_words code ≡ 0
+      → written_words (operation_code op to left right found code) ≡ 0
+  operation-writes f op b left right None is code none =
+      none-then code (Alu op to left right ∷ []) none
+      (none-more (Alu op to left right) [] (low-plain to (omega arith)) refl)
+  operation-writes f op b left right (Some steps) is code none =
       let of = steps-of f op b steps is in let replaces = of.replaces in steps-writes steps replaces.fits
+
+-- so does that of an operand
+operand-writes : (q : Option ℕ) (code : List Instr) → written_words code ≡ 0 → written_words (operand_part q code) ≡ 0
+operand-writes (Some r) code none = refl
+operand-writes None code none = none
 
 -- an expression writes neither a scalar nor an element
 pub expr-writes : (f : Setting) (mode : Mode) (to : ℕ) (e : Tree) → to + height_of e ≤ 18
@@ -155,35 +163,41 @@ expr-writes f mode to (Number z) low = refl
 expr-writes f mode to (Variable x) low = scalar-writes to (omega arith) (register_for f x) (home_of f x)
 expr-writes f mode to (Element x i) low =
     let h = home_of f x in
-    let access = access_code (compares f mode h i) f.profile.block_log mode h to (fixed_index h i)
-    (expr_code f mode to i) in
-    none-then access (Ldw to h.slot to ∷ [])
-    (access-writes to (omega (arith, height-some i)) f mode (compares f mode h i) h (fixed_index h i) (expr_code f mode to i)
-    (expr-writes f mode to i (omega arith))) refl
+    let near = compares f mode h i in
+    let q = index_operand f near i in
+    none-then (indexed_code f near mode h to i (expr_code f mode to i)) (Ldw to h.slot to ∷ [])
+    (access-writes to (omega (arith, height-some i)) f mode near h (operand_register q to) (fixed_index h i)
+    (operand_part q (expr_code f mode to i))
+    (operand-writes q (expr_code f mode to i) (expr-writes f mode to i (omega arith)))) refl
 expr-writes f mode to (Operation op a b) low =
-    none-then (expr_code f mode to a) (operation_code op to (steps_at f op b) (expr_code f mode (to + 1) b))
-    (expr-writes f mode to a (omega arith))
-    (operation-writes to (omega arith) f op b (steps_at f op b) refl (expr_code f mode (to + 1) b)
-    (expr-writes f mode (to + 1) b (omega arith)))
+    let q = left_operand f op a b in
+    let left = operand_register q to in
+    let right = operand_register (operand f b) (to + 1) in
+    let second = operand_part (operand f b) (expr_code f mode (to + 1) b) in
+    none-then (operand_part q (expr_code f mode to a)) (operation_code op to left right (steps_at f op b) second)
+    (operand-writes q (expr_code f mode to a) (expr-writes f mode to a (omega arith)))
+    (operation-writes to (omega arith) f op b left right (steps_at f op b) refl second
+    (operand-writes (operand f b) (expr_code f mode (to + 1) b) (expr-writes f mode (to + 1) b (omega arith))))
 
 -- what writes a scalar
 write-writes : (f : Setting) → IsSoundHeld f.decls f.held → (mode : Mode) (x : List ℕ) (l : Label) (found : Option ℕ)
-    → register_for f x ≡ found → written_words (write_code found l mode (home_of f x)) ≡ 1
-write-writes f sound mode x l (Some r) is =
-    written-one (Alu Add r (copied_from mode r) (zero_of l)) true (lt-ltb public_zero r (omega (arith, register-own f sound x r is)))
-write-writes f sound Public x l None is = refl
-write-writes f sound Real x l None is = refl
-write-writes f sound Mirrored x l None is = refl
+    → register_for f x ≡ found → (value : ℕ) → written_words (write_code found l mode (home_of f x) value) ≡ 1
+write-writes f sound mode x l (Some r) is value =
+    written-one (Alu Add r (copied_from mode r value) (zero_of l)) true
+    (lt-ltb public_zero r (omega (arith, register-own f sound x r is)))
+write-writes f sound Public x l None is value = refl
+write-writes f sound Real x l None is value = refl
+write-writes f sound Mirrored x l None is value = refl
 
 -- what writes an element
-store-writes : (mode : Mode) (resident : Bool) (slot : ℕ)
-    → written_words (store_code mode slot ++ stored_code resident slot) ≡ 1
-store-writes Public true slot = refl
-store-writes Public false slot = refl
-store-writes Real true slot = refl
-store-writes Real false slot = refl
-store-writes Mirrored true slot = refl
-store-writes Mirrored false slot = refl
+store-writes : (mode : Mode) (resident : Bool) (slot value : ℕ)
+    → written_words (store_code mode slot value ++ stored_code resident slot) ≡ 1
+store-writes Public true slot value = refl
+store-writes Public false slot value = refl
+store-writes Real true slot value = refl
+store-writes Real false slot value = refl
+store-writes Mirrored true slot value = refl
+store-writes Mirrored false slot value = refl
 
 -- an assignment writes one scalar or element
 pub set-writes : (f : Setting) → IsSoundHeld f.decls f.held → (mode : Mode) (t : Statement) → IsAssignment t
@@ -191,22 +205,32 @@ pub set-writes : (f : Setting) → IsSoundHeld f.decls f.held → (mode : Mode) 
 set-writes f sound mode (SetVariable x e) is low =
     let l = label_of (context_of f.decls) (Variable x) in
     let found = register_for f x in
-    written-append (expr_code f mode 0 e) (write_code found l mode (home_of f x))
-    ∙ omega (arith, expr-writes f mode 0 e (omega (arith, low)), write-writes f sound mode x l found refl)
-set-writes f sound mode (SetElement x i e) is low =
-    let h = home_of f x in
-    let access = access_code (compares f mode h i) f.profile.block_log mode h 1 (fixed_index h i)
-    (expr_code f mode 1 i) in
-    let store = store_code mode h.slot ++ stored_code h.resident h.slot in
-    let none = access-writes 1 (omega arith) f mode (compares f mode h i) h (fixed_index h i) (expr_code f mode 1 i)
-    (expr-writes f mode 1 i (omega (arith, low.0))) in
-    written-append (expr_code f mode 0 e) (access ++ store)
+    let q = operand f e in
+    let from = operand_register q 0 in
+    written-append (operand_part q (expr_code f mode 0 e)) (write_code found l mode (home_of f x) from)
     ∙ omega (
       arith,
-      expr-writes f mode 0 e (omega (arith, low.1)),
+      operand-writes q (expr_code f mode 0 e) (expr-writes f mode 0 e (omega (arith, low))),
+      write-writes f sound mode x l found refl from,
+    )
+set-writes f sound mode (SetElement x i e) is low =
+    let h = home_of f x in
+    let near = compares f mode h i in
+    let q = operand f e in
+    let q_of_index = index_operand f near i in
+    let value = operand_part q (expr_code f mode 0 e) in
+    let access = indexed_code f near mode h 1 i (expr_code f mode 1 i) in
+    let store = store_code mode h.slot (operand_register q 0) ++ stored_code h.resident h.slot in
+    let none = access-writes 1 (omega arith) f mode near h (operand_register q_of_index 1) (fixed_index h i)
+    (operand_part q_of_index (expr_code f mode 1 i))
+    (operand-writes q_of_index (expr_code f mode 1 i) (expr-writes f mode 1 i (omega (arith, low.0)))) in
+    written-append value (access ++ store)
+    ∙ omega (
+      arith,
+      operand-writes q (expr_code f mode 0 e) (expr-writes f mode 0 e (omega (arith, low.1))),
       written-append access store,
       none,
-      store-writes mode h.resident h.slot,
+      store-writes mode h.resident h.slot (operand_register q 0),
     )
 set-writes f sound mode (Choice t a b) is low = absurd is
 set-writes f sound mode (Loop t a) is low = absurd is

@@ -5,8 +5,8 @@ use Rattle.std.specs.Ordering.{int_eq}
 use Rattle.gr_word.specs.declared.operations.Op.{Op}
 use Rattle.symbolic_values.specs.Sameness.{same_op}
 use Rattle.src_tree.specs.Trees.{Tree, Number, Variable, Element, Operation, Statement, SetVariable, SetElement, Block, Then}
-use Rattle.block_cache_gen.specs.Homes.{Setting, home_of, register_for}
-use Rattle.block_cache_gen.specs.Codes.{is_cached, is_masked, may_step}
+use Rattle.block_cache_gen.specs.Homes.{Setting, home_of}
+use Rattle.block_cache_gen.specs.Codes.{is_cached, is_masked, may_step, operand}
 pub use Rattle.block_cache_gen.specs.Codes.{is_product}
 
 -- two arrays lie in one oblivious bank
@@ -14,9 +14,9 @@ pub record InOneBank (f : Setting) (x y : List ℕ) : Type 0 where
   pub oblivious : 2 ≤ (home_of f x).bank
   pub same : (home_of f x).bank ≡ (home_of f y).bank
 
--- registers hold two scalars for the whole run, or neither
-abbrev pub AreHeldAlike : Setting → List ℕ → List ℕ → Type 0
-AreHeldAlike f x y = is_some (register_for f x) ≡ is_some (register_for f y)
+-- registers hold two numbers or scalars for the whole run, or neither
+abbrev pub AreHeldAlike : Setting → Tree → Tree → Type 0
+AreHeldAlike f a b = is_some (operand f a) ≡ is_some (operand f b)
 
 -- two resident arrays whose indexes are reduced alike, and whose first words both are 0, or neither is
 pub record AreReducedAlike (f : Setting) (x y : List ℕ) : Type 0 where
@@ -26,13 +26,13 @@ pub record AreReducedAlike (f : Setting) (x y : List ℕ) : Type 0 where
   pub masked : is_masked (home_of f x) ≡ is_masked (home_of f y)
   pub offset : ((home_of f x).word == 0) ≡ ((home_of f y).word == 0)
 
--- Two expressions are alike if both are numbers, or scalars; or elements with alike indexes, of one oblivious bank or of
--- resident arrays whose indexes are reduced alike; or elements of one array of plain or encrypted memory with the same
--- index; or operations that no steps may replace, both products or neither, on alike parts; or the same operation by
--- the same number, on an alike left side.
+-- Two expressions are alike if both are numbers, or both scalars, and registers hold both or neither; or elements with
+-- alike indexes, of one oblivious bank or of resident arrays whose indexes are reduced alike; or elements of one array of
+-- plain or encrypted memory with the same index; or operations that no steps may replace, both products or neither, on
+-- alike parts; or the same operation by the same number, on an alike left side.
 pub data Alike (f : Setting) : Tree → Tree → Type 0 where
-  Numbers : (y z : ℤ) → Alike f (Number y) (Number z)
-  Scalars : (x y : List ℕ) → AreHeldAlike f x y → Alike f (Variable x) (Variable y)
+  Numbers : (y z : ℤ) → AreHeldAlike f (Number y) (Number z) → Alike f (Number y) (Number z)
+  Scalars : (x y : List ℕ) → AreHeldAlike f (Variable x) (Variable y) → Alike f (Variable x) (Variable y)
   Oblivious : (x y : List ℕ) (i j : Tree) → InOneBank f x y → Alike f i j → Alike f (Element x i) (Element y j)
   Residents : (x y : List ℕ) (i j : Tree) → AreReducedAlike f x y → Alike f i j → Alike f (Element x i) (Element y j)
   Same : (x : List ℕ) (i : Tree) → (home_of f x).bank < 2 → Alike f (Element x i) (Element x i)
@@ -46,7 +46,7 @@ pub data Alike (f : Setting) : Tree → Tree → Type 0 where
 -- array of encrypted memory.
 pub data Pair (f : Setting) : Statement → Statement → Type 0 where
   ToScalars : (x y : List ℕ) (e g : Tree)
-      → AreHeldAlike f x y → Alike f e g → Pair f (SetVariable x e) (SetVariable y g)
+      → AreHeldAlike f (Variable x) (Variable y) → Alike f e g → Pair f (SetVariable x e) (SetVariable y g)
   ToOblivious : (x y : List ℕ) (i j e g : Tree) → InOneBank f x y → Alike f i j → Alike f e g
       → Pair f (SetElement x i e) (SetElement y j g)
   ToResidents : (x y : List ℕ) (i j e g : Tree) → AreReducedAlike f x y → Alike f i j → Alike f e g
@@ -77,8 +77,8 @@ is_same _ _ = false
 abbrev pub same_flag : Bool → Bool → Bool
 same_flag a b = if a then b else not b
 
-abbrev pub held_alike : Setting → List ℕ → List ℕ → Bool
-held_alike f x y = same_flag (is_some (register_for f x)) (is_some (register_for f y))
+abbrev pub held_alike : Setting → Tree → Tree → Bool
+held_alike f a b = same_flag (is_some (operand f a)) (is_some (operand f b))
 
 abbrev pub in_one_bank : Setting → List ℕ → List ℕ → Bool
 in_one_bank f x y = nat_le 2 (home_of f x).bank && ((home_of f x).bank == (home_of f y).bank)
@@ -107,8 +107,8 @@ abbrev pub by_same_number : Op → Tree → Op → Tree → Bool
 by_same_number op b oq d = same_op op oq && is_same_number b d
 
 abbrev pub is_alike : Setting → Tree → Tree → Bool
-is_alike f (Number y) (Number z) = true
-is_alike f (Variable x) (Variable y) = held_alike f x y
+is_alike f (Number y) (Number z) = held_alike f (Number y) (Number z)
+is_alike f (Variable x) (Variable y) = held_alike f (Variable x) (Variable y)
 is_alike f (Element x i) (Element y j) =
     ((in_one_bank f x y || reduced_alike f x y) && is_alike f i j)
     || (nat_lt (home_of f x).bank 2 && (bytes_eq x y && is_same i j))
@@ -118,7 +118,7 @@ is_alike f (Operation op a b) (Operation oq c d) =
 is_alike f _ _ = false
 
 abbrev pub is_pair : Setting → Statement → Statement → Bool
-is_pair f (SetVariable x e) (SetVariable y g) = held_alike f x y && is_alike f e g
+is_pair f (SetVariable x e) (SetVariable y g) = held_alike f (Variable x) (Variable y) && is_alike f e g
 is_pair f (SetElement x i e) (SetElement y j g) =
     is_alike f e g
     && (((in_one_bank f x y || reduced_alike f x y) && is_alike f i j)

@@ -1,7 +1,7 @@
 -- For proofs, and for the functions that branch_padding and code_gen build on: the instructions that are made of
 -- expressions, guards and assignments. Which instructions these are is free; what they do and what the check sees of
 -- them is said by the clauses of the calls over a frame.
-use Rattle.std.specs.Prelude.{ℕ, ◌+◌, ◌-◌, ◌/◌, ◌%◌, ◌^◌, Bool, true, false, not, ◌&&◌, ◌==◌, nat_lt, if◌then◌else◌, ℤ, pos, negsuc, ◌+ℤ◌, List, [], ◌∷◌, ◌++◌, Option, Some, None}
+use Rattle.std.specs.Prelude.{ℕ, ◌+◌, ◌-◌, ◌/◌, ◌%◌, ◌^◌, Bool, true, false, not, ◌&&◌, ◌==◌, nat_lt, is_some, if◌then◌else◌, ℤ, pos, negsuc, ◌+ℤ◌, List, [], ◌∷◌, ◌++◌, Option, Some, None}
 use Rattle.std.specs.List.{range_with_len, list_any}
 use Rattle.gr_word.specs.Words.{unsigned_of}
 use Rattle.gr_word.specs.declared.operations.Op.{Op}
@@ -20,7 +20,7 @@ use Rattle.gr_word.specs.declared.variables.Label.{Label}
 use Rattle.gr_word.specs.declared.variables.Label.TheVariants as label
 use Rattle.src_tree.specs.Contexts.{context_of}
 use Rattle.src_tree.specs.Labels.{label_of}
-use Rattle.held_registers.specs.Held.{secret_zero, public_zero}
+use Rattle.held_registers.specs.Held.{secret_zero, public_zero, register_of_number}
 use Rattle.block_cache_gen.specs.Homes.{Home, Setting, home_of, register_for}
 
 -- Public code may skip the load of a block of plain or encrypted memory.
@@ -60,11 +60,33 @@ abbrev pub scalar_code : Option ℕ → Home → ℕ → List Instr
 scalar_code (Some r) h to = copy_code label.Public to r
 scalar_code None h to = Li to (pos h.word) ∷ Ldw to h.slot to ∷ []
 
--- the index in register `to` becomes the number of the word in the array
-abbrev pub reduced_code : Home → ℕ → List Instr
-reduced_code h to =
-    if is_masked h then Li (to + 1) (pos (h.length - 1)) ∷ Alu And to to (to + 1) ∷ []
-    else Li (to + 1) (pos h.length) ∷ Alu Remu to to (to + 1) ∷ []
+-- the register that holds the value of an expression for the whole run, if it is a number or a scalar that one holds
+abbrev pub operand : Setting → Tree → Option ℕ
+operand f (Number z) = register_of_number f.held z
+operand f (Variable x) = register_for f x
+operand f (Element x i) = None
+operand f (Operation op a b) = None
+
+-- An operand in such a register needs no code, so it has no notes and shows nothing. Any other is in the register that
+-- its code leaves it in.
+abbrev pub operand_part : {X : Type 0} → Option ℕ → List X → List X
+operand_part (Some r) part = []
+operand_part None part = part
+
+abbrev pub operand_register : Option ℕ → ℕ → ℕ
+operand_register (Some r) to = r
+operand_register None to = to
+
+-- an operand that must be in a register of its own in one case
+abbrev pub operand_unless : Bool → Option ℕ → Option ℕ
+operand_unless true q = None
+operand_unless false q = q
+
+-- the number of the word in the array that the index in register `from` names, in register `to`
+abbrev pub reduced_code : Home → (to from : ℕ) → List Instr
+reduced_code h to from =
+    if is_masked h then Li (to + 1) (pos (h.length - 1)) ∷ Alu And to from (to + 1) ∷ []
+    else Li (to + 1) (pos h.length) ∷ Alu Remu to from (to + 1) ∷ []
 
 -- Public code compares a public index with the array's length before it takes the remainder, if operations by numbers
 -- are replaced by steps too. Most indexes are below the length, and a remainder takes many cycles.
@@ -76,8 +98,8 @@ compares f mode h i =
 abbrev pub least_word : ℤ
 least_word = negsuc 9223372036854775807
 
--- The same, where the remainder is taken only of an index that isn't below the length. The note that follows the code
--- is one of `compared_notes`.
+-- The same of an index in register `to`, where the remainder is taken only of one that isn't below the length. The note
+-- that follows the code is one of `compared_notes`.
 abbrev pub compared_code : Home → ℕ → List Instr
 compared_code h to =
     Li (to + 1) least_word
@@ -89,9 +111,9 @@ compared_code h to =
     ∷ []
 
 -- the same, with a comparison or without one
-abbrev pub numbered_code : Bool → Home → ℕ → List Instr
-numbered_code true h to = compared_code h to
-numbered_code false h to = reduced_code h to
+abbrev pub numbered_code : Bool → Home → (to from : ℕ) → List Instr
+numbered_code true h to from = compared_code h to
+numbered_code false h to from = reduced_code h to from
 
 -- the number of its block in register to + 1, by a shift
 abbrev pub shift_code : ℕ → Home → ℕ → List Instr
@@ -111,10 +133,10 @@ fixed_code block_log h to z =
     Li to (pos (fixed_word h z)) ∷ Li (to + 1) (pos (h.block + fixed_word h z / 2 ^ block_log)) ∷ []
 
 -- both, by the code of the index
-abbrev pub located_code : Bool → ℕ → Home → ℕ → Option ℤ → List Instr → List Instr
-located_code compared block_log h to (Some z) index = fixed_code block_log h to z
-located_code compared block_log h to None index =
-    index ++ (numbered_code compared h to ++ shift_code block_log h to)
+abbrev pub located_code : Bool → ℕ → Home → (to from : ℕ) → Option ℤ → List Instr → List Instr
+located_code compared block_log h to from (Some z) index = fixed_code block_log h to z
+located_code compared block_log h to from None index =
+    index ++ (numbered_code compared h to from ++ shift_code block_log h to)
 
 -- the block that register to + 1 names is in the home's slot; where loads are skipped, it is loaded only where it isn't
 abbrev pub load_code : Bool → Home → ℕ → List Instr
@@ -131,24 +153,34 @@ abbrev pub offset_code : Home → ℕ → List Instr
 offset_code h to = if h.word == 0 then [] else Li (to + 1) (pos h.word) ∷ Alu Add to to (to + 1) ∷ []
 
 -- the number of a word of a resident array in its block, in register `to`
-abbrev pub placed_code : Bool → Home → ℕ → Option ℤ → List Instr → List Instr
-placed_code compared h to (Some z) index = Li to (pos (h.word + fixed_word h z)) ∷ []
-placed_code compared h to None index = index ++ (numbered_code compared h to ++ offset_code h to)
+abbrev pub placed_code : Bool → Home → (to from : ℕ) → Option ℤ → List Instr → List Instr
+placed_code compared h to from (Some z) index = Li to (pos (h.word + fixed_word h z)) ∷ []
+placed_code compared h to from None index = index ++ (numbered_code compared h to from ++ offset_code h to)
 
 -- the number of the word in its block in register `to`, with the block in the home's slot
-abbrev pub access_by : (resident compared : Bool) → ℕ → Mode → Home → ℕ → Option ℤ → List Instr → List Instr
-access_by true compared block_log mode h to fixed index = placed_code compared h to fixed index
-access_by false compared block_log mode h to fixed index =
-    located_code compared block_log h to fixed index ++ load_code (skips mode h) h to
+abbrev pub access_by : (resident compared : Bool) → ℕ → Mode → Home → (to from : ℕ) → Option ℤ → List Instr → List Instr
+access_by true compared block_log mode h to from fixed index = placed_code compared h to from fixed index
+access_by false compared block_log mode h to from fixed index =
+    located_code compared block_log h to from fixed index ++ load_code (skips mode h) h to
 
 -- the part of it that follows the code of the index
-abbrev pub found_by : (resident compared : Bool) → ℕ → Mode → Home → ℕ → List Instr
-found_by true compared block_log mode h to = numbered_code compared h to ++ offset_code h to
-found_by false compared block_log mode h to =
-    numbered_code compared h to ++ shift_code block_log h to ++ load_code (skips mode h) h to
+abbrev pub found_by : (resident compared : Bool) → ℕ → Mode → Home → (to from : ℕ) → List Instr
+found_by true compared block_log mode h to from = numbered_code compared h to from ++ offset_code h to
+found_by false compared block_log mode h to from =
+    numbered_code compared h to from ++ shift_code block_log h to ++ load_code (skips mode h) h to
 
-abbrev pub access_code : Bool → ℕ → Mode → Home → ℕ → Option ℤ → List Instr → List Instr
-access_code compared block_log mode h to fixed index = access_by h.resident compared block_log mode h to fixed index
+abbrev pub access_code : Bool → ℕ → Mode → Home → (to from : ℕ) → Option ℤ → List Instr → List Instr
+access_code compared block_log mode h to from fixed index =
+    access_by h.resident compared block_log mode h to from fixed index
+
+-- An index that is compared with the length must be in register `to`.
+abbrev pub index_operand : Setting → Bool → Tree → Option ℕ
+index_operand f compared i = operand_unless compared (operand f i)
+
+abbrev pub indexed_code : Setting → Bool → Mode → Home → ℕ → Tree → List Instr → List Instr
+indexed_code f compared mode h to i index =
+    access_code compared f.profile.block_log mode h to (operand_register (index_operand f compared i) to)
+    (fixed_index h i) (operand_part (index_operand f compared i) index)
 
 -- After an element is set its block is stored, unless the slot holds it for the whole run.
 abbrev pub stored_code : Bool → ℕ → List Instr
@@ -183,54 +215,59 @@ steps_at f op (Variable x) = None
 steps_at f op (Element x i) = None
 steps_at f op (Operation oq a b) = None
 
--- what follows the code of the left side: the steps, or the code of the right side and the operation
-abbrev pub operation_code : Op → ℕ → Option (List Step) → List Instr → List Instr
-operation_code op to None right = right ++ Alu op to to (to + 1) ∷ []
-operation_code op to (Some steps) right = code_of to steps
+-- Steps begin with the left side in register `to`.
+abbrev pub left_operand : Setting → Op → Tree → Tree → Option ℕ
+left_operand f op a b = operand_unless (is_some (steps_at f op b)) (operand f a)
+
+-- what follows the code of the left side: the steps, or the code of the right side and the operation on two registers
+abbrev pub operation_code : Op → (to left right : ℕ) → Option (List Step) → List Instr → List Instr
+operation_code op to left right None code = code ++ Alu op to left right ∷ []
+operation_code op to left right (Some steps) code = code_of to steps
 
 -- the value of an expression in register `to`
 abbrev pub expr_code : Setting → Mode → ℕ → Tree → List Instr
 expr_code f mode to (Number z) = Li to z ∷ []
 expr_code f mode to (Variable x) = scalar_code (register_for f x) (home_of f x) to
 expr_code f mode to (Element x i) =
-    access_code (compares f mode (home_of f x) i) f.profile.block_log mode (home_of f x) to
-    (fixed_index (home_of f x) i)
-    (expr_code f mode to i)
+    indexed_code f (compares f mode (home_of f x) i) mode (home_of f x) to i (expr_code f mode to i)
     ++ Ldw to (home_of f x).slot to ∷ []
 expr_code f mode to (Operation op a b) =
-    expr_code f mode to a ++ operation_code op to (steps_at f op b) (expr_code f mode (to + 1) b)
+    operand_part (left_operand f op a b) (expr_code f mode to a)
+    ++ operation_code op to (operand_register (left_operand f op a b) to) (operand_register (operand f b) (to + 1))
+    (steps_at f op b) (operand_part (operand f b) (expr_code f mode (to + 1) b))
 
 -- the two sides of a guard in registers `to` and to + 1
 abbrev pub guard_code : Setting → Mode → ℕ → Test → List Instr
 guard_code f mode to t = expr_code f mode to t.left ++ expr_code f mode (to + 1) t.right
 
--- Register 0, or the old word, becomes the word that register 1 names of a slot. In secret code the old word is read in
--- both modes.
-abbrev pub store_code : Mode → ℕ → List Instr
-store_code Public slot = Stw 0 slot 1 ∷ []
-store_code Real slot = Ldw 2 slot 1 ∷ Stw 0 slot 1 ∷ []
-store_code Mirrored slot = Ldw 2 slot 1 ∷ Stw 2 slot 1 ∷ []
+-- The value in a register, or the old word, becomes the word that register 1 names of a slot. In secret code the old
+-- word is read in both modes.
+abbrev pub store_code : Mode → (slot value : ℕ) → List Instr
+store_code Public slot value = Stw value slot 1 ∷ []
+store_code Real slot value = Ldw 2 slot 1 ∷ Stw value slot 1 ∷ []
+store_code Mirrored slot value = Ldw 2 slot 1 ∷ Stw 2 slot 1 ∷ []
 
--- The value in register 0 becomes that of a scalar. A register that holds it gets a copy, in mirrored code of itself;
+-- The value in a register becomes that of a scalar. A register that holds it gets a copy, in mirrored code of itself;
 -- otherwise its word is in register 1.
-abbrev pub copied_from : Mode → ℕ → ℕ
-copied_from Public r = 0
-copied_from Real r = 0
-copied_from Mirrored r = r
+abbrev pub copied_from : Mode → (r value : ℕ) → ℕ
+copied_from Public r value = value
+copied_from Real r value = value
+copied_from Mirrored r value = r
 
-abbrev pub write_code : Option ℕ → Label → Mode → Home → List Instr
-write_code (Some r) l mode h = copy_code l r (copied_from mode r)
-write_code None l mode h = Li 1 (pos h.word) ∷ store_code mode h.slot
+abbrev pub write_code : Option ℕ → Label → Mode → Home → (value : ℕ) → List Instr
+write_code (Some r) l mode h value = copy_code l r (copied_from mode r value)
+write_code None l mode h value = Li 1 (pos h.word) ∷ store_code mode h.slot value
 
--- an assignment: the value in register 0, the word of an element in register 1
+-- an assignment: a value that no register holds in register 0, the word of an element in register 1
 abbrev pub set_code : Setting → Mode → Statement → List Instr
 set_code f mode (SetVariable x e) =
-    expr_code f mode 0 e
+    operand_part (operand f e) (expr_code f mode 0 e)
     ++ write_code (register_for f x) (label_of (context_of f.decls) (Variable x)) mode (home_of f x)
+    (operand_register (operand f e) 0)
 set_code f mode (SetElement x i e) =
-    expr_code f mode 0 e
-    ++ (access_code (compares f mode (home_of f x) i) f.profile.block_log mode (home_of f x) 1
-    (fixed_index (home_of f x) i) (expr_code f mode 1 i)
-    ++ (store_code mode (home_of f x).slot ++ stored_code (home_of f x).resident (home_of f x).slot))
+    operand_part (operand f e) (expr_code f mode 0 e)
+    ++ (indexed_code f (compares f mode (home_of f x) i) mode (home_of f x) 1 i (expr_code f mode 1 i)
+    ++ (store_code mode (home_of f x).slot (operand_register (operand f e) 0)
+    ++ stored_code (home_of f x).resident (home_of f x).slot))
 set_code f mode (Choice t a b) = []
 set_code f mode (Loop t a) = []

@@ -1,4 +1,4 @@
--- For proofs, and for functions that code_gen builds on: the code that puts into registers what they hold for the whole
+-- For proofs, and for functions that code_gen builds on: the code that loads the words that registers hold for the whole
 -- run, and the code that stores the scalars among it at the end.
 use Rattle.std.specs.Prelude.{◌≡◌, ℕ, ◌+◌, ◌<◌, pos, List, [], ◌∷◌, ◌++◌, length, slice_index_or, Some}
 use Rattle.gr_word.specs.declared.operations.Op.TheVariants.{Sub}

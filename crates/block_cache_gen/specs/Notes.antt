@@ -17,7 +17,7 @@ use Rattle.src_tree.specs.Labels.{label_of}
 use Rattle.src_tree.specs.Trees.{Tree, Number, Variable, Element, Operation, Test, Statement, SetVariable, SetElement, Choice, Loop}
 use Rattle.block_cache_gen.specs.declared.frames.Mode.TheVariants as mode
 use Rattle.block_cache_gen.specs.Homes.{Home, Pin, Setting, pin_at, home_of, Held, label_by}
-use Rattle.block_cache_gen.specs.Codes.{is_cached, fixed_index, compares, offset_code, shift_code, load_code, steps_at, expr_code, access_code}
+use Rattle.block_cache_gen.specs.Codes.{is_cached, fixed_index, compares, offset_code, shift_code, load_code, operand, operand_part, left_operand, index_operand, steps_at, expr_code, indexed_code}
 use Rattle.strength_reduction.specs.Steps.{Step}
 
 -- every register may hold a secret
@@ -32,6 +32,11 @@ unmarked mask r = bit_and mask (bit_not w32 (1 * 2 ^ r % 2 ^ 32))
 abbrev pub marked_by : Label → ℕ → ℕ → ℕ
 marked_by Public mask r = unmarked mask r
 marked_by Secret mask r = mask
+
+-- the same of an operand, which may be in a register that holds it for the whole run
+abbrev pub operand_mask : Option ℕ → Label → ℕ → ℕ → ℕ
+operand_mask (Some q) l mask r = mask
+operand_mask None l mask r = marked_by l mask r
 
 -- what a note between statements says: every register may hold a secret, but those that hold something public for the
 -- whole run
@@ -117,17 +122,18 @@ abbrev pub expr_notes : Setting → (mask to place : ℕ) → Tree → List Note
 expr_notes f mask to place (Number z) = []
 expr_notes f mask to place (Variable x) = []
 expr_notes f mask to place (Element x i) =
-    index_notes (fixed_index (home_of f x) i) (expr_notes f mask to place i)
+    index_notes (fixed_index (home_of f x) i)
+    (operand_part (index_operand f (compares f mode.Public (home_of f x) i) i) (expr_notes f mask to place i))
     ++ load_notes (compares f mode.Public (home_of f x) i) (fixed_index (home_of f x) i) f (home_of f x) mask to
-    (place + length (access_code (compares f mode.Public (home_of f x) i) f.profile.block_log mode.Public
-    (home_of f x) to
-    (fixed_index (home_of f x) i) (expr_code f mode.Public to i)))
+    (place + length (indexed_code f (compares f mode.Public (home_of f x) i) mode.Public (home_of f x) to i
+    (expr_code f mode.Public to i)))
 expr_notes f mask to place (Operation op a b) =
-    expr_notes f mask to place a
+    operand_part (left_operand f op a b) (expr_notes f mask to place a)
     ++ operation_notes (steps_at f op b)
-    (expr_notes f (marked_by (label_of (context_of f.decls) a) mask to) (to + 1)
-    (place + length (expr_code f mode.Public to a))
-    b)
+    (operand_part (operand f b)
+    (expr_notes f (operand_mask (left_operand f op a b) (label_of (context_of f.decls) a) mask to) (to + 1)
+    (place + length (operand_part (left_operand f op a b) (expr_code f mode.Public to a)))
+    b))
 
 -- the notes of a guard
 abbrev pub guard_notes : Setting → (to place : ℕ) → Test → List Note
@@ -139,16 +145,17 @@ guard_notes f to place t =
 
 -- the notes of an assignment: the index of an element stands behind its value
 abbrev pub set_notes : Setting → ℕ → Statement → List Note
-set_notes f place (SetVariable x e) = expr_notes f (base_mask f) 0 place e
+set_notes f place (SetVariable x e) = operand_part (operand f e) (expr_notes f (base_mask f) 0 place e)
 set_notes f place (SetElement x i e) =
-    expr_notes f (base_mask f) 0 place e
+    operand_part (operand f e) (expr_notes f (base_mask f) 0 place e)
     ++ (index_notes (fixed_index (home_of f x) i)
-    (expr_notes f (marked_by (label_of (context_of f.decls) e) (base_mask f) 0) 1
-    (place + length (expr_code f mode.Public 0 e)) i)
+    (operand_part (index_operand f (compares f mode.Public (home_of f x) i) i)
+    (expr_notes f (operand_mask (operand f e) (label_of (context_of f.decls) e) (base_mask f) 0) 1
+    (place + length (operand_part (operand f e) (expr_code f mode.Public 0 e))) i))
     ++ load_notes (compares f mode.Public (home_of f x) i) (fixed_index (home_of f x) i) f (home_of f x)
-    (marked_by (label_of (context_of f.decls) e) (base_mask f) 0) 1
-    ((place + length (expr_code f mode.Public 0 e))
-    + length (access_code (compares f mode.Public (home_of f x) i) f.profile.block_log mode.Public (home_of f x) 1
-    (fixed_index (home_of f x) i) (expr_code f mode.Public 1 i))))
+    (operand_mask (operand f e) (label_of (context_of f.decls) e) (base_mask f) 0) 1
+    ((place + length (operand_part (operand f e) (expr_code f mode.Public 0 e)))
+    + length (indexed_code f (compares f mode.Public (home_of f x) i) mode.Public (home_of f x) 1 i
+    (expr_code f mode.Public 1 i))))
 set_notes f place (Choice t a b) = []
 set_notes f place (Loop t a) = []

@@ -19,7 +19,7 @@ use Rattle.trace_patterns.specs.Single.{applied_trees, word_tree}
 use Rattle.held_registers.specs.Held.{public_zero}
 use Rattle.block_cache_gen.specs.Homes.{Home, Setting, held_label, home_of, register_for, words_a_block, blocks_set}
 use Rattle.block_cache_gen.specs.Carries.{held_tree}
-use Rattle.block_cache_gen.specs.Codes.{is_masked, fixed_index, fixed_word, steps_at}
+use Rattle.block_cache_gen.specs.Codes.{is_masked, fixed_index, fixed_word, operand, operand_part, left_operand, steps_at}
 use Rattle.strength_reduction.specs.Steps.{Step, Constant, Compute, left_by}
 
 -- the cycles of an operation, and of a word that is read or written in a slot
@@ -53,6 +53,11 @@ tree_by r (Some l) = held_tree r l
 abbrev pub scalar_tree : Setting → Option ℕ → Home → Option Value
 scalar_tree f (Some r) h = applied_trees Add (tree_by r (held_label f r)) (Some (Reg public_zero))
 scalar_tree f None h = word_read f (pinned_slot h) (Some (Const (pos h.word)))
+
+-- the tree of an operand, which may be in a register that holds it for the whole run
+abbrev pub operand_tree : Setting → Option ℕ → Option Value → Option Value
+operand_tree f (Some r) tree = tree_by r (held_label f r)
+operand_tree f None tree = tree
 
 -- The number of an element's word in its array: the index taken modulo the length, or what an index that is a number
 -- comes to. Then the number of its block in the bank.
@@ -203,8 +208,11 @@ abbrev pub tree_of_expr : Setting → Tree → Option Value
 tree_of_expr f (Number z) = Some (Const z)
 tree_of_expr f (Variable x) = scalar_tree f (register_for f x) (home_of f x)
 tree_of_expr f (Element x i) =
-    element_by (home_of f x).resident f (home_of f x) (fixed_index (home_of f x) i) (tree_of_expr f i)
-tree_of_expr f (Operation op a b) = operation_tree op (steps_at f op b) (tree_of_expr f a) (tree_of_expr f b)
+    element_by (home_of f x).resident f (home_of f x) (fixed_index (home_of f x) i)
+    (operand_tree f (operand f i) (tree_of_expr f i))
+tree_of_expr f (Operation op a b) =
+    operation_tree op (steps_at f op b) (operand_tree f (left_operand f op a b) (tree_of_expr f a))
+    (operand_tree f (operand f b) (tree_of_expr f b))
 
 -- the cycles of reading and of writing a scalar in secret code
 abbrev pub scalar_shows : Setting → Option ℕ → List Show
@@ -220,16 +228,20 @@ abbrev pub shows_of_expr : Setting → Tree → List Show
 shows_of_expr f (Number z) = Gap 1 ∷ []
 shows_of_expr f (Variable x) = scalar_shows f (register_for f x)
 shows_of_expr f (Element x i) =
-    access_shows f (home_of f x) (fixed_index (home_of f x) i) (tree_of_expr f i) (shows_of_expr f i) ++ word_gap f ∷ []
+    access_shows f (home_of f x) (fixed_index (home_of f x) i) (operand_tree f (operand f i) (tree_of_expr f i))
+    (operand_part (operand f i) (shows_of_expr f i))
+    ++ word_gap f ∷ []
 shows_of_expr f (Operation op a b) =
-    shows_of_expr f a ++ operation_shows f op (steps_at f op b) (shows_of_expr f b)
+    operand_part (left_operand f op a b) (shows_of_expr f a)
+    ++ operation_shows f op (steps_at f op b) (operand_part (operand f b) (shows_of_expr f b))
 
 -- what its loads leave in each slot
 abbrev pub slots_of_expr : Setting → Tree → Loads
 slots_of_expr f (Number z) = no_loads
 slots_of_expr f (Variable x) = no_loads
 slots_of_expr f (Element x i) =
-    access_loads f (home_of f x) (fixed_index (home_of f x) i) (tree_of_expr f i) (slots_of_expr f i)
+    access_loads f (home_of f x) (fixed_index (home_of f x) i) (operand_tree f (operand f i) (tree_of_expr f i))
+    (slots_of_expr f i)
 slots_of_expr f (Operation op a b) =
     then_loads (slots_of_expr f a) (operation_loads (steps_at f op b) (slots_of_expr f b))
 
@@ -242,13 +254,16 @@ slots_of_test f t = then_loads (slots_of_expr f t.left) (slots_of_expr f t.right
 
 -- the same of an assignment in secret code, where an array's block is stored back
 abbrev pub shows_of_set : Setting → Statement → List Show
-shows_of_set f (SetVariable x e) = shows_of_expr f e ++ write_shows f (register_for f x)
+shows_of_set f (SetVariable x e) =
+    operand_part (operand f e) (shows_of_expr f e) ++ write_shows f (register_for f x)
 shows_of_set f (SetElement x i e) =
-    shows_of_expr f e
-    ++ (access_shows f (home_of f x) (fixed_index (home_of f x) i) (tree_of_expr f i) (shows_of_expr f i)
+    operand_part (operand f e) (shows_of_expr f e)
+    ++ (access_shows f (home_of f x) (fixed_index (home_of f x) i) (operand_tree f (operand f i) (tree_of_expr f i))
+    (operand_part (operand f i) (shows_of_expr f i))
     ++ (word_gap f
     ∷ word_gap f
-    ∷ stored_by (home_of f x).resident (element_slot f (home_of f x) (fixed_index (home_of f x) i) (tree_of_expr f i))))
+    ∷ stored_by (home_of f x).resident
+    (element_slot f (home_of f x) (fixed_index (home_of f x) i) (operand_tree f (operand f i) (tree_of_expr f i)))))
 shows_of_set f (Choice t a b) = []
 shows_of_set f (Loop t a) = []
 
@@ -256,7 +271,8 @@ abbrev pub slots_of_set : Setting → Statement → Loads
 slots_of_set f (SetVariable x e) = slots_of_expr f e
 slots_of_set f (SetElement x i e) =
     then_loads (slots_of_expr f e)
-    (access_loads f (home_of f x) (fixed_index (home_of f x) i) (tree_of_expr f i) (slots_of_expr f i))
+    (access_loads f (home_of f x) (fixed_index (home_of f x) i) (operand_tree f (operand f i) (tree_of_expr f i))
+    (slots_of_expr f i))
 slots_of_set f (Choice t a b) = no_loads
 slots_of_set f (Loop t a) = no_loads
 

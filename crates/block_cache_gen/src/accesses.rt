@@ -3,18 +3,19 @@ ghost use Rattle.std.specs.List.{list_any, range_with_len};
 ghost use Rattle.gr_word.specs.Words.{unsigned_of};
 ghost use Rattle.src_tree.specs.Labels.{secret_label};
 ghost use Rattle.src_tree.specs.Trees.{expr_tree};
-ghost use Rattle.block_cache_gen.specs.Codes.{access_by, copy_code, compares, compared_code, least_word, numbered_code, placed_code, offset_code, shift_code, fixed_code, fixed_index, fixed_word, is_cached, is_masked, is_power, may_skip_loads, literal, load_code, reduced_code, scalar_code, skips};
-ghost use Rattle.block_cache_gen.specs.Notes.{access_mask, compared_notes, loaded_notes, marked_by, note_of, unmarked};
+ghost use Rattle.block_cache_gen.specs.Codes.{access_by, copy_code, compares, numbered_code, placed_code, offset_code, shift_code, fixed_code, fixed_index, fixed_word, index_operand, is_cached, is_masked, is_power, may_skip_loads, literal, load_code, operand_register, scalar_code, skips};
+ghost use Rattle.block_cache_gen.specs.Notes.{access_mask, compared_notes, loaded_notes, marked_by, unmarked};
 ghost use Rattle.block_cache_gen.specs.Emitted.{Appended, CodeGrows, EmitsFound, no_notes, notes_in};
 ghost use Rattle.block_cache_gen.specs.TreeWords.{HasWords};
 ghost use Rattle.block_cache_gen.specs.Variables.{home_in};
 
 use crate::emitter::{Emitter, label_of};
 use crate::frames::{CodeBuf, Mode};
+use crate::indexes::{put_note_behind, put_numbered};
 use crate::variables::Variable;
 use gr_base::Memory;
 use gr_word::{Cmp, Label, Op};
-use lt_isa::{BankKind, Instr, Note, bank_kind};
+use lt_isa::{BankKind, Instr, bank_kind};
 use src_tree::Expr;
 
 /// The mask without a register.
@@ -104,8 +105,13 @@ fn is_public_label(label: Label) -> bool
     }
 }
 
-// Whether an index is compared with the length before the remainder is taken.
-fn compares<'a>(emitter: &Emitter<'a>, mode: Mode, array: Variable, index: &'a Expr) -> bool
+/// Whether an index is compared with the length before the remainder is taken.
+pub(crate) fn compares<'a>(
+    emitter: &Emitter<'a>,
+    mode: Mode,
+    array: Variable,
+    index: &'a Expr,
+) -> bool
     ensures { result ≡ compares emitter.now mode (home_in array) (expr_tree index.now) }
 {
     is_public(mode)
@@ -226,7 +232,7 @@ pub(crate) fn is_resident(variable: Variable) -> bool
 fn put_placed_word(out: &mut CodeBuf, array: Variable, index: i64, to: u8) -> Result<(), Memory>
     requires length { 1 ≤ array.place.length }
     ensures appended { OnOk result
-        (Appended out.old out.new (placed_code false (home_in array) to (Some index) []) no_notes) }
+        (Appended out.old out.new (placed_code false (home_in array) to to (Some index) []) no_notes) }
     ensures grows { CodeGrows out.old out.new }
 {
     let place = u64::from(array.place.word) + fixed_word(array, index);
@@ -259,129 +265,26 @@ fn put_offset(out: &mut CodeBuf, array: Variable, to: u8) -> Result<(), Memory>
     ])
 }
 
-// The index in a register becomes the number of the resident array's word in its block.
+// The number of the resident array's word that the index in register `from` names in its block, in register `to`.
 fn put_placed(
     emitter: &Emitter<'_>,
     out: &mut CodeBuf,
     array: Variable,
     to: u8,
+    from: u8,
     compared: bool,
     mask: u32,
 ) -> Result<(), Memory>
     requires registers { to + 2 < 19 }
     requires room { length out.old.code.items + 6 < 2 ^ 32 }
     ensures appended { OnOk result (Appended out.old out.new
-        (numbered_code compared (home_in array) to ++ offset_code (home_in array) to)
+        (numbered_code compared (home_in array) to from ++ offset_code (home_in array) to)
         (λ place. compared_notes compared None emitter.now mask to
-        (place + length (numbered_code compared (home_in array) to)))) }
+        (place + length (numbered_code compared (home_in array) to from)))) }
     ensures grows { CodeGrows out.old out.new }
 {
-    put_numbered(emitter, out, array, to, compared, mask)?;
+    put_numbered(emitter, out, array, to, from, compared, mask)?;
     put_offset(out, array, to)
-}
-
-// The index in a register becomes the number of the word, with a comparison first or without one.
-fn put_numbered(
-    emitter: &Emitter<'_>,
-    out: &mut CodeBuf,
-    array: Variable,
-    to: u8,
-    compared: bool,
-    mask: u32,
-) -> Result<(), Memory>
-    requires registers { to + 2 < 19 }
-    requires room { length out.old.code.items + 6 < 2 ^ 32 }
-    ensures appended { OnOk result (Appended out.old out.new (numbered_code compared (home_in array) to)
-        (λ place. compared_notes compared None emitter.now mask to
-        (place + length (numbered_code compared (home_in array) to)))) }
-    ensures grows { CodeGrows out.old out.new }
-{
-    if compared {
-        return put_compared(emitter, out, array, to, mask);
-    }
-    put_reduced(out, array, to)
-}
-
-// An array's length less 2^63.
-fn lowered_length(array: Variable) -> i64
-    ensures { result ≡ least_word +ℤ pos (home_in array).length }
-{
-    i64::MIN + i64::from(array.place.length)
-}
-
-// The same, where the remainder is taken only of an index that isn't below the length. A note follows.
-fn put_compared(
-    emitter: &Emitter<'_>,
-    out: &mut CodeBuf,
-    array: Variable,
-    to: u8,
-    mask: u32,
-) -> Result<(), Memory>
-    requires registers { to + 2 < 19 }
-    requires room { length out.old.code.items + 6 < 2 ^ 32 }
-    ensures appended { OnOk result (Appended out.old out.new (compared_code (home_in array) to)
-        (λ place. note_of emitter.now (unmarked mask to) (place + 6) ∷ [])) }
-    ensures grows { CodeGrows out.old out.new }
-{
-    out.put(&[
-        Instr::Li {
-            rd: to + 1,
-            value: i64::MIN,
-        },
-        Instr::Alu {
-            op: Op::Add,
-            rd: to + 1,
-            ra: to + 1,
-            rb: to,
-        },
-        Instr::Li {
-            rd: to + 2,
-            value: lowered_length(array),
-        },
-        Instr::Br {
-            cmp: Cmp::Lt,
-            ra: to + 1,
-            rb: to + 2,
-            offset: 3,
-        },
-        Instr::Li {
-            rd: to + 1,
-            value: i64::from(array.place.length),
-        },
-        Instr::Alu {
-            op: Op::Remu,
-            rd: to,
-            ra: to,
-            rb: to + 1,
-        },
-    ])?;
-    put_note_behind(emitter, out, unmarked(mask, to))
-}
-
-// The index in a register becomes the number of the word.
-fn put_reduced(out: &mut CodeBuf, array: Variable, to: u8) -> Result<(), Memory>
-    requires registers { to + 2 < 19 }
-    ensures appended { OnOk result (Appended out.old out.new (reduced_code (home_in array) to) no_notes) }
-    ensures grows { CodeGrows out.old out.new }
-{
-    let masked = is_masked(array);
-    let (op, value) = if masked {
-        (Op::And, array.place.length.saturating_sub(1))
-    } else {
-        (Op::Remu, array.place.length)
-    };
-    out.put(&[
-        Instr::Li {
-            rd: to + 1,
-            value: i64::from(value),
-        },
-        Instr::Alu {
-            op,
-            rd: to,
-            ra: to,
-            rb: to + 1,
-        },
-    ])
 }
 
 // The number of the block of the word that a register names, in the next register.
@@ -420,40 +323,28 @@ fn put_block(
     ])
 }
 
-/// Appends what makes of the index in a register the number of the word, and leaves that of its block in the next. The
-/// only error is want of memory.
+/// Appends what leaves the number of the word that the index in register `from` names in register `to`, and that of its
+/// block in the next. The only error is want of memory.
 pub(crate) fn put_located(
     emitter: &Emitter<'_>,
     out: &mut CodeBuf,
     array: Variable,
     to: u8,
+    from: u8,
     compared: bool,
     mask: u32,
 ) -> Result<(), Memory>
     requires registers { to + 2 < 19 }
     requires room { length out.old.code.items + 6 < 2 ^ 32 }
     ensures appended { OnOk result (Appended out.old out.new
-        (numbered_code compared (home_in array) to
+        (numbered_code compared (home_in array) to from
         ++ shift_code emitter.now.profile.block_log (home_in array) to)
         (λ place. compared_notes compared None emitter.now mask to
-        (place + length (numbered_code compared (home_in array) to)))) }
+        (place + length (numbered_code compared (home_in array) to from)))) }
     ensures grows { CodeGrows out.old out.new }
 {
-    put_numbered(emitter, out, array, to, compared, mask)?;
+    put_numbered(emitter, out, array, to, from, compared, mask)?;
     put_block(emitter, out, array, to)
-}
-
-// A note behind the code so far.
-fn put_note_behind(emitter: &Emitter<'_>, out: &mut CodeBuf, secrets: u32) -> Result<(), Memory>
-    requires { length out.old.code.items < 2 ^ 32 }
-    ensures appended { OnOk result (Appended out.old out.new [] (λ place. note_of emitter.now secrets place ∷ [])) }
-    ensures grows { CodeGrows out.old out.new }
-{
-    out.put_note(Note {
-        pc: out.next_place(),
-        secrets,
-        slots: emitter.claims(),
-    })
 }
 
 // Appends the load of the block that the next register names into the array's slot: in public code only where it isn't
@@ -511,11 +402,11 @@ pub(crate) fn put_fixed_access(
     requires registers { to + 2 < 19 }
     requires room { length out.old.code.items + 6 < 2 ^ 32 }
     ensures appended { OnOk result (Appended out.old out.new
-        (access_by (home_in array).resident false emitter.now.profile.block_log mode (home_in array) to (Some index) [])
+        (access_by (home_in array).resident false emitter.now.profile.block_log mode (home_in array) to to (Some index) [])
         (λ place. notes_in mode
         (loaded_notes (home_in array).resident false (Some index) emitter.now (home_in array) mask to
         (place + length (access_by (home_in array).resident false emitter.now.profile.block_log Mode.Public
-        (home_in array) to (Some index) []))))) }
+        (home_in array) to to (Some index) []))))) }
     ensures grows { CodeGrows out.old out.new }
 {
     if is_resident(array) {
@@ -525,17 +416,21 @@ pub(crate) fn put_fixed_access(
     put_load(emitter, out, array, to, mode, mask)
 }
 
-/// Appends the part of the code of an access that follows the code of its index. The only error is want of memory.
+/// Appends the part of the code of an access that follows the code of its index, which is in register `from`. The only
+/// error is want of memory.
 pub(crate) fn put_found_access<'a>(
     emitter: &Emitter<'a>,
     out: &mut CodeBuf,
     array: Variable,
     index: &'a Expr,
     to: u8,
+    from: u8,
     mode: Mode,
     mask: u32,
 ) -> Result<(), Memory>
     requires registers { to + 2 < 19 }
+    requires from { from ≡ operand_register (index_operand emitter.now
+        (compares emitter.now mode (home_in array) (expr_tree index.now)) (expr_tree index.now)) to }
     requires room { length out.old.code.items + 16 < 2 ^ 32 }
     ensures appended { OnOk result
         (EmitsFound emitter.now mode (home_in array) mask to (expr_tree index.now) out.old out.new) }
@@ -543,8 +438,8 @@ pub(crate) fn put_found_access<'a>(
 {
     let compared = compares(emitter, mode, array, index);
     if is_resident(array) {
-        return put_placed(emitter, out, array, to, compared, mask);
+        return put_placed(emitter, out, array, to, from, compared, mask);
     }
-    put_located(emitter, out, array, to, compared, mask)?;
+    put_located(emitter, out, array, to, from, compared, mask)?;
     put_load(emitter, out, array, to, mode, mask)
 }

@@ -3,6 +3,7 @@ ghost use Rattle.gr_word.specs.declared.variables.Label.{Label};
 ghost use Rattle.lt_isa.specs.Object.{bank_kind};
 ghost use Rattle.src_tree.specs.Contexts.{context_of};
 ghost use Rattle.src_tree.specs.Trees.{block_of_all, statement_of, expr_tree};
+ghost use Rattle.src_tree.specs.Trees as trees;
 ghost use Rattle.src_tree.specs.Typing.{TypedBlock, TypedStatement, TypedTree};
 ghost use Rattle.symbolic_values.specs.Sameness.{same_op};
 ghost use Rattle.block_cache_gen.specs.Alike.{held_alike, are_plain, by_same_number, is_same_number, same_flag, reduced_alike, both_products, in_one_bank, is_alike, is_pair, is_product, is_same, pair_count};
@@ -12,6 +13,7 @@ ghost use Rattle.block_cache_gen.specs.Homes.{home_of};
 
 use crate::accesses::{is_cached, is_masked, is_resident};
 use crate::emitter::Emitter;
+use crate::operands::operand;
 use crate::steps::{is_product, may_step};
 use crate::variables::Variable;
 use gr_word::{Name, Op};
@@ -169,11 +171,23 @@ fn are_plain<'a>(emitter: &Emitter<'a>, op: Op, right: &'a Expr, by: Op, second:
     !may_step(emitter, op, right) && !may_step(emitter, by, second)
 }
 
-// Whether registers hold two scalars for the whole run, or neither.
-fn held_alike<'a>(emitter: &Emitter<'a>, x: &'a Name, y: &'a Name) -> bool
+// Whether registers hold two numbers or scalars for the whole run, or neither.
+fn held_alike<'a>(emitter: &Emitter<'a>, e: &'a Expr, other: &'a Expr) -> bool
+    requires first { TypedTree (context_of emitter.now.decls) (expr_tree e.now) }
+    requires second { TypedTree (context_of emitter.now.decls) (expr_tree other.now) }
+    ensures { result ≡ held_alike emitter.now (expr_tree e.now) (expr_tree other.now) }
+{
+    same_flag(
+        operand(emitter, e).is_some(),
+        operand(emitter, other).is_some(),
+    )
+}
+
+// The same of the targets of two assignments.
+fn targets_alike<'a>(emitter: &Emitter<'a>, x: &'a Name, y: &'a Name) -> bool
     requires first { is_some (context_of emitter.now.decls x.now) ≡ true }
     requires second { is_some (context_of emitter.now.decls y.now) ≡ true }
-    ensures { result ≡ held_alike emitter.now x.now y.now }
+    ensures { result ≡ held_alike emitter.now (trees.Variable x.now) (trees.Variable y.now) }
 {
     let one = emitter.variable(x.bytes()).held;
     let other = emitter.variable(y.bytes()).held;
@@ -188,14 +202,14 @@ fn is_alike<'a>(emitter: &Emitter<'a>, e: &'a Expr, other: &'a Expr) -> bool
 {
     match e {
         Expr::Num(_) => match other {
-            Expr::Num(_) => true,
+            Expr::Num(_) => held_alike(emitter, e, other),
             Expr::Var(_) => false,
             Expr::Item(_, _) => false,
             Expr::Bin(_, _, _) => false,
         },
-        Expr::Var(x) => match other {
+        Expr::Var(_) => match other {
             Expr::Num(_) => false,
-            Expr::Var(y) => held_alike(emitter, x, y),
+            Expr::Var(_) => held_alike(emitter, e, other),
             Expr::Item(_, _) => false,
             Expr::Bin(_, _, _) => false,
         },
@@ -231,7 +245,7 @@ fn is_pair<'a>(emitter: &Emitter<'a>, s: &'a Stmt, other: &'a Stmt) -> bool
 {
     match s {
         Stmt::Set(x, e) => match other {
-            Stmt::Set(y, g) => held_alike(emitter, x, y) && is_alike(emitter, e, g),
+            Stmt::Set(y, g) => targets_alike(emitter, x, y) && is_alike(emitter, e, g),
             Stmt::Put(_, _, _) => false,
             Stmt::If(_, _, _) => false,
             Stmt::While(_, _) => false,

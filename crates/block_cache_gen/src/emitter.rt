@@ -3,7 +3,7 @@ ghost use Rattle.std.specs.Option.{option_map};
 ghost use Rattle.src_tree.specs.Contexts.{context_of};
 ghost use Rattle.src_tree.specs.Labels.{label_at, label_of};
 ghost use Rattle.src_tree.specs.Trees.{expr_tree};
-ghost use Rattle.held_registers.specs.Held.{held_at};
+ghost use Rattle.held_registers.specs.Held.{held_at, register_of_number};
 ghost use Rattle.block_cache_gen.specs.Homes.{Pin, label_by};
 ghost use Rattle.block_cache_gen.specs.Notes.{is_public, mask_to};
 ghost use Rattle.block_cache_gen.specs.Settings.{IsFrame, homes_at, setting_of};
@@ -15,7 +15,7 @@ use crate::variables::{Variable, Variables, gather, variable_at};
 use bank_alloc::Place;
 use gr_base::Memory;
 use gr_word::Label;
-use held_registers::Held;
+use held_registers::{Held, register_of_number};
 use scratch_alloc::Pin;
 use src_tree::{Decl, Expr, higher};
 use std::alloc::Global;
@@ -233,6 +233,13 @@ impl<'a> Emitter<'a> {
         ensures { result.now ≡ self.now.held }
     {
         self.frame.held
+    }
+
+    /// The register that holds a number for the whole run; `None` if no register does.
+    pub(crate) fn number_held(&self, number: i64) -> Option<u8>
+        ensures { result ≡ register_of_number self.now.held number }
+    {
+        register_of_number(self.frame.held, number)
     }
 
     /// Whether operations by numbers are replaced by steps.

@@ -1,17 +1,20 @@
-ghost use Rattle.std.specs.Prelude.{◌≡◌, ◌+◌, ◌*◌, ◌≤◌, OnOk, length};
+ghost use Rattle.std.specs.Prelude.{◌≡◌, ◌+◌, ◌*◌, ◌≤◌, OnOk, OnSome, length, option_map, vec_items};
 ghost use Rattle.src_tree.specs.Contexts.{context_of};
 ghost use Rattle.src_tree.specs.Heights.{height_of};
 ghost use Rattle.src_tree.specs.Limits.{tree_weight};
 ghost use Rattle.src_tree.specs.Trees.{expr_tree};
 ghost use Rattle.src_tree.specs.Typing.{TypedTree};
 ghost use Rattle.lt_isa.specs.Limits.{most_instructions};
-ghost use Rattle.block_cache_gen.specs.Emitted.{EmitsAccess, EmitsExpr, EmitsOperation, CodeGrows};
+ghost use Rattle.block_cache_gen.specs.Emitted.{EmitsAccess, EmitsExpr, EmitsOperand, EmitsOperation, CodeGrows};
+ghost use Rattle.strength_reduction.specs.Steps.{code_of};
+ghost use Rattle.block_cache_gen.specs.Codes.{steps_at};
 ghost use Rattle.block_cache_gen.specs.TreeWords.{HasWords};
 ghost use Rattle.block_cache_gen.specs.Variables.{home_in};
 
-use crate::accesses::{fixed_index, marked_by, put_fixed_access, put_found_access, put_scalar};
+use crate::accesses::{fixed_index, put_fixed_access, put_found_access, put_scalar};
 use crate::emitter::{Emitter, label_of};
 use crate::frames::{CodeBuf, Mode};
+use crate::operands::{index_operand, left_operand, operand, operand_mask, operand_register};
 use crate::steps::steps_code;
 use crate::variables::Variable;
 use gr_base::Memory;
@@ -53,14 +56,43 @@ pub(crate) fn put_expr<'a>(
             }])
         }
         Expr::Bin(op, left, right) => {
-            put_expr(emitter, out, left, to, mode, mask)?;
-            let mask = marked_by(label_of(emitter, left), mask, to);
-            put_operation(emitter, out, *op, right, to, mode, mask)
+            let steps = steps_code(emitter, *op, right, to)?;
+            let held = left_operand(emitter, *op, left, right, steps.is_some());
+            put_operand(emitter, out, left, held, to, mode, mask)?;
+            let mask = operand_mask(held, label_of(emitter, left), mask, to);
+            let from = operand_register(held, to);
+            put_operation(emitter, out, *op, right, steps, from, to, mode, mask)
         }
     }
 }
 
-/// Appends what makes of the value in register `to` the result of an operation on it and a right side: the steps that
+/// Appends what leaves an operand in its register: nothing if a register holds it for the whole run. The only error is
+/// want of memory.
+#[cycle(expressions)]
+pub(crate) fn put_operand<'a>(
+    emitter: &Emitter<'a>,
+    out: &mut CodeBuf,
+    e: &'a Expr,
+    held: Option<u8>,
+    to: u8,
+    mode: Mode,
+    mask: u32,
+) -> Result<(), Memory>
+    requires typed { TypedTree (context_of emitter.now.decls) (expr_tree e.now) }
+    requires known { OnSome held (HasWords (expr_tree e.now)) }
+    requires registers { to + height_of (expr_tree e.now) ≤ 18 }
+    requires room { length out.old.code.items + 120 * tree_weight (expr_tree e.now) ≤ most_instructions }
+    ensures emitted { OnOk result (EmitsOperand emitter.now mode mask to held (expr_tree e.now) out.old out.new) }
+    ensures words { OnOk result (HasWords (expr_tree e.now)) }
+    ensures grows { CodeGrows out.old out.new }
+{
+    match held {
+        Some(_) => out.put(&[]),
+        None => put_expr(emitter, out, e, to, mode, mask),
+    }
+}
+
+/// Appends what makes of the left side of an operation, in register `left`, the result in register `to`: the steps that
 /// replace the operation, or the code of the right side and the operation. The only error is want of memory.
 #[cycle(expressions)]
 pub(crate) fn put_operation<'a>(
@@ -68,26 +100,32 @@ pub(crate) fn put_operation<'a>(
     out: &mut CodeBuf,
     op: Op,
     right: &'a Expr,
+    steps: Option<Vec<Instr>>,
+    left: u8,
     to: u8,
     mode: Mode,
     mask: u32,
 ) -> Result<(), Memory>
     requires typed { TypedTree (context_of emitter.now.decls) (expr_tree right.now) }
+    requires steps { option_map vec_items steps ≡ option_map (code_of to) (steps_at emitter.now op (expr_tree right.now)) }
+    requires known { OnSome steps (HasWords (expr_tree right.now)) }
     requires registers { to + (height_of (expr_tree right.now) + 1) ≤ 18 }
     requires room { length out.old.code.items + 120 * (1 + tree_weight (expr_tree right.now)) ≤ most_instructions }
-    ensures emitted { OnOk result (EmitsOperation emitter.now mode mask to op (expr_tree right.now) out.old out.new) }
+    ensures emitted { OnOk result
+        (EmitsOperation emitter.now mode mask to left op (expr_tree right.now) out.old out.new) }
     ensures words { OnOk result (HasWords (expr_tree right.now)) }
     ensures grows { CodeGrows out.old out.new }
 {
-    match steps_code(emitter, op, right, to)? {
+    match steps {
         Some(code) => out.put(&code),
         None => {
-            put_expr(emitter, out, right, to + 1, mode, mask)?;
+            let held = operand(emitter, right);
+            put_operand(emitter, out, right, held, to + 1, mode, mask)?;
             out.put(&[Instr::Alu {
                 op,
                 rd: to,
-                ra: to,
-                rb: to + 1,
+                ra: left,
+                rb: operand_register(held, to + 1),
             }])
         }
     }
@@ -117,8 +155,10 @@ pub(crate) fn put_access<'a>(
     match fixed_index(array, index) {
         Some(number) => { put_fixed_access(emitter, out, array, number, to, mode, mask) }
         None => {
-            put_expr(emitter, out, index, to, mode, mask)?;
-            put_found_access(emitter, out, array, index, to, mode, mask)
+            let held = index_operand(emitter, mode, array, index);
+            put_operand(emitter, out, index, held, to, mode, mask)?;
+            let from = operand_register(held, to);
+            put_found_access(emitter, out, array, index, to, from, mode, mask)
         }
     }
 }

@@ -14,8 +14,9 @@ ghost use Rattle.block_cache_gen.specs.TreeWords.{HasWords, SetHasWords, TestHas
 
 use crate::accesses::{is_resident, marked_by, put_copy};
 use crate::emitter::{Emitter, label_of};
-use crate::expressions::{put_access, put_expr};
+use crate::expressions::{put_access, put_expr, put_operand};
 use crate::frames::{CodeBuf, Mode};
+use crate::operands::{operand, operand_mask, operand_register};
 use crate::variables::Variable;
 use gr_base::Memory;
 use gr_word::Name;
@@ -45,10 +46,10 @@ pub fn put_guard<'a>(
     put_expr(emitter, out, &g.right, to + 1, mode, mask)
 }
 
-// Appends the store of a word to a slot, at the place that register 1 has: the word in register 0, or in mirrored code
-// the word that was there, so that nothing changes.
-fn put_store(out: &mut CodeBuf, slot: u8, mode: Mode) -> Result<(), Memory>
-    ensures appended { OnOk result (Appended out.old out.new (store_code mode slot) no_notes) }
+// Appends the store of a word to a slot, at the place that register 1 has: the word in register `value`, or in mirrored
+// code the word that was there, so that nothing changes.
+fn put_store(out: &mut CodeBuf, slot: u8, value: u8, mode: Mode) -> Result<(), Memory>
+    ensures appended { OnOk result (Appended out.old out.new (store_code mode slot value) no_notes) }
     ensures grows { CodeGrows out.old out.new }
 {
     let read = Instr::Ldw {
@@ -57,7 +58,7 @@ fn put_store(out: &mut CodeBuf, slot: u8, mode: Mode) -> Result<(), Memory>
         off: 1,
     };
     let write = Instr::Stw {
-        rs: 0,
+        rs: value,
         slot,
         off: 1,
     };
@@ -85,31 +86,32 @@ fn put_block_store(out: &mut CodeBuf, array: Variable) -> Result<(), Memory>
     out.put(&[Instr::Stb { slot: array.slot }])
 }
 
-// What a register that holds a scalar is copied from: the value in register 0, or in mirrored code the register itself.
-fn copied_from(mode: Mode, register: u8) -> u8
-    ensures { result ≡ copied_from mode register }
+// What a register that holds a scalar is copied from: the value's register, or in mirrored code the register itself.
+fn copied_from(mode: Mode, register: u8, value: u8) -> u8
+    ensures { result ≡ copied_from mode register value }
 {
     match mode {
-        Mode::Public => 0,
-        Mode::Real => 0,
+        Mode::Public => value,
+        Mode::Real => value,
         Mode::Mirrored => register,
     }
 }
 
-// Appends the write of the value in register 0 to a scalar.
-fn put_write(out: &mut CodeBuf, scalar: Variable, mode: Mode) -> Result<(), Memory>
+// Appends the write of the value in a register to a scalar.
+fn put_write(out: &mut CodeBuf, scalar: Variable, value: u8, mode: Mode) -> Result<(), Memory>
     ensures appended { OnOk result (Appended out.old out.new
-        (write_code scalar.held scalar.label mode (home_in scalar)) no_notes) }
+        (write_code scalar.held scalar.label mode (home_in scalar) value) no_notes) }
     ensures grows { CodeGrows out.old out.new }
 {
     if let Some(register) = scalar.held {
-        return put_copy(out, scalar.label, register, copied_from(mode, register));
+        let from = copied_from(mode, register, value);
+        return put_copy(out, scalar.label, register, from);
     }
     out.put(&[Instr::Li {
         rd: 1,
         value: i64::from(scalar.place.word),
     }])?;
-    put_store(out, scalar.slot, mode)
+    put_store(out, scalar.slot, value, mode)
 }
 
 /// Appends the code of an assignment to a variable. It serves `branch_padding` and `code_gen`: its clause names the
@@ -132,8 +134,9 @@ pub fn put_set_variable<'a>(
 {
     let scalar = emitter.variable(name.bytes());
     let base = emitter.base_mask();
-    put_expr(emitter, out, value, 0, mode, base)?;
-    put_write(out, scalar, mode)
+    let held = operand(emitter, value);
+    put_operand(emitter, out, value, held, 0, mode, base)?;
+    put_write(out, scalar, operand_register(held, 0), mode)
 }
 
 /// Appends the code of an assignment to an element. The block is stored at once. It serves `branch_padding` and
@@ -158,10 +161,11 @@ pub fn put_set_element<'a>(
 {
     let array = emitter.variable(name.bytes());
     let base = emitter.base_mask();
-    put_expr(emitter, out, value, 0, mode, base)?;
-    let mask = marked_by(label_of(emitter, value), base, 0);
+    let held = operand(emitter, value);
+    put_operand(emitter, out, value, held, 0, mode, base)?;
+    let mask = operand_mask(held, label_of(emitter, value), base, 0);
     put_access(emitter, out, array, index, 1, mode, mask)?;
-    put_store(out, array.slot, mode)?;
+    put_store(out, array.slot, operand_register(held, 0), mode)?;
     put_block_store(out, array)
 }
 

@@ -7,50 +7,27 @@ use Rattle.gr_word.specs.declared.variables.Label.TheVariants as label
 use Rattle.lt_isa.specs.declared.instructions.Instr.{Instr}
 use Rattle.lt_isa.specs.declared.instructions.Instr.TheVariants.{Nop, Jmp}
 use Rattle.src_tree.specs.Contexts.{context_of}
-use Rattle.src_tree.specs.Labels.{label_of, label_of_test}
+use Rattle.src_tree.specs.Labels.{label_of_test}
 use Rattle.src_tree.specs.Limits.{tree_weight, test_weight, parts_weight, statement_weight, block_weight}
-use Rattle.src_tree.specs.Trees.{Tree, Variable, Test, Statement, SetVariable, SetElement, Choice, Loop, Block, Nothing, Then}
+use Rattle.src_tree.specs.Trees.{Tree, Test, Statement, SetVariable, SetElement, Choice, Loop, Block, Nothing, Then}
 use Rattle.block_cache_gen.specs.declared.frames.Mode.{Mode}
 use Rattle.block_cache_gen.specs.declared.frames.Mode.TheVariants as modes
-use Rattle.block_cache_gen.specs.Homes.{Setting, home_of, register_for}
-use Rattle.block_cache_gen.specs.Codes.{compares, fixed_index, expr_code, access_code, store_code, stored_code, guard_code, set_code, write_code}
+use Rattle.block_cache_gen.specs.Homes.{Setting}
+use Rattle.block_cache_gen.specs.Codes.{expr_code, guard_code, set_code}
 use Rattle.block_cache_gen.specs.Alike.{pair_count}
-use Rattle.block_cache_gen.proofs.Sizes.{access_short, expr_code_short, write_short, store_short, stored_short}
+use Rattle.block_cache_gen.proofs.Sizes.{expr_code_short, set_code_short}
 use Rattle.branch_padding.specs.Padded.{idle, in_a_row, arm_mode, untaken_arm, taken_arm, first_padded, second_padded, region_code, padded_code, padded_codes}
 
 -- an assignment
 variable-short : (f : Setting) (mode : Mode) (x : List ℕ) (e : Tree)
     → length (set_code f mode (SetVariable x e)) ≤ 120 * (1 + tree_weight e)
 variable-short f mode x e =
-    let found = register_for f x in
-    let l = label_of (context_of f.decls) (Variable x) in
-    omega (
-      arith,
-      length-append (expr_code f mode 0 e) (write_code found l mode (home_of f x)),
-      expr_code_short f mode 0 e,
-      write_short found l mode (home_of f x),
-    )
+    omega (arith, set_code_short f mode (context_of f.decls) label.Public (SetVariable x e) tt)
 
 element-short : (f : Setting) (mode : Mode) (x : List ℕ) (i e : Tree)
     → length (set_code f mode (SetElement x i e)) ≤ 120 * (1 + (tree_weight i + tree_weight e))
 element-short f mode x i e =
-    let h = home_of f x in
-    let value = expr_code f mode 0 e in
-    let index = expr_code f mode 1 i in
-    let access = access_code (compares f mode h i) f.profile.block_log mode h 1 (fixed_index h i) index in
-    let store = store_code mode h.slot in
-    let last = stored_code h.resident h.slot in
-    omega (
-      arith,
-      length-append value (access ++ (store ++ last)),
-      length-append access (store ++ last),
-      length-append store last,
-      expr_code_short f mode 0 e,
-      expr_code_short f mode 1 i,
-      access_short (compares f mode h i) f.profile.block_log mode h 1 (fixed_index h i) index,
-      store_short mode h.slot,
-      stored_short h.resident h.slot,
-    )
+    omega (arith, set_code_short f mode (context_of f.decls) label.Public (SetElement x i e) tt)
 
 -- at most 16 instructions a unit of a guard's weight
 pub guard-short : (f : Setting) (mode : Mode) (t : Test) → length (guard_code f mode 0 t) ≤ 16 * test_weight t

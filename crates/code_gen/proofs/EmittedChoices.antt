@@ -8,20 +8,20 @@ use Rattle.gr_word.specs.declared.variables.Label.{Label}
 use Rattle.gr_word.specs.declared.variables.Label.TheVariants as label
 use Rattle.lt_isa.specs.declared.symbols.Note.{Note}
 use Rattle.lt_isa.specs.declared.instructions.Instr.{Instr}
-use Rattle.lt_isa.specs.declared.instructions.Instr.TheVariants.{Jmp, Br, Li, Stw}
+use Rattle.lt_isa.specs.declared.instructions.Instr.TheVariants.{Jmp, Br}
 use Rattle.src_tree.specs.declared.trees.Stmt.{Stmt}
-use Rattle.src_tree.specs.Trees.{Variable, Test, Statement, SetVariable, SetElement, Choice, Loop, Block, Nothing, Then, statement_of, block_of_all}
+use Rattle.src_tree.specs.Trees.{Test, Statement, SetVariable, SetElement, Choice, Loop, Block, Nothing, Then, statement_of, block_of_all}
 use Rattle.src_tree.specs.Contexts.{context_of}
-use Rattle.src_tree.specs.Labels.{label_of, label_of_test}
+use Rattle.src_tree.specs.Labels.{label_of_test}
 use Rattle.block_cache_gen.specs.declared.frames.CodeBuf.{CodeBuf}
 use Rattle.block_cache_gen.specs.declared.frames.Mode.TheVariants.{Public, Real, Mirrored}
-use Rattle.block_cache_gen.specs.Homes.{Setting, home_of, register_for}
-use Rattle.block_cache_gen.specs.Codes.{compares, expr_code, guard_code, stored_code, access_code, fixed_index, write_code}
+use Rattle.block_cache_gen.specs.Homes.{Setting}
+use Rattle.block_cache_gen.specs.Codes.{guard_code}
 use Rattle.block_cache_gen.specs.Notes.{guard_notes}
 use Rattle.block_cache_gen.specs.Alike.{pair_count}
 use Rattle.block_cache_gen.specs.Emitted.{Appended, no_notes, EmitsGuard}
 use Rattle.block_cache_gen.proofs.Emitting.{appended_length}
-use Rattle.block_cache_gen.proofs.SomeCode.{expr_code-some, guard_code-some}
+use Rattle.block_cache_gen.proofs.SomeCode.{guard_code-some, set_code-some}
 use Rattle.branch_padding.specs.Padded.{padded_codes, region_code, untaken_arm, taken_arm}
 use Rattle.code_gen.specs.Statements.{opposite, second_code, places_over, choice_code, choice_by, statement_code, block_code, block_notes, block_ends_noted, head_note, head_unless, choice_notes, notes_by}
 use Rattle.code_gen.specs.Emitted.{padding_of, EmitsStatement, EmitsBlock, ClosesChoice, before_second, second_notes}
@@ -33,16 +33,8 @@ longer xs ys some = omega (arith, length-append xs ys)
 
 -- no statement is made into no code
 statement_code-some : (f : Setting) (s : Statement) → 1 ≤ length (statement_code f (padding_of f) s)
-statement_code-some f (SetVariable x e) =
-    longer (expr_code f Public 0 e)
-    (write_code (register_for f x) (label_of (context_of f.decls) (Variable x)) Public (home_of f x))
-    (expr_code-some f Public 0 e)
-statement_code-some f (SetElement x i e) =
-    let h = home_of f x in
-    longer (expr_code f Public 0 e)
-    (access_code (compares f Public h i) f.profile.block_log Public h 1 (fixed_index h i) (expr_code f Public 1 i)
-    ++ Stw 0 h.slot 1 ∷ stored_code h.resident h.slot)
-    (expr_code-some f Public 0 e)
+statement_code-some f (SetVariable x e) = set_code-some f Public (SetVariable x e) tt
+statement_code-some f (SetElement x i e) = set_code-some f Public (SetElement x i e) tt
 statement_code-some f (Choice t a b) = by (label_of_test (context_of f.decls) t)
   where
     by : (l : Label)

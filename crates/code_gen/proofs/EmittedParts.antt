@@ -1,24 +1,24 @@
 -- How long the public code of guards, assignments and loops is, and what is appended for statements, by their parts.
-use Rattle.std.proofs.Common.{◌≡◌, ℕ, ◌+◌, ◌-◌, ◌*◌, ◌≤◌, Bool, true, false, ◌||◌, ◌==◌, pos, negsuc, List, [], ◌∷◌, ◌++◌, length, set, Option, Some, None, refl, sym, ap, ◌∙◌, arith, append_assoc, append-nil, eq-eqb}
+use Rattle.std.proofs.Common.{◌≡◌, ℕ, ◌+◌, ◌-◌, ◌*◌, ◌≤◌, Bool, true, false, ◌||◌, ◌==◌, pos, negsuc, List, [], ◌∷◌, ◌++◌, length, set, refl, sym, ap, ◌∙◌, arith, append_assoc, append-nil, eq-eqb}
 use Rattle.std.proofs.lemmas.Bool.{ne_eqb}
 use Rattle.std.proofs.lemmas.List.{length-append, length-set}
 use Rattle.std.proofs.Math.Seq.{set-append_seam}
 use Rattle.gr_word.specs.declared.variables.Label.{Label}
 use Rattle.gr_word.specs.declared.variables.Label.TheVariants as label
 use Rattle.lt_isa.specs.declared.instructions.Instr.{Instr}
-use Rattle.lt_isa.specs.declared.instructions.Instr.TheVariants.{Jmp, Br, Li, Stw}
+use Rattle.lt_isa.specs.declared.instructions.Instr.TheVariants.{Jmp, Br}
 use Rattle.src_tree.specs.Trees.{Tree, Number, Variable, Element, Operation, Test, Statement, SetVariable, SetElement, Choice, Loop, Block, Nothing, Then}
 use Rattle.src_tree.specs.Contexts.{Context, context_of}
-use Rattle.src_tree.specs.Labels.{label_of, label_of_test}
+use Rattle.src_tree.specs.Labels.{label_of_test}
 use Rattle.src_tree.specs.Limits.{tree_weight, test_weight, parts_weight, statement_weight, block_weight}
 use Rattle.block_cache_gen.specs.declared.frames.CodeBuf.{CodeBuf}
 use Rattle.block_cache_gen.specs.declared.frames.Mode.TheVariants.{Public}
-use Rattle.block_cache_gen.specs.Homes.{Setting, home_of, Home, register_for}
-use Rattle.block_cache_gen.specs.Codes.{compares, expr_code, guard_code, set_code, stored_code, access_code, fixed_index, write_code}
+use Rattle.block_cache_gen.specs.Homes.{Setting}
+use Rattle.block_cache_gen.specs.Codes.{expr_code, guard_code, set_code}
 use Rattle.block_cache_gen.specs.Notes.{guard_notes, set_notes}
 use Rattle.block_cache_gen.specs.Emitted.{Appended, no_notes, EmitsGuard, EmitsSet}
 use Rattle.block_cache_gen.proofs.Emitting.{appended_then, appended_length}
-use Rattle.block_cache_gen.proofs.Sizes.{expr_code_short, access_short, stored_short}
+use Rattle.block_cache_gen.proofs.Sizes.{expr_code_short, set_code_short}
 use Rattle.code_gen.specs.Statements.{statement_code, block_code, statement_notes, block_notes, block_ends_noted, head_note, head_unless, guard_note}
 use Rattle.code_gen.specs.Emitted.{padding_of, EmitsStatement, EmitsBlock, ClosesLoop, noted_behind}
 
@@ -41,34 +41,12 @@ guard_code-short f t =
 pub variable_code-short : (f : Setting) (x : List ℕ) (e : Tree)
     → length (set_code f Public (SetVariable x e)) ≤ 120 * (1 + tree_weight e)
 variable_code-short f x e =
-    let l = label_of (context_of f.decls) (Variable x) in
-    omega (
-      arith,
-      expr_code_short f Public 0 e,
-      length-append (expr_code f Public 0 e) (write_code (register_for f x) l Public (home_of f x)),
-      written_short (register_for f x) l (home_of f x),
-    )
-  where
-    written_short : (r : Option ℕ) (l : Label) (h : Home) → length (write_code r l Public h) ≤ 2
-    written_short (Some r) l h = omega arith
-    written_short None l h = omega arith
+    omega (arith, set_code_short f Public (context_of f.decls) label.Public (SetVariable x e) tt)
 
 pub element_code-short : (f : Setting) (x : List ℕ) (i e : Tree)
     → length (set_code f Public (SetElement x i e)) ≤ 120 * (1 + (tree_weight i + tree_weight e))
 element_code-short f x i e =
-    let h = home_of f x in
-    let access = access_code (compares f Public h i) f.profile.block_log Public h 1 (fixed_index h i)
-    (expr_code f Public 1 i) in
-    let stored = Stw 0 h.slot 1 ∷ stored_code h.resident h.slot in
-    omega (
-      arith,
-      expr_code_short f Public 0 e,
-      expr_code_short f Public 1 i,
-      access_short (compares f Public h i) f.profile.block_log Public h 1 (fixed_index h i) (expr_code f Public 1 i),
-      stored_short h.resident h.slot,
-      length-append (expr_code f Public 0 e) (access ++ stored),
-      length-append access stored,
-    )
+    omega (arith, set_code_short f Public (context_of f.decls) label.Public (SetElement x i e) tt)
 
 -- the weight of a choice by a public guard
 pub choice_weight-public : (known : Context) (t : Test) (a b : Block) → label_of_test known t ≡ label.Public

@@ -1,4 +1,5 @@
 pub mod ScalarsNumbered
+pub mod HeldNumbers
 pub mod Loads
 pub mod Started
 pub mod Ended

@@ -6,10 +6,10 @@ use Rattle.gr_word.specs.declared.variables.Label.{Label}
 use Rattle.gr_word.specs.declared.variables.Label.TheVariants as label
 use Rattle.lt_isa.specs.declared.symbols.Note.{Note}
 use Rattle.lt_isa.specs.declared.instructions.Instr.{Instr}
-use Rattle.lt_isa.specs.declared.instructions.Instr.TheVariants.{Li, Br, Stw}
+use Rattle.lt_isa.specs.declared.instructions.Instr.TheVariants.{Br}
 use Rattle.lt_isa.specs.Object.{Parts}
 use Rattle.src_tree.specs.Contexts.{context_of}
-use Rattle.src_tree.specs.Labels.{inside, label_of, label_of_test}
+use Rattle.src_tree.specs.Labels.{inside, label_of_test}
 use Rattle.src_tree.specs.Limits.{max_weight, Low, LowStatement, LowBlock, parts_weight, statement_weight, block_weight, test_weight}
 use Rattle.src_tree.specs.Trees.{Variable, Test, Statement, SetVariable, SetElement, Choice, Loop, Block, Nothing, Then}
 use Rattle.src_tree.specs.Typing.{TypedStatement, TypedBlock, TypedTest, DeclaredOnce}
@@ -19,15 +19,14 @@ use Rattle.stretches.specs.Passing.{HoldsAt}
 use Rattle.stretches.proofs.Standing.{standing-first}
 use Rattle.stretches.proofs.Passed.{passes-to, no_note-behind, note_at-first, note_at-found}
 use Rattle.block_cache_gen.specs.declared.frames.Mode.TheVariants.{Public}
-use Rattle.block_cache_gen.specs.Homes.{Setting, HasHomes, home_of, register_for}
-use Rattle.block_cache_gen.specs.Codes.{expr_code, guard_code, set_code, write_code, stored_code}
+use Rattle.block_cache_gen.specs.Homes.{Setting, HasHomes}
+use Rattle.block_cache_gen.specs.Codes.{guard_code, set_code}
 use Rattle.block_cache_gen.specs.Notes.{guard_notes, set_notes}
 use Rattle.block_cache_gen.specs.Carries.{Carries}
 use Rattle.block_cache_gen.specs.PublicIndexes.{TestHasPublicIndexes}
 use Rattle.block_cache_gen.specs.PublicCode.{StandsNoted, PassedSet}
-use Rattle.block_cache_gen.proofs.NotesOfCode.{expression-longer}
+use Rattle.block_cache_gen.proofs.SomeCode.{set_code-some}
 use Rattle.block_cache_gen.proofs.PublicGuards.{guard-lie}
-use Rattle.block_cache_gen.proofs.PublicAccesses.{array_code}
 use Rattle.block_cache_gen.proofs.PublicAssignments.{set_variable-passes, set_element-passes}
 use Rattle.block_cache_gen.proofs.RangesOfNotes.{rise-wider, rise-then, guard-rises, set-rises}
 use Rattle.code_gen.specs.Statements.{Padding, opposite, places_over, second_code, choice_code, choice_by, choice_notes, notes_by, is_public, ends_noted, block_ends_noted, head_note, statement_code, block_code, statement_notes, block_notes}
@@ -173,14 +172,8 @@ module _ (f : Setting) (padded : Padding) (begins : BeginsGuarded f padded) wher
   choice_longer t a b label.Secret xs ys = omega (arith, guard-longer f t, begins t a b)
 
   pub statement-longer : (s : Statement) → 1 ≤ length (statement_code f padded s)
-  statement-longer (SetVariable x e) =
-      longer (expr_code f Public 0 e)
-      (write_code (register_for f x) (label_of (context_of f.decls) (Variable x)) Public (home_of f x))
-      (expression-longer f e 0)
-  statement-longer (SetElement x i e) =
-      longer (expr_code f Public 0 e)
-      (array_code f 1 x i ++ Stw 0 (home_of f x).slot 1 ∷ stored_code (home_of f x).resident (home_of f x).slot)
-      (expression-longer f e 0)
+  statement-longer (SetVariable x e) = set_code-some f Public (SetVariable x e) tt
+  statement-longer (SetElement x i e) = set_code-some f Public (SetElement x i e) tt
   statement-longer (Choice t a b) =
       choice_longer t a b (label_of_test (context_of f.decls) t) (block_code f padded a) (block_code f padded b)
   statement-longer (Loop t a) = omega arith

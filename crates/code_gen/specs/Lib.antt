@@ -5,6 +5,7 @@ pub mod Programs
 pub mod Follows
 pub mod Emitted
 pub mod Made
+pub mod HeldNumbers
 pub mod AgreeingStores
 pub use Rattle.src_tree.specs.Meaning
 pub use Rattle.bank_alloc.specs.Layout

@@ -9,7 +9,7 @@ ghost use Rattle.bank_alloc.specs.Layout.{HasLayout};
 ghost use Rattle.bank_alloc.specs.Places.{IsPlacesOf};
 ghost use Rattle.resident_alloc.specs.ResidentFits.{ResidentsFit};
 ghost use Rattle.resident_alloc.specs.ResidentLayout.{HasResidentLayout};
-ghost use Rattle.held_registers.specs.Held.{IsSoundHeld, held_scalars};
+ghost use Rattle.held_registers.specs.Held.{IsSoundHeld};
 ghost use Rattle.block_cache_gen.specs.ProgramWords.{BlockHasWords};
 ghost use Rattle.scratch_alloc.specs.Plans.{IsSoundPlan, plan_from, standard_plan};
 ghost use Rattle.block_cache_gen.specs.Settings.{IsFrame, plan_of, setting_of};
@@ -17,19 +17,21 @@ ghost use Rattle.block_cache_gen.specs.StoredWords.{stored_words};
 ghost use Rattle.code_gen.specs.Compiles.{ExplainsResidents, ExplainsRoom, IsFor, LatenciesFit, stores_in, stores_with_residents};
 ghost use Rattle.code_gen.specs.Emitted.{padding_of};
 ghost use Rattle.code_gen.specs.Implements.{Implements};
+ghost use Rattle.code_gen.specs.HeldNumbers.{held_for};
 ghost use Rattle.code_gen.specs.Made.{IsMadeOf};
 ghost use Rattle.code_gen.specs.Programs.{program_code, program_notes};
 ghost use Rattle.source_folding.specs.Folded.{folded_source};
 ghost use Rattle.source_folding.specs.Numbers.{BlockNumbersFit};
 
 use crate::banks::bank_specs;
+use crate::numbers::held_for;
 use crate::programs::program_code;
 use bank_alloc::{PlaceError, Places, banks, symbols};
 use block_cache_gen::{CodeBuf, Emitter, Frame};
 use flow_types::Typed;
 use gr_base::Memory;
 use gr_word::Label;
-use held_registers::{Held, held_scalars};
+use held_registers::Held;
 use lt_isa::{Latencies, Object, Profile};
 use resident_alloc::resident_plan;
 use scratch_alloc::{SlotPlan, slots};
@@ -129,11 +131,12 @@ fn planned_folded(
     requires profile { ProfileFits p.now }
     requires latencies { LatenciesFit l.now }
     ensures made { IfOk result (λ o. IsMadeOf (folded_source (source_of program.now)) (plan_from places.now slots.now) p.now
-        true (held_scalars (source_of program.now).decls) l.now o) }
+        true (held_for (folded_source (source_of program.now))) l.now o) }
     ensures numbers { OnOk result (BlockNumbersFit (source_of program.now).body) }
+    ensures words { OnOk result (BlockHasWords (folded_source (source_of program.now)).body) }
 {
     let program = folded(alloc, program)?;
-    let held = held_scalars(alloc, program.decls.as_slice())?;
+    let held = held_for(alloc, &program)?;
     planned(alloc, &program, places, slots, p, true, held.as_slice(), l)
 }
 
@@ -188,8 +191,8 @@ pub fn compile(alloc: Global, t: &Typed, p: &Profile, l: &Latencies) -> Result<O
 }
 
 /// Compiles a program as [`compile`] does, for `--fast`: arrays stay in the scratchpad for the whole run if there is room
-/// for them, so that an access of them shows nothing on the bus. The first scalars stay in registers. Expressions are made cheaper
-/// ([`source_folding::folded`]), and steps replace products, quotients and remainders by numbers
+/// for them, so that an access of them shows nothing on the bus. The first scalars and numbers stay in registers, and are
+/// operands there. Expressions are made cheaper ([`source_folding::folded`]), and steps replace products, quotients and remainders by numbers
 /// (`strength_reduction`). Each variable is at the place that [`resident_alloc::resident_plan`] gives it. A program is
 /// refused exactly where its variables lack room at these places, with the first that does.
 pub fn compile_fast(

@@ -9,6 +9,7 @@ mod banks;
 pub mod compiling;
 mod jumps;
 mod laws;
+mod numbers;
 mod programs;
 mod statements;
 

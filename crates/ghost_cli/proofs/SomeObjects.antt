@@ -19,13 +19,14 @@ use Rattle.source_folding.specs.Folded.{folded, folded_block, folded_source, fol
 use Rattle.source_folding.specs.Numbers.{BlockNumbersFit, NumbersFit, StatementNumbersFit}
 use Rattle.source_folding.proofs.FoldedPrograms.{folded-source_typed, folded-within}
 use Rattle.source_folding.proofs.FoldedTrees.{IsPower, Made, AsBefore, Computed, Swapped, Shifted, SwappedShift, Masked, is-made}
-use Rattle.held_registers.specs.Held.{held_scalars}
-use Rattle.held_registers.proofs.Sound.{held_scalars-sound, nothing-sound}
+use Rattle.held_registers.proofs.Sound.{nothing-sound}
 use Rattle.block_cache_gen.specs.ProgramWords.{BlockHasWords, StatementHasWords}
 use Rattle.block_cache_gen.specs.TreeWords.{HasWords, TestHasWords}
 use Rattle.block_cache_gen.proofs.RangesOfCode.{small-word}
 use Rattle.code_gen.specs.Compiles.{LatenciesFit}
+use Rattle.code_gen.specs.HeldNumbers.{held_for}
 use Rattle.code_gen.proofs.Assembled.{made-promises}
+use Rattle.code_gen.proofs.HeldNumbers.{held_for-sound}
 use Rattle.code_gen.proofs.FoldedPlans.{folded-implements, folded-laid, folded-sound}
 use Rattle.call_replies.specs.declared.source_faults.SourceFault.{SourceFault}
 use Rattle.ghost_cli.specs.declared.targets.Target.{Target}
@@ -134,13 +135,14 @@ module _ (p : Source) (target : Target) (profile : ProfileFits target.profile) (
   fast-object room =
       let plan = resident_plan p w in
       let q = folded_source p in
-      let held = held_scalars p.decls in
-      let holds = held_scalars-sound p.decls in
+      let words = block-folds p.body fits.words in
+      let held = held_for q in
+      let holds = held_for-sound q words in
       let sound = folded-sound p w plan (resident_sound p w within profile.block_log room) in
       let typed' = folded-source_typed p typed in
       let within' = folded-within p within in
-      let made = made-some q plan target.profile true held typed' within' sound holds profile usual_latencies usual-fit
-      (block-folds p.body fits.words) fits.named in
+      let made = made-some q plan target.profile true held typed' within' sound holds profile usual_latencies usual-fit words
+      fits.named in
       let is = made-promises q plan target.profile true held usual_latencies typed' within' sound holds
       (λ some. (record { bank = 1; block = 0 }, refl, refl)) profile made.0 made.1 in (
         spelling made.0,

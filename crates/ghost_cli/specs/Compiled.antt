@@ -10,9 +10,9 @@ use Rattle.resident_alloc.specs.ResidentFits.{ResidentsFit}
 use Rattle.resident_alloc.specs.ResidentPlan.{resident_plan}
 use Rattle.source_folding.specs.Folded.{folded_source}
 use Rattle.held_registers.specs.declared.registers.Held.{Held}
-use Rattle.held_registers.specs.Held.{held_scalars}
 use Rattle.block_cache_gen.specs.StoredWords.{stored_words}
 use Rattle.code_gen.specs.Compiles.{ExplainsResidents, ExplainsRoom, IsFor, stores_by}
+use Rattle.code_gen.specs.HeldNumbers as code
 use Rattle.code_gen.specs.Implements.{Implements}
 use Rattle.code_gen.specs.declared.compiling.CompileError.{CompileError}
 use Rattle.code_gen.specs.declared.compiling.CompileError.TheVariants as room
@@ -43,10 +43,10 @@ abbrev pub source_for : Bool → Source → Source
 source_for false p = p
 source_for true p = folded_source p
 
--- what registers hold for the whole run: with `--fast` the first scalars
+-- what registers hold for the whole run: with `--fast` the first scalars and numbers
 abbrev pub held_for : Bool → Source → List Held
 held_for false p = []
-held_for true p = held_scalars p.decls
+held_for true p = code.held_for (folded_source p)
 
 -- There is room for the program's variables. The bytes encode an object that is accepted, that computes what the
 -- program means, and that has the program's layout for the profile's blocks, that profile with the usual latencies, and

@@ -53,7 +53,7 @@ record SoundTo (decls : List Decl) (n : ℕ) (held : List Held) : Type 0 where
   some : 0 < length held
   below : (r m : ℕ) → held_at held r ≡ Some (Scalar m) → m < n
 
--- one thing more that is no scalar, or one that isn't held
+-- one thing more: one other than a scalar, or a scalar that isn't held
 pub more-sound : (decls : List Decl) (held : List Held) (x : Held) → length held < 13 → 0 < length held
     → IsSoundHeld decls held
     → ((n : ℕ) → x ≡ Scalar n → (d : Decl) × (slice_get decls n ≡ Some d) × (d.length ≡ None))

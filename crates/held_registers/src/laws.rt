@@ -4,7 +4,8 @@ ghost use Rattle.src_tree.specs.declared.trees.Decl.{Decl};
 ghost use Rattle.held_registers.specs.declared.registers.Held.{Held};
 ghost use Rattle.held_registers.specs.Held.{IsSoundHeld, held_scalars, with_number};
 
-/// Does nothing; its clauses say that what registers hold is sound: nothing, the first scalars, and each number more.
+/// Does nothing; its clauses name sound contents of the registers: nothing, the first scalars, and sound contents with
+/// one number more.
 pub fn register_laws()
     ensures none { (decls : List Decl) → IsSoundHeld decls [] }
     ensures scalars { (decls : List Decl) → IsSoundHeld decls (held_scalars decls) }

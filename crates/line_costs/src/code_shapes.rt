@@ -5,7 +5,7 @@ use lt_isa::Instr;
 use scratch_alloc::SlotPlan;
 use src_tree::{Decl, Expr, Guard};
 
-// The first of the registers that hold scalars for the whole run.
+// The first of the registers that hold scalars or numbers for the whole run.
 const FIRST_HELD: u8 = 21;
 
 /// The code of a program, and what its form depends on.
@@ -41,7 +41,7 @@ pub(crate) struct Arms {
 
 impl CompiledCode<'_> {
     /// Where the code of the statements begins: after the loads of the slots' first blocks, and of the registers that hold
-    /// zeros and scalars.
+    /// zeros, scalars and numbers.
     pub(crate) fn body_start(&self) -> usize {
         let mut start = 0usize;
         for _ in 0..8 {
@@ -55,9 +55,19 @@ impl CompiledCode<'_> {
         for _ in FIRST_HELD..32 {
             if self.loads_scalar(start) {
                 start = start.saturating_add(2);
+            } else if self.sets_number(start) {
+                start = start.saturating_add(1);
             }
         }
         start
+    }
+
+    // Whether a register gets a number for the whole run at a place.
+    fn sets_number(&self, at: usize) -> bool {
+        match self.code.get(at) {
+            Some(Instr::Li { rd, .. }) => *rd >= FIRST_HELD,
+            _ => false,
+        }
     }
 
     // Whether a register that holds a scalar for the whole run is loaded at a place.

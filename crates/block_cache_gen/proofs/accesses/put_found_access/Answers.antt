@@ -14,23 +14,23 @@ returns-then-is_resident-clause-appended c =
     let h = home_in c.args.array in
     on_ok_weaker c.put_placed.result
     (λ x.
-    found_placed c.args.emitter.now c.args.mode h c.args.mask c.args.to (expr_tree c.args.index.now) c.args.out.now
-    c.put_placed.new.out (sym c.is_resident.ensures ∙ c.if-is_resident.true)
+    found_placed c.args.emitter.now c.args.mode h c.args.mask c.args.to c.args.from (expr_tree c.args.index.now)
+    c.args.out.now c.put_placed.new.out c.requires.from (sym c.is_resident.ensures ∙ c.if-is_resident.true)
     (subst (λ (near : Bool). Appended c.args.out.now c.put_placed.new.out
-    (numbered_code near h c.args.to ++ offset_code h c.args.to)
+    (numbered_code near h c.args.to c.args.from ++ offset_code h c.args.to)
     (λ place. compared_notes near None c.args.emitter.now c.args.mask c.args.to
-    (place + length (numbered_code near h c.args.to)))) c.compares-compared.ensures x))
+    (place + length (numbered_code near h c.args.to c.args.from)))) c.compares-compared.ensures x))
     c.put_placed.ensures.appended
 
 pub returns-clause-appended : goal.returns-clause-appended
 returns-clause-appended c =
     let h = home_in c.args.array in
     on_ok_weaker c.put_load.result
-    (found_loaded c.args.emitter.now c.args.mode h c.args.mask c.args.to (expr_tree c.args.index.now) c.args.out.now
-    c.put_located.new.out c.put_load.new.out (sym c.is_resident.ensures ∙ c.if-is_resident.false)
+    (found_loaded c.args.emitter.now c.args.mode h c.args.mask c.args.to c.args.from (expr_tree c.args.index.now)
+    c.args.out.now c.put_located.new.out c.put_load.new.out c.requires.from (sym c.is_resident.ensures ∙ c.if-is_resident.false)
     (subst (λ (near : Bool). Appended c.args.out.now c.put_located.new.out
-    (numbered_code near h c.args.to ++ shift_code c.args.emitter.now.profile.block_log h c.args.to)
+    (numbered_code near h c.args.to c.args.from ++ shift_code c.args.emitter.now.profile.block_log h c.args.to)
     (λ place. compared_notes near None c.args.emitter.now c.args.mask c.args.to
-    (place + length (numbered_code near h c.args.to)))) c.compares-compared.ensures
+    (place + length (numbered_code near h c.args.to c.args.from)))) c.compares-compared.ensures
     c.in_ok-put_located.ensures.appended))
     c.put_load.ensures.appended

@@ -1,3 +1,4 @@
+use Rattle.std.proofs.Common.{None}
 use Rattle.std.proofs.lemmas.Result.{on_ok_weaker}
 use Rattle.src_tree.specs.Trees.{expr_tree}
 use Rattle.block_cache_gen.proofs.EmittedStatements.{with_base}
@@ -12,7 +13,7 @@ returns c =
     let promised = frame-expr_promises c.args.f.now c.in_ok-emitter.emitter c.args.mode c.args.to e c.args.out.now
     c.put_expr.new.out c.requires.frame same c.requires.typed c.requires.indexes c.requires.registers in
     let emitted = on_ok_weaker c.put_expr.result
-    (with_base c.in_ok-emitter.emitter c.args.mode e c.args.to c.base_mask.result c.args.out.now c.put_expr.new.out
+    (with_base c.in_ok-emitter.emitter c.args.mode None e c.args.to c.base_mask.result c.args.out.now c.put_expr.new.out
     c.base_mask.ensures) c.put_expr.ensures.emitted in
     record {
       runs = on_ok_weaker c.put_expr.result (λ x. let h = promised x in h.runs) emitted;

@@ -1,5 +1,5 @@
 use Rattle.std.proofs.Common.{ap, ◌∙◌}
-use Rattle.block_cache_gen.specs.Notes.{marked_by}
+use Rattle.block_cache_gen.specs.Notes.{operand_mask}
 use Rattle.std.proofs.lemmas.Result.{on_ok_weaker}
 use Rattle.src_tree.specs.Trees.{expr_tree}
 use Rattle.block_cache_gen.specs.Variables.{home_in}
@@ -9,39 +9,43 @@ use Rattle.block_cache_gen.proofs.statements.put_set_element.Goals as goal
 
 pub put_access-requires-clause-room : goal.put_access-requires-clause-room
 put_access-requires-clause-room c =
-    room_for_access c.args.emitter.now c.args.mode (expr_tree c.args.index.now) (expr_tree c.args.value.now)
-    c.args.out.now
-    c.put_expr.new.out c.requires.room
-    (with_base c.args.emitter.now c.args.mode (expr_tree c.args.value.now) 0 c.base_mask-base.result c.args.out.now
-    c.put_expr.new.out c.base_mask-base.ensures c.in_ok-put_expr.ensures.emitted)
+    room_for_access c.args.emitter.now c.args.mode c.operand-held.result (expr_tree c.args.index.now)
+    (expr_tree c.args.value.now) c.args.out.now c.put_operand.new.out c.requires.room
+    (with_base c.args.emitter.now c.args.mode c.operand-held.result (expr_tree c.args.value.now) 0
+    c.base_mask-base.result c.args.out.now c.put_operand.new.out c.base_mask-base.ensures
+    c.in_ok-put_operand.ensures.emitted)
 
 pub returns-clause-emitted : goal.returns-clause-emitted
 returns-clause-emitted c =
     on_ok_weaker c.put_block_store.result
     (element_set c.args.emitter.now c.args.mode c.args.name.now c.bytes.result.now (expr_tree c.args.index.now)
     (expr_tree c.args.value.now)
-    (home_in c.variable-array.result) c.label_of.result c.marked_by-mask.result c.args.out.now
-    c.put_expr.new.out c.put_access.new.out c.put_store.new.out c.put_block_store.new.out c.bytes.ensures.bytes
-    c.variable-array.ensures.home c.label_of.ensures (c.marked_by-mask.ensures ∙ ap (λ m. marked_by c.label_of.result m 0) c.base_mask-base.ensures)
-    (with_base c.args.emitter.now c.args.mode (expr_tree c.args.value.now) 0 c.base_mask-base.result c.args.out.now
-    c.put_expr.new.out c.base_mask-base.ensures c.in_ok-put_expr.ensures.emitted)
+    (home_in c.variable-array.result) c.label_of.result c.operand-held.result c.operand_register.result
+    c.operand_mask-mask.result c.args.out.now
+    c.put_operand.new.out c.put_access.new.out c.put_store.new.out c.put_block_store.new.out c.bytes.ensures.bytes
+    c.variable-array.ensures.home c.label_of.ensures c.operand-held.ensures.register c.operand_register.ensures
+    (c.operand_mask-mask.ensures
+    ∙ ap (λ m. operand_mask c.operand-held.result c.label_of.result m 0) c.base_mask-base.ensures)
+    (with_base c.args.emitter.now c.args.mode c.operand-held.result (expr_tree c.args.value.now) 0
+    c.base_mask-base.result c.args.out.now c.put_operand.new.out c.base_mask-base.ensures
+    c.in_ok-put_operand.ensures.emitted)
     c.in_ok-put_access.ensures.emitted c.in_ok-put_store.ensures.appended)
     c.put_block_store.ensures.appended
 
 pub returns-in_err-put_access-clause-grows : goal.returns-in_err-put_access-clause-grows
 returns-in_err-put_access-clause-grows c =
-    grows_then c.args.out.now c.put_expr.new.out c.put_access.new.out c.put_expr.ensures.grows
+    grows_then c.args.out.now c.put_operand.new.out c.put_access.new.out c.put_operand.ensures.grows
     c.put_access.ensures.grows
 
 pub returns-in_err-put_store-clause-grows : goal.returns-in_err-put_store-clause-grows
 returns-in_err-put_store-clause-grows c =
     grows_then c.args.out.now c.put_access.new.out c.put_store.new.out
-    (grows_then c.args.out.now c.put_expr.new.out c.put_access.new.out c.put_expr.ensures.grows
+    (grows_then c.args.out.now c.put_operand.new.out c.put_access.new.out c.put_operand.ensures.grows
     c.put_access.ensures.grows) c.put_store.ensures.grows
 
 pub returns-clause-grows : goal.returns-clause-grows
 returns-clause-grows c =
     grows_then c.args.out.now c.put_store.new.out c.put_block_store.new.out
     (grows_then c.args.out.now c.put_access.new.out c.put_store.new.out
-    (grows_then c.args.out.now c.put_expr.new.out c.put_access.new.out c.put_expr.ensures.grows
+    (grows_then c.args.out.now c.put_operand.new.out c.put_access.new.out c.put_operand.ensures.grows
     c.put_access.ensures.grows) c.put_store.ensures.grows) c.put_block_store.ensures.grows

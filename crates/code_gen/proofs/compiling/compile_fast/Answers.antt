@@ -1,6 +1,4 @@
-use Rattle.std.proofs.Common.{◌+◌, ◌*◌, true, length, refl, rules, sym, subst, arith}
-use Rattle.held_registers.specs.Held.{held_scalars}
-use Rattle.held_registers.proofs.Sound.{held_scalars-sound}
+use Rattle.std.proofs.Common.{◌+◌, ◌*◌, ◌≤◌, true, length, refl, rules, sym, subst, arith}
 use Rattle.src_tree.specs.Limits.{IsWithinLimits}
 use Rattle.src_tree.specs.Trees.{source_of}
 use Rattle.src_tree.specs.Typing.{IsTyped}
@@ -10,8 +8,10 @@ use Rattle.resident_alloc.proofs.SoundPlan.{resident_sound}
 use Rattle.source_folding.specs.Folded.{folded_source}
 use Rattle.source_folding.specs.Numbers.{BlockNumbersFit}
 use Rattle.source_folding.proofs.FoldedPrograms.{folded-source_typed, folded-within}
+use Rattle.code_gen.specs.HeldNumbers.{held_for}
 use Rattle.code_gen.specs.Made.{IsMadeOf}
 use Rattle.code_gen.proofs.Assembled.{CompilePromises, made-promises}
+use Rattle.code_gen.proofs.HeldNumbers.{held_for-sound}
 use Rattle.code_gen.proofs.FoldedPlans.{folded-sound, folded-implements, folded-laid, folded-short}
 use Rattle.code_gen.proofs.compiling.compile_fast.Goals as goal
 
@@ -28,8 +28,8 @@ returns-in-Ok-planned_folded c =
     let p = c.program-program in
     let w = c.args.p.now.block_log in
     let source = source_of p.result.now in
-    let held = held_scalars source.decls in
-    let holds = held_scalars-sound source.decls in
+    let held = held_for (folded_source source) in
+    let holds = held_for-sound (folded_source source) c.in-Ok-planned_folded.ensures.words in
     let limits = subst (λ q. IsWithinLimits (source_of q)) (sym p.ensures.program) p.ensures.within in
     let typed = subst (λ q. IsTyped (source_of q)) (sym p.ensures.program) p.ensures.typed in
     let sound = resident_sound source w limits c.requires.profile.block_log c.in-Ok.ensures.fits in
@@ -38,16 +38,16 @@ returns-in-Ok-planned_folded c =
     c.in-Ok.ensures.plan c.in-Ok-planned_folded.ensures.made in
     let numbers = subst (λ q. BlockNumbersFit (source_of q).body) p.ensures.program
     c.in-Ok-planned_folded.ensures.numbers in
-    let layout = subst (λ q. IsMadeOf (folded_source (source_of q)) (resident_plan (source_of q) w) c.args.p.now true (held_scalars (source_of q).decls) c.args.l.now
-    object) p.ensures.program made in
-    let h = subst (λ q. CompilePromises (folded_source (source_of q)) (resident_plan (source_of q) w) c.args.p.now true (held_scalars (source_of q).decls) c.args.l.now
-    object)
+    let layout = subst (λ q. IsMadeOf (folded_source (source_of q)) (resident_plan (source_of q) w) c.args.p.now true (held_for (folded_source (source_of q)))
+    c.args.l.now object) p.ensures.program made in
+    let h = subst (λ q. CompilePromises (folded_source (source_of q)) (resident_plan (source_of q) w) c.args.p.now true (held_for (folded_source (source_of q)))
+    c.args.l.now object)
     p.ensures.program
     (made-promises (folded_source source) (resident_plan source w) c.args.p.now true held c.args.l.now
     (folded-source_typed source typed) (folded-within source limits)
     (folded-sound source w (resident_plan source w) sound) holds
     (λ some. (record { bank = 1; block = 0 }, refl, refl)) c.requires.profile object made) in
-    let few = (held_scalars-sound (source_of c.args.t.now).decls).few in
+    let few = subst (λ q. length (held_for (folded_source (source_of q))) ≤ 13) p.ensures.program holds.few in
     record {
       accepted = h.accepted;
       implements = folded-implements (source_of c.args.t.now) object numbers h.implements;
@@ -56,7 +56,7 @@ returns-in-Ok-planned_folded c =
       machine = h.machine;
       size =
           let short = folded-short (source_of c.args.t.now) object
-          (64 + 4 * length (held_scalars (source_of c.args.t.now).decls)) h.size in
+          (64 + 4 * length (held_for (folded_source (source_of c.args.t.now)))) h.size in
           omega arith;
       stores = h.stores;
       in_range = layout.in_range;

@@ -1,12 +1,12 @@
 use Rattle.std.proofs.Common.{sym, subst, ap, ◌∙◌}
-use Rattle.held_registers.specs.Held.{held_scalars, IsSoundHeld}
-use Rattle.held_registers.proofs.Sound.{held_scalars-sound}
+use Rattle.held_registers.specs.Held.{IsSoundHeld}
 use Rattle.src_tree.specs.Limits.{IsWithinLimits}
 use Rattle.src_tree.specs.Typing.{IsTyped}
 use Rattle.src_tree.specs.Trees.{source_of}
 use Rattle.scratch_alloc.specs.Plans.{IsSoundPlan, plan_from}
 use Rattle.source_folding.proofs.FoldedPrograms.{folded-source_typed, folded-within}
 use Rattle.code_gen.proofs.FoldedPlans.{folded-sound}
+use Rattle.code_gen.proofs.HeldNumbers.{held_for-sound}
 use Rattle.code_gen.proofs.compiling.planned_folded.Goals as goal
 
 pub planned-requires-clause-typed : goal.planned-requires-clause-typed
@@ -21,8 +21,8 @@ planned-requires-clause-within c =
 pub planned-requires-clause-held : goal.planned-requires-clause-held
 planned-requires-clause-held c =
     subst (IsSoundHeld c.in_ok-program.program.decls.items)
-    (sym (c.as_slice-2.ensures.value ∙ c.in_ok-held.ensures ∙ ap held_scalars c.as_slice.ensures.value))
-    (held_scalars-sound c.in_ok-program.program.decls.items)
+    (sym (c.as_slice.ensures.value ∙ c.in_ok-held.ensures.held))
+    (held_for-sound (source_of c.in_ok-program.program) c.in_ok-held.ensures.words)
 
 pub planned-requires-clause-plan : goal.planned-requires-clause-plan
 planned-requires-clause-plan c =
@@ -30,3 +30,9 @@ planned-requires-clause-plan c =
     let w = c.args.p.now.block_log in
     subst (λ q. IsSoundPlan q w plan) (sym c.in_ok-program.ensures.folded)
     (folded-sound (source_of c.args.program.now) w plan c.requires.plan)
+
+pub returns-clause-words : goal.returns-clause-words
+returns-clause-words c =
+    on_ok_weaker c.planned.result
+    (λ made. subst (λ q. BlockHasWords q.body) c.in_ok-program.ensures.folded c.in_ok-held.ensures.words)
+    c.planned.ensures

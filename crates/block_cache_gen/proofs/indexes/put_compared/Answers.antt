@@ -4,7 +4,7 @@ use Rattle.std.proofs.lemmas.Result.{on_ok_weaker}
 use Rattle.block_cache_gen.specs.Codes.{least_word}
 use Rattle.block_cache_gen.specs.Variables.{home_in}
 use Rattle.block_cache_gen.proofs.EmittedTrees.{compared_noted}
-use Rattle.block_cache_gen.proofs.accesses.put_compared.Goals as goal
+use Rattle.block_cache_gen.proofs.indexes.put_compared.Goals as goal
 
 pub returns-clause-appended : goal.returns-clause-appended
 returns-clause-appended c =

@@ -1,0 +1,89 @@
+ghost use Rattle.std.specs.Prelude.{◌≡◌, ◌≤◌, IfOk, OnOk, length};
+ghost use Rattle.src_tree.specs.Trees.{block_of_all, expr_tree, source_of, statement_of, test_of};
+ghost use Rattle.block_cache_gen.specs.ProgramWords.{BlockHasWords, StatementHasWords};
+ghost use Rattle.block_cache_gen.specs.TreeWords.{HasWords, TestHasWords};
+ghost use Rattle.code_gen.specs.HeldNumbers.{held_for, with_block, with_statement, with_test, with_tree};
+
+use gr_base::Memory;
+use held_registers::{Held, held_scalars, hold_number};
+use src_tree::{Expr, Guard, Program, Stmt};
+use std::alloc::Global;
+
+// Gives each number of an expression a register that has none, as long as one is left.
+fn hold_tree(held: &mut Vec<Held>, e: &Expr) -> Result<(), Memory>
+    requires few { length held.old.items ≤ 13 }
+    ensures held { OnOk result (held.new.items ≡ with_tree held.old.items (expr_tree e.now)) }
+    ensures few { OnOk result (length held.new.items ≤ 13) }
+    ensures words { OnOk result (HasWords (expr_tree e.now)) }
+{
+    match e {
+        Expr::Num(value) => hold_number(held, *value),
+        Expr::Var(_) => Ok(()),
+        Expr::Item(_, index) => hold_tree(held, index),
+        Expr::Bin(_, left, right) => {
+            hold_tree(held, left)?;
+            hold_tree(held, right)
+        }
+    }
+}
+
+fn hold_test(held: &mut Vec<Held>, guard: &Guard) -> Result<(), Memory>
+    requires few { length held.old.items ≤ 13 }
+    ensures held { OnOk result (held.new.items ≡ with_test held.old.items (test_of guard.now)) }
+    ensures few { OnOk result (length held.new.items ≤ 13) }
+    ensures words { OnOk result (TestHasWords (test_of guard.now)) }
+{
+    hold_tree(held, &guard.left)?;
+    hold_tree(held, &guard.right)
+}
+
+#[cycle(holding)]
+fn hold_statement(held: &mut Vec<Held>, s: &Stmt) -> Result<(), Memory>
+    requires few { length held.old.items ≤ 13 }
+    ensures held { OnOk result (held.new.items ≡ with_statement held.old.items (statement_of s.now)) }
+    ensures few { OnOk result (length held.new.items ≤ 13) }
+    ensures words { OnOk result (StatementHasWords (statement_of s.now)) }
+{
+    match s {
+        Stmt::Set(_, value) => hold_tree(held, value),
+        Stmt::Put(_, index, value) => {
+            hold_tree(held, value)?;
+            hold_tree(held, index)
+        }
+        Stmt::If(guard, first, second) => {
+            hold_test(held, guard)?;
+            hold_block(held, first.as_slice())?;
+            hold_block(held, second.as_slice())
+        }
+        Stmt::While(guard, body) => {
+            hold_test(held, guard)?;
+            hold_block(held, body.as_slice())
+        }
+    }
+}
+
+#[cycle(holding)]
+fn hold_block(held: &mut Vec<Held>, statements: &[Stmt]) -> Result<(), Memory>
+    requires few { length held.old.items ≤ 13 }
+    ensures held { OnOk result (held.new.items ≡ with_block held.old.items (block_of_all statements.now)) }
+    ensures few { OnOk result (length held.new.items ≤ 13) }
+    ensures words { OnOk result (BlockHasWords (block_of_all statements.now)) }
+{
+    for statement in statements {
+        hold_statement(held, statement)?;
+    }
+    Ok(())
+}
+
+/// What registers hold for the whole run of a program: its first scalars, then the numbers of its expressions in the order
+/// of their code. The only error is want of memory.
+#[tactic(auto, unfolding(crate::specs::HeldNumbers::held_for))]
+pub(crate) fn held_for(alloc: Global, program: &Program) -> Result<Vec<Held>, Memory>
+    requires few { length program.now.decls.items ≤ 256 }
+    ensures held { IfOk result (λ held. held.items ≡ held_for (source_of program.now)) }
+    ensures words { OnOk result (BlockHasWords (source_of program.now).body) }
+{
+    let mut held = held_scalars(alloc, program.decls.as_slice())?;
+    hold_block(&mut held, program.body.as_slice())?;
+    Ok(held)
+}
