@@ -119,11 +119,6 @@ static const struct variable *variable_of(const struct emitter *emitter, int32_t
     return &emitter->source->variables[variable];
 }
 
-static bool is_oblivious(const struct variable *variable)
-{
-    return variable->symbol.bank >= FIRST_OBLIVIOUS;
-}
-
 static void put_expr(struct emitter *emitter, const struct expr *expr, unsigned to, enum mode mode, uint32_t mask);
 
 /* Leaves the value of an expression in a register, and returns which: this one, unless a register holds the value for the whole
@@ -142,6 +137,15 @@ static uint32_t mask_with(const struct expr *expr, uint32_t mask, unsigned held,
     return held == to ? mask_behind(expr, mask, to) : mask;
 }
 
+/* Puts an operation on a register and a number. If no register holds the number for the whole run, another gets it first. */
+static void put_applied(struct emitter *emitter, uint8_t opcode, unsigned to, unsigned from, unsigned own, int64_t number)
+{
+    const unsigned held = register_of_number(&emitter->holding, number);
+    if (held == 0)
+        put_constant(emitter, own, number);
+    put_plain(emitter, opcode, to, from, held == 0 ? own : held);
+}
+
 /* Copies a value of a label. */
 static void put_copy(struct emitter *emitter, unsigned to, unsigned from, bool is_secret)
 {
@@ -151,12 +155,6 @@ static void put_copy(struct emitter *emitter, unsigned to, unsigned from, bool i
 static bool is_fixed(const struct variable *array, const struct expr *index)
 {
     return !is_oblivious(array) && index->kind == CONSTANT;
-}
-
-static bool is_masked(const struct variable *array)
-{
-    const uint32_t length = array->symbol.length;
-    return !is_oblivious(array) && (length & (length - 1)) == 0;
 }
 
 /* Whether an index is compared with the length of its array before the remainder is taken. */
@@ -182,15 +180,13 @@ static void put_compared(struct emitter *emitter, uint32_t length, unsigned to, 
 static void put_word(struct emitter *emitter, const struct variable *array, const struct expr *index, unsigned to,
                      enum mode mode, uint32_t mask)
 {
-    const uint32_t length = array->symbol.length;
     if (is_compared(emitter, array, index, mode)) {
         put_expr(emitter, index, to, mode, mask);
-        put_compared(emitter, length, to, mask);
+        put_compared(emitter, array->symbol.length, to, mask);
         return;
     }
     const unsigned held = put_operand(emitter, index, to, mode, mask);
-    put_constant(emitter, to + 1, is_masked(array) ? length - 1 : length);
-    put_plain(emitter, is_masked(array) ? AND : REMU, to, held, to + 1);
+    put_applied(emitter, is_masked(array) ? AND : REMU, to, held, to + 1, reducer_of(array));
 }
 
 /* Leaves the number of the word that an index names in a register, and that of its block in the next. */
@@ -206,10 +202,8 @@ static void put_place(struct emitter *emitter, const struct variable *array, con
         return;
     }
     put_word(emitter, array, index, to, mode, mask);
-    put_constant(emitter, to + 1, block_log);
-    put_plain(emitter, SHR, to + 1, to, to + 1);
-    put_constant(emitter, to + 2, symbol->block);
-    put_plain(emitter, ADD, to + 1, to + 1, to + 2);
+    put_applied(emitter, SHR, to + 1, to, to + 1, block_log);
+    put_applied(emitter, ADD, to + 1, to + 1, to + 2, symbol->block);
 }
 
 /* Leaves the number of the word that an index of a resident array names, in its block, in a register. */
@@ -222,10 +216,8 @@ static void put_resident_place(struct emitter *emitter, const struct variable *a
         return;
     }
     put_word(emitter, array, index, to, mode, mask);
-    if (symbol->word == 0)
-        return;
-    put_constant(emitter, to + 1, symbol->word);
-    put_plain(emitter, ADD, to, to, to + 1);
+    if (symbol->word != 0)
+        put_applied(emitter, ADD, to, to, to + 1, symbol->word);
 }
 
 /* Leaves the number of the word that an index names in a register, and its block in the array's slot. */
@@ -357,14 +349,24 @@ static bool is_by_same_number(const struct expr *one, const struct expr *other)
 
 static bool is_alike(const struct emitter *emitter, const struct expr *one, const struct expr *other);
 
-/* Whether accesses of two arrays show the same for any indexes that do: of one oblivious bank, or of resident arrays whose
- * indexes are reduced by the same operation and that are both at the beginning of a block, or neither. */
-static bool is_like(const struct variable *one, const struct variable *other)
+/* Whether registers hold two numbers, or neither. */
+static bool is_number_alike(const struct emitter *emitter, int64_t one, int64_t other)
 {
+    return (register_of_number(&emitter->holding, one) != 0) == (register_of_number(&emitter->holding, other) != 0);
+}
+
+/* Whether accesses of two arrays show the same for any indexes that do: of one oblivious bank, or of resident arrays whose
+ * indexes are reduced by the same operation and that are both at the beginning of a block, or neither. Registers hold the
+ * numbers of their code alike. */
+static bool is_like(const struct emitter *emitter, const struct variable *one, const struct variable *other)
+{
+    if (!is_number_alike(emitter, reducer_of(one), reducer_of(other)))
+        return false;
     if (is_oblivious(one))
-        return one->symbol.bank == other->symbol.bank;
+        return one->symbol.bank == other->symbol.bank && is_number_alike(emitter, one->symbol.block, other->symbol.block);
     return one->is_resident && other->is_resident && is_masked(one) == is_masked(other)
-           && (one->symbol.word == 0) == (other->symbol.word == 0);
+           && (one->symbol.word == 0) == (other->symbol.word == 0)
+           && is_number_alike(emitter, one->symbol.word, other->symbol.word);
 }
 
 /* Whether accesses of two arrays show the same. */
@@ -372,7 +374,7 @@ static bool shows_same(const struct emitter *emitter, int32_t array, const struc
                        const struct expr *other_index)
 {
     const struct variable *one = variable_of(emitter, array), *other = variable_of(emitter, other_array);
-    if (is_like(one, other) && is_alike(emitter, index, other_index))
+    if (is_like(emitter, one, other) && is_alike(emitter, index, other_index))
         return true;
     return !is_oblivious(one) && array == other_array && is_same(index, other_index);
 }

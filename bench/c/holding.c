@@ -4,6 +4,7 @@
 #include "holding.h"
 
 #include "files.h"
+#include "layout.h"
 
 struct holding hold_nothing(const struct source *source)
 {
@@ -81,6 +82,15 @@ static void hold_numbers_in(struct holding *holding, const struct block *block, 
     }
 }
 
+/* The numbers of the accesses to an array: the one by which an index is reduced, and its first word in a block. */
+static void hold_numbers_to(struct holding *holding, const struct variable *array, unsigned *next)
+{
+    if (array->symbol.length == 1)
+        return;
+    hold_number(holding, reducer_of(array), next);
+    hold_number(holding, array->symbol.word, next);
+}
+
 struct holding hold_for(const struct source *source)
 {
     struct holding holding = hold_nothing(source);
@@ -89,6 +99,9 @@ struct holding hold_for(const struct source *source)
     for (size_t i = 0; i < source->count && next < REGISTERS; i++)
         if (!source->variables[i].symbol.is_array)
             holding.variables[i] = (uint8_t)next++;
+    for (size_t i = 0; i < source->count; i++)
+        if (source->variables[i].symbol.is_array)
+            hold_numbers_to(&holding, &source->variables[i], &next);
     hold_numbers_in(&holding, &source->body, &next);
     return holding;
 }

@@ -1,7 +1,7 @@
 /*
  * What registers hold for the whole run of code that is made with `--fast`: SECRET_ZERO holds 0, but is secret for the check,
  * so that a sum with it copies a value and makes it secret; PUBLIC_ZERO holds the number 0; the registers from FIRST_HELD on
- * hold scalars in order of declaration, then numbers. Expressions use the registers below these.
+ * hold scalars in order of declaration, then the numbers of accesses to arrays, then numbers of the program. Expressions use the registers below these.
  */
 #ifndef HOLDING_H
 #define HOLDING_H

@@ -104,3 +104,19 @@ void lay_out(struct source *source, uint8_t block_log, bool is_fast, struct obje
         object->symbols[i] = source->variables[i].symbol;
     qsort(object->symbols, source->count, sizeof object->symbols[0], compare_places);
 }
+
+bool is_oblivious(const struct variable *variable)
+{
+    return variable->symbol.bank >= FIRST_OBLIVIOUS;
+}
+
+bool is_masked(const struct variable *array)
+{
+    const uint32_t length = array->symbol.length;
+    return !is_oblivious(array) && (length & (length - 1)) == 0;
+}
+
+int64_t reducer_of(const struct variable *array)
+{
+    return is_masked(array) ? array->symbol.length - 1 : array->symbol.length;
+}

@@ -16,6 +16,15 @@ enum { FIRST_OBLIVIOUS = 2, OBLIVIOUS_BANKS = 8 };
  */
 void lay_out(struct source *source, uint8_t block_log, bool is_fast, struct object *object);
 
+/* Whether a variable is stored in an oblivious bank. */
+bool is_oblivious(const struct variable *variable);
+
+/* Whether an index of an array is reduced by a mask: outside of oblivious banks, if the length is a power of two. */
+bool is_masked(const struct variable *array);
+
+/* The number by which an index of an array is reduced: 1 less than the length for a mask, otherwise the length. */
+int64_t reducer_of(const struct variable *array);
+
 /* The blocks that an array takes. */
 uint32_t blocks_for(const struct symbol *array, const struct object *object);
 

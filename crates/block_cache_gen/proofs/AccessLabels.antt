@@ -1,5 +1,5 @@
 -- The labels of the registers in the public code of an access: the number of the word, that of its block, and the load.
-use Rattle.std.proofs.Common.{◌≡◌, ◌≢◌, ℕ, zero, suc, ◌+◌, ◌-◌, ◌<◌, ◌≤◌, Bool, true, false, not, ◌||◌, ◌&&◌, ◌==◌, ℤ, pos, ◌+ℤ◌, List, [], ◌∷◌, length, Some, refl, sym, ap, ◌∙◌, subst, arith}
+use Rattle.std.proofs.Common.{◌≡◌, ◌≢◌, ℕ, zero, suc, ◌+◌, ◌-◌, ◌<◌, ◌≤◌, Bool, true, false, not, ◌||◌, ◌&&◌, ◌==◌, ℤ, pos, ◌+ℤ◌, List, [], ◌∷◌, ◌++◌, length, Option, None, Some, refl, sym, ap, ◌∙◌, subst, arith}
 use Rattle.std.specs.Prelude.{if◌then◌else◌}
 use Rattle.std.proofs.lemmas.Bool.{ne_eqb}
 use Rattle.gr_word.specs.declared.operations.Op.{Op}
@@ -10,10 +10,14 @@ use Rattle.lt_isa.specs.declared.instructions.Instr.TheVariants.{Li, Alu}
 use Rattle.lt_isa.specs.Object.{Parts}
 use Rattle.trace_patterns.specs.Known.{Known, is_secret, bank_known, set_secret, set_bank, FitsClaim}
 use Rattle.trace_patterns.specs.Rules.{Falls, shows_block, claimed_at}
-use Rattle.stretches.proofs.Passed.{GoesOn, NoMore, One, rules-li, rules-alu, rules-idb, rules-ldb, branch-falls, secret-same, secret-other}
-use Rattle.block_cache_gen.specs.Homes.{Home}
-use Rattle.block_cache_gen.specs.Codes.{is_masked, least_word, compared_code, reduced_code, offset_code, shift_code, fixed_code, load_code}
-use Rattle.block_cache_gen.proofs.KeptRegisters.{SameBelow, same-itself, same-set, same-then, or_false}
+use Rattle.stretches.proofs.Passed.{GoesOn, NoMore, One, goes-then, rules-li, rules-alu, rules-idb, rules-ldb, branch-falls, secret-same, secret-other}
+use Rattle.gr_word.specs.declared.variables.Label.TheVariants.{Public}
+use Rattle.held_registers.specs.Held.{IsSoundHeld}
+use Rattle.held_registers.proofs.Found.{number-held}
+use Rattle.block_cache_gen.specs.Carries.{Carries}
+use Rattle.block_cache_gen.specs.Homes.{Home, Setting, label_by}
+use Rattle.block_cache_gen.specs.Codes.{operand_part, operand_register, held_number, applied_code, reducing, reducer, least_word, compared_code, reduced_code, shift_code, fixed_code, load_code}
+use Rattle.block_cache_gen.proofs.KeptRegisters.{SameBelow, same-itself, same-lower, same-set, same-then, carries-same, or_false}
 
 -- After straight code a register and the next have a label, and the registers below are as before.
 pub record Labelled (o : Parts) (p : ℕ) (code : List Instr) (to : ℕ) (before : Known) (word block : Bool) : Type 0 where
@@ -30,12 +34,87 @@ pub record Placed (o : Parts) (p : ℕ) (code : List Instr) (to : ℕ) (before :
   pub same : SameBelow to before after
   pub word_is : is_secret after to ≡ word
 
+-- an operation on a register and a number: the result has the label of the register
+pub applied-placed : (o : Parts) (f : Setting) → IsSoundHeld f.decls f.held → (op : Op) (to from own : ℕ) (z : ℤ) (p : ℕ)
+    (k : Known) → Carries f k → to ≤ own → own < 19 → from ≢ own
+    → Placed o p (applied_code f op to from own z) to k (is_secret k from)
+applied-placed o f sound op to from own z p k carries le low apart = by (held_number f z) refl
+  where
+    by : (q : Option ℕ) → held_number f z ≡ q
+        → Placed o p (operand_part q (Li own z ∷ []) ++ Alu op to from (operand_register q own) ∷ []) to k (is_secret k from)
+    by None is =
+        let sized = carries.registers in
+        let one = set_secret k own false in
+        let first = same-set to k k own false le low (same-itself to k) in
+        let size : length one.secret ≡ 32 = first.sized ∙ sized in
+        record {
+          after = set_secret one to (is_secret one from || is_secret one own);
+          goes = One p _ _ k one _ (rules-li o p k own z)
+              (One (p + 1) _ _ one _ _ (rules-alu o (p + 1) one op to from own) (NoMore (p + 1 + 1) _));
+          same = same-set to k one to _ (omega arith) (omega arith) first;
+          word_is = secret-same one to (is_secret one from || is_secret one own) (omega arith)
+              ∙ ap (λ (b : Bool). b || is_secret one own) (secret-other k own from false apart)
+              ∙ ap (λ (b : Bool). is_secret k from || b) (secret-same k own false (omega arith))
+              ∙ or_false (is_secret k from);
+        }
+    by (Some r) is =
+        let sized = carries.registers in
+        let label = ap (label_by f.decls) (number-held f.held z r is) in
+        record {
+          after = set_secret k to (is_secret k from || is_secret k r);
+          goes = One p _ _ k _ _ (rules-alu o p k op to from r) (NoMore (p + 1) _);
+          same = same-set to k k to _ (omega arith) (omega arith) (same-itself to k);
+          word_is = secret-same k to (is_secret k from || is_secret k r) (omega arith)
+              ∙ ap (λ (b : Bool). is_secret k from || b) (carries.held r Public label)
+              ∙ or_false (is_secret k from);
+        }
+
+-- the code of the numbers of words and blocks
+module _ (o : Parts) (f : Setting) (sound : IsSoundHeld f.decls f.held) (to : ℕ) (low : to + 2 < 19) where
+  apart_own : to ≢ to + 1
+  apart_own e = absurd (omega (arith, e))
+
+  -- the number of the array's first word is added, unless that is 0
+  pub offset_by : (h : Home) (p : ℕ) (k : Known) → Carries f k → (first : Bool)
+      → Placed o p (if first then [] else applied_code f Add to to (to + 1) (pos h.word)) to k (is_secret k to)
+  offset_by h p k carries true =
+      record { after = k; goes = NoMore p k; same = same-itself to k; word_is = refl }
+  offset_by h p k carries false =
+      applied-placed o f sound Add to to (to + 1) (pos h.word) p k carries (omega arith) (omega arith) apart_own
+
+  -- without a comparison
+  pub reduced-numbered : (h : Home) (from : ℕ) → from ≢ to + 1 → (p : ℕ) (k : Known) → Carries f k
+      → Placed o p (reduced_code f h to from) to k (is_secret k from)
+  reduced-numbered h from apart p k carries =
+      applied-placed o f sound (reducing h) to from (to + 1) (reducer h) p k carries (omega arith) (omega arith) apart
+
+  -- the number of the block is found
+  pub shifted-numbered : (h : Home) (p : ℕ) (k : Known) → Carries f k
+      → Labelled o p (shift_code f h to) to k (is_secret k to) (is_secret k to)
+  shifted-numbered h p k carries =
+      let log = pos f.profile.block_log in
+      let shift = applied_code f Shr (to + 1) to (to + 1) log in
+      let first = applied-placed o f sound Shr (to + 1) to (to + 1) log p k carries (omega arith) (omega arith)
+      apart_own in
+      let carried = carries-same f (to + 1) k first.after carries first.same in
+      let second = applied-placed o f sound Add (to + 1) (to + 1) (to + 2) (pos h.block) (p + length shift) first.after
+      carried (omega arith) (omega arith) (λ e. absurd (omega (arith, e))) in
+      let both = same-then (to + 1) k first.after second.after first.same second.same in
+      record {
+        after = second.after;
+        goes = goes-then o p shift (applied_code f Add (to + 1) (to + 1) (to + 2) (pos h.block)) k first.after
+            second.after first.goes second.goes;
+        same = same-lower to (to + 1) k second.after (omega arith) both;
+        word_is = both.registers to (omega arith);
+        block_is = second.word_is ∙ first.word_is;
+      }
+
 module _ (o : Parts) (to : ℕ) (low : to + 2 < 19) where
-  -- the number of the word, in a register: the index in a register modulo the length
-  module _ (from : ℕ) (apart : from ≢ to + 1) (k : Known) (sized : length k.secret ≡ 32) where
+  -- the remainder of an index in a register
+  module _ (k : Known) (sized : length k.secret ≡ 32) where
     reduced_known : Known
     reduced_known =
-        let one = set_secret k (to + 1) false in set_secret one to (is_secret one from || is_secret one (to + 1))
+        let one = set_secret k (to + 1) false in set_secret one to (is_secret one to || is_secret one (to + 1))
 
     first_set : SameBelow to k (set_secret k (to + 1) false)
     first_set = same-set to k k (to + 1) false (omega arith) (omega arith) (same-itself to k)
@@ -44,121 +123,23 @@ module _ (o : Parts) (to : ℕ) (low : to + 2 < 19) where
     unfolding reduced_known
     reduced_same = same-set to k (set_secret k (to + 1) false) to _ (omega arith) (omega arith) first_set
 
-    reduced_word : is_secret reduced_known to ≡ is_secret k from
+    reduced_word : is_secret reduced_known to ≡ is_secret k to
     unfolding reduced_known
     reduced_word =
         let one = set_secret k (to + 1) false in
         let size : length one.secret ≡ 32 = first_set.sized ∙ sized in
-        secret-same one to (is_secret one from || is_secret one (to + 1)) (omega arith)
-        ∙ ap (λ (b : Bool). b || is_secret one (to + 1)) (secret-other k (to + 1) from false apart)
-        ∙ ap (λ (b : Bool). is_secret k from || b) (secret-same k (to + 1) false (omega arith))
-        ∙ or_false (is_secret k from)
-
-    -- an operation on it and a number
-    applied_by : (op : Op) (z : ℤ) (p : ℕ)
-        → GoesOn o p (Li (to + 1) z ∷ Alu op to from (to + 1) ∷ []) k reduced_known
-    unfolding reduced_known
-    applied_by op z p =
-        let one = set_secret k (to + 1) false in
-        One p _ _ k one _ (rules-li o p k (to + 1) z)
-        (One (p + 1) _ _ one _ _ (rules-alu o (p + 1) one op to from (to + 1)) (NoMore (p + 1 + 1) _))
-
-    reduced_by : (h : Home) (p : ℕ) (masked : Bool)
-        → GoesOn o p (if masked then Li (to + 1) (pos (h.length - 1)) ∷ Alu And to from (to + 1) ∷ []
-        else Li (to + 1) (pos h.length) ∷ Alu Remu to from (to + 1) ∷ []) k reduced_known
-    reduced_by h p true = applied_by And (pos (h.length - 1)) p
-    reduced_by h p false = applied_by Remu (pos h.length) p
-
-  module _ (k : Known) (sized : length k.secret ≡ 32) where
-    one_set : SameBelow to k (set_secret k (to + 1) false)
-    one_set = same-set to k k (to + 1) false (omega arith) (omega arith) (same-itself to k)
-
-    -- the number of its block, in the next
-    block_known : Known
-    block_known =
-        let one = set_secret k (to + 1) false in
-        let two = set_secret one (to + 1) (is_secret one to || is_secret one (to + 1)) in
-        let three = set_secret two (to + 2) false in
-        set_secret three (to + 1) (is_secret three (to + 1) || is_secret three (to + 2))
-
-    block_same : SameBelow to k block_known
-    unfolding block_known
-    block_same =
-        let one = set_secret k (to + 1) false in
-        let two = set_secret one (to + 1) (is_secret one to || is_secret one (to + 1)) in
-        let three = set_secret two (to + 2) false in
-        same-set to k three (to + 1) _ (omega arith) (omega arith)
-        (same-set to k two (to + 2) false (omega arith) (omega arith)
-        (same-set to k one (to + 1) _ (omega arith) (omega arith) one_set))
-
-    block_word : is_secret block_known to ≡ is_secret k to
-    unfolding block_known
-    block_word =
-        let one = set_secret k (to + 1) false in
-        let two = set_secret one (to + 1) (is_secret one to || is_secret one (to + 1)) in
-        let three = set_secret two (to + 2) false in
-        secret-other three (to + 1) to (is_secret three (to + 1) || is_secret three (to + 2)) (λ e. absurd
-        (omega arith))
-        ∙ secret-other two (to + 2) to false (λ e. absurd (omega arith))
-        ∙ secret-other one (to + 1) to (is_secret one to || is_secret one (to + 1)) (λ e. absurd (omega arith))
-        ∙ secret-other k (to + 1) to false (λ e. absurd (omega arith))
-
-    block_block : is_secret block_known (to + 1) ≡ is_secret k to
-    unfolding block_known
-    block_block =
-        let one = set_secret k (to + 1) false in
-        let two = set_secret one (to + 1) (is_secret one to || is_secret one (to + 1)) in
-        let three = set_secret two (to + 2) false in
-        let first = same-set to k one (to + 1) (is_secret one to || is_secret one (to + 1)) (omega arith) (omega arith) one_set in
-        let second = same-set to k two (to + 2) false (omega arith) (omega arith) first in
-        let size1 : length one.secret ≡ 32 = one_set.sized ∙ sized in
-        let size2 : length two.secret ≡ 32 = first.sized ∙ sized in
-        let size3 : length three.secret ≡ 32 = second.sized ∙ sized in
-        secret-same three (to + 1) (is_secret three (to + 1) || is_secret three (to + 2)) (omega arith)
-        ∙ ap (λ (b : Bool). is_secret three (to + 1) || b) (secret-same two (to + 2) false (omega arith))
-        ∙ or_false (is_secret three (to + 1))
-        ∙ secret-other two (to + 2) (to + 1) false (λ e. absurd (omega arith))
-        ∙ secret-same one (to + 1) (is_secret one to || is_secret one (to + 1)) (omega arith)
+        secret-same one to (is_secret one to || is_secret one (to + 1)) (omega arith)
         ∙ ap (λ (b : Bool). b || is_secret one (to + 1)) (secret-other k (to + 1) to false (λ e. absurd (omega arith)))
         ∙ ap (λ (b : Bool). is_secret k to || b) (secret-same k (to + 1) false (omega arith))
         ∙ or_false (is_secret k to)
 
-    block_by : (block_log : ℕ) (h : Home) (p : ℕ) → GoesOn o p (shift_code block_log h to) k block_known
-    unfolding block_known
-    block_by block_log h p =
+    applied_by : (op : Op) (z : ℤ) (p : ℕ)
+        → GoesOn o p (Li (to + 1) z ∷ Alu op to to (to + 1) ∷ []) k reduced_known
+    unfolding reduced_known
+    applied_by op z p =
         let one = set_secret k (to + 1) false in
-        let two = set_secret one (to + 1) (is_secret one to || is_secret one (to + 1)) in
-        let three = set_secret two (to + 2) false in
-        One p _ _ k one _ (rules-li o p k (to + 1) (pos block_log))
-        (One (p + 1) _ _ one two _ (rules-alu o (p + 1) one Shr (to + 1) to (to + 1))
-        (One (p + 1 + 1) _ _ two three _ (rules-li o (p + 1 + 1) two (to + 2) (pos h.block))
-        (One (p + 1 + 1 + 1) _ _ three _ _ (rules-alu o (p + 1 + 1 + 1) three Add (to + 1) (to + 1) (to + 2))
-        (NoMore (p + 1 + 1 + 1 + 1) _))))
-
-  own : to ≢ to + 1
-  own e = absurd (omega (arith, e))
-
-  -- the number of the array's first word is added, unless that is 0
-  pub offset_by : (h : Home) (p : ℕ) (k : Known) → length k.secret ≡ 32 → (first : Bool)
-      → Placed o p (if first then [] else Li (to + 1) (pos h.word) ∷ Alu Add to to (to + 1) ∷ []) to k (is_secret k to)
-  offset_by h p k sized true =
-      record { after = k; goes = NoMore p k; same = same-itself to k; word_is = refl }
-  offset_by h p k sized false = record {
-    after = reduced_known to own k sized;
-    goes = applied_by to own k sized Add (pos h.word) p;
-    same = reduced_same to own k sized;
-    word_is = reduced_word to own k sized;
-  }
-
-  -- without a comparison
-  pub reduced-numbered : (h : Home) (from : ℕ) → from ≢ to + 1 → (p : ℕ) (k : Known) → length k.secret ≡ 32
-      → Placed o p (reduced_code h to from) to k (is_secret k from)
-  reduced-numbered h from apart p k sized = record {
-    after = reduced_known from apart k sized;
-    goes = reduced_by from apart k sized h p (is_masked h);
-    same = reduced_same from apart k sized;
-    word_is = reduced_word from apart k sized;
-  }
+        One p _ _ k one _ (rules-li o p k (to + 1) z)
+        (One (p + 1) _ _ one _ _ (rules-alu o (p + 1) one op to to (to + 1)) (NoMore (p + 1 + 1) _))
 
   -- A comparison of a public index with the length, and the remainder if it isn't below it.
   module _ (h : Home) (k : Known) (sized : length k.secret ≡ 32) (public : is_secret k to ≡ false) where
@@ -213,12 +194,12 @@ module _ (o : Parts) (to : ℕ) (low : to + 2 < 19) where
 
     -- what is known after the remainder
     pub divided_known : Known
-    divided_known = reduced_known to own compared_known compared_sized
+    divided_known = reduced_known compared_known compared_sized
 
     pub divided_same : SameBelow to k divided_known
     unfolding divided_known
     divided_same =
-        same-then to k compared_known (reduced_known to own compared_known compared_sized)
+        same-then to k compared_known (reduced_known compared_known compared_sized)
         (record {
           sized = compared_same.sized;
           count = compared_same.count;
@@ -226,11 +207,11 @@ module _ (o : Parts) (to : ℕ) (low : to + 2 < 19) where
           above = compared_same.above;
           slots = compared_same.slots;
         })
-        (reduced_same to own compared_known compared_sized)
+        (reduced_same compared_known compared_sized)
 
     pub divided_word : is_secret divided_known to ≡ false
     unfolding divided_known
-    divided_word = reduced_word to own compared_known compared_sized ∙ compared_word
+    divided_word = reduced_word compared_known compared_sized ∙ compared_word
 
     -- both are passed: what is known after the comparison fits the claim of the note that follows
     pub compared-by : (p : ℕ) (claimed : Known) → p + 6 < length o.code → claimed_at o (p + 6) ≡ Some claimed
@@ -248,18 +229,7 @@ module _ (o : Parts) (to : ℕ) (low : to + 2 < 19) where
         (branch-falls o (p + 1 + 1 + 1) three claimed Lt (to + 1) (to + 2) (pos 3) compared_sum compared_length
         (subst (λ (q : ℕ). q < length o.code) (sym target) inside)
         (subst (λ (q : ℕ). claimed_at o q ≡ Some claimed) (sym target) noted) fit)
-        (applied_by to own three compared_sized Remu (pos h.length) (p + 1 + 1 + 1 + 1)))))
-
-  -- the number of the block is found
-  pub shifted-numbered : (block_log : ℕ) (h : Home) (p : ℕ) (k : Known) → length k.secret ≡ 32
-      → Labelled o p (shift_code block_log h to) to k (is_secret k to) (is_secret k to)
-  shifted-numbered block_log h p k sized = record {
-    after = block_known k sized;
-    goes = block_by k sized block_log h p;
-    same = block_same k sized;
-    word_is = block_word k sized;
-    block_is = block_block k sized;
-  }
+        (applied_by three compared_sized Remu (pos h.length) (p + 1 + 1 + 1 + 1)))))
 
   -- both where the index is a number
   pub fixed-numbered : (block_log : ℕ) (h : Home) (z : ℤ) (p : ℕ) (k : Known) → length k.secret ≡ 32

@@ -221,8 +221,8 @@ module _ (o : Parts) (fits : IsInRange o) (f : Setting) (homes : HasHomes o f) (
       → StandsFor f s store → to + 2 < 19 → from ≢ to + 1
       → RunsValue o f store mode to from i code s → (near : Bool) → (near ≡ true → from ≡ to) → (fixed : Option ℤ)
       → fixed_index (home_of f x) i ≡ fixed
-      → StandsAt o s.place (located_code near f.profile.block_log (home_of f x) to from fixed code)
-      → RunsThrough o s (located_code near f.profile.block_log (home_of f x) to from fixed code)
+      → StandsAt o s.place (located_code near f (home_of f x) to from fixed code)
+      → RunsThrough o s (located_code near f (home_of f x) to from fixed code)
       (seen_of_all mode s.banks s.slots (accesses f store i))
       (Finds f store (accesses f store i) to (word_number f store x (evaluated f.decls store i))
       (access_of f store x (evaluated f.decls store i)).block s)
@@ -240,7 +240,7 @@ module _ (o : Parts) (fits : IsInRange o) (f : Setting) (homes : HasHomes o f) (
       (runs-weaker s (fixed_code f.profile.block_log h to z) [] []
       (Locates to (fixed_word h z) (h.block + fixed_word h z / w) s)
       (Finds f store [] to n (h.block + n / w) s)
-      (runs-fixed o fits f.profile.block_log h to z s shaped small at)
+      (runs-fixed o fits f store f.profile.block_log h to z s shaped small at)
       refl
       (λ t shape locates. record {
         word = locates.word ∙ ap pos (word_number-is z);
@@ -254,26 +254,26 @@ module _ (o : Parts) (fits : IsInRange o) (f : Setting) (homes : HasHomes o f) (
       let h = home_of f x in
       let home = homes.arrays x label known turn in
       let w = words_a_block f in
-      let log = f.profile.block_log in
       let index = evaluated f.decls store i in
       let n = word_number f store x index in
       let before = accesses f store i in
       let seen = seen_of_all mode s.banks s.slots before in
       let Found : State → Type 0 = Finds f store before to n (h.block + n / w) s in
-      let log_small : log < 64 = omega (arith, (profile-fits fits homes).block_log) in
+      let log_small : f.profile.block_log < 64 = omega (arith, (profile-fits fits homes).block_log) in
       let block_small : h.block + n / w < 2 ^ 63 =
       omega (arith, block-small o fits f homes label h home n (word-within index)) in
-      let number = numbered_code near h to from in
-      runs-weaker s (code ++ (number ++ shift_code log h to)) (seen ++ []) seen Found Found
-      (runs-append s code (number ++ shift_code log h to) seen [] (LeavesAt f store before to from index s) Found at run
+      let number = numbered_code near f h to from in
+      runs-weaker s (code ++ (number ++ shift_code f h to)) (seen ++ []) seen Found Found
+      (runs-append s code (number ++ shift_code f h to) seen [] (LeavesAt f store before to from index s) Found at run
       (λ t shape leaves at'.
-      runs-append t number (shift_code log h to) [] []
+      runs-append t number (shift_code f h to) [] []
       (Reduces to (unsigned_of index % h.length) t) Found at'
-      (runs-numbered o fits near h to from t index shape leaves.value other own small home.length.0 home.length.1)
+      (runs-numbered o fits f store near h to from t index shape leaves.stands leaves.value other own small home.length.0 home.length.1)
       (λ u shape' reduces at''.
       let word : register u to ≡ pos n = reduces.word ∙ ap pos (word_number-is index) in
-      runs-weaker u (shift_code log h to) [] [] (Locates to n (h.block + n / w) u) Found
-      (runs-block o fits log h to u n shape' word small log_small block_small at'')
+      let stands' = stands-like f t u store reduces.keeps.slots reduces.keeps.banks reduces.keeps.above leaves.stands in
+      runs-weaker u (shift_code f h to) [] [] (Locates to n (h.block + n / w) u) Found
+      (runs-block o fits f store h to u n shape' stands' word small log_small block_small at'')
       refl
       (λ v shape'' locates.
       let banks = locates.keeps.banks ∙ reduces.keeps.banks in
@@ -295,9 +295,9 @@ module _ (o : Parts) (fits : IsInRange o) (f : Setting) (homes : HasHomes o f) (
   pub runs-access : (near : Bool) (mode : Mode) (to from : ℕ) (i : Tree) (code : List Instr) (s : State)
       → IsShaped o s → StandsFor f s store → to + 2 < 19 → from ≢ to + 1 → (near ≡ true → from ≡ to)
       → RunsValue o f store mode to from i code s → StandsAt o s.place
-      (access_by false near f.profile.block_log mode (home_of f x) to from (fixed_index (home_of f x) i) code)
+      (access_by false near f mode (home_of f x) to from (fixed_index (home_of f x) i) code)
       → RunsThrough o s
-      (access_by false near f.profile.block_log mode (home_of f x) to from (fixed_index (home_of f x) i) code)
+      (access_by false near f mode (home_of f x) to from (fixed_index (home_of f x) i) code)
       (seen_of_all mode s.banks s.slots (accesses f store i ++ access_of f store x (evaluated f.decls store i) ∷ []))
       (Accesses f store (accesses f store i)
       (access_of f store x (evaluated f.decls store i)) to (word_number f store x (evaluated f.decls store i)) s)
@@ -305,13 +305,12 @@ module _ (o : Parts) (fits : IsInRange o) (f : Setting) (homes : HasHomes o f) (
       let h = home_of f x in
       let home = homes.arrays x label known turn in
       let w = words_a_block f in
-      let log = f.profile.block_log in
       let fixed = fixed_index h i in
       let index = evaluated f.decls store i in
       let n = word_number f store x index in
       let before = accesses f store i in
       let a = access_of f store x index in
-      let located = located_code near log h to from fixed code in
+      let located = located_code near f h to from fixed code in
       let load = load_code (skips mode h) h to in
       let first = seen_of_all mode s.banks s.slots before in
       let second = seen_of mode s.banks (slots_after s.banks s.slots before) a in

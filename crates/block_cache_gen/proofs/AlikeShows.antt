@@ -1,5 +1,5 @@
 -- Alike expressions, and assignments that pair, show the same in secret code and leave the same in the slots.
-use Rattle.std.proofs.Common.{◌≡◌, ℕ, ◌≤◌, ◌==◌, Bool, true, false, ◌&&◌, ℤ, List, [], ◌∷◌, ◌++◌, Option, Some, None, refl, sym, ap, ◌∙◌, arith}
+use Rattle.std.proofs.Common.{◌≡◌, ℕ, ◌≤◌, ◌==◌, Bool, true, false, ◌&&◌, ℤ, pos, List, [], ◌∷◌, ◌++◌, Option, Some, None, refl, sym, ap, ◌∙◌, arith}
 use Rattle.std.specs.Prelude.{if◌then◌else◌, is_some}
 use Rattle.std.proofs.lemmas.Bool.{le-ltb, ne_eqb}
 use Rattle.gr_word.specs.declared.operations.Op.{Op}
@@ -17,11 +17,11 @@ use Rattle.trace_patterns.specs.Events.{Oram}
 use Rattle.stretches.specs.Shows.{Show, Gap, Seen, pattern_of}
 use Rattle.trace_patterns.specs.SymStates.{SymSlot, OramSlot}
 use Rattle.block_cache_gen.specs.Homes.{Home, Setting, home_of, register_for, HasHomes}
-use Rattle.block_cache_gen.specs.Codes.{is_cached, is_masked, is_power, literal, fixed_index, operand, operand_part, operand_unless, left_operand, steps_at}
+use Rattle.block_cache_gen.specs.Codes.{is_cached, is_masked, is_power, literal, fixed_index, held_number, reducing, reducer, operand, operand_part, operand_unless, left_operand, steps_at}
 use Rattle.strength_reduction.specs.Steps.{Step}
 use Rattle.block_cache_gen.proofs.StepsAt.{not-stepped}
-use Rattle.block_cache_gen.specs.PatternsOf.{operand_tree, scalar_shows, write_shows, operation_gap, word_gap, reducing, block_tree, found_shows, plain_loaded, encrypted_loaded, block_loaded, load_shows, placed_shows, shows_by, loads_by, stored_by, Loads, then_loads, one_load, index_loads, no_loads, operation_shows, operation_loads, element_slot, access_shows, access_loads, tree_of_expr, shows_of_expr, slots_of_expr, shows_of_set, slots_of_set, pattern_of_expr, pattern_of_set}
-use Rattle.block_cache_gen.specs.Alike.{is_product, InOneBank, AreReducedAlike, Residents, ToResidents, Alike, Numbers, Scalars, Oblivious, Same, Operations, ByNumber, Pair, ToScalars, ToOblivious, ToSame}
+use Rattle.block_cache_gen.specs.PatternsOf.{applied_shows, operand_tree, scalar_shows, write_shows, operation_gap, word_gap, block_tree, found_shows, plain_loaded, encrypted_loaded, block_loaded, load_shows, placed_shows, shows_by, loads_by, stored_by, Loads, then_loads, one_load, index_loads, no_loads, operation_shows, operation_loads, element_slot, access_shows, access_loads, tree_of_expr, shows_of_expr, slots_of_expr, shows_of_set, slots_of_set, pattern_of_expr, pattern_of_set}
+use Rattle.block_cache_gen.specs.Alike.{is_product, AreNumbersAlike, InOneBank, AreReducedAlike, Residents, ToResidents, Alike, Numbers, Scalars, Oblivious, Same, Operations, ByNumber, Pair, ToScalars, ToOblivious, ToSame}
 use Rattle.bank_alloc.proofs.Apart.{scalar_bank-lt}
 use Rattle.block_cache_gen.proofs.HomeFacts.{serves-oblivious}
 
@@ -58,33 +58,40 @@ module _ (f : Setting) (h : Home) (oblivious : 2 ≤ h.bank) where
   oblivious-reducing : reducing h ≡ Remu
   oblivious-reducing = ap (λ (b : Bool). if (b && is_power h.length) then And else Remu) not_cached
 
+  -- the cycles of finding a word and its block
+  abbrev oblivious-found : Op → List Show → List Show → List Show
+  oblivious-found op reduced block =
+      (reduced ++ operation_gap f op ∷ [])
+      ++ (applied_shows f Shr (pos f.profile.block_log) ++ (block ++ operation_gap f Add ∷ []))
+
   oblivious-loaded : (block : Option Value) → block_loaded f h.bank block ≡ OramSlot h.bank
   oblivious-loaded block =
       let ram : is_ram h.bank ≡ false = ne_eqb h.bank 0 (λ e. absurd (omega arith)) in
       let eram : is_eram h.bank ≡ false = ne_eqb h.bank 1 (λ e. absurd (omega arith)) in
       λ i. if ram i then plain_loaded f block else (if eram i then encrypted_loaded f block else OramSlot h.bank)
 
+  -- the cycles of a number that an instruction sets, unless a register holds it
+  abbrev set_shows : ℤ → List Show
+  set_shows z = operand_part (held_number f z) (Gap 1 ∷ [])
+
   -- what its access shows and loads
-  abbrev oblivious_shows : ℕ → List Show → List Show
-  oblivious_shows bank shows =
-      (shows
-      ++ (Gap 1 ∷ operation_gap f Remu ∷ Gap 1 ∷ operation_gap f Shr ∷ Gap 1 ∷ operation_gap f Add ∷ []))
-      ++ Seen (Oram bank) ∷ []
+  abbrev oblivious_shows : ℕ → (reduced block shows : List Show) → List Show
+  oblivious_shows bank reduced block shows =
+      (shows ++ oblivious-found Remu reduced block) ++ Seen (Oram bank) ∷ []
 
   oblivious-slot : (i : Tree) (index : Option Value) → element_slot f h (fixed_index h i) index ≡ OramSlot h.bank
   oblivious-slot i index = oblivious-loaded (block_tree f h (fixed_index h i) index)
 
   oblivious-shows : (i : Tree) (index : Option Value) (shows : List Show)
-      → shows_by false f h (fixed_index h i) index shows ≡ oblivious_shows h.bank shows
+      → shows_by false f h (fixed_index h i) index shows
+      ≡ oblivious_shows h.bank (set_shows (reducer h)) (set_shows (pos h.block)) shows
   oblivious-shows i index shows =
       let op = oblivious-reducing in
       let fixed = oblivious-fixed i in
       let slot = oblivious-slot i index in
       (λ j. found_shows f h (fixed j) shows ++ load_shows (slot j))
       ∙ λ j.
-      (shows
-      ++ (Gap 1 ∷ operation_gap f (op j) ∷ Gap 1 ∷ operation_gap f Shr ∷ Gap 1 ∷ operation_gap f Add ∷ []))
-      ++ Seen (Oram h.bank) ∷ []
+      (shows ++ oblivious-found (op j) (set_shows (reducer h)) (set_shows (pos h.block))) ++ Seen (Oram h.bank) ∷ []
 
   oblivious-loads : (i : Tree) (index : Option Value) (loads : Loads)
       → loads_by false f h (fixed_index h i) index loads ≡ then_loads loads (one_load h.slot (OramSlot h.bank))
@@ -112,18 +119,34 @@ alike-fixed f h g i j low alike =
     by true = alike-literal f i j alike
     by false = refl
 
+-- parts of operands that registers hold, or that none holds
+part-alike : (one other : Option ℕ) (shows more : List Show) → is_some one ≡ is_some other → shows ≡ more
+    → operand_part one shows ≡ operand_part other more
+part-alike (Some r) (Some q) shows more held same = refl
+part-alike None None shows more held same = same
+part-alike (Some r) None shows more held same = absurd (let e : true ≡ false = held in cc)
+part-alike None (Some q) shows more held same = absurd (let e : false ≡ true = held in cc)
+
 -- the places of words of two resident arrays are found alike
+set-alike : (f : Setting) (y z : ℤ) → AreNumbersAlike f y z
+    → operand_part (held_number f y) (Gap 1 ∷ []) ≡ operand_part (held_number f z) (Gap 1 ∷ [])
+set-alike f y z held = part-alike (held_number f y) (held_number f z) (Gap 1 ∷ []) (Gap 1 ∷ []) held refl
+
 placed-alike : (f : Setting) (h g : Home) (one other : Option ℤ) (shows more : List Show) → is_masked h ≡ is_masked g
-    → (h.word == 0) ≡ (g.word == 0) → is_some one ≡ is_some other → shows ≡ more
+    → (h.word == 0) ≡ (g.word == 0) → AreNumbersAlike f (reducer h) (reducer g)
+    → AreNumbersAlike f (pos h.word) (pos g.word) → is_some one ≡ is_some other → shows ≡ more
     → placed_shows f h one shows ≡ placed_shows f g other more
-placed-alike f h g (Some y) (Some z) shows more masked first fixed same = refl
-placed-alike f h g None None shows more masked first fixed same =
+placed-alike f h g (Some y) (Some z) shows more masked first reduced word fixed same = refl
+placed-alike f h g None None shows more masked first reduced word fixed same =
+    let one = set-alike f (reducer h) (reducer g) reduced in
+    let two = set-alike f (pos h.word) (pos g.word) word in
     λ k. same k
-    ++ (Gap 1
-    ∷ operation_gap f (if masked k then And else Remu)
-    ∷ (if first k then [] else Gap 1 ∷ operation_gap f Add ∷ []))
-placed-alike f h g (Some y) None shows more masked first fixed same = absurd (let e : true ≡ false = fixed in cc)
-placed-alike f h g None (Some z) shows more masked first fixed same = absurd (let e : false ≡ true = fixed in cc)
+    ++ ((one k ++ operation_gap f (if masked k then And else Remu) ∷ [])
+    ++ (if first k then [] else two k ++ operation_gap f Add ∷ []))
+placed-alike f h g (Some y) None shows more masked first reduced word fixed same =
+    absurd (let e : true ≡ false = fixed in cc)
+placed-alike f h g None (Some z) shows more masked first reduced word fixed same =
+    absurd (let e : false ≡ true = fixed in cc)
 
 -- so are two scalars, and the writes to them, if registers hold both or neither
 scalar-alike : (f : Setting) (one other : Option ℕ) → is_some one ≡ is_some other
@@ -154,13 +177,6 @@ unless-alike : (never : Bool) (one other : Option ℕ) → is_some one ≡ is_so
     → is_some (operand_unless never one) ≡ is_some (operand_unless never other)
 unless-alike true one other same = refl
 unless-alike false one other same = same
-
-part-alike : (one other : Option ℕ) (shows more : List Show) → is_some one ≡ is_some other → shows ≡ more
-    → operand_part one shows ≡ operand_part other more
-part-alike (Some r) (Some q) shows more held same = refl
-part-alike None None shows more held same = same
-part-alike (Some r) None shows more held same = absurd (let e : true ≡ false = held in cc)
-part-alike None (Some q) shows more held same = absurd (let e : false ≡ true = held in cc)
 
 -- operands that are alike
 operand-alike : (f : Setting) (a b : Tree) → Alike f a b → shows_of_expr f a ≡ shows_of_expr f b
@@ -204,9 +220,11 @@ module _ (o : Parts) (f : Setting) (homes : HasHomes o f) where
       let g = home_of f x in
       let h = home_of f y in
       let high : 2 ≤ h.bank = omega (arith, one.oblivious, one.same) in
+      let reduced = set-alike f (reducer g) (reducer h) one.reduced in
+      let block = set-alike f (pos g.block) (pos h.block) one.blocks in
       ap (λ (b : Bool). shows_by b f g (fixed_index g i) index shows) (oblivious-turn x left one.oblivious)
       ∙ oblivious-shows f g one.oblivious i index shows
-      ∙ (λ k. oblivious_shows f g one.oblivious (one.same k) (same k))
+      ∙ (λ k. oblivious_shows f g one.oblivious (one.same k) (reduced k) (block k) (same k))
       ∙ sym (oblivious-shows f h high j other more)
       ∙ sym (ap (λ (b : Bool). shows_by b f h (fixed_index h j) other more) (oblivious-turn y right high))
 
@@ -240,7 +258,7 @@ module _ (o : Parts) (f : Setting) (homes : HasHomes o f) where
       let h = home_of f y in
       ap (λ (b : Bool). shows_by b f g (fixed_index g i) index shows) one.first
       ∙ placed-alike f g h (fixed_index g i) (fixed_index h j) shows more one.masked
-      one.offset (alike-fixed f g h i j one.low alike) same
+      one.offset one.reduced one.words (alike-fixed f g h i j one.low alike) same
       ∙ sym (ap (λ (b : Bool). shows_by b f h (fixed_index h j) other more) one.second)
 
   resident-loads : (x y : List ℕ) (i j : Tree) (index other : Option Value) → AreReducedAlike f x y → Alike f i j

@@ -1,6 +1,6 @@
 -- The tests of alike expressions and of assignments that pair say what the relations say, and the count is that of the
 -- most statements that pair.
-use Rattle.std.proofs.Common.{◌≡◌, ℕ, ◌+◌, ◌≤◌, ◌==◌, Bool, true, false, not, ◌&&◌, ◌||◌, nat_lt, nat_le, ℤ, List, refl, sym, ap, ◌∙◌, subst, ◌⊎◌, ⊎_elim, arith}
+use Rattle.std.proofs.Common.{◌≡◌, ℕ, ◌+◌, ◌≤◌, ◌==◌, Bool, true, false, not, ◌&&◌, ◌||◌, nat_lt, nat_le, ℤ, pos, List, refl, sym, ap, ◌∙◌, subst, ◌⊎◌, ⊎_elim, arith}
 use Rattle.std.specs.Prelude.{◌↔◌, if◌then◌else◌, is_some, bytes_eq}
 use Rattle.std.proofs.lemmas.Bool.{and_parts, and_from, or_cases, eqb-true, eq-eqb, ltb-true, lt-ltb, leb-true, le-leb, or_left, or_right}
 use Rattle.std.proofs.lemmas.Bool.Decides.{Decides-int_eq}
@@ -9,9 +9,9 @@ use Rattle.symbolic_values.specs.Sameness.{same_op}
 use Rattle.symbolic_values.proofs.TreeEquality.{same_op-true, same_op-own}
 use Rattle.src_tree.specs.Trees.{Tree, Number, Variable, Element, Operation, Statement, SetVariable, SetElement, Block, Nothing, Then}
 use Rattle.block_cache_gen.specs.Homes.{Setting, home_of}
-use Rattle.block_cache_gen.specs.Codes.{is_cached, is_masked, may_step, operand}
+use Rattle.block_cache_gen.specs.Codes.{is_cached, is_masked, may_step, operand, held_number, reducer}
 use Rattle.gr_word.specs.declared.operations.Op.{Op}
-use Rattle.block_cache_gen.specs.Alike.{is_product, AreHeldAlike, held_alike, InOneBank, AreReducedAlike, Residents, ToResidents, same_flag, reduced_alike, Alike, Numbers, Scalars, Oblivious, Same, Operations, ByNumber, Pair, ToScalars, ToOblivious, ToSame, StartsPaired, NonePaired, OnePaired, IsPairCount, is_same, in_one_bank, both_products, are_plain, is_same_number, by_same_number, is_alike, is_pair, pair_count}
+use Rattle.block_cache_gen.specs.Alike.{is_product, AreNumbersAlike, numbers_alike, AreHeldAlike, held_alike, InOneBank, AreReducedAlike, Residents, ToResidents, same_flag, reduced_alike, Alike, Numbers, Scalars, Oblivious, Same, Operations, ByNumber, Pair, ToScalars, ToOblivious, ToSame, StartsPaired, NonePaired, OnePaired, IsPairCount, is_same, in_one_bank, both_products, are_plain, is_same_number, by_same_number, is_alike, is_pair, pair_count}
 
 -- expressions as they stand
 same-true : (a b : Tree) → is_same a b ≡ true → a ≡ b
@@ -53,46 +53,83 @@ kinds-own true false e = absurd (let f : true ≡ false = e in cc)
 kinds-own false true e = absurd (let f : false ≡ true = e in cc)
 
 module _ (f : Setting) where
+  -- two numbers that registers hold, or neither
+  numbers-true : (y z : ℤ) → numbers_alike f y z ≡ true → AreNumbersAlike f y z
+  numbers-true y z e = kinds-true (is_some (held_number f y)) (is_some (held_number f z)) e
+
+  numbers-own : (y z : ℤ) → AreNumbersAlike f y z → numbers_alike f y z ≡ true
+  numbers-own y z one = kinds-own (is_some (held_number f y)) (is_some (held_number f z)) one
+
   bank-true : (x y : List ℕ) → in_one_bank f x y ≡ true → InOneBank f x y
   bank-true x y e =
-      let parts = and_parts (nat_le 2 (home_of f x).bank) ((home_of f x).bank == (home_of f y).bank) e in
+      let g = home_of f x in
+      let h = home_of f y in
+      let reduced = numbers_alike f (reducer g) (reducer h) in
+      let blocks = numbers_alike f (pos g.block) (pos h.block) in
+      let one = and_parts (nat_le 2 g.bank) ((g.bank == h.bank) && (reduced && blocks)) e in
+      let two = and_parts (g.bank == h.bank) (reduced && blocks) one.1 in
+      let three = and_parts reduced blocks two.1 in
       record {
-        oblivious = leb-true 2 (home_of f x).bank parts.0;
-        same = eqb-true (home_of f x).bank (home_of f y).bank parts.1;
+        oblivious = leb-true 2 g.bank one.0;
+        same = eqb-true g.bank h.bank two.0;
+        reduced = numbers-true (reducer g) (reducer h) three.0;
+        blocks = numbers-true (pos g.block) (pos h.block) three.1;
       }
 
   bank-own : (x y : List ℕ) → InOneBank f x y → in_one_bank f x y ≡ true
   bank-own x y one =
-      and_from (nat_le 2 (home_of f x).bank) ((home_of f x).bank == (home_of f y).bank)
-      (le-leb 2 (home_of f x).bank one.oblivious) (eq-eqb (home_of f x).bank (home_of f y).bank one.same)
+      let g = home_of f x in
+      let h = home_of f y in
+      let reduced = numbers_alike f (reducer g) (reducer h) in
+      let blocks = numbers_alike f (pos g.block) (pos h.block) in
+      and_from (nat_le 2 g.bank) ((g.bank == h.bank) && (reduced && blocks)) (le-leb 2 g.bank one.oblivious)
+      (and_from (g.bank == h.bank) (reduced && blocks) (eq-eqb g.bank h.bank one.same)
+      (and_from reduced blocks (numbers-own (reducer g) (reducer h) one.reduced)
+      (numbers-own (pos g.block) (pos h.block) one.blocks)))
 
   reduced-true : (x y : List ℕ) → reduced_alike f x y ≡ true → AreReducedAlike f x y
   reduced-true x y e =
-      let low = same_flag (is_cached (home_of f x)) (is_cached (home_of f y)) in
-      let masked = same_flag (is_masked (home_of f x)) (is_masked (home_of f y)) in
-      let offset = same_flag ((home_of f x).word == 0) ((home_of f y).word == 0) in
-      let one = and_parts (home_of f x).resident ((home_of f y).resident && (low && (masked && offset))) e in
-      let two = and_parts (home_of f y).resident (low && (masked && offset)) one.1 in
-      let three = and_parts low (masked && offset) two.1 in
-      let four = and_parts masked offset three.1 in
+      let g = home_of f x in
+      let h = home_of f y in
+      let low = same_flag (is_cached g) (is_cached h) in
+      let masked = same_flag (is_masked g) (is_masked h) in
+      let offset = same_flag (g.word == 0) (h.word == 0) in
+      let reduced = numbers_alike f (reducer g) (reducer h) in
+      let words = numbers_alike f (pos g.word) (pos h.word) in
+      let numbers = reduced && words in
+      let one = and_parts g.resident (h.resident && (low && (masked && (offset && numbers)))) e in
+      let two = and_parts h.resident (low && (masked && (offset && numbers))) one.1 in
+      let three = and_parts low (masked && (offset && numbers)) two.1 in
+      let four = and_parts masked (offset && numbers) three.1 in
+      let five = and_parts offset numbers four.1 in
+      let six = and_parts reduced words five.1 in
       record {
         first = one.0;
         second = two.0;
-        low = kinds-true (is_cached (home_of f x)) (is_cached (home_of f y)) three.0;
-        masked = kinds-true (is_masked (home_of f x)) (is_masked (home_of f y)) four.0;
-        offset = kinds-true ((home_of f x).word == 0) ((home_of f y).word == 0) four.1;
+        low = kinds-true (is_cached g) (is_cached h) three.0;
+        masked = kinds-true (is_masked g) (is_masked h) four.0;
+        offset = kinds-true (g.word == 0) (h.word == 0) five.0;
+        reduced = numbers-true (reducer g) (reducer h) six.0;
+        words = numbers-true (pos g.word) (pos h.word) six.1;
       }
 
   reduced-own : (x y : List ℕ) → AreReducedAlike f x y → reduced_alike f x y ≡ true
   reduced-own x y one =
-      let low = same_flag (is_cached (home_of f x)) (is_cached (home_of f y)) in
-      let masked = same_flag (is_masked (home_of f x)) (is_masked (home_of f y)) in
-      let offset = same_flag ((home_of f x).word == 0) ((home_of f y).word == 0) in
-      and_from (home_of f x).resident ((home_of f y).resident && (low && (masked && offset))) one.first
-      (and_from (home_of f y).resident (low && (masked && offset)) one.second
-      (and_from low (masked && offset) (kinds-own (is_cached (home_of f x)) (is_cached (home_of f y)) one.low)
-      (and_from masked offset (kinds-own (is_masked (home_of f x)) (is_masked (home_of f y)) one.masked)
-      (kinds-own ((home_of f x).word == 0) ((home_of f y).word == 0) one.offset))))
+      let g = home_of f x in
+      let h = home_of f y in
+      let low = same_flag (is_cached g) (is_cached h) in
+      let masked = same_flag (is_masked g) (is_masked h) in
+      let offset = same_flag (g.word == 0) (h.word == 0) in
+      let reduced = numbers_alike f (reducer g) (reducer h) in
+      let words = numbers_alike f (pos g.word) (pos h.word) in
+      let numbers = reduced && words in
+      and_from g.resident (h.resident && (low && (masked && (offset && numbers)))) one.first
+      (and_from h.resident (low && (masked && (offset && numbers))) one.second
+      (and_from low (masked && (offset && numbers)) (kinds-own (is_cached g) (is_cached h) one.low)
+      (and_from masked (offset && numbers) (kinds-own (is_masked g) (is_masked h) one.masked)
+      (and_from offset numbers (kinds-own (g.word == 0) (h.word == 0) one.offset)
+      (and_from reduced words (numbers-own (reducer g) (reducer h) one.reduced)
+      (numbers-own (pos g.word) (pos h.word) one.words))))))
 
   -- two numbers or scalars that registers hold, or neither
   held-true : (a b : Tree) → held_alike f a b ≡ true → AreHeldAlike f a b

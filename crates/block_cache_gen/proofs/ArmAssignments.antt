@@ -229,7 +229,7 @@ module _ (o : Parts) (f : Setting) (homes : HasHomes o f) (depth : ℕ) where
         → context_of f.decls x ≡ Some (Secret, Array) → TypedTree (context_of f.decls) i
         → IndexIsPublic f x i → HasPublicIndexes f i → 1 + height_of i ≤ 18 → CarriesInArm f s
         → Goes o f depth s
-        (access_by b false f.profile.block_log mode (home_of f x) 1 (operand_register (operand f i) 1)
+        (access_by b false f mode (home_of f x) 1 (operand_register (operand f i) 1)
         (fixed_index (home_of f x) i) (operand_part (operand f i) (expr_code f mode 1 i))
         ++ (store_code mode (home_of f x).slot value ++ stored_code b (home_of f x).slot))
         (shows_by b f (home_of f x) (fixed_index (home_of f x) i) (operand_tree f (operand f i) (tree_of_expr f i))
@@ -251,10 +251,10 @@ module _ (o : Parts) (f : Setting) (homes : HasHomes o f) (depth : ℕ) where
         let place = placed-leaves o f homes depth s 1 from h fixed index part (operand_part q (shows_of_expr f i))
         (slots_of_expr f i) carries number (omega arith) (index-apart o f homes depth mode secret i 1 (omega arith)) in
         let stored = resident-hidden o f homes place.state x Array place.carries declared is in
-        let code = placed_code false h 1 from fixed part in
+        let code = placed_code false f h 1 from fixed part in
         let shown = placed_shows f h fixed (operand_part q (shows_of_expr f i)) in
         let loads = index_loads fixed (slots_of_expr f i) in
-        let one = goes-leaves o f depth s code shown 1 (placed_tree h fixed index) loads place in
+        let one = goes-leaves o f depth s code shown 1 (placed_tree f h fixed index) loads place in
         let two = subst (λ (c : List Instr). Goes o f depth place.state c (word_gap f ∷ word_gap f ∷ []) no_loads)
         (sym (append-nil (store_code mode h.slot value))) (store-goes place.state h.slot value place.carries stored) in
         goes-then o f depth s code shown loads one (store_code mode h.slot value ++ [])
@@ -276,10 +276,10 @@ module _ (o : Parts) (f : Setting) (homes : HasHomes o f) (depth : ℕ) where
         (index-apart o f homes depth mode secret i 1 (omega arith)) (Secret, declared) is seen in
         let stored = stored-of_bank bound h.bank (loaded-bank f h.bank (block_tree f h fixed index) seen)
         (λ e. let wrong : Secret ≡ Public = home.plain.0 e in let g : ◌≡◌ {A = Label} Secret Public = wrong in cc) in
-        let code = access_by false false f.profile.block_log mode h 1 from fixed part in
+        let code = access_by false false f mode h 1 from fixed part in
         let shown = shows_by false f h fixed index (operand_part q (shows_of_expr f i)) in
         let loads = loads_by false f h fixed index (slots_of_expr f i) in
-        let one = goes-leaves o f depth s code shown 1 (number_tree h fixed index) loads access.leaves in
+        let one = goes-leaves o f depth s code shown 1 (number_tree f h fixed index) loads access.leaves in
         let two = store_block-goes access.leaves.state h.slot value bound access.leaves.carries access.holds stored in
         goes-then o f depth s code shown loads one (store_code mode h.slot value ++ Stb h.slot ∷ [])
         (word_gap f ∷ word_gap f ∷ store_shows bound) no_loads two

@@ -4,7 +4,7 @@ use Rattle.std.specs.Prelude.{All, IsTrue, is_some, if◌then◌else◌}
 use Rattle.std.specs.Option.{unwrap_or}
 use Rattle.std.proofs.lemmas.Bool.{eq-eqb}
 use Rattle.gr_word.specs.declared.operations.Op.{Op}
-use Rattle.gr_word.specs.declared.operations.Op.TheVariants.{Add, Remu, And, Shr}
+use Rattle.gr_word.specs.declared.operations.Op.TheVariants.{Add, Shr}
 use Rattle.gr_word.specs.declared.variables.Label.TheVariants.{Public}
 use Rattle.gr_word.specs.declared.variables.Shape.TheVariants.{Scalar, Array}
 use Rattle.lt_isa.specs.declared.instructions.Instr.{Instr}
@@ -20,8 +20,8 @@ use Rattle.trace_patterns.specs.SymStates.{SymSlot, AnySlot, SymState, tree_held
 use Rattle.trace_patterns.specs.Single.{applied_trees}
 use Rattle.stretches.proofs.ArmCode.{Walked, walked-none, walked-then}
 use Rattle.block_cache_gen.specs.declared.frames.Mode.{Mode}
-use Rattle.block_cache_gen.specs.Homes.{Home, Setting, home_of, words_a_block, blocks_set, HasHomes, held_label, register_for}
-use Rattle.block_cache_gen.specs.Codes.{may_skip_loads, is_cached, is_masked, fixed_index, fixed_word, scalar_code, reduced_code, shift_code, offset_code, placed_code, fixed_code, located_code, load_code, skips, access_by, operand, operand_part, operand_register, operand_unless, indexed_code, operation_code, steps_at, expr_code, guard_code}
+use Rattle.block_cache_gen.specs.Homes.{Home, Setting, home_of, words_a_block, blocks_set, HasHomes, held_label, label_by, register_for}
+use Rattle.block_cache_gen.specs.Codes.{may_skip_loads, is_cached, held_number, applied_code, reducing, reducer, fixed_index, fixed_word, scalar_code, reduced_code, shift_code, offset_code, placed_code, fixed_code, located_code, load_code, skips, access_by, operand, operand_part, operand_register, operand_unless, indexed_code, operation_code, steps_at, expr_code, guard_code}
 use Rattle.lt_isa.specs.declared.profiles.Profile.{Profile}
 use Rattle.strength_reduction.specs.Steps.{Step, Constant, Compute, StepFits, reads_known, numbered, code_of}
 use Rattle.strength_reduction.proofs.Replacing.{result-alike}
@@ -31,10 +31,11 @@ use Rattle.block_cache_gen.proofs.SomeCode.{compares-secret}
 use Rattle.block_cache_gen.proofs.StepsAt.{steps-of}
 use Rattle.block_cache_gen.specs.Carries.{CarriesInArm}
 use Rattle.block_cache_gen.specs.PublicIndexes.{shows_index, HasPublicIndexes, TestHasPublicIndexes}
-use Rattle.block_cache_gen.specs.PatternsOf.{operation_gap, word_gap, word_read, tree_by, scalar_shows, offset_shows, scalar_tree, operand_tree, reduced_tree, number_tree, shifted_tree, block_tree, reducing, placed_shows, placed_tree, shows_by, loads_by, element_by, found_shows, load_shows, Loads, no_loads, then_loads, one_load, index_loads, element_slot, step_gap, steps_tree, operation_tree, operation_shows, operation_loads, tree_of_expr, shows_of_expr, slots_of_expr, shows_of_test, slots_of_test}
+use Rattle.block_cache_gen.specs.PatternsOf.{number_in, applied_shows, reduced_shows, shifted_shows, operation_gap, word_gap, word_read, tree_by, scalar_shows, offset_shows, scalar_tree, operand_tree, reduced_tree, number_tree, shifted_tree, block_tree, placed_shows, placed_tree, shows_by, loads_by, element_by, found_shows, load_shows, Loads, no_loads, then_loads, one_load, index_loads, element_slot, step_gap, steps_tree, operation_tree, operation_shows, operation_loads, tree_of_expr, shows_of_expr, slots_of_expr, shows_of_test, slots_of_test}
 use Rattle.block_cache_gen.proofs.ArmInstructions.{IsSeen, Sets, loaded-bank, sets-li, sets-alu, sets-ldw, walked-ldb}
 use Rattle.block_cache_gen.proofs.ArmStates.{LeavesIn, LeavesTree, bound-of_bank, then_loads-held, one_load-held, serves-within, carries-same, carries-load, resident-read}
 use Rattle.held_registers.specs.Held.{public_zero}
+use Rattle.held_registers.proofs.Found.{number-held}
 use Rattle.block_cache_gen.proofs.HeldLabels.{register-label, zero-label}
 use Rattle.block_cache_gen.proofs.HeldOperands.{IsOperandOf, operand-apart}
 use Rattle.block_cache_gen.proofs.OperandLabels.{is-operand, operand-label}
@@ -240,135 +241,99 @@ module _ (o : Parts) (f : Setting) (homes : HasHomes o f) (depth : ℕ) where
       (Gap 1 ∷ []) no_loads no_loads one (number-leaves one.state (to + 1) block one.carries (omega arith))
 
   -- an operation on another register and a number, in the number's register or below
-  number-applied : (s : SymState) (op : Op) (to ra rb : ℕ) (z : ℤ) (left : Option Value) → CarriesInArm f s → rb < 19
-      → to ≤ rb → ra ≢ rb → tree_held s ra ≡ left
-      → LeavesTree o f depth s (Li rb z ∷ Alu op to ra rb ∷ []) (Gap 1 ∷ operation_gap f op ∷ []) to
-      (applied_trees op left (Some (Const z))) no_loads
+  number-applied : (s : SymState) (op : Op) (to from own : ℕ) (z : ℤ) (left : Option Value) → CarriesInArm f s
+      → own < 19 → to ≤ own → from ≢ own → tree_held s from ≡ left
+      → LeavesTree o f depth s (applied_code f op to from own z) (applied_shows f op z) to
+      (applied_trees op left (number_in f z)) no_loads
   unfolding leaves-sets
-  number-applied s op to ra rb z left carries inside le apart held =
-      let right : Option Value = Some (Const z) in
-      let set = sets-li o depth s rb z carries.registers (omega arith) in
-      let one = leaves-sets s (Li rb z ∷ []) (Gap 1 ∷ []) rb right carries inside set in
-      leaves-then_sets s (Li rb z ∷ []) (Gap 1 ∷ []) rb right no_loads one (Alu op to ra rb ∷ [])
-      (operation_gap f op ∷ []) to (applied_trees op left right) le (omega arith)
-      (sets-alu o depth f homes.profile one.state op to ra rb left right one.carries.registers (omega arith)
-      (set.other ra apart ∙ held) one.held)
+  number-applied s op to from own z left carries inside le apart held = by (held_number f z) refl
+    where
+      by : (q : Option ℕ) → held_number f z ≡ q
+          → LeavesTree o f depth s (operand_part q (Li own z ∷ []) ++ Alu op to from (operand_register q own) ∷ [])
+          (operand_part q (Gap 1 ∷ []) ++ operation_gap f op ∷ []) to
+          (applied_trees op left (operand_tree f q (Some (Const z)))) no_loads
+      by None is =
+          let right : Option Value = Some (Const z) in
+          let set = sets-li o depth s own z carries.registers (omega arith) in
+          let one = leaves-sets s (Li own z ∷ []) (Gap 1 ∷ []) own right carries inside set in
+          leaves-then_sets s (Li own z ∷ []) (Gap 1 ∷ []) own right no_loads one (Alu op to from own ∷ [])
+          (operation_gap f op ∷ []) to (applied_trees op left right) le (omega arith)
+          (sets-alu o depth f homes.profile one.state op to from own left right one.carries.registers (omega arith)
+          (set.other from apart ∙ held) one.held)
+      by (Some r) is =
+          let label : held_label f r ≡ Some Public = ap (label_by f.decls) (number-held f.held z r is) in
+          let own_tree = carries.held r Public label ∙ sym (ap (tree_by r) label) in
+          leaves-sets s (Alu op to from r ∷ []) (operation_gap f op ∷ []) to
+          (applied_trees op left (tree_by r (held_label f r))) carries (omega arith)
+          (sets-alu o depth f homes.profile s op to from r left (tree_by r (held_label f r)) carries.registers
+          (omega arith) held own_tree)
 
   -- the number of a block, by a shift and a sum
   block-leaves : (s : SymState) (to : ℕ) (h : Home) (number : Option Value) → CarriesInArm f s → to + 2 < 19
       → tree_held s to ≡ number
-      → LeavesTree o f depth s (shift_code f.profile.block_log h to)
-      (Gap 1 ∷ operation_gap f Shr ∷ Gap 1 ∷ operation_gap f Add ∷ []) (to + 1) (shifted_tree f h number) no_loads
+      → LeavesTree o f depth s (shift_code f h to) (shifted_shows f h) (to + 1) (shifted_tree f h number) no_loads
   block-leaves s to h number carries inside held =
       let next = to + 1 in
       let last = to + 2 in
       let log = pos f.profile.block_log in
-      let shifted = applied_trees Shr number (Some (Const log)) in
+      let shifted = applied_trees Shr number (number_in f log) in
       let one = number-applied s Shr next to next log number carries (omega arith) (omega arith)
       (λ e. absurd (omega (arith, e))) held in
       let two = number-applied one.state Add next next last (pos h.block) shifted one.carries (omega arith)
       (omega arith) (λ e. absurd (omega (arith, e))) one.held in
-      leaves-then s (Li next log ∷ Alu Shr next to next ∷ []) (Gap 1 ∷ operation_gap f Shr ∷ []) next shifted no_loads
-      one (Li last (pos h.block) ∷ Alu Add next next last ∷ []) (Gap 1 ∷ operation_gap f Add ∷ []) next
+      leaves-then s (applied_code f Shr next to next log) (applied_shows f Shr log) next shifted no_loads
+      one (applied_code f Add next next last (pos h.block)) (applied_shows f Add (pos h.block)) next
       (shifted_tree f h number) no_loads (omega arith) two
 
-  -- the place of an element by the index in the register: one operation with a number, and then its block
-  abbrev finding_shows : Op → List Show
-  finding_shows op =
-      Gap 1 ∷ operation_gap f op ∷ Gap 1 ∷ operation_gap f Shr ∷ Gap 1 ∷ operation_gap f Add ∷ []
+  -- the index is reduced by a mask or by a remainder
+  reduced-leaves : (s : SymState) (to from : ℕ) (h : Home) (index : Option Value) → CarriesInArm f s → to + 2 < 19
+      → from ≢ to + 1 → tree_held s from ≡ index
+      → LeavesTree o f depth s (reduced_code f h to from) (reduced_shows f h) to (reduced_tree f h index) no_loads
+  reduced-leaves s to from h index carries inside apart held =
+      number-applied s (reducing h) to from (to + 1) (reducer h) index carries (omega arith) (omega arith) apart held
 
-  finding-located : (s : SymState) (to from : ℕ) (h : Home) (index : Option Value) (op : Op) (z : ℤ)
-      → CarriesInArm f s → to + 2 < 19 → from ≢ to + 1 → tree_held s from ≡ index
-      → LeavesTwo o f depth s ((Li (to + 1) z ∷ Alu op to from (to + 1) ∷ []) ++ shift_code f.profile.block_log h to)
-      (finding_shows op) to (applied_trees op index (Some (Const z)))
-      (shifted_tree f h (applied_trees op index (Some (Const z)))) no_loads
-  finding-located s to from h index op z carries inside apart held =
-      let number = applied_trees op index (Some (Const z)) in
-      let one = number-applied s op to from (to + 1) z index carries (omega arith) (omega arith) apart held in
-      two-leave s to number (shifted_tree f h number) (Li (to + 1) z ∷ Alu op to from (to + 1) ∷ [])
-      (shift_code f.profile.block_log h to) (Gap 1 ∷ operation_gap f op ∷ [])
-      (Gap 1 ∷ operation_gap f Shr ∷ Gap 1 ∷ operation_gap f Add ∷ []) no_loads no_loads one
-      (block-leaves one.state to h number one.carries inside one.held)
-
-  -- by a mask or a remainder, after the code of the index
+  -- the place of an element by the index in a register
   reduced-located : (s : SymState) (to from : ℕ) (h : Home) (index : Option Value) → CarriesInArm f s → to + 2 < 19
       → from ≢ to + 1 → tree_held s from ≡ index
-      → LeavesTwo o f depth s (reduced_code h to from ++ shift_code f.profile.block_log h to)
-      (finding_shows (reducing h)) to
-      (reduced_tree h index) (shifted_tree f h (reduced_tree h index)) no_loads
-  reduced-located s to from h index carries inside apart held = by (is_masked h)
-    where
-      code : Bool → List Instr
-      code masked =
-          if masked then Li (to + 1) (pos (h.length - 1)) ∷ Alu And to from (to + 1) ∷ []
-          else Li (to + 1) (pos h.length) ∷ Alu Remu to from (to + 1) ∷ []
-
-      tree : Bool → Option Value
-      tree masked =
-          if masked then applied_trees And index (Some (Const (pos (h.length - 1))))
-          else applied_trees Remu index (Some (Const (pos h.length)))
-
-      by : (masked : Bool)
-          → LeavesTwo o f depth s (code masked ++ shift_code f.profile.block_log h to)
-          (finding_shows (if masked then And else Remu)) to (tree masked) (shifted_tree f h (tree masked)) no_loads
-      by true = finding-located s to from h index And (pos (h.length - 1)) carries inside apart held
-      by false = finding-located s to from h index Remu (pos h.length) carries inside apart held
+      → LeavesTwo o f depth s (reduced_code f h to from ++ shift_code f h to) (reduced_shows f h ++ shifted_shows f h) to
+      (reduced_tree f h index) (shifted_tree f h (reduced_tree f h index)) no_loads
+  reduced-located s to from h index carries inside apart held =
+      let number = reduced_tree f h index in
+      let one = reduced-leaves s to from h index carries inside apart held in
+      two-leave s to number (shifted_tree f h number) (reduced_code f h to from) (shift_code f h to)
+      (reduced_shows f h) (shifted_shows f h) no_loads no_loads one
+      (block-leaves one.state to h number one.carries inside one.held)
 
   index-located : (s : SymState) (to from : ℕ) (h : Home) (index : Option Value) (code : List Instr)
       (shows : List Show) (loads : Loads) → LeavesIn o f depth s code shows to from index loads → to + 2 < 19
       → from ≢ to + 1
-      → LeavesTwo o f depth s (code ++ (reduced_code h to from ++ shift_code f.profile.block_log h to))
-      (shows ++ finding_shows (reducing h)) to (reduced_tree h index) (shifted_tree f h (reduced_tree h index)) loads
+      → LeavesTwo o f depth s (code ++ (reduced_code f h to from ++ shift_code f h to))
+      (shows ++ (reduced_shows f h ++ shifted_shows f h)) to (reduced_tree f h index)
+      (shifted_tree f h (reduced_tree f h index)) loads
   index-located s to from h index code shows loads first inside apart =
       let found = reduced-located first.state to from h index first.carries inside apart first.held in
       record {
-        leaves = leaves-then s code shows to index loads first
-            (reduced_code h to from ++ shift_code f.profile.block_log h to) (finding_shows (reducing h)) to
-            (reduced_tree h index) no_loads (omega arith) found.leaves;
+        leaves = leaves-then s code shows to index loads first (reduced_code f h to from ++ shift_code f h to)
+            (reduced_shows f h ++ shifted_shows f h) to (reduced_tree f h index) no_loads (omega arith) found.leaves;
         next = found.next;
       }
 
   located : (s : SymState) (to from : ℕ) (h : Home) (fixed : Option ℤ) (index : Option Value) (code : List Instr)
       (shows : List Show) (loads : Loads) → CarriesInArm f s → LeavesIn o f depth s code shows to from index loads
       → to + 2 < 19 → from ≢ to + 1
-      → LeavesTwo o f depth s (located_code false f.profile.block_log h to from fixed code)
-      (found_shows f h fixed shows) to (number_tree h fixed index) (block_tree f h fixed index)
+      → LeavesTwo o f depth s (located_code false f h to from fixed code)
+      (found_shows f h fixed shows) to (number_tree f h fixed index) (block_tree f h fixed index)
       (index_loads fixed loads)
   located s to from h (Some z) index code shows loads carries first inside apart = fixed-located s to h z carries inside
   located s to from h None index code shows loads carries first inside apart =
       index-located s to from h index code shows loads first inside apart
 
-  -- it is reduced by a mask or by a remainder
-  reduced-leaves : (s : SymState) (to from : ℕ) (h : Home) (index : Option Value) → CarriesInArm f s → to + 2 < 19
-      → from ≢ to + 1 → tree_held s from ≡ index
-      → LeavesTree o f depth s (reduced_code h to from) (Gap 1 ∷ operation_gap f (reducing h) ∷ []) to (reduced_tree h index)
-      no_loads
-  reduced-leaves s to from h index carries inside apart held = by (is_masked h)
-    where
-      code : Bool → List Instr
-      code masked =
-          if masked then Li (to + 1) (pos (h.length - 1)) ∷ Alu And to from (to + 1) ∷ []
-          else Li (to + 1) (pos h.length) ∷ Alu Remu to from (to + 1) ∷ []
-
-      tree : Bool → Option Value
-      tree masked =
-          if masked then applied_trees And index (Some (Const (pos (h.length - 1))))
-          else applied_trees Remu index (Some (Const (pos h.length)))
-
-      by : (masked : Bool)
-          → LeavesTree o f depth s (code masked) (Gap 1 ∷ operation_gap f (if masked then And else Remu) ∷ []) to
-          (tree masked) no_loads
-      by true = number-applied s And to from (to + 1) (pos (h.length - 1)) index carries (omega arith) (omega arith)
-          apart held
-      by false = number-applied s Remu to from (to + 1) (pos h.length) index carries (omega arith) (omega arith)
-          apart held
-
   -- the number of the array's first word is added, unless that is 0
   offset-leaves : (s : SymState) (to : ℕ) (h : Home) (tree : Option Value) → CarriesInArm f s → to + 2 < 19
       → tree_held s to ≡ tree → (first : Bool)
-      → LeavesTree o f depth s (if first then [] else Li (to + 1) (pos h.word) ∷ Alu Add to to (to + 1) ∷ [])
-      (if first then [] else Gap 1 ∷ operation_gap f Add ∷ []) to
-      (if first then tree else applied_trees Add tree (Some (Const (pos h.word)))) no_loads
+      → LeavesTree o f depth s (if first then [] else applied_code f Add to to (to + 1) (pos h.word))
+      (if first then [] else applied_shows f Add (pos h.word)) to
+      (if first then tree else applied_trees Add tree (number_in f (pos h.word))) no_loads
   offset-leaves s to h tree carries inside held true = record {
     state = s;
     walked = walked-none o depth s;
@@ -385,19 +350,19 @@ module _ (o : Parts) (f : Setting) (homes : HasHomes o f) (depth : ℕ) where
   pub placed-leaves : (s : SymState) (to from : ℕ) (h : Home) (fixed : Option ℤ) (index : Option Value)
       (code : List Instr) (shows : List Show) (loads : Loads) → CarriesInArm f s
       → LeavesIn o f depth s code shows to from index loads → to + 2 < 19 → from ≢ to + 1
-      → LeavesTree o f depth s (placed_code false h to from fixed code) (placed_shows f h fixed shows) to
-      (placed_tree h fixed index) (index_loads fixed loads)
+      → LeavesTree o f depth s (placed_code false f h to from fixed code) (placed_shows f h fixed shows) to
+      (placed_tree f h fixed index) (index_loads fixed loads)
   placed-leaves s to from h (Some z) index code shows loads carries first inside apart =
       number-leaves s to (pos (h.word + fixed_word h z)) carries (omega arith)
   placed-leaves s to from h None index code shows loads carries first inside apart =
       let one = reduced-leaves first.state to from h index first.carries inside apart first.held in
-      let two = offset-leaves one.state to h (reduced_tree h index) one.carries inside one.held (h.word == 0) in
-      let tree = placed_tree h None index in
-      let reduced = Gap 1 ∷ operation_gap f (reducing h) ∷ [] in
-      leaves-then s code shows to index loads first (reduced_code h to from ++ offset_code h to)
+      let two = offset-leaves one.state to h (reduced_tree f h index) one.carries inside one.held (h.word == 0) in
+      let tree = placed_tree f h None index in
+      let reduced = reduced_shows f h in
+      leaves-then s code shows to index loads first (reduced_code f h to from ++ offset_code f h to)
       (reduced ++ offset_shows f h) to tree no_loads (omega arith)
-      (leaves-then first.state (reduced_code h to from) reduced to (reduced_tree h index) no_loads one
-      (offset_code h to) (offset_shows f h) to tree no_loads (omega arith) two)
+      (leaves-then first.state (reduced_code f h to from) reduced to (reduced_tree f h index) no_loads one
+      (offset_code f h to) (offset_shows f h) to tree no_loads (omega arith) two)
 
   module _ (mode : Mode) (secret : may_skip_loads mode ≡ false) where
     -- an access: its block is in the slot of its array
@@ -412,8 +377,8 @@ module _ (o : Parts) (f : Setting) (homes : HasHomes o f) (depth : ℕ) where
         → LeavesIn o f depth s code shows to from index loads → to + 2 < 19 → from ≢ to + 1 → (used : UsedAs (context_of f.decls) x Array)
         → (home_of f x).resident ≡ false
         → IsSeen (home_of f x).bank (block_tree f (home_of f x) fixed index)
-        → Accessed s (access_by false false f.profile.block_log mode (home_of f x) to from fixed code)
-        (shows_by false f (home_of f x) fixed index shows) to (number_tree (home_of f x) fixed index)
+        → Accessed s (access_by false false f mode (home_of f x) to from fixed code)
+        (shows_by false f (home_of f x) fixed index shows) to (number_tree f (home_of f x) fixed index)
         (loads_by false f (home_of f x) fixed index loads) (home_of f x).slot (element_slot f (home_of f x) fixed index)
     access-leaves s to from x fixed index code shows loads carries first inside apart used turn seen =
         let h = home_of f x in
@@ -429,7 +394,7 @@ module _ (o : Parts) (f : Setting) (homes : HasHomes o f) (depth : ℕ) where
         let load = walked-ldb o depth f homes.profile there.state h.slot h.bank (to + 1) block sizes found.next seen in
         let skipped : load_code false h to ≡ load_code (skips mode h) h to =
         sym (ap (λ (b : Bool). load_code (b && is_cached h) h to) secret) in
-        let before = located_code false f.profile.block_log h to from fixed code in
+        let before = located_code false f h to from fixed code in
         let shown = found_shows f h fixed shows in
         let whole = walked-then o depth s before shown there.state (load_code false h to) (load_shows bound) t
         there.walked load in
@@ -458,13 +423,13 @@ module _ (o : Parts) (f : Setting) (homes : HasHomes o f) (depth : ℕ) where
         → LeavesIn o f depth s code shows to from index loads → to + 2 < 19 → from ≢ to + 1
         → UsedAs (context_of f.decls) x Array → (shows_index (home_of f x) ≡ true → IsKnown index)
         → LeavesTree o f depth s
-        (access_by b false f.profile.block_log mode (home_of f x) to from fixed code ++ Ldw to (home_of f x).slot to ∷ [])
+        (access_by b false f mode (home_of f x) to from fixed code ++ Ldw to (home_of f x).slot to ∷ [])
         (shows_by b f (home_of f x) fixed index shows ++ word_gap f ∷ []) to
         (element_by b f (home_of f x) fixed index) (loads_by b f (home_of f x) fixed index loads)
     element_by-leaves true s to from x fixed index code shows loads is carries first inside apart used known =
         let h = home_of f x in
-        let place = placed_tree h fixed index in
-        let placed = placed_code false h to from fixed code in
+        let place = placed_tree f h fixed index in
+        let placed = placed_code false f h to from fixed code in
         let shown = placed_shows f h fixed shows in
         let there = placed-leaves s to from h fixed index code shows loads carries first inside apart in
         let read = resident-read o f homes there.state x used.0 Array there.carries used.1 is in
@@ -480,14 +445,14 @@ module _ (o : Parts) (f : Setting) (homes : HasHomes o f) (depth : ℕ) where
     element_by-leaves false s to from x fixed index code shows loads is carries first inside apart used known =
         let h = home_of f x in
         let bound = element_slot f h fixed index in
-        let number = number_tree h fixed index in
+        let number = number_tree f h fixed index in
         let seen = block-seen f h fixed index (λ low. known (shows-cached h is low)) in
         let access = access-leaves s to from x fixed index code shows loads carries first inside apart used is seen in
         let there = access.leaves in
         let is_bound = bound-of_bank bound h.bank (loaded-bank f h.bank (block_tree f h fixed index) seen) in
         let word = sets-ldw o depth f homes.profile there.state to h.slot to bound number there.carries.registers
         (omega arith) access.holds is_bound there.held in
-        leaves-then_sets s (access_by false false f.profile.block_log mode h to from fixed code)
+        leaves-then_sets s (access_by false false f mode h to from fixed code)
         (shows_by false f h fixed index shows) to number (loads_by false f h fixed index loads)
         there (Ldw to h.slot to ∷ []) (word_gap f ∷ []) to (word_read f bound number) (omega arith) (omega arith) word
 

@@ -248,12 +248,12 @@ module _ (o : Parts) (fits : IsInRange o) (f : Setting) (homes : HasHomes o f) (
       → (home_of f x).resident ≡ resident
       → StandsAt o s.place
       (operand_part (operand f e) (expr_code f mode 0 e)
-      ++ (access_by resident near f.profile.block_log mode (home_of f x) 1 from (fixed_index (home_of f x) i) index
+      ++ (access_by resident near f mode (home_of f x) 1 from (fixed_index (home_of f x) i) index
       ++ (store_code mode (home_of f x).slot (operand_register (operand f e) 0)
       ++ stored_code resident (home_of f x).slot)))
       → RunsThrough o s
       (operand_part (operand f e) (expr_code f mode 0 e)
-      ++ (access_by resident near f.profile.block_log mode (home_of f x) 1 from (fixed_index (home_of f x) i) index
+      ++ (access_by resident near f mode (home_of f x) 1 from (fixed_index (home_of f x) i) index
       ++ (store_code mode (home_of f x).slot (operand_register (operand f e) 0)
       ++ stored_code resident (home_of f x).slot)))
       (seen_of_all mode s.banks s.slots
@@ -279,7 +279,7 @@ module _ (o : Parts) (fits : IsInRange o) (f : Setting) (homes : HasHomes o f) (
       let v = operand_register q 0 in
       let apart = operand-apart f e q (λ r held. held) 0 in
       let first = operand_part q (expr_code f mode 0 e) in
-      let access = placed_code near h 1 from (fixed_index h i) index_code in
+      let access = placed_code near f h 1 from (fixed_index h i) index_code in
       let store_word = store_code mode h.slot v in
       let seen_first = seen_of_all mode s.banks s.slots before in
       let seen_then = seen_of_all mode s.banks (slots_after s.banks s.slots before) then in
@@ -333,7 +333,7 @@ module _ (o : Parts) (fits : IsInRange o) (f : Setting) (homes : HasHomes o f) (
       let v = operand_register q 0 in
       let apart = operand-apart f e q (λ r held. held) 0 in
       let first = operand_part q (expr_code f mode 0 e) in
-      let access = access_by false near f.profile.block_log mode h 1 from (fixed_index h i) index_code in
+      let access = access_by false near f mode h 1 from (fixed_index h i) index_code in
       let store_word = store_code mode h.slot v in
       let store_block = Stb h.slot in
       let seen_first = seen_of_all mode s.banks s.slots before in

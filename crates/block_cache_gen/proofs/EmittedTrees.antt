@@ -6,7 +6,7 @@ use Rattle.gr_word.specs.declared.operations.Op.{Op}
 use Rattle.gr_word.specs.declared.variables.Label.{Label}
 use Rattle.lt_isa.specs.Limits.{most_instructions}
 use Rattle.lt_isa.specs.declared.instructions.Instr.{Instr}
-use Rattle.gr_word.specs.declared.operations.Op.TheVariants.{Add, Remu}
+use Rattle.gr_word.specs.declared.operations.Op.TheVariants.{Add, Remu, Shr}
 use Rattle.gr_word.specs.declared.operations.Cmp.TheVariants.{Lt}
 use Rattle.lt_isa.specs.declared.instructions.Instr.TheVariants.{Li, Alu, Ldw, Br}
 use Rattle.lt_isa.specs.declared.symbols.Note.{Note}
@@ -20,7 +20,7 @@ use Rattle.block_cache_gen.specs.declared.frames.CodeBuf.{CodeBuf}
 use Rattle.block_cache_gen.specs.declared.frames.Mode.{Mode}
 use Rattle.block_cache_gen.specs.declared.frames.Mode.TheVariants.{Public, Real, Mirrored}
 use Rattle.block_cache_gen.specs.Homes.{Home, Setting, home_of}
-use Rattle.block_cache_gen.specs.Codes.{access_by, found_by, is_cached, compares, compared_code, least_word, numbered_code, offset_code, shift_code, fixed_code, load_code, skips, access_code, indexed_code, index_operand, fixed_index, operand, operand_part, operand_register, left_operand, operation_code, steps_at, expr_code}
+use Rattle.block_cache_gen.specs.Codes.{access_by, applied_code, found_by, is_cached, compares, compared_code, least_word, numbered_code, offset_code, shift_code, fixed_code, load_code, skips, access_code, indexed_code, index_operand, fixed_index, operand, operand_part, operand_register, left_operand, operation_code, steps_at, expr_code}
 use Rattle.strength_reduction.specs.Steps.{Step, code_of}
 use Rattle.block_cache_gen.specs.Notes.{expr_notes, operand_mask, operation_notes, index_notes, compared_notes, loaded_notes, load_notes, access_mask, unmarked, note_of}
 use Rattle.block_cache_gen.specs.Emitted.{Appended, no_notes, notes_in, access_notes, OperationBy, EmitsOperation, EmitsOperand, EmitsExpr, EmitsAccess, EmitsFound}
@@ -34,12 +34,12 @@ abbrev pub AccessBy : Setting → Mode → (near : Bool) → Home → (mask to :
 AccessBy f mode near h mask to i fixed a c =
     let q = index_operand f near i in
     let from = operand_register q to in
-    Appended a c (access_code near f.profile.block_log mode h to from fixed (operand_part q (expr_code f mode to i)))
+    Appended a c (access_code near f mode h to from fixed (operand_part q (expr_code f mode to i)))
     (λ place. notes_in mode
     (index_notes fixed (operand_part q (expr_notes f mask to place i))
     ++ load_notes near fixed f h mask to
     (place + length
-    (access_code near f.profile.block_log Public h to from fixed (operand_part q (expr_code f Public to i))))))
+    (access_code near f Public h to from fixed (operand_part q (expr_code f Public to i))))))
 
 -- secret code has no notes, so that it is no matter what these are
 notes_near : (mode : Mode) (f : Setting) (h : Home) (i : Tree) (notes : Bool → List Note)
@@ -81,33 +81,32 @@ further place xs ys = add_assoc place (length xs) (length ys) ∙ ap (λ n. plac
 -- the code of an access by a number
 abbrev pub EmitsFixed : Setting → Mode → Home → (mask to : ℕ) → ℤ → CodeBuf → CodeBuf → Type 0
 EmitsFixed f mode h mask to z a c =
-    Appended a c (access_by h.resident false f.profile.block_log mode h to to (Some z) [])
+    Appended a c (access_by h.resident false f mode h to to (Some z) [])
     (λ place. notes_in mode
     (loaded_notes h.resident false (Some z) f h mask to
-    (place + length (access_by h.resident false f.profile.block_log Public h to to (Some z) []))))
+    (place + length (access_by h.resident false f Public h to to (Some z) []))))
 
 -- the pieces of an access by a number that loads its block
 pub fixed_loaded : (f : Setting) (mode : Mode) (h : Home) (mask to : ℕ) (z : ℤ) (a b c : CodeBuf)
     → h.resident ≡ false → Appended a b (fixed_code f.profile.block_log h to z) no_notes
     → EmitsLoad f mode h mask to b c → EmitsFixed f mode h mask to z a c
 fixed_loaded f mode h mask to z a b c turn x y =
-    let log = f.profile.block_log in
-    let P : Bool → Type 0 = λ r. Appended a c (access_by r false log mode h to to (Some z) [])
+    let P : Bool → Type 0 = λ r. Appended a c (access_by r false f mode h to to (Some z) [])
     (λ place. notes_in mode
-    (loaded_notes r false (Some z) f h mask to (place + length (access_by r false log Public h to to (Some z) [])))) in
+    (loaded_notes r false (Some z) f h mask to (place + length (access_by r false f Public h to to (Some z) [])))) in
     subst P (sym turn)
-    (appended_as a c (fixed_code log h to z ++ load_code (skips mode h) h to)
-    (fixed_code log h to z ++ load_code (skips mode h) h to)
+    (appended_as a c (fixed_code f.profile.block_log h to z ++ load_code (skips mode h) h to)
+    (fixed_code f.profile.block_log h to z ++ load_code (skips mode h) h to)
     (λ place. notes_in mode
     (loaded_notes false false None f h mask to
-    (place + length (fixed_code log h to z) + length (load_code (skips Public h) h to))))
+    (place + length (fixed_code f.profile.block_log h to z) + length (load_code (skips Public h) h to))))
     (λ place. notes_in mode
     (loaded_notes false false (Some z) f h mask to
-    (place + length (fixed_code log h to z ++ load_code (skips Public h) h to))))
+    (place + length (fixed_code f.profile.block_log h to z ++ load_code (skips Public h) h to))))
     refl
     (λ place. ap (λ n. notes_in mode (loaded_notes false false None f h mask to n))
-    (further place (fixed_code log h to z) (load_code (skips Public h) h to)))
-    (silent_before a b c (fixed_code log h to z) (load_code (skips mode h) h to)
+    (further place (fixed_code f.profile.block_log h to z) (load_code (skips Public h) h to)))
+    (silent_before a b c (fixed_code f.profile.block_log h to z) (load_code (skips mode h) h to)
     (λ place. notes_in mode
     (loaded_notes false false None f h mask to (place + length (load_code (skips Public h) h to)))) x y))
 
@@ -122,17 +121,17 @@ access_fixed f mode h mask to i z a c is x =
     q = index_operand f (compares f mode h i) i
 
     by : (r : Bool)
-        → Appended a c (access_by r false f.profile.block_log mode h to to (Some z) [])
+        → Appended a c (access_by r false f mode h to to (Some z) [])
         (λ place. notes_in mode
         (loaded_notes r false (Some z) f h mask to
-        (place + length (access_by r false f.profile.block_log Public h to to (Some z) []))))
+        (place + length (access_by r false f Public h to to (Some z) []))))
         → Appended a c
-        (access_by r (compares f mode h i) f.profile.block_log mode h to (operand_register q to) (Some z)
+        (access_by r (compares f mode h i) f mode h to (operand_register q to) (Some z)
         (operand_part q (expr_code f mode to i)))
         (λ place. notes_in mode
         ([] ++ loaded_notes r (compares f mode h i) (Some z) f h mask to
         (place + length
-        (access_by r (compares f mode h i) f.profile.block_log Public h to (operand_register q to) (Some z)
+        (access_by r (compares f mode h i) f Public h to (operand_register q to) (Some z)
         (operand_part q (expr_code f Public to i))))))
     by true y = y
     by false y = y
@@ -167,21 +166,21 @@ access_worked f mode h mask to i a b c is x y =
     (subst P (sym is) (by h.resident (compares f mode h i) (index_operand f (compares f mode h i) i) x y))
   where
     by : (r near : Bool) (q : Option ℕ) → EmitsOperand f mode mask to q i a b
-        → Appended b c (found_by r near f.profile.block_log mode h to (operand_register q to))
+        → Appended b c (found_by r near f mode h to (operand_register q to))
         (λ place. notes_in mode
         (loaded_notes r near None f h mask to
-        (place + length (found_by r near f.profile.block_log Public h to (operand_register q to)))))
+        (place + length (found_by r near f Public h to (operand_register q to)))))
         → Appended a c
-        (access_by r near f.profile.block_log mode h to (operand_register q to) None
+        (access_by r near f mode h to (operand_register q to) None
         (operand_part q (expr_code f mode to i)))
         (λ place. notes_in mode
         (operand_part q (expr_notes f mask to place i)
         ++ loaded_notes r near None f h mask to
         (place + length
-        (access_by r near f.profile.block_log Public h to (operand_register q to) None
+        (access_by r near f Public h to (operand_register q to) None
         (operand_part q (expr_code f Public to i))))))
     by true near q x z =
-        let found : List Instr = found_by true near f.profile.block_log mode h to (operand_register q to) in
+        let found : List Instr = found_by true near f mode h to (operand_register q to) in
         let index : Mode → List Instr = λ m. operand_part q (expr_code f m to i) in
         let first : ℕ → List Note = λ place. operand_part q (expr_notes f mask to place i) in
         let notes : ℕ → List Note = loaded_notes true near None f h mask to in
@@ -192,14 +191,13 @@ access_worked f mode h mask to i a b c is x y =
         (λ place. ap (λ n. notes_in mode (first place ++ notes n)) (further place (index Public) found))
         (operand_then f mode mask to q i found (λ place. notes (place + length found)) a b c x z)
     by false near q x z =
-        let log = f.profile.block_log in
         let from = operand_register q to in
-        let located : List Instr = numbered_code near h to from ++ shift_code log h to in
+        let located : List Instr = numbered_code near f h to from ++ shift_code f h to in
         let skipped : List Instr = load_code (skips Public h) h to in
         let index : Mode → List Instr = λ m. operand_part q (expr_code f m to i) in
         let first : ℕ → List Note = λ place. operand_part q (expr_notes f mask to place i) in
         let notes : ℕ → List Note = loaded_notes false near None f h mask to in
-        appended_as a c (index mode ++ found_by false near log mode h to from)
+        appended_as a c (index mode ++ found_by false near f mode h to from)
         (index mode ++ located ++ load_code (skips mode h) h to)
         (λ place. notes_in mode (first place ++ notes (place + length (index Public) + length (located ++ skipped))))
         (λ place. notes_in mode (first place ++ notes (place + length (index Public ++ located ++ skipped))))
@@ -207,7 +205,7 @@ access_worked f mode h mask to i a b c is x y =
         (λ place. ap (λ n. notes_in mode (first place ++ notes n))
         (further place (index Public) (located ++ skipped)
         ∙ ap (λ l. place + length l) (sym (append_assoc (index Public) located skipped))))
-        (operand_then f mode mask to q i (found_by false near log mode h to from)
+        (operand_then f mode mask to q i (found_by false near f mode h to from)
         (λ place. notes (place + length (located ++ skipped))) a b c x z)
 
 -- a comparison and its note
@@ -238,24 +236,36 @@ compared_noted f mask to found h bound size a b c is is_bound is_size x y =
     (λ place. ap (λ m. note_of f m (place + 6) ∷ []) is)
     (silent_before a b c (code bound size) [] (λ place. note_of f found place ∷ []) x y)
 
+-- the number of a block
+pub shift_appended : (f : Setting) (h : Home) (to : ℕ) (log block : ℤ) (a b c : CodeBuf) → log ≡ pos f.profile.block_log
+    → block ≡ pos h.block → Appended a b (applied_code f Shr (to + 1) to (to + 1) log) no_notes
+    → Appended b c (applied_code f Add (to + 1) (to + 1) (to + 2) block) no_notes
+    → Appended a c (shift_code f h to) no_notes
+shift_appended f h to log block a b c is_log is_block x y =
+    let shift : ℤ → List Instr = applied_code f Shr (to + 1) to (to + 1) in
+    let sum : ℤ → List Instr = applied_code f Add (to + 1) (to + 1) (to + 2) in
+    appended_as a c (shift log ++ sum block) (shift_code f h to) no_notes no_notes
+    (λ k. shift (is_log k) ++ sum (is_block k)) (λ place. refl)
+    (silent_behind a b c (shift log) (sum block) no_notes x y)
+
 -- what follows the code of the index of a resident array
 pub found_placed : (f : Setting) (mode : Mode) (h : Home) (mask to from : ℕ) (i : Tree) (b c : CodeBuf)
     → from ≡ operand_register (index_operand f (compares f mode h i) i) to → h.resident ≡ true
-    → Appended b c (numbered_code (compares f mode h i) h to from ++ offset_code h to)
+    → Appended b c (numbered_code (compares f mode h i) f h to from ++ offset_code f h to)
     (λ place. compared_notes (compares f mode h i) None f mask to
-    (place + length (numbered_code (compares f mode h i) h to from)))
+    (place + length (numbered_code (compares f mode h i) f h to from)))
     → EmitsFound f mode h mask to i b c
 found_placed f mode h mask to from i b c same is x =
     let near = compares f mode h i in
-    let number : List Instr = numbered_code near h to from in
-    let offset : List Instr = offset_code h to in
-    let R : ℕ → Type 0 = λ own. Appended b c (found_by h.resident near f.profile.block_log mode h to own)
+    let number : List Instr = numbered_code near f h to from in
+    let offset : List Instr = offset_code f h to in
+    let R : ℕ → Type 0 = λ own. Appended b c (found_by h.resident near f mode h to own)
     (λ place. notes_in mode
     (loaded_notes h.resident near None f h mask to
-    (place + length (found_by h.resident near f.profile.block_log Public h to own)))) in
-    let P : Bool → Type 0 = λ r. Appended b c (found_by r near f.profile.block_log mode h to from)
+    (place + length (found_by h.resident near f Public h to own)))) in
+    let P : Bool → Type 0 = λ r. Appended b c (found_by r near f mode h to from)
     (λ place. notes_in mode
-    (loaded_notes r near None f h mask to (place + length (found_by r near f.profile.block_log Public h to from)))) in
+    (loaded_notes r near None f h mask to (place + length (found_by r near f Public h to from)))) in
     subst R same
     (subst P (sym is)
     (appended_as b c (number ++ offset) (number ++ offset)
@@ -273,38 +283,37 @@ found_placed f mode h mask to from i b c same is x =
 -- what follows the code of any other index
 pub found_loaded : (f : Setting) (mode : Mode) (h : Home) (mask to from : ℕ) (i : Tree) (b c d : CodeBuf)
     → from ≡ operand_register (index_operand f (compares f mode h i) i) to → h.resident ≡ false
-    → Appended b c (numbered_code (compares f mode h i) h to from ++ shift_code f.profile.block_log h to)
+    → Appended b c (numbered_code (compares f mode h i) f h to from ++ shift_code f h to)
     (λ place. compared_notes (compares f mode h i) None f mask to
-    (place + length (numbered_code (compares f mode h i) h to from)))
+    (place + length (numbered_code (compares f mode h i) f h to from)))
     → EmitsLoad f mode h mask to c d
     → EmitsFound f mode h mask to i b d
 found_loaded f mode h mask to from i b c d same turn x y =
     let near = compares f mode h i in
-    let log = f.profile.block_log in
-    let number : List Instr = numbered_code near h to from in
-    let located : List Instr = number ++ shift_code log h to in
+    let number : List Instr = numbered_code near f h to from in
+    let located : List Instr = number ++ shift_code f h to in
     let skipped : List Instr = load_code (is_cached h) h to in
     let load : ℕ → List Note = λ behind. if is_cached h then note_of f (access_mask mask to) behind ∷ [] else [] in
-    let R : ℕ → Type 0 = λ own. Appended b d (found_by h.resident near log mode h to own)
+    let R : ℕ → Type 0 = λ own. Appended b d (found_by h.resident near f mode h to own)
     (λ place. notes_in mode
-    (loaded_notes h.resident near None f h mask to (place + length (found_by h.resident near log Public h to own)))) in
-    let P : Bool → Type 0 = λ r. Appended b d (found_by r near log mode h to from)
+    (loaded_notes h.resident near None f h mask to (place + length (found_by h.resident near f Public h to own)))) in
+    let P : Bool → Type 0 = λ r. Appended b d (found_by r near f mode h to from)
     (λ place. notes_in mode (loaded_notes r near None f h mask to
-    (place + length (found_by r near log Public h to from)))) in
+    (place + length (found_by r near f Public h to from)))) in
     subst R same
     (subst P (sym turn)
     (appended_as b d (located ++ load_code (skips mode h) h to) (located ++ load_code (skips mode h) h to)
     (λ place. compared_notes near None f mask to (place + length number)
     ++ notes_in mode (load (place + length located + length skipped)))
     (λ place. notes_in mode
-    (compared_notes near None f mask to (place + length (located ++ skipped) - length (shift_code log h to ++ skipped))
+    (compared_notes near None f mask to (place + length (located ++ skipped) - length (shift_code f h to ++ skipped))
     ++ load (place + length (located ++ skipped))))
     refl
     (λ place.
-    (λ k. compared_in mode f h i mask to (before place number (shift_code log h to) skipped k) k
+    (λ k. compared_in mode f h i mask to (before place number (shift_code f h to) skipped k) k
     ++ notes_in mode (load (further place located skipped k)))
     ∙ notes_both mode
-    (compared_notes near None f mask to (place + length (located ++ skipped) - length (shift_code log h to ++ skipped)))
+    (compared_notes near None f mask to (place + length (located ++ skipped) - length (shift_code f h to ++ skipped)))
     (load (place + length (located ++ skipped))))
     (appended_then b c d located (load_code (skips mode h) h to)
     (λ place. compared_notes near None f mask to (place + length number))

@@ -132,10 +132,10 @@ module _ (o : Parts) (fits : IsInRange o) (f : Setting) (homes : HasHomes o f) (
       → StandsFor f s store → RunsValue o f store mode to from i index s
       → (near resident : Bool) → (near ≡ true → from ≡ to) → (home_of f x).resident ≡ resident
       → StandsAt o s.place
-      (access_by resident near f.profile.block_log mode (home_of f x) to from (fixed_index (home_of f x) i) index
+      (access_by resident near f mode (home_of f x) to from (fixed_index (home_of f x) i) index
       ++ Ldw to (home_of f x).slot to ∷ [])
       → RunsThrough o s
-      (access_by resident near f.profile.block_log mode (home_of f x) to from (fixed_index (home_of f x) i) index
+      (access_by resident near f mode (home_of f x) to from (fixed_index (home_of f x) i) index
       ++ Ldw to (home_of f x).slot to ∷ [])
       (seen_of_all mode s.banks s.slots
       (accesses f store i ++ accessed_by resident (access_of f store x (evaluated f.decls store i))))
@@ -148,7 +148,7 @@ module _ (o : Parts) (fits : IsInRange o) (f : Setting) (homes : HasHomes o f) (
       let n = word_number f store x index in
       let value = element store (variable_number f.decls x) index in
       let before = accesses f store i in
-      let code = placed_code near h to from (fixed_index h i) found in
+      let code = placed_code near f h to from (fixed_index h i) found in
       let load = Ldw to h.slot to in
       let seen = seen_of_all mode s.banks s.slots before in
       let same : before ≡ before ++ [] = sym (append-nil before) in
@@ -182,7 +182,7 @@ module _ (o : Parts) (fits : IsInRange o) (f : Setting) (homes : HasHomes o f) (
       let a = access_of f store x index in
       let value = element store (variable_number f.decls x) index in
       let before = accesses f store i in
-      let code = access_by false near f.profile.block_log mode h to from (fixed_index h i) found in
+      let code = access_by false near f mode h to from (fixed_index h i) found in
       let load = Ldw to h.slot to in
       let seen = seen_of_all mode s.banks s.slots (before ++ a ∷ []) in
       let Done : State → Type 0 = LeavesWord f store (before ++ a ∷ []) to value s in

@@ -1,7 +1,8 @@
 -- Runs of the code that finds the word of an element and its block.
-use Rattle.std.proofs.Common.{◌≡◌, ◌≢◌, ℕ, zero, suc, ◌+◌, ◌-◌, ◌/◌, ◌%◌, ◌^◌, ◌<◌, ◌≤◌, true, Bool, false, ◌==◌, eqb-true, ℤ, pos, ◌+ℤ◌, [], ◌∷◌, length, refl, sym, ap, ◌∙◌, subst, ⊎_elim, arith}
+use Rattle.std.proofs.Common.{◌≡◌, ◌≢◌, ℕ, zero, suc, ◌+◌, ◌-◌, ◌/◌, ◌%◌, ◌^◌, ◌<◌, ◌≤◌, true, Bool, false, ◌==◌, eqb-true, ℤ, pos, ◌+ℤ◌, [], ◌∷◌, ◌++◌, length, Option, Some, None, refl, sym, ap, ◌∙◌, subst, ⊎_elim, arith}
+use Rattle.std.specs.Prelude.{if◌then◌else◌}
 use Rattle.std.specs.List.{range_with_len, list_any}
-use Rattle.std.proofs.lemmas.Bool.{cond_both, or_cases, and_parts, false≢true}
+use Rattle.std.proofs.lemmas.Bool.{or_cases, and_parts, false≢true}
 use Rattle.gr_word.specs.Words.{IsWord, applied, compared, unsigned_of}
 use Rattle.gr_word.specs.declared.operations.Op.{Op}
 use Rattle.gr_word.specs.declared.operations.Op.TheVariants.{Add, Remu, And, Shr}
@@ -17,11 +18,16 @@ use Rattle.stretches.specs.Standing.{StandsAt, greatest_costs}
 use Rattle.stretches.specs.Coming.{RunsThrough, Sets}
 use Rattle.stretches.proofs.Standing.{standing-head}
 use Rattle.stretches.proofs.Coming.{comes-br_taken, comes-br_on, comes-weaker}
-use Rattle.stretches.proofs.RunningThrough.{runs-cons, runs-one, runs-weaker, sets-li, sets-alu}
-use Rattle.block_cache_gen.specs.Homes.{Home}
-use Rattle.block_cache_gen.specs.Codes.{is_power, is_masked, is_cached, reduced_code, least_word, compared_code, numbered_code, shift_code, fixed_code, fixed_word}
+use Rattle.stretches.proofs.RunningThrough.{runs-append, runs-cons, runs-one, runs-weaker, sets-li, sets-alu}
+use Rattle.src_tree.specs.Meaning.{Store}
+use Rattle.held_registers.specs.declared.registers.Held.TheVariants as thing
+use Rattle.held_registers.proofs.Found.{number-held}
+use Rattle.block_cache_gen.specs.Homes.{Home, Setting}
+use Rattle.block_cache_gen.specs.StandsFor.{StandsFor}
+use Rattle.block_cache_gen.proofs.Stands.{stands-like}
+use Rattle.block_cache_gen.specs.Codes.{is_power, is_masked, is_cached, operand_part, operand_register, held_number, applied_code, reducing, reducer, reduced_code, least_word, compared_code, numbered_code, shift_code, fixed_code, fixed_word}
 use Rattle.block_cache_gen.proofs.NearIndexes.{near-index}
-use Rattle.block_cache_gen.proofs.Kept.{Keeps, keeps-set, keeps-on}
+use Rattle.block_cache_gen.proofs.Kept.{Keeps, keeps-set, keeps-on, keeps-lower}
 
 -- The number of a word is in register `to`, and that of its block in the next one; the registers below and those
 -- from 19 on, the slots and the banks are as before.
@@ -33,6 +39,11 @@ pub record Locates (to n a : ℕ) (s t : State) : Type 0 where
 -- only the word
 pub record Reduces (to n : ℕ) (s t : State) : Type 0 where
   pub word : register t to ≡ pos n
+  pub keeps : Keeps to s t
+
+-- the result of an operation is in register `to`
+pub record Computes (to : ℕ) (value : ℤ) (s t : State) : Type 0 where
+  pub word : register t to ≡ value
   pub keeps : Keeps to s t
 
 -- the exponent of a power of two
@@ -49,7 +60,44 @@ power-of n is = found 0 21 is
         (rest.0, omega (arith, rest.1), rest.2))
         (or_cases (2 ^ a == n) (list_any (λ k. 2 ^ k == n) (range_with_len (a + 1) m)) is)
 
-module _ (o : Parts) (fits : IsInRange o) where
+module _ (o : Parts) (fits : IsInRange o) (f : Setting) (store : Store) where
+  -- an operation on a register and a number, by the register that holds the number
+  pub runs-applied : (op : Op) (to from own : ℕ) (z left value : ℤ) (s : State) → IsShaped o s → StandsFor f s store
+      → register s from ≡ left → from ≢ own → to ≤ own → own < 19 → applied op left z ≡ value
+      → StandsAt o s.place (applied_code f op to from own z)
+      → RunsThrough o s (applied_code f op to from own z) [] (Computes to value s)
+  runs-applied op to from own z left value s shaped stands has other le low computes at = by (held_number f z) refl at
+    where
+      by : (q : Option ℕ) → held_number f z ≡ q
+          → StandsAt o s.place (operand_part q (Li own z ∷ []) ++ Alu op to from (operand_register q own) ∷ [])
+          → RunsThrough o s (operand_part q (Li own z ∷ []) ++ Alu op to from (operand_register q own) ∷ []) []
+          (Computes to value s)
+      by None is at =
+          runs-cons s (Li own z) (Alu op to from own ∷ []) [] [] (Sets s own z) _ at
+          (sets-li o fits s shaped own z (omega arith))
+          (λ t shape sets at'.
+          let result : applied op (register t from) (register t own) ≡ value =
+          ap (λ a. applied op a (register t own)) (sets.others from other ∙ has) ∙ ap (applied op left) sets.value
+          ∙ computes in
+          runs-weaker t (Alu op to from own ∷ []) [] [] (Sets t to value) _
+          (runs-one t (Alu op to from own) [] (Sets t to value) at'
+          (sets-alu o fits t shape op to from own value (omega arith) result))
+          refl
+          (λ u shape' sets'. record {
+            word = sets'.value;
+            keeps = keeps-on (keeps-set to sets (omega arith) (omega arith))
+                (keeps-set to sets' (omega arith) (omega arith));
+          }))
+      by (Some r) is at =
+          let number : register s r ≡ z = stands.held r (thing.Number z) (number-held f.held z r is) in
+          let result : applied op (register s from) (register s r) ≡ value =
+          ap (λ a. applied op a (register s r)) has ∙ ap (applied op left) number ∙ computes in
+          runs-weaker s (Alu op to from r ∷ []) [] [] (Sets s to value) _
+          (runs-one s (Alu op to from r) [] (Sets s to value) at
+          (sets-alu o fits s shaped op to from r value (omega arith) result))
+          refl
+          (λ u shape' sets. record { word = sets.value; keeps = keeps-set to sets (omega arith) (omega arith) })
+
   -- an index modulo the length, by an operation that reduces it
   runs-reducing : (op : Op) (by : ℤ) (h : Home) (to from : ℕ) (s : State) (index : ℤ)
       → IsShaped o s → register s from ≡ index → from ≢ to + 1 → to + 2 < 19
@@ -81,20 +129,27 @@ module _ (o : Parts) (fits : IsInRange o) where
       ∙ ap (λ n. pos (unsigned_of index % n)) is
 
   -- an index becomes a number of the array's words
-  pub runs-reduced : (h : Home) (to from : ℕ) (s : State) (index : ℤ) → IsShaped o s → register s from ≡ index
-      → from ≢ to + 1 → to + 2 < 19
-      → 1 ≤ h.length → h.length ≤ 1048576 → StandsAt o s.place (reduced_code h to from)
-      → RunsThrough o s (reduced_code h to from) [] (Reduces to (unsigned_of index % h.length) s)
-  runs-reduced h to from s index shaped has other below least most =
-      cond_both (is_masked h) (Li (to + 1) (pos (h.length - 1)) ∷ Alu And to from (to + 1) ∷ [])
-      (Li (to + 1) (pos h.length) ∷ Alu Remu to from (to + 1) ∷ [])
-      (λ code. StandsAt o s.place code → RunsThrough o s code [] (Reduces to (unsigned_of index % h.length) s))
-      (λ masked.
-      runs-reducing And (pos (h.length - 1)) h to from s index shaped has other below
-      (masks h index (and_parts (is_cached h) (is_power h.length) masked).1))
-      (λ not_masked.
-      runs-reducing Remu (pos h.length) h to from s index shaped has other below
-      (remu_small index h.length least (omega arith)))
+  reduces-by : (h : Home) (index : ℤ) → 1 ≤ h.length → h.length ≤ 1048576
+      → applied (reducing h) index (reducer h) ≡ pos (unsigned_of index % h.length)
+  reduces-by h index least most = by (is_masked h) refl
+    where
+      by : (masked : Bool) → is_masked h ≡ masked
+          → applied (if masked then And else Remu) index (if masked then pos (h.length - 1) else pos h.length)
+          ≡ pos (unsigned_of index % h.length)
+      by true is = masks h index (and_parts (is_cached h) (is_power h.length) is).1
+      by false is = remu_small index h.length least (omega arith)
+
+  pub runs-reduced : (h : Home) (to from : ℕ) (s : State) (index : ℤ) → IsShaped o s → StandsFor f s store
+      → register s from ≡ index → from ≢ to + 1 → to + 2 < 19
+      → 1 ≤ h.length → h.length ≤ 1048576 → StandsAt o s.place (reduced_code f h to from)
+      → RunsThrough o s (reduced_code f h to from) [] (Reduces to (unsigned_of index % h.length) s)
+  runs-reduced h to from s index shaped stands has other below least most at =
+      let word = pos (unsigned_of index % h.length) in
+      runs-weaker s (reduced_code f h to from) [] [] (Computes to word s) (Reduces to (unsigned_of index % h.length) s)
+      (runs-applied (reducing h) to from (to + 1) (reducer h) index word s shaped stands has other (omega arith)
+      (omega arith) (reduces-by h index least most) at)
+      refl
+      (λ t shape done. record { word = done.word; keeps = done.keeps })
 
   -- The branch over the remainder is taken if the index is below the length, and then the index is the number of the
   -- word.
@@ -173,59 +228,43 @@ module _ (o : Parts) (fits : IsInRange o) where
 
   -- with a comparison or without one
   pub runs-numbered : (near : Bool) (h : Home) (to from : ℕ) (s : State) (index : ℤ) → IsShaped o s
-      → register s from ≡ index → from ≢ to + 1 → (near ≡ true → from ≡ to)
-      → to + 2 < 19 → 1 ≤ h.length → h.length ≤ 1048576 → StandsAt o s.place (numbered_code near h to from)
-      → RunsThrough o s (numbered_code near h to from) [] (Reduces to (unsigned_of index % h.length) s)
-  runs-numbered true h to from s index shaped has other own below least most at =
+      → StandsFor f s store → register s from ≡ index → from ≢ to + 1 → (near ≡ true → from ≡ to)
+      → to + 2 < 19 → 1 ≤ h.length → h.length ≤ 1048576 → StandsAt o s.place (numbered_code near f h to from)
+      → RunsThrough o s (numbered_code near f h to from) [] (Reduces to (unsigned_of index % h.length) s)
+  runs-numbered true h to from s index shaped stands has other own below least most at =
       runs-compared h to s index shaped (ap (register s) (sym (own refl)) ∙ has) below least most at
-  runs-numbered false h to from s index shaped has other own below least most at =
-      runs-reduced h to from s index shaped has other below least most at
+  runs-numbered false h to from s index shaped stands has other own below least most at =
+      runs-reduced h to from s index shaped stands has other below least most at
 
   -- the block, from the word
-  pub runs-block : (block_log : ℕ) (h : Home) (to : ℕ) (s : State) (word : ℕ)
-      → IsShaped o s → register s to ≡ pos word → to + 2 < 19
-      → block_log < 64 → h.block + word / 2 ^ block_log < 2 ^ 63 → StandsAt o s.place (shift_code block_log h to)
-      → RunsThrough o s (shift_code block_log h to) [] (Locates to word (h.block + word / 2 ^ block_log) s)
-  runs-block block_log h to s word shaped has below log small at =
-      let shift = Alu Shr (to + 1) to (to + 1) in
-      let base = Li (to + 2) (pos h.block) in
-      let sum = Alu Add (to + 1) (to + 1) (to + 2) in
-      let part = word / 2 ^ block_log in
-      runs-cons s (Li (to + 1) (pos block_log)) (shift ∷ base ∷ sum ∷ []) [] [] (Sets s (to + 1) (pos block_log)) _ at
-      (sets-li o fits s shaped (to + 1) (pos block_log) (omega arith))
-      (λ t1 shape1 sets1 at1.
-      let has1 : register t1 to ≡ pos word = sets1.others to (λ same. absurd (omega arith)) ∙ has in
-      let shifted : applied Shr (register t1 to) (register t1 (to + 1)) ≡ pos part =
-      ap (λ a. applied Shr a (register t1 (to + 1))) has1
-      ∙ ap (λ b. applied Shr (pos word) b) sets1.value
-      ∙ shr_small word block_log log in
-      runs-cons t1 shift (base ∷ sum ∷ []) [] [] (Sets t1 (to + 1) (pos part)) _ at1
-      (sets-alu o fits t1 shape1 Shr (to + 1) to (to + 1) (pos part) (omega arith) shifted)
-      (λ t2 shape2 sets2 at2.
-      let has2 : register t2 to ≡ pos word = sets2.others to (λ same. absurd (omega arith)) ∙ has1 in
-      runs-cons t2 base (sum ∷ []) [] [] (Sets t2 (to + 2) (pos h.block)) _ at2
-      (sets-li o fits t2 shape2 (to + 2) (pos h.block) (omega arith))
-      (λ t3 shape3 sets3 at3.
-      let has3 : register t3 to ≡ pos word = sets3.others to (λ same. absurd (omega arith)) ∙ has2 in
-      let part3 : register t3 (to + 1) ≡ pos part =
-      sets3.others (to + 1) (λ same. absurd (omega arith)) ∙ sets2.value in
-      let added : applied Add (register t3 (to + 1)) (register t3 (to + 2)) ≡ pos (h.block + part) =
-      ap (λ a. applied Add a (register t3 (to + 2))) part3
-      ∙ ap (λ b. applied Add (pos part) b) sets3.value
-      ∙ add_small part h.block (omega arith)
-      ∙ ap pos (omega arith) in
-      runs-weaker t3 (sum ∷ []) [] [] (Sets t3 (to + 1) (pos (h.block + part))) _
-      (runs-one t3 sum [] (Sets t3 (to + 1) (pos (h.block + part))) at3
-      (sets-alu o fits t3 shape3 Add (to + 1) (to + 1) (to + 2) (pos (h.block + part)) (omega arith) added))
+  pub runs-block : (h : Home) (to : ℕ) (s : State) (word : ℕ) → IsShaped o s → StandsFor f s store
+      → register s to ≡ pos word → to + 2 < 19 → f.profile.block_log < 64
+      → h.block + word / 2 ^ f.profile.block_log < 2 ^ 63 → StandsAt o s.place (shift_code f h to)
+      → RunsThrough o s (shift_code f h to) [] (Locates to word (h.block + word / 2 ^ f.profile.block_log) s)
+  runs-block h to s word shaped stands has below log small at =
+      let part = word / 2 ^ f.profile.block_log in
+      let base = pos f.profile.block_log in
+      let shift = applied_code f Shr (to + 1) to (to + 1) base in
+      let sum = applied_code f Add (to + 1) (to + 1) (to + 2) (pos h.block) in
+      let Done : State → Type 0 = Locates to word (h.block + part) s in
+      let added : applied Add (pos part) (pos h.block) ≡ pos (h.block + part) =
+      add_small part h.block (omega arith) ∙ ap pos (omega arith) in
+      runs-append s shift sum [] [] (Computes (to + 1) (pos part) s) Done at
+      (runs-applied Shr (to + 1) to (to + 1) base (pos word) (pos part) s shaped stands has
+      (λ same. absurd (omega (arith, same))) (omega arith) (omega arith)
+      (shr_small word f.profile.block_log log))
+      (λ t shape first at'.
+      let keeps = first.keeps in
+      let stands' = stands-like f s t store keeps.slots keeps.banks keeps.above stands in
+      runs-weaker t sum [] [] (Computes (to + 1) (pos (h.block + part)) t) Done
+      (runs-applied Add (to + 1) (to + 1) (to + 2) (pos h.block) (pos part) (pos (h.block + part)) t shape stands'
+      first.word (λ same. absurd (omega (arith, same))) (omega arith) (omega arith) added at')
       refl
-      (λ u shape' sets4. record {
-        word = sets4.others to (λ same. absurd (omega arith)) ∙ has3;
-        block = sets4.value;
-        keeps =
-            keeps-on (keeps-set to sets1 (omega arith) (omega arith))
-            (keeps-on (keeps-set to sets2 (omega arith) (omega arith))
-            (keeps-on (keeps-set to sets3 (omega arith) (omega arith)) (keeps-set to sets4 (omega arith) (omega arith))));
-      }))))
+      (λ u shape' second. record {
+        word = second.keeps.below to (omega arith) ∙ keeps.below to (omega arith) ∙ has;
+        block = second.word;
+        keeps = keeps-lower to (to + 1) (omega arith) (keeps-on keeps second.keeps);
+      }))
 
   -- both, where the index is a number
   pub runs-fixed : (block_log : ℕ) (h : Home) (to : ℕ) (z : ℤ) (s : State) → IsShaped o s → to + 2 < 19

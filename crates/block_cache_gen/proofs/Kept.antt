@@ -27,3 +27,12 @@ keeps-on first second = record {
   slots = second.slots ∙ first.slots;
   banks = second.banks ∙ first.banks;
 }
+
+-- fewer registers are kept too
+pub keeps-lower : (m n : ℕ) {s t : State} → m ≤ n → Keeps n s t → Keeps m s t
+keeps-lower m n le keeps = record {
+  below = λ r under. keeps.below r (omega (arith, le, under));
+  above = keeps.above;
+  slots = keeps.slots;
+  banks = keeps.banks;
+}

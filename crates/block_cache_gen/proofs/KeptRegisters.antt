@@ -39,6 +39,16 @@ same-then to k l m first second = record {
   slots = λ slot lt. second.slots slot lt ∙ first.slots slot lt;
 }
 
+-- fewer registers stay too
+pub same-lower : (low to : ℕ) (k l : Known) → low ≤ to → SameBelow to k l → SameBelow low k l
+same-lower low to k l le h = record {
+  sized = h.sized;
+  count = h.count;
+  registers = λ r lt. h.registers r (omega arith);
+  above = h.above;
+  slots = h.slots;
+}
+
 -- a higher register of expressions was set
 pub same-set : (to : ℕ) (k l : Known) (r : ℕ) (label : Bool) → to ≤ r → r < 19 → SameBelow to k l
     → SameBelow to k (set_secret l r label)

@@ -17,7 +17,7 @@ use Rattle.gr_word.specs.declared.operations.Op.{Op}
 use Rattle.gr_word.specs.declared.operations.Op.TheVariants.{And, Remu}
 use Rattle.strength_reduction.specs.Steps.{Step, code_of}
 use Rattle.block_cache_gen.specs.Notes.{operand_mask, access_mask, note_of, compared_notes, loading_code, loaded_notes, load_notes, index_notes, operation_notes, expr_notes}
-use Rattle.block_cache_gen.proofs.Sizes.{numbered_some}
+use Rattle.block_cache_gen.proofs.Sizes.{numbered_some, shift_some}
 
 -- a located word takes two instructions at least, and more than its index
 abbrev pub index_length : Option ℤ → List Instr → ℕ
@@ -25,14 +25,16 @@ index_length (Some z) index = 0
 index_length None index = length index
 
 -- at least two instructions follow the index
-pub located-longer : (near : Bool) (block_log : ℕ) (h : Home) (to from : ℕ) (fixed : Option ℤ) (index : List Instr)
-    → index_length fixed index + 2 ≤ length (located_code near block_log h to from fixed index)
-located-longer near block_log h to from (Some z) index = omega arith
-located-longer near block_log h to from None index =
+pub located-longer : (near : Bool) (f : Setting) (h : Home) (to from : ℕ) (fixed : Option ℤ) (index : List Instr)
+    → index_length fixed index + 2 ≤ length (located_code near f h to from fixed index)
+located-longer near f h to from (Some z) index = omega arith
+located-longer near f h to from None index =
     omega (
       arith,
-      length-append index (numbered_code near h to from ++ shift_code block_log h to),
-      length-append (numbered_code near h to from) (shift_code block_log h to),
+      length-append index (numbered_code near f h to from ++ shift_code f h to),
+      length-append (numbered_code near f h to from) (shift_code f h to),
+      numbered_some near f h to from,
+      shift_some f h to,
     )
 
 load_longer : (skip : Bool) (h : Home) (to : ℕ) → 1 ≤ length (load_code skip h to)
@@ -40,31 +42,31 @@ load_longer true h to = omega arith
 load_longer false h to = omega arith
 
 -- and one more in an access
-pub access-longer : (near : Bool) (block_log : ℕ) (h : Home) (to from : ℕ) (fixed : Option ℤ) (index : List Instr)
-    → length (located_code near block_log h to from fixed index) + 1
-    ≤ length (located_code near block_log h to from fixed index ++ load_code (skips Public h) h to)
-access-longer near block_log h to from fixed index =
+pub access-longer : (near : Bool) (f : Setting) (h : Home) (to from : ℕ) (fixed : Option ℤ) (index : List Instr)
+    → length (located_code near f h to from fixed index) + 1
+    ≤ length (located_code near f h to from fixed index ++ load_code (skips Public h) h to)
+access-longer near f h to from fixed index =
     omega (
       arith,
-      length-append (located_code near block_log h to from fixed index) (load_code (skips Public h) h to),
+      length-append (located_code near f h to from fixed index) (load_code (skips Public h) h to),
       load_longer (skips Public h) h to,
     )
 
 -- an access is longer than its index
-pub access-more : (resident near : Bool) (block_log : ℕ) (h : Home) (to from : ℕ) (fixed : Option ℤ)
+pub access-more : (resident near : Bool) (f : Setting) (h : Home) (to from : ℕ) (fixed : Option ℤ)
     (index : List Instr)
-    → index_length fixed index + 1 ≤ length (access_by resident near block_log Public h to from fixed index)
-access-more true near block_log h to from (Some z) index = omega arith
-access-more true near block_log h to from None index =
+    → index_length fixed index + 1 ≤ length (access_by resident near f Public h to from fixed index)
+access-more true near f h to from (Some z) index = omega arith
+access-more true near f h to from None index =
     omega (
       arith,
-      length-append index (numbered_code near h to from ++ offset_code h to),
-      length-append (numbered_code near h to from) (offset_code h to),
-      numbered_some near h to from,
+      length-append index (numbered_code near f h to from ++ offset_code f h to),
+      length-append (numbered_code near f h to from) (offset_code f h to),
+      numbered_some near f h to from,
     )
-access-more false near block_log h to from fixed index =
-    let longer = located-longer near block_log h to from fixed index in
-    let more = access-longer near block_log h to from fixed index in
+access-more false near f h to from fixed index =
+    let longer = located-longer near f h to from fixed index in
+    let more = access-longer near f h to from fixed index in
     omega arith
 
 -- the note of a load
@@ -81,56 +83,56 @@ compared-lie false f mask to place p q low high = tt
 
 -- before the number of the block is computed there is at most the note of a comparison
 pub located-lie : (f : Setting) (h : Home) (mask to from p : ℕ) (near : Bool) (fixed : Option ℤ) (index : List Instr)
-    → LieBetween p (p + length (located_code near f.profile.block_log h to from fixed index))
+    → LieBetween p (p + length (located_code near f h to from fixed index))
     (compared_notes near fixed f mask to
-    (p + length (located_code near f.profile.block_log h to from fixed index)
-    - length (shift_code f.profile.block_log h to)))
+    (p + length (located_code near f h to from fixed index)
+    - length (shift_code f h to)))
 located-lie f h mask to from p near (Some z) index = tt
 located-lie f h mask to from p false None index = tt
 located-lie f h mask to from p true None index =
-    let shift = shift_code f.profile.block_log h to in
-    let size : length (index ++ (compared_code h to ++ shift)) ≡ length index + 10 =
-    length-append index (compared_code h to ++ shift) in
+    let shift = shift_code f h to in
+    let whole = length-append index (compared_code h to ++ shift) in
+    let rest = length-append (compared_code h to) shift in
+    let some = shift_some f h to in
     compared-lie true f mask to _ p _ (omega arith) (omega arith)
 
 -- the place of the note of a comparison in the code of an access that loads
 pub loading-behind : (f : Setting) (h : Home) (to from p : ℕ) (index : List Instr)
-    → p + length (access_by false true f.profile.block_log Public h to from None index) - length (loading_code f h to)
+    → p + length (access_by false true f Public h to from None index) - length (loading_code f h to)
     ≡ p + length index + 6
 loading-behind f h to from p index =
-    let log = f.profile.block_log in
     let load = load_code (is_cached h) h to in
     omega (
       arith,
-      length-append (index ++ (compared_code h to ++ shift_code log h to)) load,
-      length-append index (compared_code h to ++ shift_code log h to),
-      length-append (shift_code log h to) load,
+      length-append (index ++ (compared_code h to ++ shift_code f h to)) load,
+      length-append index (compared_code h to ++ shift_code f h to),
+      length-append (shift_code f h to) load,
     )
 
 -- the note of a comparison, or of a load
 pub loaded-lie : (f : Setting) (h : Home) (mask to from p : ℕ) (resident near : Bool) (fixed : Option ℤ)
     (index : List Instr)
-    → LieBetween p (p + length (access_by resident near f.profile.block_log Public h to from fixed index) + 1)
+    → LieBetween p (p + length (access_by resident near f Public h to from fixed index) + 1)
     (loaded_notes resident near fixed f h mask to
-    (p + length (access_by resident near f.profile.block_log Public h to from fixed index)))
+    (p + length (access_by resident near f Public h to from fixed index)))
 loaded-lie f h mask to from p true near (Some z) index = tt
 loaded-lie f h mask to from p true true None index =
-    let size = length-append index (compared_code h to ++ offset_code h to) in
-    let rest = length-append (compared_code h to) (offset_code h to) in
+    let size = length-append index (compared_code h to ++ offset_code f h to) in
+    let rest = length-append (compared_code h to) (offset_code f h to) in
     ((omega (arith, size, rest), omega (arith, size, rest)), tt)
 loaded-lie f h mask to from p true false None index = tt
 loaded-lie f h mask to from p false near fixed index =
-    let code = access_by false near f.profile.block_log Public h to from fixed index in
-    let more = access-more false near f.profile.block_log h to from fixed index in
+    let code = access_by false near f Public h to from fixed index in
+    let more = access-more false near f h to from fixed index in
     lie_both p (p + length code + 1) (compared_notes near fixed f mask to
     (p + length code - length (loading_code f h to)))
     (if is_cached h then note_of f (access_mask mask to) (p + length code) ∷ [] else []) (compared near fixed)
     (load-lies f h mask to (p + length code) p (p + length code + 1) (is_cached h) (omega arith) (omega arith))
   where
     compared : (near : Bool) (fixed : Option ℤ)
-        → LieBetween p (p + length (access_by false near f.profile.block_log Public h to from fixed index) + 1)
+        → LieBetween p (p + length (access_by false near f Public h to from fixed index) + 1)
         (compared_notes near fixed f mask to
-        (p + length (access_by false near f.profile.block_log Public h to from fixed index)
+        (p + length (access_by false near f Public h to from fixed index)
         - length (loading_code f h to)))
     compared near (Some z) = tt
     compared false None = tt
@@ -147,13 +149,13 @@ index-lie None p index notes lie = lie
 -- the notes of an access
 pub access-lie : (f : Setting) (near : Bool) (h : Home) (mask to from p : ℕ) (fixed : Option ℤ) (index : List Instr)
     (notes : List Note) → LieBetween p (p + length index) notes
-    → LieBetween p (p + length (access_code near f.profile.block_log Public h to from fixed index) + 1)
+    → LieBetween p (p + length (access_code near f Public h to from fixed index) + 1)
     (index_notes fixed notes
     ++ load_notes near fixed f h mask to
-    (p + length (access_code near f.profile.block_log Public h to from fixed index)))
+    (p + length (access_code near f Public h to from fixed index)))
 access-lie f near h mask to from p fixed index notes lie =
-    let size = length (access_code near f.profile.block_log Public h to from fixed index) in
-    let more = access-more h.resident near f.profile.block_log h to from fixed index in
+    let size = length (access_code near f Public h to from fixed index) in
+    let more = access-more h.resident near f h to from fixed index in
     lie_both p (p + size + 1) (index_notes fixed notes) (load_notes near fixed f h mask to (p + size))
     (lie_wider p (p + index_length fixed index) p (p + size + 1) (index_notes fixed notes) (omega arith)
     (omega arith) (index-lie fixed p index notes lie))

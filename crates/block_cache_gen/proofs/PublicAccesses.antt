@@ -24,7 +24,7 @@ use Rattle.stretches.proofs.Standing.{standing-first, standing-rest}
 use Rattle.stretches.proofs.Passed.{passes-then, passes-to, passes-goes, passes-noted, no_note-before, no_note-behind, notes-before, notes-behind, no_note-there, notes-within, noted, bank-same, secret-same, rules-li, One, NoMore, LieBetween, lie_wider, lie_both}
 use Rattle.block_cache_gen.specs.declared.frames.Mode.TheVariants.{Public}
 use Rattle.block_cache_gen.specs.Homes.{Home, Setting, HasHomes, Serves, home_of, pin_of}
-use Rattle.block_cache_gen.specs.Codes.{is_cached, is_masked, compares, compared_code, numbered_code, fixed_index, reduced_code, shift_code, offset_code, placed_code, located_code, load_code, access_by, operand, operand_part, operand_register, operand_unless, index_operand, indexed_code, expr_code}
+use Rattle.block_cache_gen.specs.Codes.{is_cached, is_masked, compares, compared_code, numbered_code, applied_code, fixed_index, reduced_code, shift_code, offset_code, placed_code, located_code, load_code, access_by, operand, operand_part, operand_register, operand_unless, index_operand, indexed_code, expr_code}
 use Rattle.block_cache_gen.specs.Notes.{unmarked, access_mask, note_of, compared_notes, loading_code, loaded_notes, load_notes, index_notes, expr_notes}
 use Rattle.block_cache_gen.specs.Carries.{Carries}
 use Rattle.block_cache_gen.specs.PublicCode.{StandsNoted, HasLabel}
@@ -37,7 +37,7 @@ use Rattle.block_cache_gen.proofs.NotesOfCode.{compared-lie, located-lie, index_
 use Rattle.block_cache_gen.proofs.BaseMarks.{unmarked-same, unmarked-other}
 use Rattle.block_cache_gen.proofs.KeptRegisters.{SameBelow, same-itself, same-set, same-bound, carries-same, kept-same}
 use Rattle.block_cache_gen.proofs.AccessLabels.{shifted-numbered, reduced-numbered, offset_by, compared_known, compared_same, compared_word, divided_known, divided_same, divided_word, compared-by, fixed-numbered, asked_known, asked_same, asked_block, skipped_by, loaded-by}
-use Rattle.block_cache_gen.proofs.Sizes.{numbered_some}
+use Rattle.block_cache_gen.proofs.Sizes.{applied_some, numbered_some, shift_some}
 use Rattle.block_cache_gen.proofs.HomeFacts.{serves-oblivious, serves-cached, shows-cached, shown-low}
 
 -- the code of an access, and its notes
@@ -152,25 +152,25 @@ module _ (o : Parts) (f : Setting) (homes : HasHomes o f) (once : DeclaredOnce f
     -- an index that is compared isn't in a register that holds it for the whole run
     numbered_at : (q : Option ℕ) → operand_register q to ≢ to + 1 → HasLabel k (operand_register q to) l
         → (near : Bool) → (near ≡ true → q ≡ None) → (near ≡ true → l ≡ label.Public)
-        → StandsAt o p (numbered_code near h to (operand_register q to))
-        → NotesBetween o p (p + length (numbered_code near h to (operand_register q to)) + 1)
-        (compared_notes near None f mask to (p + length (numbered_code near h to (operand_register q to))))
-        → p + length (numbered_code near h to (operand_register q to)) < length o.code
-        → NumberedAt o f l mask to p comes holds (p + length (numbered_code near h to (operand_register q to)))
+        → StandsAt o p (numbered_code near f h to (operand_register q to))
+        → NotesBetween o p (p + length (numbered_code near f h to (operand_register q to)) + 1)
+        (compared_notes near None f mask to (p + length (numbered_code near f h to (operand_register q to))))
+        → p + length (numbered_code near f h to (operand_register q to)) < length o.code
+        → NumberedAt o f l mask to p comes holds (p + length (numbered_code near f h to (operand_register q to)))
     numbered_at q apart labelled true own public stands between inside =
         compared_at (ap (λ (r : Option ℕ). is_secret k (operand_register r to)) (sym (own refl)) ∙ labelled)
         (public refl) stands between inside
     numbered_at q apart labelled false own public stands between inside =
         let from = operand_register q to in
-        let found = reduced-numbered o to low h from apart p k kept.carries.registers in
-        let some = numbered_some false h to from in
+        let found = reduced-numbered o f homes.held to low h from apart p k kept.carries in
+        let some = numbered_some false f h to from in
         record {
           last = found.after;
           held = found.after;
-          passes = passes-here o p (reduced_code h to from) comes k found.after here found.goes stands some
+          passes = passes-here o p (reduced_code f h to from) comes k found.after here found.goes stands some
               (λ s above below. between s above (omega arith))
               inside;
-          here = AsItComes found.after (between (p + length (reduced_code h to from)) (omega arith) (omega arith));
+          here = AsItComes found.after (between (p + length (reduced_code f h to from)) (omega arith) (omega arith));
           kept = kept-same f mask to holds k found.after kept found.same;
           word = λ e. found.word_is ∙ labelled ∙ ap secret_label e;
         }
@@ -198,16 +198,16 @@ module _ (o : Parts) (f : Setting) (homes : HasHomes o f) (once : DeclaredOnce f
     -- by the code of the index, or as a number
     located_by : (q : Option ℕ) → IsOperandOf f i q → (near : Bool) → (near ≡ true → q ≡ None)
         → (near ≡ true → label_of (context_of f.decls) i ≡ label.Public) → (fixed : Option ℤ)
-        → StandsAt o p (located_code near f.profile.block_log h to (operand_register q to) fixed (index_code q))
-        → NotesBetween o p (p + length (located_code near f.profile.block_log h to (operand_register q to) fixed (index_code q)))
+        → StandsAt o p (located_code near f h to (operand_register q to) fixed (index_code q))
+        → NotesBetween o p (p + length (located_code near f h to (operand_register q to) fixed (index_code q)))
         (index_notes fixed (notes_of_index q)
         ++ compared_notes near fixed f mask to
-        (p + length (located_code near f.profile.block_log h to (operand_register q to) fixed (index_code q))
-        - length (shift_code f.profile.block_log h to)))
-        → p + length (located_code near f.profile.block_log h to (operand_register q to) fixed (index_code q)) < length o.code
+        (p + length (located_code near f h to (operand_register q to) fixed (index_code q))
+        - length (shift_code f h to)))
+        → p + length (located_code near f h to (operand_register q to) fixed (index_code q)) < length o.code
         → to + height_of i ≤ 18 → ExprPasses o f i → (h.bank < 2 → label_of (context_of f.decls) i ≡ label.Public)
         → LocatedAt o f h mask to p k holds
-        (p + length (located_code near f.profile.block_log h to (operand_register q to) fixed (index_code q)))
+        (p + length (located_code near f h to (operand_register q to) fixed (index_code q)))
     located_by q is near own open_index (Some z) stands between inside high index public =
         let l = fixed-numbered o to low f.profile.block_log h z p holds carries.registers in
         record {
@@ -220,15 +220,16 @@ module _ (o : Parts) (f : Setting) (homes : HasHomes o f) (once : DeclaredOnce f
     located_by q is near own open_index None stands between inside high index public =
         let code = index_code q in
         let from = operand_register q to in
-        let number = numbered_code near h to from in
-        let shift = shift_code f.profile.block_log h to in
+        let number = numbered_code near f h to from in
+        let shift = shift_code f h to in
         let rest = number ++ shift in
         let mid = p + length code in
         let next = mid + length number in
         let last = p + length (code ++ rest) in
         let size : length (code ++ rest) ≡ length code + length rest = length-append code rest in
         let rest_size : length rest ≡ length number + length shift = length-append number shift in
-        let some_number = numbered_some near h to from in
+        let some_number = numbered_some near f h to from in
+        let more = shift_some f h to in
         let before = notes_of_index q in
         let behind = compared_notes near None f mask to next in
         let place : last - length shift ≡ next = omega arith in
@@ -248,13 +249,13 @@ module _ (o : Parts) (f : Setting) (homes : HasHomes o f) (once : DeclaredOnce f
         first.here leaves first.kept q (apart_of q is) first.labelled near own open_index
         (standing-first number shift stands_rest)
         (notes-within o mid last mid (next + 1) behind (omega arith) (omega arith) later) (omega arith) in
-        let l = shifted-numbered o to low f.profile.block_log h next second.held second.kept.carries.registers in
+        let l = shifted-numbered o f homes.held to low h next second.held second.kept.carries in
         let quiet_after : (r : ℕ) → next < r → r < last → claimed_at o r ≡ None = (λ r above below.
         later r (omega arith) below
         ∙ ap (option_map note_known) (no_note-behind mid (next + 1) r behind lie_behind (omega arith))) in
         let third : Passes o next second.last (next + length shift) l.after =
-        passes-noted o next _ _ second.last second.held l.after second.here l.goes
-        (standing-rest number shift stands_rest) (λ r above below. quiet_after r above (omega arith)) (omega arith) in
+        passes-here o next shift second.last second.held l.after second.here l.goes
+        (standing-rest number shift stands_rest) more (λ r above below. quiet_after r above (omega arith)) (omega arith) in
         record {
           last = l.after;
           passes
@@ -378,13 +379,13 @@ module _ (o : Parts) (f : Setting) (homes : HasHomes o f) (once : DeclaredOnce f
     -- the number of the first word is added, unless that is 0
     offset_at : (q : ℕ) (comes found : Known) → HoldsAt o q comes found → KeptBelow f mask to holds found
         → (shows_index h ≡ true → is_secret found to ≡ false) → (first : Bool)
-        → StandsAt o q (if first then [] else Li (to + 1) (pos h.word) ∷ Alu Add to to (to + 1) ∷ [])
+        → StandsAt o q (if first then [] else applied_code f Add to to (to + 1) (pos h.word))
         → ((r : ℕ) → q < r
-        → r < q + length (if first then [] else Li (to + 1) (pos h.word) ∷ Alu Add to to (to + 1) ∷ []) + 1
+        → r < q + length (if first then [] else applied_code f Add to to (to + 1) (pos h.word)) + 1
         → claimed_at o r ≡ None)
-        → q + length (if first then [] else Li (to + 1) (pos h.word) ∷ Alu Add to to (to + 1) ∷ []) < length o.code
+        → q + length (if first then [] else applied_code f Add to to (to + 1) (pos h.word)) < length o.code
         → PlacedAt o f h mask to q comes holds
-        (q + length (if first then [] else Li (to + 1) (pos h.word) ∷ Alu Add to to (to + 1) ∷ []))
+        (q + length (if first then [] else applied_code f Add to to (to + 1) (pos h.word)))
     offset_at q comes found here kept word true stands quiet inside =
         let empty : q ≡ q + 0 = omega arith in
         subst (PlacedAt o f h mask to q comes holds) empty
@@ -397,28 +398,30 @@ module _ (o : Parts) (f : Setting) (homes : HasHomes o f) (once : DeclaredOnce f
           word = word;
         })
     offset_at q comes found here kept word false stands quiet inside =
-        let l = offset_by o to low h q found kept.carries.registers false in
+        let offset = applied_code f Add to to (to + 1) (pos h.word) in
+        let some = applied_some f Add to to (to + 1) (pos h.word) in
+        let l = offset_by o f homes.held to low h q found kept.carries false in
         record {
           last = l.after;
           held = l.after;
-          passes = passes-noted o q _ _ comes found l.after here l.goes stands
+          passes = passes-here o q offset comes found l.after here l.goes stands some
               (λ r above below. quiet r above (omega arith)) inside;
-          here = AsItComes l.after (quiet (q + 2) (omega arith) (omega arith));
+          here = AsItComes l.after (quiet (q + length offset) (omega arith) (omega arith));
           kept = kept-same f mask to holds found l.after kept l.same;
           word = λ shows. l.word_is ∙ word shows;
         }
 
     placed_by : (q : Option ℕ) → IsOperandOf f i q → (near : Bool) → (near ≡ true → q ≡ None)
         → (near ≡ true → label_of (context_of f.decls) i ≡ label.Public) → (fixed : Option ℤ)
-        → StandsAt o p (placed_code near h to (operand_register q to) fixed (index_code q))
-        → NotesBetween o p (p + length (placed_code near h to (operand_register q to) fixed (index_code q)) + 1)
+        → StandsAt o p (placed_code near f h to (operand_register q to) fixed (index_code q))
+        → NotesBetween o p (p + length (placed_code near f h to (operand_register q to) fixed (index_code q)) + 1)
         (index_notes fixed (notes_of_index q)
         ++ compared_notes near fixed f mask to
-        (p + length (placed_code near h to (operand_register q to) fixed (index_code q)) - length (offset_code h to)))
-        → p + length (placed_code near h to (operand_register q to) fixed (index_code q)) < length o.code
+        (p + length (placed_code near f h to (operand_register q to) fixed (index_code q)) - length (offset_code f h to)))
+        → p + length (placed_code near f h to (operand_register q to) fixed (index_code q)) < length o.code
         → to + height_of i ≤ 18 → ExprPasses o f i
         → (shows_index h ≡ true → label_of (context_of f.decls) i ≡ label.Public)
-        → PlacedAt o f h mask to p k holds (p + length (placed_code near h to (operand_register q to) fixed (index_code q)))
+        → PlacedAt o f h mask to p k holds (p + length (placed_code near f h to (operand_register q to) fixed (index_code q)))
     placed_by q is near own open_index (Some z) stands between inside high index public =
         let one = set_secret holds to false in
         let sized = carries.registers in
@@ -436,15 +439,15 @@ module _ (o : Parts) (f : Setting) (homes : HasHomes o f) (once : DeclaredOnce f
     placed_by q is near own open_index None stands between inside high index public =
         let code = index_code q in
         let from = operand_register q to in
-        let number = numbered_code near h to from in
-        let offset = offset_code h to in
+        let number = numbered_code near f h to from in
+        let offset = offset_code f h to in
         let rest = number ++ offset in
         let mid = p + length code in
         let next = mid + length number in
         let last = p + length (code ++ rest) in
         let size : length (code ++ rest) ≡ length code + length rest = length-append code rest in
         let rest_size : length rest ≡ length number + length offset = length-append number offset in
-        let some_number = numbered_some near h to from in
+        let some_number = numbered_some near f h to from in
         let before = notes_of_index q in
         let behind = compared_notes near None f mask to next in
         let place : last - length offset ≡ next = omega arith in
@@ -487,7 +490,7 @@ module _ (o : Parts) (f : Setting) (homes : HasHomes o f) (once : DeclaredOnce f
   -- a whole access, of an array that is resident or isn't
   abbrev code_by : (resident near : Bool) → ℕ → List ℕ → Tree → List Instr
   code_by b near to x i =
-      access_by b near f.profile.block_log Public (home_of f x) to (operand_register (index_operand f near i) to)
+      access_by b near f Public (home_of f x) to (operand_register (index_operand f near i) to)
       (fixed_index (home_of f x) i) (operand_part (index_operand f near i) (expr_code f Public to i))
 
   -- an index that is compared is copied
@@ -530,14 +533,14 @@ module _ (o : Parts) (f : Setting) (homes : HasHomes o f) (once : DeclaredOnce f
       let q_of_index = index_operand f near i in
       let from = operand_register q_of_index to in
       let code = operand_part q_of_index (expr_code f Public to i) in
-      let shift = shift_code f.profile.block_log h to in
-      let first = located_code near f.profile.block_log h to from fixed code in
+      let shift = shift_code f h to in
+      let first = located_code near f h to from fixed code in
       let load = load_code (is_cached h) h to in
       let q = p + length first in
       let r = p + length (first ++ load) in
       let size : length (first ++ load) ≡ length first + length load = length-append first load in
-      let longer = located-longer near f.profile.block_log h to from fixed code in
-      let more = access-longer near f.profile.block_log h to from fixed code in
+      let longer = located-longer near f h to from fixed code in
+      let more = access-longer near f h to from fixed code in
       let notes = index_notes fixed (operand_part q_of_index (expr_notes f mask to p i)) in
       let compared = compared_notes near fixed f mask to (q - length shift) in
       let before = notes ++ compared in

@@ -14,14 +14,15 @@ use Rattle.src_tree.specs.Trees.{Tree, Number, Variable, Element, Operation}
 use Rattle.src_tree.specs.Typing.{TypedTree}
 use Rattle.trace_patterns.specs.SymStates.{SymSlot, AnySlot, RamSlot, Entry, Loaded}
 use Rattle.trace_patterns.specs.Single.{applied_trees, word_tree}
-use Rattle.block_cache_gen.specs.Homes.{Home, Setting, held_label, home_of, register_for, words_a_block, HasHomes}
-use Rattle.block_cache_gen.specs.Codes.{is_masked, fixed_index, fixed_word, operand, operand_unless, steps_at}
+use Rattle.block_cache_gen.specs.Homes.{Held, Home, Setting, held_label, label_by, home_of, register_for, words_a_block, HasHomes}
+use Rattle.block_cache_gen.specs.Codes.{held_number, reducer, reducing, fixed_index, fixed_word, operand, operand_unless, steps_at}
 use Rattle.strength_reduction.specs.Steps.{Step, Constant, Compute, left_by, reads_known, replaced}
-use Rattle.block_cache_gen.specs.PatternsOf.{word_named_by, word_read, tree_by, scalar_tree, operand_tree, pinned_slot, placed_tree, element_by, block_named_by, number_tree, reduced_tree, block_tree, block_loaded, element_slot, steps_tree, operation_tree, tree_of_expr}
+use Rattle.block_cache_gen.specs.PatternsOf.{number_in, word_named_by, word_read, tree_by, scalar_tree, operand_tree, pinned_slot, placed_tree, element_by, block_named_by, number_tree, reduced_tree, block_tree, block_loaded, element_slot, steps_tree, operation_tree, tree_of_expr}
 use Rattle.block_cache_gen.proofs.StepsAt.{steps-of}
 use Rattle.held_registers.specs.Held.{public_zero}
 use Rattle.block_cache_gen.proofs.HeldOperands.{IsOperandOf}
 use Rattle.block_cache_gen.proofs.OperandLabels.{is-operand, operand-label}
+use Rattle.held_registers.proofs.Found.{number-held}
 use Rattle.block_cache_gen.proofs.HeldLabels.{register-label}
 use Rattle.block_cache_gen.proofs.HomeFacts.{plain-array}
 use Rattle.block_cache_gen.proofs.ArmInstructions.{IsSeen}
@@ -41,28 +42,33 @@ either-known : (c : Bool) (a b : Option Value) → IsKnown a → IsKnown b → I
 either-known true a b left right = left
 either-known false a b left right = right
 
-reduced-known : (h : Home) (index : Option Value) → IsKnown index → IsKnown (reduced_tree h index)
-reduced-known h index known =
-    either-known (is_masked h) (applied_trees And index (Some (Const (pos (h.length - 1)))))
-    (applied_trees Remu index (Some (Const (pos h.length))))
-    (applied-known And index (Some (Const (pos (h.length - 1)))) known (const-known (pos (h.length - 1))))
-    (applied-known Remu index (Some (Const (pos h.length))) known (const-known (pos h.length)))
+-- so is a number, by the register that holds it
+number-in : (f : Setting) (z : ℤ) → IsKnown (number_in f z)
+number-in f z = by (held_number f z) refl
+  where
+    by : (q : Option ℕ) → held_number f z ≡ q → IsKnown (operand_tree f q (Some (Const z)))
+    by None is = const-known z
+    by (Some r) is = (Reg r, ap (λ (h : Option Held). tree_by r (label_by f.decls h)) (number-held f.held z r is))
+
+reduced-known : (f : Setting) (h : Home) (index : Option Value) → IsKnown index → IsKnown (reduced_tree f h index)
+reduced-known f h index known =
+    applied-known (reducing h) index (number_in f (reducer h)) known (number-in f (reducer h))
 
 -- the number of an element's word and that of its block are known where its index is
-pub number-known : (h : Home) (fixed : Option ℤ) (index : Option Value) → IsKnown index
-    → IsKnown (number_tree h fixed index)
-number-known h (Some z) index known = const-known (pos (fixed_word h z))
-number-known h None index known = reduced-known h index known
+pub number-known : (f : Setting) (h : Home) (fixed : Option ℤ) (index : Option Value) → IsKnown index
+    → IsKnown (number_tree f h fixed index)
+number-known f h (Some z) index known = const-known (pos (fixed_word h z))
+number-known f h None index known = reduced-known f h index known
 
 -- so is the place of a resident array's word
-pub placed-known : (h : Home) (fixed : Option ℤ) (index : Option Value) → IsKnown index
-    → IsKnown (placed_tree h fixed index)
-placed-known h (Some z) index known = const-known (pos (h.word + fixed_word h z))
-placed-known h None index known =
-    let first = reduced-known h index known in
-    let word : Option Value = Some (Const (pos h.word)) in
-    either-known (h.word == 0) (reduced_tree h index) (applied_trees Add (reduced_tree h index) word) first
-    (applied-known Add (reduced_tree h index) word first (const-known (pos h.word)))
+pub placed-known : (f : Setting) (h : Home) (fixed : Option ℤ) (index : Option Value) → IsKnown index
+    → IsKnown (placed_tree f h fixed index)
+placed-known f h (Some z) index known = const-known (pos (h.word + fixed_word h z))
+placed-known f h None index known =
+    let first = reduced-known f h index known in
+    let word : Option Value = number_in f (pos h.word) in
+    either-known (h.word == 0) (reduced_tree f h index) (applied_trees Add (reduced_tree f h index) word) first
+    (applied-known Add (reduced_tree f h index) word first (number-in f (pos h.word)))
 
 -- a slot of plain memory holds what it held at the entry
 pub pinned-ram : (h : Home) → h.bank ≡ 0 → pinned_slot h ≡ RamSlot (SlotAt h.slot) (Entry h.slot)
@@ -82,11 +88,11 @@ pub block-seen : (f : Setting) (h : Home) (fixed : Option ℤ) (index : Option V
     → IsSeen h.bank (block_tree f h fixed index)
 block-seen f h (Some z) index known = λ cached. const-known (pos (h.block + fixed_word h z / words_a_block f))
 block-seen f h None index known = λ cached.
-    let shift : Option Value = Some (Const (pos f.profile.block_log)) in
-    applied-known Add (applied_trees Shr (reduced_tree h index) shift) (Some (Const (pos h.block)))
-    (applied-known Shr (reduced_tree h index) shift (reduced-known h index (known cached))
-    (const-known (pos f.profile.block_log)))
-    (const-known (pos h.block))
+    let shift : Option Value = number_in f (pos f.profile.block_log) in
+    applied-known Add (applied_trees Shr (reduced_tree f h index) shift) (number_in f (pos h.block))
+    (applied-known Shr (reduced_tree f h index) shift (reduced-known f h index (known cached))
+    (number-in f (pos f.profile.block_log)))
+    (number-in f (pos h.block))
 
 -- what is public is public in its parts
 pub public-left : (a b : Label) → higher a b ≡ Public → a ≡ Public
@@ -167,9 +173,9 @@ module _ (o : Parts) (f : Setting) (homes : HasHomes o f) where
 
   -- an element of plain memory
   element-known : (h : Home) (fixed : Option ℤ) (index : Option Value) → h.bank ≡ 0 → IsKnown index
-      → IsKnown (word_read f (element_slot f h fixed index) (number_tree h fixed index))
+      → IsKnown (word_read f (element_slot f h fixed index) (number_tree f h fixed index))
   element-known h fixed index at known =
-      let number = number-known h fixed index known in
+      let number = number-known f h fixed index known in
       let block = block-seen f h fixed index (λ cached. known) (omega arith) in
       let bound : element_slot f h fixed index ≡ RamSlot (block_named_by f 0 block.0) Loaded =
       (λ i. block_loaded f (at i) (block.1 i)) in (
@@ -180,7 +186,7 @@ module _ (o : Parts) (f : Setting) (homes : HasHomes o f) where
   element_by-known : (b : Bool) (h : Home) (fixed : Option ℤ) (index : Option Value) → h.bank ≡ 0 → IsKnown index
       → IsKnown (element_by b f h fixed index)
   element_by-known true h fixed index at known =
-      read-known f h (placed_tree h fixed index) at (placed-known h fixed index known)
+      read-known f h (placed_tree f h fixed index) at (placed-known f h fixed index known)
   element_by-known false h fixed index at known = element-known h fixed index at known
 
   -- the value of a public expression is known

@@ -11,7 +11,7 @@ use Rattle.gr_word.specs.declared.variables.Label.{Label}
 use Rattle.gr_word.specs.declared.variables.Label.TheVariants as label
 use Rattle.gr_word.specs.declared.variables.Shape.{Shape}
 use Rattle.gr_word.specs.declared.operations.Op.{Op}
-use Rattle.gr_word.specs.declared.operations.Op.TheVariants.{Add, Remu, And, Shr}
+use Rattle.gr_word.specs.declared.operations.Op.TheVariants.{Add, Remu, Shr}
 use Rattle.gr_word.specs.declared.operations.Cmp.TheVariants.{Eq, Lt}
 use Rattle.lt_isa.specs.declared.instructions.Instr.{Instr}
 use Rattle.lt_isa.specs.declared.instructions.Instr.TheVariants.{Li, Alu, Ldb, Stb, Idb, Ldw, Stw, Br}
@@ -27,10 +27,13 @@ use Rattle.block_cache_gen.specs.declared.frames.Mode.TheVariants.{Public, Real,
 use Rattle.block_cache_gen.specs.Homes.{Pin, pin_at, Home, Setting, home_of, register_for}
 use Rattle.held_registers.specs.Held.{secret_zero, public_zero, IsSoundHeld}
 use Rattle.block_cache_gen.specs.TreeWords.{HasWords}
-use Rattle.block_cache_gen.specs.Codes.{is_masked, compares, least_word, numbered_code, fixed_index, fixed_word, shift_code, fixed_code, located_code, load_code, skips, access_by, placed_code, offset_code, stored_code, access_code, index_operand, indexed_code, operand, operand_part, operand_register, left_operand, expr_code, guard_code, store_code, set_code, operation_code, steps_at, copy_code, scalar_code, copied_from, write_code}
+use Rattle.block_cache_gen.specs.Codes.{is_masked, held_number, applied_code, reducing, reducer, compares, least_word, numbered_code, fixed_index, fixed_word, shift_code, fixed_code, located_code, load_code, skips, access_by, placed_code, offset_code, stored_code, access_code, index_operand, indexed_code, operand, operand_part, operand_register, left_operand, expr_code, guard_code, store_code, set_code, operation_code, steps_at, copy_code, scalar_code, copied_from, write_code}
 use Rattle.strength_reduction.specs.Steps.{Step, Constant, Compute, StepFits, numbered, code_of}
 use Rattle.step_code.proofs.Registers.{numbered-low}
 use Rattle.src_tree.proofs.TreeHeights.{height-some}
+use Rattle.held_registers.specs.declared.registers.Held.TheVariants as thing
+use Rattle.held_registers.proofs.Found.{number-held}
+use Rattle.block_cache_gen.proofs.HeldScalars.{held-inside}
 use Rattle.block_cache_gen.proofs.HeldOperands.{operand-inside, operand-low, operand-unless}
 use Rattle.block_cache_gen.proofs.StepsAt.{steps-of}
 
@@ -110,26 +113,36 @@ module _ (banks : ℕ) where
   both : (xs ys : List Instr) → CodeFits banks xs → CodeFits banks ys → CodeFits banks (xs ++ ys)
   both xs ys first second = code-both banks xs ys first second
 
-  module _ (h : Home) (home : HomeFits banks h) (to : ℕ) (low : to + 2 < 19) where
-    reduced_by : (from : ℕ) → from < 32 → (masked : Bool)
-        → CodeFits banks (if masked then Li (to + 1) (pos (h.length - 1)) ∷ Alu And to from (to + 1) ∷ []
-        else Li (to + 1) (pos h.length) ∷ Alu Remu to from (to + 1) ∷ [])
-    reduced_by from inside true =
-        let most = home.length.1 in
-        li (to + 1) (pos (h.length - 1)) _ (omega arith) (small-word (h.length - 1) (omega arith))
-        (alu And to from (to + 1) [] (omega arith) inside (omega arith) none)
-    reduced_by from inside false =
-        let most = home.length.1 in
-        li (to + 1) (pos h.length) _ (omega arith) (small-word h.length (omega arith))
-        (alu Remu to from (to + 1) [] (omega arith) inside (omega arith) none)
+  module _ (f : Setting) (homes : HomesFit banks f) (h : Home) (home : HomeFits banks h) (to : ℕ)
+      (low : to + 2 < 19) where
+    applied_by : (op : Op) (rd from own : ℕ) (z : ℤ) → rd < 32 → from < 32 → own < 32 → IsWord z
+        → CodeFits banks (applied_code f op rd from own z)
+    applied_by op rd from own z inside source place word = by (held_number f z) refl
+      where
+        by : (q : Option ℕ) → held_number f z ≡ q
+            → CodeFits banks (operand_part q (Li own z ∷ []) ++ Alu op rd from (operand_register q own) ∷ [])
+        by None is = li own z _ place word (alu op rd from own [] inside source place none)
+        by (Some r) is =
+            let there = held-inside homes.held r (thing.Number z) (number-held f.held z r is) in
+            alu op rd from r [] inside source there.0 none
 
-    block_by : (block_log : ℕ) → block_log ≤ 9 → CodeFits banks (shift_code block_log h to)
-    block_by block_log few =
+    reducer-word : IsWord (reducer h)
+    reducer-word = by (is_masked h)
+      where
+        by : (masked : Bool) → IsWord (if masked then pos (h.length - 1) else pos h.length)
+        by true = let most = home.length.1 in small-word (h.length - 1) (omega arith)
+        by false = let most = home.length.1 in small-word h.length (omega arith)
+
+    block_by : CodeFits banks (shift_code f h to)
+    block_by =
         let block = home.block in
-        li (to + 1) (pos block_log) _ (omega arith) (small-word block_log (omega arith))
-        (alu Shr (to + 1) to (to + 1) _ (omega arith) (omega arith) (omega arith)
-        (li (to + 2) (pos h.block) _ (omega arith) (small-word h.block (omega arith))
-        (alu Add (to + 1) (to + 1) (to + 2) [] (omega arith) (omega arith) (omega arith) none)))
+        let few = homes.block_log in
+        let log = pos f.profile.block_log in
+        both (applied_code f Shr (to + 1) to (to + 1) log) (applied_code f Add (to + 1) (to + 1) (to + 2) (pos h.block))
+        (applied_by Shr (to + 1) to (to + 1) log (omega arith) (omega arith) (omega arith)
+        (small-word f.profile.block_log (omega arith)))
+        (applied_by Add (to + 1) (to + 1) (to + 2) (pos h.block) (omega arith) (omega arith) (omega arith)
+        (small-word h.block (omega arith)))
 
     fixed_by : (block_log : ℕ) (z : ℤ) → CodeFits banks (fixed_code block_log h to z)
     fixed_by block_log z =
@@ -156,7 +169,7 @@ module _ (banks : ℕ) where
         let is : least_word +ℤ pos n ≡ negsuc (9223372036854775807 - n) = omega (arith, ints) in
         subst IsWord (sym is) (record { sfits = omega arith })
 
-    numbered_by : (near : Bool) (from : ℕ) → from < 32 → CodeFits banks (numbered_code near h to from)
+    numbered_by : (near : Bool) (from : ℕ) → from < 32 → CodeFits banks (numbered_code near f h to from)
     numbered_by true from inside =
         let most = home.length.1 in
         li (to + 1) least_word _ (omega arith) (record { sfits = omega arith })
@@ -165,26 +178,25 @@ module _ (banks : ℕ) where
         (Before (Br Lt (to + 1) (to + 2) (pos 3)) _ (omega arith, omega arith, small_offset_three)
         (li (to + 1) (pos h.length) _ (omega arith) (small-word h.length (omega arith))
         (alu Remu to to (to + 1) [] (omega arith) (omega arith) (omega arith) none)))))
-    numbered_by false from inside = reduced_by from inside (is_masked h)
+    numbered_by false from inside =
+        applied_by (reducing h) to from (to + 1) (reducer h) (omega arith) inside (omega arith) reducer-word
 
-    located_by : (near : Bool) (block_log from : ℕ) (fixed : Option ℤ) (index : List Instr) → block_log ≤ 9 → from < 32
-        → CodeFits banks index → CodeFits banks (located_code near block_log h to from fixed index)
-    located_by near block_log from (Some z) index few inside fit = fixed_by block_log z
-    located_by near block_log from None index few inside fit =
-        both index (numbered_code near h to from ++ shift_code block_log h to) fit
-        (both (numbered_code near h to from) (shift_code block_log h to) (numbered_by near from inside)
-        (block_by block_log few))
+    located_by : (near : Bool) (from : ℕ) (fixed : Option ℤ) (index : List Instr) → from < 32
+        → CodeFits banks index → CodeFits banks (located_code near f h to from fixed index)
+    located_by near from (Some z) index inside fit = fixed_by f.profile.block_log z
+    located_by near from None index inside fit =
+        both index (numbered_code near f h to from ++ shift_code f h to) fit
+        (both (numbered_code near f h to from) (shift_code f h to) (numbered_by near from inside) block_by)
 
-    offset_by : (first : Bool)
-        → CodeFits banks (if first then [] else Li (to + 1) (pos h.word) ∷ Alu Add to to (to + 1) ∷ [])
+    offset_by : (first : Bool) → CodeFits banks (if first then [] else applied_code f Add to to (to + 1) (pos h.word))
     offset_by true = none
     offset_by false =
         let small = home.word in
-        li (to + 1) (pos h.word) _ (omega arith) (small-word h.word (omega arith))
-        (alu Add to to (to + 1) [] (omega arith) (omega arith) (omega arith) none)
+        applied_by Add to to (to + 1) (pos h.word) (omega arith) (omega arith) (omega arith)
+        (small-word h.word (omega arith))
 
     placed_by : (near : Bool) (from : ℕ) (fixed : Option ℤ) (index : List Instr) → from < 32 → CodeFits banks index
-        → CodeFits banks (placed_code near h to from fixed index)
+        → CodeFits banks (placed_code near f h to from fixed index)
     placed_by near from (Some z) index inside fit =
         let small = home.word in
         let least = home.length.0 in
@@ -192,19 +204,18 @@ module _ (banks : ℕ) where
         let below : fixed_word h z < h.length = mod-lt (unsigned_of z) (omega arith) in
         li to (pos (h.word + fixed_word h z)) [] (omega arith) (small-word (h.word + fixed_word h z) (omega arith)) none
     placed_by near from None index inside fit =
-        both index (numbered_code near h to from ++ offset_code h to) fit
-        (both (numbered_code near h to from) (offset_code h to) (numbered_by near from inside) (offset_by (h.word == 0)))
+        both index (numbered_code near f h to from ++ offset_code f h to) fit
+        (both (numbered_code near f h to from) (offset_code f h to) (numbered_by near from inside) (offset_by (h.word == 0)))
 
-    pub access-fits : (near : Bool) (block_log : ℕ) (mode : Mode) (from : ℕ) (fixed : Option ℤ) (index : List Instr)
-        → block_log ≤ 9 → from < 32 → CodeFits banks index
-        → CodeFits banks (access_code near block_log mode h to from fixed index)
-    access-fits near block_log mode from fixed index few inside fit = by h.resident
+    pub access-fits : (near : Bool) (mode : Mode) (from : ℕ) (fixed : Option ℤ) (index : List Instr) → from < 32
+        → CodeFits banks index → CodeFits banks (access_code near f mode h to from fixed index)
+    access-fits near mode from fixed index inside fit = by h.resident
       where
-        by : (b : Bool) → CodeFits banks (access_by b near block_log mode h to from fixed index)
+        by : (b : Bool) → CodeFits banks (access_by b near f mode h to from fixed index)
         by true = placed_by near from fixed index inside fit
         by false =
-            both (located_code near block_log h to from fixed index) (load_code (skips mode h) h to)
-            (located_by near block_log from fixed index few inside fit) (load_by (skips mode h))
+            both (located_code near f h to from fixed index) (load_code (skips mode h) h to)
+            (located_by near from fixed index inside fit) (load_by (skips mode h))
 
   -- steps
   steps-fit : (to : ℕ) (steps : List Step) → to + 2 < 19 → All StepFits steps → CodeFits banks (code_of to steps)
@@ -261,8 +272,8 @@ module _ (banks : ℕ) where
       let near = compares f mode (home_of f x) i in
       let q = index_operand f near i in
       both (indexed_code f near mode (home_of f x) to i (expr_code f mode to i)) _
-      (access-fits (home_of f x) home to (omega (arith, height-some i)) near f.profile.block_log mode
-      (operand_register q to) (fixed_index (home_of f x) i) (operand_part q (expr_code f mode to i)) homes.block_log
+      (access-fits f homes (home_of f x) home to (omega (arith, height-some i)) near mode
+      (operand_register q to) (fixed_index (home_of f x) i) (operand_part q (expr_code f mode to i))
       (operand-inside f homes.held i q (operand-unless f i near) to (omega arith))
       (operand-fits q (expr_code f mode to i) (expression-fits f mode homes to i typed.1.0 words (omega arith))))
       (ldw to (home_of f x).slot to [] (omega arith) home.slot (omega arith) none)
@@ -337,8 +348,8 @@ module _ (banks : ℕ) where
       both (operand_part q (expr_code f mode 0 e)) _
       (operand-fits q (expr_code f mode 0 e) (expression-fits f mode homes 0 e value words (omega arith)))
       (both (indexed_code f near mode (home_of f x) 1 i (expr_code f mode 1 i)) _
-      (access-fits (home_of f x) home 1 (omega arith) near f.profile.block_log mode (operand_register p 1)
-      (fixed_index (home_of f x) i) (operand_part p (expr_code f mode 1 i)) homes.block_log
+      (access-fits f homes (home_of f x) home 1 (omega arith) near mode (operand_register p 1)
+      (fixed_index (home_of f x) i) (operand_part p (expr_code f mode 1 i))
       (operand-inside f homes.held i p (operand-unless f i near) 1 (omega arith))
       (operand-fits p (expr_code f mode 1 i) (expression-fits f mode homes 1 i typed.1.0 index (omega arith))))
       (both (store_code mode (home_of f x).slot (operand_register q 0)) _

@@ -22,12 +22,13 @@ use Rattle.src_tree.specs.Limits.{tree_weight, test_weight}
 use Rattle.src_tree.specs.Trees.{Tree, Number, Variable, Element, Operation, Test, Statement, SetVariable, SetElement, Choice, Loop}
 use Rattle.block_cache_gen.specs.declared.frames.Mode.TheVariants.{Public}
 use Rattle.block_cache_gen.specs.Homes.{Pin, pin_at, Home, Setting, home_of, Held, label_by, register_for}
-use Rattle.block_cache_gen.specs.Codes.{is_cached, compares, compared_code, offset_code, access_by, fixed_index, stored_code, access_code, operand, operand_part, operand_register, left_operand, index_operand, operation_code, steps_at, expr_code, guard_code, set_code, write_code}
+use Rattle.block_cache_gen.specs.Codes.{is_cached, compares, compared_code, shift_code, load_code, offset_code, access_by, fixed_index, stored_code, access_code, operand, operand_part, operand_register, left_operand, index_operand, operation_code, steps_at, expr_code, guard_code, set_code, write_code}
 use Rattle.gr_word.specs.declared.operations.Op.{Op}
 use Rattle.strength_reduction.specs.Steps.{Step, code_of}
 use Rattle.block_cache_gen.specs.Notes.{unmarked, marked_by, operand_mask, is_used, claimed_where_used, claim_by, slot_claims, note_of, access_mask, compared_notes, loading_code, loaded_notes, load_notes, index_notes, operation_notes, expr_notes, guard_notes, set_notes, is_public, mask_to, base_mask}
 use Rattle.block_cache_gen.proofs.NotesOfCode.{index_length, located-longer, access-longer, access-more, loading-behind, expression-longer}
 use Rattle.block_cache_gen.proofs.HeldOperands.{operand-short}
+use Rattle.block_cache_gen.proofs.Sizes.{shift_some}
 use Rattle.block_cache_gen.proofs.PublicAccesses.{array_code, array_notes}
 
 -- Notes from one place on and before another, which rise, with masks of 32 registers, and the claims of a setting.
@@ -85,43 +86,45 @@ load_rises f mask to behind low high false small le lt = tt
 loaded_rises : (f : Setting) (h : Home) (mask to from p : ℕ) (b near : Bool) (fixed : Option ℤ) (index : List Instr)
     → mask < 2 ^ 32
     → NotesRise f (p + index_length fixed index + 1)
-    (p + length (access_by b near f.profile.block_log Public h to from fixed index) + 1)
+    (p + length (access_by b near f Public h to from fixed index) + 1)
     (loaded_notes b near fixed f h mask to
-    (p + length (access_by b near f.profile.block_log Public h to from fixed index)))
+    (p + length (access_by b near f Public h to from fixed index)))
 loaded_rises f h mask to from p true near (Some z) index small = tt
 loaded_rises f h mask to from p true true None index small =
-    let size = length-append index (compared_code h to ++ offset_code h to) in
-    let rest = length-append (compared_code h to) (offset_code h to) in
+    let size = length-append index (compared_code h to ++ offset_code f h to) in
+    let rest = length-append (compared_code h to) (offset_code f h to) in
     ((omega (arith, size, rest), omega (arith, size, rest)), (unmarked_below mask to small, refl), tt)
 loaded_rises f h mask to from p true false None index small = tt
 loaded_rises f h mask to from p false near fixed index small = compared near fixed
   where
     load : (near : Bool) (fixed : Option ℤ) (low : ℕ)
-        → low ≤ p + length (access_by false near f.profile.block_log Public h to from fixed index)
-        → NotesRise f low (p + length (access_by false near f.profile.block_log Public h to from fixed index) + 1)
+        → low ≤ p + length (access_by false near f Public h to from fixed index)
+        → NotesRise f low (p + length (access_by false near f Public h to from fixed index) + 1)
         (if is_cached h then note_of f (access_mask mask to)
-        (p + length (access_by false near f.profile.block_log Public h to from fixed index)) ∷ [] else [])
+        (p + length (access_by false near f Public h to from fixed index)) ∷ [] else [])
     load near fixed low le =
-        load_rises f mask to (p + length (access_by false near f.profile.block_log Public h to from fixed index)) low _
+        load_rises f mask to (p + length (access_by false near f Public h to from fixed index)) low _
         (is_cached h) small le (omega arith)
 
     compared : (near : Bool) (fixed : Option ℤ)
         → NotesRise f (p + index_length fixed index + 1)
-        (p + length (access_by false near f.profile.block_log Public h to from fixed index) + 1)
+        (p + length (access_by false near f Public h to from fixed index) + 1)
         (loaded_notes false near fixed f h mask to
-        (p + length (access_by false near f.profile.block_log Public h to from fixed index)))
+        (p + length (access_by false near f Public h to from fixed index)))
     compared near (Some z) =
-        let more = access-more false near f.profile.block_log h to from (Some z) index in
+        let more = access-more false near f h to from (Some z) index in
         load near (Some z) _ (omega arith)
     compared false None =
-        let more = access-more false false f.profile.block_log h to from None index in load false None _ (omega arith)
+        let more = access-more false false f h to from None index in load false None _ (omega arith)
     compared true None =
         let place = loading-behind f h to from p index in
-        let more = access-longer true f.profile.block_log h to from None index in
-        let longer = located-longer true f.profile.block_log h to from None index in (
+        let more = access-longer true f h to from None index in
+        let some = shift_some f h to in
+        let loading = length-append (shift_code f h to) (load_code (is_cached h) h to) in
+        let longer = located-longer true f h to from None index in (
           (omega (arith, place), omega (arith, place)),
           (unmarked_below mask to small, refl),
-          load true None _ (omega (arith, place)),
+          load true None _ (omega (arith, place, some, loading)),
         )
 
 index_rises : (f : Setting) (fixed : Option ℤ) (p : ℕ) (index : List Instr) (notes : List Note)
@@ -132,13 +135,13 @@ index_rises f None p index notes rise = rise
 
 pub access-rises : (f : Setting) (near : Bool) (h : Home) (mask to from p : ℕ) (fixed : Option ℤ) (index : List Instr)
     (notes : List Note) → mask < 2 ^ 32 → NotesRise f (p + 1) (p + length index) notes
-    → NotesRise f (p + 1) (p + length (access_code near f.profile.block_log Public h to from fixed index) + 1)
+    → NotesRise f (p + 1) (p + length (access_code near f Public h to from fixed index) + 1)
     (index_notes fixed notes
-    ++ load_notes near fixed f h mask to (p + length (access_code near f.profile.block_log Public h to from fixed index)))
+    ++ load_notes near fixed f h mask to (p + length (access_code near f Public h to from fixed index)))
 access-rises f near h mask to from p fixed index notes small rise =
-    let size = length (access_code near f.profile.block_log Public h to from fixed index) in
+    let size = length (access_code near f Public h to from fixed index) in
     let mid = p + index_length fixed index + 1 in
-    let more = access-more h.resident near f.profile.block_log h to from fixed index in
+    let more = access-more h.resident near f h to from fixed index in
     rise-then f (p + 1) mid (p + size + 1) (index_notes fixed notes) (load_notes near fixed f h mask to (p + size))
     (omega arith) (omega arith)
     (rise-wider f (p + 1) (p + index_length fixed index) (p + 1) mid (index_notes fixed notes) (omega arith)
@@ -368,7 +371,7 @@ compared_count false None f mask to place = omega arith
 loaded_count : (f : Setting) (h : Home) (mask to behind : ℕ) (b near : Bool) (fixed : Option ℤ)
     → length (loaded_notes b near fixed f h mask to behind) ≤ 2
 loaded_count f h mask to behind true near fixed =
-    let count = compared_count near fixed f mask to (behind - length (offset_code h to)) in omega arith
+    let count = compared_count near fixed f mask to (behind - length (offset_code f h to)) in omega arith
 loaded_count f h mask to behind false near fixed =
     let place = behind - length (loading_code f h to) in
     let load = if is_cached h then note_of f (access_mask mask to) behind ∷ [] else [] in

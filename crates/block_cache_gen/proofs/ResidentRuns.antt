@@ -22,44 +22,23 @@ use Rattle.src_tree.specs.Meaning.{Store, variable_number, words_of_number, eval
 use Rattle.src_tree.specs.Trees.{Tree}
 use Rattle.block_cache_gen.specs.declared.frames.Mode.{Mode}
 use Rattle.block_cache_gen.specs.Homes.{Home, Setting, HasHomes, home_of, pin_of, register_for}
-use Rattle.block_cache_gen.specs.Codes.{fixed_index, fixed_word, numbered_code, offset_code, placed_code}
+use Rattle.block_cache_gen.specs.Codes.{applied_code, fixed_index, fixed_word, numbered_code, offset_code, placed_code}
 use Rattle.block_cache_gen.specs.StandsFor.{StandsFor, FitsHomes, HoldsBlock}
 use Rattle.block_cache_gen.specs.Accesses.{accesses, word_number, seen_of_all}
 use Rattle.block_cache_gen.specs.LeavesWord.{LeavesWord}
 use Rattle.block_cache_gen.proofs.Stands.{stands-like, stands-set}
-use Rattle.block_cache_gen.proofs.IndexRuns.{Reduces, runs-numbered}
+use Rattle.block_cache_gen.proofs.IndexRuns.{Reduces, Computes, runs-applied, runs-numbered}
 use Rattle.block_cache_gen.proofs.Kept.{keeps-set, keeps-on}
 use Rattle.block_cache_gen.proofs.OperandRuns.{LeavesAt, RunsValue, runs-nothing}
 use Rattle.block_cache_gen.proofs.AccessRuns.{fixed-is}
 
--- the first word of a variable is added to a number
-runs-adding : (o : Parts) (fits : IsInRange o) (h : Home) (to n : ℕ) (s : State) → IsShaped o s → register s to ≡ pos n
-    → to + 2 < 19 → h.word + n < 2 ^ 63 → StandsAt o s.place (Li (to + 1) (pos h.word) ∷ Alu Add to to (to + 1) ∷ [])
-    → RunsThrough o s (Li (to + 1) (pos h.word) ∷ Alu Add to to (to + 1) ∷ []) [] (Reduces to (h.word + n) s)
-runs-adding o fits h to n s shaped has below small at =
-    runs-cons s (Li (to + 1) (pos h.word)) (Alu Add to to (to + 1) ∷ []) [] [] (Sets s (to + 1) (pos h.word)) _ at
-    (sets-li o fits s shaped (to + 1) (pos h.word) (omega arith))
-    (λ t shape sets at'.
-    let result : applied Add (register t to) (register t (to + 1)) ≡ pos (h.word + n) =
-    ap (λ a. applied Add a (register t (to + 1))) (sets.others to (λ same. absurd (omega arith)) ∙ has)
-    ∙ ap (applied Add (pos n)) sets.value
-    ∙ add_small n h.word (omega arith)
-    ∙ ap pos (omega arith) in
-    runs-weaker t (Alu Add to to (to + 1) ∷ []) [] [] (Sets t to (pos (h.word + n))) _
-    (runs-one t (Alu Add to to (to + 1)) [] (Sets t to (pos (h.word + n))) at'
-    (sets-alu o fits t shape Add to to (to + 1) (pos (h.word + n)) (omega arith) result))
-    refl
-    (λ u shape' sets'. record {
-      word = sets'.value;
-      keeps = keeps-on (keeps-set to sets (omega arith) (omega arith)) (keeps-set to sets' (omega arith) (omega arith));
-    }))
-
--- so if nothing is to be added
-runs-offset : (o : Parts) (fits : IsInRange o) (h : Home) (to n : ℕ) (s : State) → IsShaped o s → register s to ≡ pos n
-    → to + 2 < 19 → h.word + n < 2 ^ 63 → StandsAt o s.place (offset_code h to)
-    → RunsThrough o s (offset_code h to) [] (Reduces to (h.word + n) s)
-runs-offset o fits h to n s shaped has below small =
-    cond_both (h.word == 0) [] (Li (to + 1) (pos h.word) ∷ Alu Add to to (to + 1) ∷ [])
+-- the first word of a variable is added to a number, unless that is 0
+runs-offset : (o : Parts) (fits : IsInRange o) (f : Setting) (store : Store) (h : Home) (to n : ℕ) (s : State)
+    → IsShaped o s → StandsFor f s store → register s to ≡ pos n
+    → to + 2 < 19 → h.word + n < 2 ^ 63 → StandsAt o s.place (offset_code f h to)
+    → RunsThrough o s (offset_code f h to) [] (Reduces to (h.word + n) s)
+runs-offset o fits f store h to n s shaped stands has below small =
+    cond_both (h.word == 0) [] (applied_code f Add to to (to + 1) (pos h.word))
     (λ code. StandsAt o s.place code → RunsThrough o s code [] (Reduces to (h.word + n) s))
     (λ none at.
     let first : h.word ≡ 0 = eqb-true h.word 0 none in
@@ -68,7 +47,15 @@ runs-offset o fits h to n s shaped has below small =
       word = has ∙ ap pos (let e : n ≡ h.word + n = omega arith in e);
       keeps = record { below = λ r under. refl; above = λ r over. refl; slots = refl; banks = refl };
     }))
-    (λ some. runs-adding o fits h to n s shaped has below small)
+    (λ some at.
+    let value = pos (h.word + n) in
+    let code = applied_code f Add to to (to + 1) (pos h.word) in
+    runs-weaker s code [] [] (Computes to value s) (Reduces to (h.word + n) s)
+    (runs-applied o fits f store Add to to (to + 1) (pos h.word) (pos n) value s shaped stands has
+    (λ same. absurd (omega (arith, same))) (omega arith) (omega arith)
+    (add_small n h.word (omega arith) ∙ ap pos (omega arith)) at)
+    refl
+    (λ t shape done. record { word = done.word; keeps = done.keeps }))
 
 module _ (o : Parts) (fits : IsInRange o) (f : Setting) (homes : HasHomes o f) (store : Store)
     (store_fits : FitsHomes f store) (x : List ℕ) (label : Label) (shape : Shape)
@@ -113,8 +100,8 @@ module _ (o : Parts) (fits : IsInRange o) (f : Setting) (homes : HasHomes o f) (
   pub runs-placed : (mode : Mode) (to from : ℕ) (i : Tree) (code : List Instr) (s : State) → IsShaped o s
       → StandsFor f s store → to + 2 < 19 → from ≢ to + 1 → RunsValue o f store mode to from i code s
       → (near : Bool) → (near ≡ true → from ≡ to) → (fixed : Option ℤ) → fixed_index (home_of f x) i ≡ fixed
-      → StandsAt o s.place (placed_code near (home_of f x) to from fixed code)
-      → RunsThrough o s (placed_code near (home_of f x) to from fixed code)
+      → StandsAt o s.place (placed_code near f (home_of f x) to from fixed code)
+      → RunsThrough o s (placed_code near f (home_of f x) to from fixed code)
       (seen_of_all mode s.banks s.slots (accesses f store i))
       (LeavesWord f store (accesses f store i) to
       (pos ((home_of f x).word + word_number f store x (evaluated f.decls store i))) s)
@@ -145,22 +132,23 @@ module _ (o : Parts) (fits : IsInRange o) (f : Setting) (homes : HasHomes o f) (
       let n = word_number f store x index in
       let before = accesses f store i in
       let seen = seen_of_all mode s.banks s.slots before in
-      let number = numbered_code near h to from in
+      let number = numbered_code near f h to from in
       let Done : State → Type 0 = LeavesWord f store before to (pos (h.word + n)) s in
       let small_place : h.word + n < 2 ^ 63 =
       let most = pow_below o.profile.block_log 10 (omega (arith, fits.profile.block_log)) in
       omega (arith, home.inside, resident-within index, most) in
-      runs-weaker s (code ++ (number ++ offset_code h to)) (seen ++ []) seen Done Done
-      (runs-append s code (number ++ offset_code h to) seen [] (LeavesAt f store before to from index s) Done at
+      runs-weaker s (code ++ (number ++ offset_code f h to)) (seen ++ []) seen Done Done
+      (runs-append s code (number ++ offset_code f h to) seen [] (LeavesAt f store before to from index s) Done at
       run
       (λ t shape leaves at'.
-      runs-append t number (offset_code h to) [] []
+      runs-append t number (offset_code f h to) [] []
       (Reduces to (unsigned_of index % h.length) t) Done at'
-      (runs-numbered o fits near h to from t index shape leaves.value other own small home.length.0 home.length.1)
+      (runs-numbered o fits f store near h to from t index shape leaves.stands leaves.value other own small home.length.0 home.length.1)
       (λ u shape' reduces at''.
       let word : register u to ≡ pos n = reduces.word ∙ ap pos (resident_number-is index) in
-      runs-weaker u (offset_code h to) [] [] (Reduces to (h.word + n) u) Done
-      (runs-offset o fits h to n u shape' word small small_place at'')
+      let stands' = stands-like f t u store reduces.keeps.slots reduces.keeps.banks reduces.keeps.above leaves.stands in
+      runs-weaker u (offset_code f h to) [] [] (Reduces to (h.word + n) u) Done
+      (runs-offset o fits f store h to n u shape' stands' word small small_place at'')
       refl
       (λ v shape'' offset.
       let banks = offset.keeps.banks ∙ reduces.keeps.banks in

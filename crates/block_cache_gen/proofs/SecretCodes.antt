@@ -5,7 +5,7 @@ use Rattle.std.specs.Prelude.{cond, is_some, if◌then◌else◌}
 use Rattle.std.proofs.lemmas.Bool.{lt-ltb}
 use Rattle.std.proofs.lemmas.List.{map-append}
 use Rattle.std.proofs.lemmas.List.Sums.{sum_by-append}
-use Rattle.gr_word.specs.declared.operations.Op.TheVariants.{Add, Remu, And}
+use Rattle.gr_word.specs.declared.operations.Op.TheVariants.{Add, Shr}
 use Rattle.lt_isa.specs.declared.instructions.Instr.{Instr}
 use Rattle.lt_isa.specs.declared.instructions.Instr.TheVariants.{Li, Alu, Ldw}
 use Rattle.src_tree.specs.Contexts.{context_of}
@@ -17,7 +17,7 @@ use Rattle.src_tree.specs.Trees.{Tree, Number, Variable, Element, Operation, Tes
 use Rattle.block_cache_gen.specs.declared.frames.Mode.{Mode}
 use Rattle.block_cache_gen.specs.declared.frames.Mode.TheVariants.{Public, Real, Mirrored}
 use Rattle.block_cache_gen.specs.Homes.{Home, Setting, home_of, register_for}
-use Rattle.block_cache_gen.specs.Codes.{may_skip_loads, is_cached, is_masked, fixed_index, reduced_code, shift_code, located_code, offset_code, placed_code, stored_code, access_by, load_code, skips, access_code, operand, operand_part, operand_register, left_operand, index_operand, indexed_code, expr_code, guard_code, store_code, set_code, operation_code, steps_at, compares, numbered_code, zero_of, scalar_code, write_code}
+use Rattle.block_cache_gen.specs.Codes.{may_skip_loads, is_cached, is_masked, fixed_index, held_number, applied_code, reducing, reducer, shift_code, located_code, offset_code, placed_code, stored_code, access_by, load_code, skips, access_code, operand, operand_part, operand_register, left_operand, index_operand, indexed_code, expr_code, guard_code, store_code, set_code, operation_code, steps_at, compares, numbered_code, zero_of, scalar_code, write_code}
 use Rattle.gr_word.specs.declared.operations.Op.{Op}
 use Rattle.strength_reduction.specs.Steps.{Step}
 use Rattle.block_cache_gen.proofs.StepsAt.{steps-stores}
@@ -30,15 +30,15 @@ indexed_code-mode : (f : Setting) (m n : Mode) (near far : Bool) (h : Home) (to 
 indexed_code-mode f m n near far h to i one other same alike index = by h.resident
   where
     by : (b : Bool)
-        → access_by b near f.profile.block_log m h to (operand_register (index_operand f near i) to) (fixed_index h i)
+        → access_by b near f m h to (operand_register (index_operand f near i) to) (fixed_index h i)
         (operand_part (index_operand f near i) one)
-        ≡ access_by b far f.profile.block_log n h to (operand_register (index_operand f far i) to) (fixed_index h i)
+        ≡ access_by b far f n h to (operand_register (index_operand f far i) to) (fixed_index h i)
         (operand_part (index_operand f far i) other)
     by true = λ k.
-        placed_code (alike k) h to (operand_register (index_operand f (alike k) i) to) (fixed_index h i)
+        placed_code (alike k) f h to (operand_register (index_operand f (alike k) i) to) (fixed_index h i)
         (operand_part (index_operand f (alike k) i) (index k))
     by false = λ k.
-        located_code (alike k) f.profile.block_log h to (operand_register (index_operand f (alike k) i) to)
+        located_code (alike k) f h to (operand_register (index_operand f (alike k) i) to)
         (fixed_index h i) (operand_part (index_operand f (alike k) i) (index k))
         ++ load_code (same k && is_cached h) h to
 
@@ -131,43 +131,50 @@ operand-stores : (q : Option ℕ) (code : List Instr) → stored_words code ≡ 
 operand-stores (Some r) code none = refl
 operand-stores None code none = none
 
-reduced-stores : (h : Home) (to from : ℕ) → stored_words (reduced_code h to from) ≡ 0
-reduced-stores h to from = by (is_masked h)
+applied-stores : (f : Setting) (op : Op) (to from own : ℕ) (z : ℤ)
+    → stored_words (applied_code f op to from own z) ≡ 0
+applied-stores f op to from own z = by (held_number f z)
   where
-    by : (masked : Bool)
-        → stored_words (if masked then Li (to + 1) (pos (h.length - 1)) ∷ Alu And to from (to + 1) ∷ []
-        else Li (to + 1) (pos h.length) ∷ Alu Remu to from (to + 1) ∷ [])
-        ≡ 0
-    by true = refl
-    by false = refl
+    by : (q : Option ℕ)
+        → stored_words (operand_part q (Li own z ∷ []) ++ Alu op to from (operand_register q own) ∷ []) ≡ 0
+    by None = refl
+    by (Some r) = refl
 
-offset-stores : (h : Home) (to : ℕ) → stored_words (offset_code h to) ≡ 0
-offset-stores h to = by (h.word == 0)
+offset-stores : (f : Setting) (h : Home) (to : ℕ) → stored_words (offset_code f h to) ≡ 0
+offset-stores f h to = by (h.word == 0)
   where
-    by : (first : Bool)
-        → stored_words (if first then [] else Li (to + 1) (pos h.word) ∷ Alu Add to to (to + 1) ∷ []) ≡ 0
+    by : (first : Bool) → stored_words (if first then [] else applied_code f Add to to (to + 1) (pos h.word)) ≡ 0
     by true = refl
-    by false = refl
+    by false = applied-stores f Add to to (to + 1) (pos h.word)
 
-numbered-stores : (near : Bool) (h : Home) (to from : ℕ) → stored_words (numbered_code near h to from) ≡ 0
-numbered-stores true h to from = refl
-numbered-stores false h to from = reduced-stores h to from
+numbered-stores : (near : Bool) (f : Setting) (h : Home) (to from : ℕ)
+    → stored_words (numbered_code near f h to from) ≡ 0
+numbered-stores true f h to from = refl
+numbered-stores false f h to from = applied-stores f (reducing h) to from (to + 1) (reducer h)
 
-located-stores : (near : Bool) (log : ℕ) (h : Home) (to from : ℕ) (fixed : Option ℤ) (index : List Instr)
-    → stored_words index ≡ 0 → stored_words (located_code near log h to from fixed index) ≡ 0
-located-stores near log h to from (Some z) index none = refl
-located-stores near log h to from None index none =
-    stored-append index (numbered_code near h to from ++ shift_code log h to)
+located-stores : (near : Bool) (f : Setting) (h : Home) (to from : ℕ) (fixed : Option ℤ) (index : List Instr)
+    → stored_words index ≡ 0 → stored_words (located_code near f h to from fixed index) ≡ 0
+located-stores near f h to from (Some z) index none = refl
+located-stores near f h to from None index none =
+    stored-append index (numbered_code near f h to from ++ shift_code f h to)
     ∙ omega (
       arith,
       none,
-      stored-append (numbered_code near h to from) (shift_code log h to),
-      numbered-stores near h to from,
+      stored-append (numbered_code near f h to from) (shift_code f h to),
+      numbered-stores near f h to from,
       blocks,
     )
   where
-    blocks : stored_words (shift_code log h to) ≡ 0
-    blocks = refl
+    blocks : stored_words (shift_code f h to) ≡ 0
+    blocks =
+        let log = pos f.profile.block_log in
+        let block = pos h.block in
+        stored-append (applied_code f Shr (to + 1) to (to + 1) log) (applied_code f Add (to + 1) (to + 1) (to + 2) block)
+        ∙ omega (
+          arith,
+          applied-stores f Shr (to + 1) to (to + 1) log,
+          applied-stores f Add (to + 1) (to + 1) (to + 2) block,
+        )
 
 load-stores : (skips_load : Bool) (h : Home) (to : ℕ) → stored_words (load_code skips_load h to) ≡ 0
 load-stores true h to = refl
@@ -175,29 +182,29 @@ load-stores false h to = refl
 
 access-stores : (f : Setting) (mode : Mode) (near : Bool) (h : Home) (to from : ℕ) (fixed : Option ℤ)
     (index : List Instr) → stored_words index ≡ 0
-    → stored_words (access_code near f.profile.block_log mode h to from fixed index) ≡ 0
+    → stored_words (access_code near f mode h to from fixed index) ≡ 0
 access-stores f mode near h to from fixed index none = by h.resident
   where
-    placed : (g : Option ℤ) → stored_words (placed_code near h to from g index) ≡ 0
+    placed : (g : Option ℤ) → stored_words (placed_code near f h to from g index) ≡ 0
     placed (Some z) = refl
     placed None =
-        let offset = offset-stores h to in
-        stored-append index (numbered_code near h to from ++ offset_code h to)
+        let offset = offset-stores f h to in
+        stored-append index (numbered_code near f h to from ++ offset_code f h to)
         ∙ omega (
           arith,
           none,
-          stored-append (numbered_code near h to from) (offset_code h to),
-          numbered-stores near h to from,
+          stored-append (numbered_code near f h to from) (offset_code f h to),
+          numbered-stores near f h to from,
           offset,
         )
 
-    by : (b : Bool) → stored_words (access_by b near f.profile.block_log mode h to from fixed index) ≡ 0
+    by : (b : Bool) → stored_words (access_by b near f mode h to from fixed index) ≡ 0
     by true = placed fixed
     by false =
-        stored-append (located_code near f.profile.block_log h to from fixed index) (load_code (skips mode h) h to)
+        stored-append (located_code near f h to from fixed index) (load_code (skips mode h) h to)
         ∙ omega (
           arith,
-          located-stores near f.profile.block_log h to from fixed index none,
+          located-stores near f h to from fixed index none,
           load-stores (skips mode h) h to,
         )
 

@@ -4,7 +4,8 @@ use Rattle.std.specs.Prelude.{if◌then◌else◌, ◌==◌}
 use Rattle.gr_word.specs.declared.variables.Label.{Label}
 use Rattle.lt_isa.specs.declared.instructions.Instr.{Instr}
 use Rattle.lt_isa.specs.declared.instructions.Instr.TheVariants.{Li, Alu, Ldw}
-use Rattle.gr_word.specs.declared.operations.Op.TheVariants.{Add}
+use Rattle.gr_word.specs.declared.operations.Op.{Op}
+use Rattle.gr_word.specs.declared.operations.Op.TheVariants.{Add, Shr}
 use Rattle.src_tree.specs.Contexts.{Context, context_of}
 use Rattle.src_tree.specs.Labels.{label_of}
 use Rattle.src_tree.specs.Trees.{Tree, Number, Variable, Element, Operation, Test, Statement, SetVariable, SetElement, Choice, Loop}
@@ -13,74 +14,105 @@ use Rattle.block_cache_gen.specs.declared.frames.Mode.{Mode}
 use Rattle.block_cache_gen.specs.declared.frames.Mode.TheVariants.{Public, Real, Mirrored}
 use Rattle.block_cache_gen.specs.Assignments.{IsAssignment}
 use Rattle.block_cache_gen.specs.Homes.{Home, Setting, home_of, register_for}
-use Rattle.block_cache_gen.specs.Codes.{is_masked, compares, numbered_code, reduced_code, shift_code, offset_code, placed_code, stored_code, located_code, load_code, skips, access_by, access_code, index_operand, indexed_code, fixed_index, operand, operand_part, operand_register, left_operand, operation_code, steps_at, expr_code, guard_code, store_code, set_code, scalar_code, write_code}
+use Rattle.block_cache_gen.specs.Codes.{held_number, applied_code, reducing, reducer, compares, numbered_code, shift_code, offset_code, placed_code, stored_code, located_code, load_code, skips, access_by, access_code, index_operand, indexed_code, fixed_index, operand, operand_part, operand_register, left_operand, operation_code, steps_at, expr_code, guard_code, store_code, set_code, scalar_code, write_code}
 use Rattle.block_cache_gen.proofs.HeldOperands.{operand-short}
 use Rattle.block_cache_gen.proofs.StepsAt.{operation-short}
 
-two_of : (b : Bool) (p q r s : Instr) → length (if b then p ∷ q ∷ [] else r ∷ s ∷ []) ≡ 2
-two_of true p q r s = refl
-two_of false p q r s = refl
+-- an operation on a number takes two instructions at most, and one at least
+applied_short : (f : Setting) (op : Op) (to from own : ℕ) (z : ℤ) → length (applied_code f op to from own z) ≤ 2
+applied_short f op to from own z =
+    let q = held_number f z in
+    omega (
+      arith,
+      length-append (operand_part q (Li own z ∷ [])) (Alu op to from (operand_register q own) ∷ []),
+      operand-short q (Li own z ∷ []),
+    )
+
+pub applied_some : (f : Setting) (op : Op) (to from own : ℕ) (z : ℤ) → 1 ≤ length (applied_code f op to from own z)
+applied_some f op to from own z =
+    let q = held_number f z in
+    omega (arith, length-append (operand_part q (Li own z ∷ [])) (Alu op to from (operand_register q own) ∷ []))
 
 -- a number of a word takes six instructions at most, and one at least
-pub reduced_two : (h : Home) (to from : ℕ) → length (reduced_code h to from) ≡ 2
-reduced_two h to from = two_of (is_masked h) _ _ _ _
+numbered_short : (near : Bool) (f : Setting) (h : Home) (to from : ℕ) → length (numbered_code near f h to from) ≤ 6
+numbered_short true f h to from = omega arith
+numbered_short false f h to from = omega (arith, applied_short f (reducing h) to from (to + 1) (reducer h))
 
-numbered_short : (near : Bool) (h : Home) (to from : ℕ) → length (numbered_code near h to from) ≤ 6
-numbered_short true h to from = omega arith
-numbered_short false h to from = omega (arith, reduced_two h to from)
+pub numbered_some : (near : Bool) (f : Setting) (h : Home) (to from : ℕ) → 1 ≤ length (numbered_code near f h to from)
+numbered_some true f h to from = omega arith
+numbered_some false f h to from = applied_some f (reducing h) to from (to + 1) (reducer h)
 
-pub numbered_some : (near : Bool) (h : Home) (to from : ℕ) → 1 ≤ length (numbered_code near h to from)
-numbered_some true h to from = omega arith
-numbered_some false h to from = omega (arith, reduced_two h to from)
+-- that of a block four, and one at least
+shift_short : (f : Setting) (h : Home) (to : ℕ) → length (shift_code f h to) ≤ 4
+shift_short f h to =
+    let log = pos f.profile.block_log in
+    let block = pos h.block in
+    omega (
+      arith,
+      length-append (applied_code f Shr (to + 1) to (to + 1) log) (applied_code f Add (to + 1) (to + 1) (to + 2) block),
+      applied_short f Shr (to + 1) to (to + 1) log,
+      applied_short f Add (to + 1) (to + 1) (to + 2) block,
+    )
+
+pub shift_some : (f : Setting) (h : Home) (to : ℕ) → 1 ≤ length (shift_code f h to)
+shift_some f h to =
+    let log = pos f.profile.block_log in
+    let block = pos h.block in
+    omega (
+      arith,
+      length-append (applied_code f Shr (to + 1) to (to + 1) log) (applied_code f Add (to + 1) (to + 1) (to + 2) block),
+      applied_some f Shr (to + 1) to (to + 1) log,
+    )
 
 pub load_short : (skipped : Bool) (h : Home) (to : ℕ) → length (load_code skipped h to) ≤ 3
 load_short true h to = omega arith
 load_short false h to = omega arith
 
 -- ten instructions at most make of an index the numbers of a word and a block
-pub located_short : (near : Bool) (block_log : ℕ) (h : Home) (to from : ℕ) (fixed : Option ℤ) (index : List Instr)
-    → length (located_code near block_log h to from fixed index) ≤ length index + 10
-located_short near block_log h to from (Some z) index = omega arith
-located_short near block_log h to from None index =
+pub located_short : (near : Bool) (f : Setting) (h : Home) (to from : ℕ) (fixed : Option ℤ) (index : List Instr)
+    → length (located_code near f h to from fixed index) ≤ length index + 10
+located_short near f h to from (Some z) index = omega arith
+located_short near f h to from None index =
     omega (
       arith,
-      length-append index (numbered_code near h to from ++ shift_code block_log h to),
-      length-append (numbered_code near h to from) (shift_code block_log h to),
-      numbered_short near h to from,
+      length-append index (numbered_code near f h to from ++ shift_code f h to),
+      length-append (numbered_code near f h to from) (shift_code f h to),
+      numbered_short near f h to from,
+      shift_short f h to,
     )
 
-pub offset_short : (h : Home) (to : ℕ) → length (offset_code h to) ≤ 2
-offset_short h to = by (h.word == 0)
+pub offset_short : (f : Setting) (h : Home) (to : ℕ) → length (offset_code f h to) ≤ 2
+offset_short f h to = by (h.word == 0)
   where
-    by : (first : Bool) → length (if first then [] else Li (to + 1) (pos h.word) ∷ Alu Add to to (to + 1) ∷ []) ≤ 2
+    by : (first : Bool) → length (if first then [] else applied_code f Add to to (to + 1) (pos h.word)) ≤ 2
     by true = omega arith
-    by false = omega arith
+    by false = applied_short f Add to to (to + 1) (pos h.word)
 
 pub scalar_short : (r : Option ℕ) (h : Home) (to : ℕ) → length (scalar_code r h to) ≤ 2
 scalar_short None h to = omega arith
 scalar_short (Some r) h to = omega arith
 
 -- an access takes at most 13 instructions after the index
-pub access_short : (near : Bool) (block_log : ℕ) (mode : Mode) (h : Home) (to from : ℕ) (fixed : Option ℤ)
-    (index : List Instr) → length (access_code near block_log mode h to from fixed index) ≤ length index + 13
-access_short near block_log mode h to from fixed index = by h.resident
+pub access_short : (near : Bool) (f : Setting) (mode : Mode) (h : Home) (to from : ℕ) (fixed : Option ℤ)
+    (index : List Instr) → length (access_code near f mode h to from fixed index) ≤ length index + 13
+access_short near f mode h to from fixed index = by h.resident
   where
-    placed : (g : Option ℤ) → length (placed_code near h to from g index) ≤ length index + 13
+    placed : (g : Option ℤ) → length (placed_code near f h to from g index) ≤ length index + 13
     placed (Some z) = omega arith
     placed None =
         omega (
           arith,
-          length-append index (numbered_code near h to from ++ offset_code h to),
-          length-append (numbered_code near h to from) (offset_code h to),
-          numbered_short near h to from,
-          offset_short h to,
+          length-append index (numbered_code near f h to from ++ offset_code f h to),
+          length-append (numbered_code near f h to from) (offset_code f h to),
+          numbered_short near f h to from,
+          offset_short f h to,
         )
 
-    by : (b : Bool) → length (access_by b near block_log mode h to from fixed index) ≤ length index + 13
+    by : (b : Bool) → length (access_by b near f mode h to from fixed index) ≤ length index + 13
     by true = placed fixed
     by false =
-        let e = length-append (located_code near block_log h to from fixed index) (load_code (skips mode h) h to) in
-        let l = located_short near block_log h to from fixed index in
+        let e = length-append (located_code near f h to from fixed index) (load_code (skips mode h) h to) in
+        let l = located_short near f h to from fixed index in
         let s = load_short (skips mode h) h to in
         omega arith
 
@@ -89,7 +121,7 @@ pub indexed_short : (f : Setting) (near : Bool) (mode : Mode) (h : Home) (to : �
     → length (indexed_code f near mode h to i index) ≤ length index + 13
 indexed_short f near mode h to i index =
     let q = index_operand f near i in
-    let s = access_short near f.profile.block_log mode h to (operand_register q to) (fixed_index h i)
+    let s = access_short near f mode h to (operand_register q to) (fixed_index h i)
     (operand_part q index) in
     let l = operand-short q index in
     omega arith

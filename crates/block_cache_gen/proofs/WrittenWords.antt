@@ -5,7 +5,7 @@ use Rattle.std.proofs.lemmas.Bool.{le-ltb, lt-ltb}
 use Rattle.std.proofs.lemmas.List.Elements.{All-head, All-tail}
 use Rattle.std.proofs.lemmas.List.Sums.{sum_by-append}
 use Rattle.gr_word.specs.declared.operations.Op.{Op}
-use Rattle.gr_word.specs.declared.operations.Op.TheVariants.{Add, Remu, And, Shr}
+use Rattle.gr_word.specs.declared.operations.Op.TheVariants.{Add, Remu, Shr}
 use Rattle.gr_word.specs.declared.operations.Cmp.TheVariants.{Lt}
 use Rattle.gr_word.specs.declared.variables.Label.{Label}
 use Rattle.lt_isa.specs.declared.instructions.Instr.{Instr}
@@ -23,7 +23,7 @@ use Rattle.block_cache_gen.specs.declared.frames.Mode.{Mode}
 use Rattle.block_cache_gen.specs.declared.frames.Mode.TheVariants.{Public, Real, Mirrored}
 use Rattle.block_cache_gen.specs.Assignments.{IsAssignment}
 use Rattle.block_cache_gen.specs.Homes.{Home, Setting, home_of, register_for}
-use Rattle.block_cache_gen.specs.Codes.{zero_of, copied_from, is_masked, fixed_index, scalar_code, compares, least_word, numbered_code, reduced_code, shift_code, offset_code, placed_code, located_code, load_code, skips, access_by, access_code, operand, operand_part, operand_register, left_operand, index_operand, indexed_code, stored_code, operation_code, steps_at, expr_code, store_code, write_code, set_code}
+use Rattle.block_cache_gen.specs.Codes.{zero_of, copied_from, held_number, applied_code, reducing, reducer, fixed_index, scalar_code, compares, least_word, numbered_code, shift_code, offset_code, placed_code, located_code, load_code, skips, access_by, access_code, operand, operand_part, operand_register, left_operand, index_operand, indexed_code, stored_code, operation_code, steps_at, expr_code, store_code, write_code, set_code}
 use Rattle.block_cache_gen.specs.StoredWords.{is_held_register, is_write, written_words}
 use Rattle.block_cache_gen.proofs.HeldLabels.{register-own}
 use Rattle.block_cache_gen.proofs.StepsAt.{steps-of}
@@ -50,46 +50,39 @@ low-plain r low = le-ltb public_zero r (omega arith)
 
 -- the code of an access
 module _ (to : ℕ) (low : to + 2 < 21) where
-  reduced-writes : (h : Home) (from : ℕ) → written_words (reduced_code h to from) ≡ 0
-  reduced-writes h from = by (is_masked h)
+  applied-writes : (f : Setting) (op : Op) (rd from own : ℕ) (z : ℤ) → rd < 21
+      → written_words (applied_code f op rd from own z) ≡ 0
+  applied-writes f op rd from own z small = by (held_number f z)
     where
-      by : (masked : Bool)
-          → written_words (if masked then Li (to + 1) (pos (h.length - 1)) ∷ Alu And to from (to + 1) ∷ []
-          else Li (to + 1) (pos h.length) ∷ Alu Remu to from (to + 1) ∷ [])
-          ≡ 0
-      by true =
-          none-more (Li (to + 1) (pos (h.length - 1))) (Alu And to from (to + 1) ∷ []) refl
-          (none-more (Alu And to from (to + 1)) [] (low-plain to (omega arith)) refl)
-      by false =
-          none-more (Li (to + 1) (pos h.length)) (Alu Remu to from (to + 1) ∷ []) refl
-          (none-more (Alu Remu to from (to + 1)) [] (low-plain to (omega arith)) refl)
+      by : (q : Option ℕ)
+          → written_words (operand_part q (Li own z ∷ []) ++ Alu op rd from (operand_register q own) ∷ []) ≡ 0
+      by None =
+          none-more (Li own z) (Alu op rd from own ∷ []) refl
+          (none-more (Alu op rd from own) [] (low-plain rd small) refl)
+      by (Some r) = none-more (Alu op rd from r) [] (low-plain rd small) refl
 
-  shift-writes : (log : ℕ) (h : Home) → written_words (shift_code log h to) ≡ 0
-  shift-writes log h =
-      let one = Alu Add (to + 1) (to + 1) (to + 2) in
-      let two = Li (to + 2) (pos h.block) in
-      let three = Alu Shr (to + 1) to (to + 1) in
-      let plain = low-plain (to + 1) (omega arith) in
-      none-more (Li (to + 1) (pos log)) (three ∷ two ∷ one ∷ []) refl
-      (none-more three (two ∷ one ∷ []) plain (none-more two (one ∷ []) refl (none-more one [] plain refl)))
+  shift-writes : (f : Setting) (h : Home) → written_words (shift_code f h to) ≡ 0
+  shift-writes f h =
+      let log = pos f.profile.block_log in
+      none-then (applied_code f Shr (to + 1) to (to + 1) log)
+      (applied_code f Add (to + 1) (to + 1) (to + 2) (pos h.block))
+      (applied-writes f Shr (to + 1) to (to + 1) log (omega arith))
+      (applied-writes f Add (to + 1) (to + 1) (to + 2) (pos h.block) (omega arith))
 
-  offset-writes : (h : Home) → written_words (offset_code h to) ≡ 0
-  offset-writes h = by (h.word == 0)
+  offset-writes : (f : Setting) (h : Home) → written_words (offset_code f h to) ≡ 0
+  offset-writes f h = by (h.word == 0)
     where
-      by : (first : Bool)
-          → written_words (if first then [] else Li (to + 1) (pos h.word) ∷ Alu Add to to (to + 1) ∷ []) ≡ 0
+      by : (first : Bool) → written_words (if first then [] else applied_code f Add to to (to + 1) (pos h.word)) ≡ 0
       by true = refl
-      by false =
-          none-more (Li (to + 1) (pos h.word)) (Alu Add to to (to + 1) ∷ []) refl
-          (none-more (Alu Add to to (to + 1)) [] (low-plain to (omega arith)) refl)
+      by false = applied-writes f Add to to (to + 1) (pos h.word) (omega arith)
 
   load-writes : (skipped : Bool) (h : Home) → written_words (load_code skipped h to) ≡ 0
   load-writes true h = refl
   load-writes false h = refl
 
-  numbered-writes : (near : Bool) (h : Home) (from : ℕ) → written_words (numbered_code near h to from) ≡ 0
-  numbered-writes false h from = reduced-writes h from
-  numbered-writes true h from =
+  numbered-writes : (near : Bool) (f : Setting) (h : Home) (from : ℕ) → written_words (numbered_code near f h to from) ≡ 0
+  numbered-writes false f h from = applied-writes f (reducing h) to from (to + 1) (reducer h) (omega arith)
+  numbered-writes true f h from =
       let one = Alu Remu to to (to + 1) in
       let two = Li (to + 1) (pos h.length) in
       let three = Br Lt (to + 1) (to + 2) (pos 3) in
@@ -101,31 +94,31 @@ module _ (to : ℕ) (low : to + 2 < 21) where
       (none-more three (two ∷ one ∷ []) refl
       (none-more two (one ∷ []) refl (none-more one [] (low-plain to (omega arith)) refl)))))
 
-  located-writes : (near : Bool) (log : ℕ) (h : Home) (from : ℕ) (fixed : Option ℤ) (index : List Instr)
-      → written_words index ≡ 0 → written_words (located_code near log h to from fixed index) ≡ 0
-  located-writes near log h from (Some z) index none = refl
-  located-writes near log h from None index none =
-      none-then index (numbered_code near h to from ++ shift_code log h to) none
-      (none-then (numbered_code near h to from) (shift_code log h to) (numbered-writes near h from)
-      (shift-writes log h))
+  located-writes : (near : Bool) (f : Setting) (h : Home) (from : ℕ) (fixed : Option ℤ) (index : List Instr)
+      → written_words index ≡ 0 → written_words (located_code near f h to from fixed index) ≡ 0
+  located-writes near f h from (Some z) index none = refl
+  located-writes near f h from None index none =
+      none-then index (numbered_code near f h to from ++ shift_code f h to) none
+      (none-then (numbered_code near f h to from) (shift_code f h to) (numbered-writes near f h from)
+      (shift-writes f h))
 
-  placed-writes : (near : Bool) (h : Home) (from : ℕ) (fixed : Option ℤ) (index : List Instr)
-      → written_words index ≡ 0 → written_words (placed_code near h to from fixed index) ≡ 0
-  placed-writes near h from (Some z) index none = refl
-  placed-writes near h from None index none =
-      none-then index (numbered_code near h to from ++ offset_code h to) none
-      (none-then (numbered_code near h to from) (offset_code h to) (numbered-writes near h from) (offset-writes h))
+  placed-writes : (near : Bool) (f : Setting) (h : Home) (from : ℕ) (fixed : Option ℤ) (index : List Instr)
+      → written_words index ≡ 0 → written_words (placed_code near f h to from fixed index) ≡ 0
+  placed-writes near f h from (Some z) index none = refl
+  placed-writes near f h from None index none =
+      none-then index (numbered_code near f h to from ++ offset_code f h to) none
+      (none-then (numbered_code near f h to from) (offset_code f h to) (numbered-writes near f h from) (offset-writes f h))
 
   access-writes : (f : Setting) (mode : Mode) (near : Bool) (h : Home) (from : ℕ) (fixed : Option ℤ)
       (index : List Instr) → written_words index ≡ 0
-      → written_words (access_code near f.profile.block_log mode h to from fixed index) ≡ 0
+      → written_words (access_code near f mode h to from fixed index) ≡ 0
   access-writes f mode near h from fixed index none = by h.resident
     where
-      by : (b : Bool) → written_words (access_by b near f.profile.block_log mode h to from fixed index) ≡ 0
-      by true = placed-writes near h from fixed index none
+      by : (b : Bool) → written_words (access_by b near f mode h to from fixed index) ≡ 0
+      by true = placed-writes near f h from fixed index none
       by false =
-          none-then (located_code near f.profile.block_log h to from fixed index) (load_code (skips mode h) h to)
-          (located-writes near f.profile.block_log h from fixed index none) (load-writes (skips mode h) h)
+          none-then (located_code near f h to from fixed index) (load_code (skips mode h) h to)
+          (located-writes near f h from fixed index none) (load-writes (skips mode h) h)
 
   scalar-writes : (found : Option ℕ) (h : Home) → written_words (scalar_code found h to) ≡ 0
   scalar-writes None h = refl

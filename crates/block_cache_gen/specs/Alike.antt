@@ -1,18 +1,24 @@
 -- Which expressions and statements show the same in secret code, so that two of them may stand at one place of the two
 -- arms of a branch on a secret, and how many statements of two parts pair. (This project's own padding.)
-use Rattle.std.specs.Prelude.{◌≡◌, ℕ, ◌+◌, ◌<◌, ◌≤◌, ℤ, Bool, true, false, not, ◌&&◌, ◌||◌, ◌==◌, nat_le, nat_lt, is_some, if◌then◌else◌, List, bytes_eq}
+use Rattle.std.specs.Prelude.{◌≡◌, ℕ, ◌+◌, ◌<◌, ◌≤◌, ℤ, Bool, true, false, not, ◌&&◌, ◌||◌, ◌==◌, nat_le, nat_lt, is_some, if◌then◌else◌, pos, List, bytes_eq}
 use Rattle.std.specs.Ordering.{int_eq}
 use Rattle.gr_word.specs.declared.operations.Op.{Op}
 use Rattle.symbolic_values.specs.Sameness.{same_op}
 use Rattle.src_tree.specs.Trees.{Tree, Number, Variable, Element, Operation, Statement, SetVariable, SetElement, Block, Then}
 use Rattle.block_cache_gen.specs.Homes.{Setting, home_of}
-use Rattle.block_cache_gen.specs.Codes.{is_cached, is_masked, may_step, operand}
+use Rattle.block_cache_gen.specs.Codes.{is_cached, is_masked, may_step, operand, held_number, reducer}
 pub use Rattle.block_cache_gen.specs.Codes.{is_product}
 
--- two arrays lie in one oblivious bank
+-- registers hold two numbers for the whole run, or neither
+abbrev pub AreNumbersAlike : Setting → (y z : ℤ) → Type 0
+AreNumbersAlike f y z = is_some (held_number f y) ≡ is_some (held_number f z)
+
+-- two arrays are in one oblivious bank, and the numbers of their code are held alike
 pub record InOneBank (f : Setting) (x y : List ℕ) : Type 0 where
   pub oblivious : 2 ≤ (home_of f x).bank
   pub same : (home_of f x).bank ≡ (home_of f y).bank
+  pub reduced : AreNumbersAlike f (reducer (home_of f x)) (reducer (home_of f y))
+  pub blocks : AreNumbersAlike f (pos (home_of f x).block) (pos (home_of f y).block)
 
 -- registers hold two numbers or scalars for the whole run, or neither
 abbrev pub AreHeldAlike : Setting → Tree → Tree → Type 0
@@ -25,6 +31,8 @@ pub record AreReducedAlike (f : Setting) (x y : List ℕ) : Type 0 where
   pub low : is_cached (home_of f x) ≡ is_cached (home_of f y)
   pub masked : is_masked (home_of f x) ≡ is_masked (home_of f y)
   pub offset : ((home_of f x).word == 0) ≡ ((home_of f y).word == 0)
+  pub reduced : AreNumbersAlike f (reducer (home_of f x)) (reducer (home_of f y))
+  pub words : AreNumbersAlike f (pos (home_of f x).word) (pos (home_of f y).word)
 
 -- Two expressions are alike if both are numbers, or both scalars, and registers hold both or neither; or elements with
 -- alike indexes, of one oblivious bank or of resident arrays whose indexes are reduced alike; or elements of one array of
@@ -80,8 +88,15 @@ same_flag a b = if a then b else not b
 abbrev pub held_alike : Setting → Tree → Tree → Bool
 held_alike f a b = same_flag (is_some (operand f a)) (is_some (operand f b))
 
+abbrev pub numbers_alike : Setting → (y z : ℤ) → Bool
+numbers_alike f y z = same_flag (is_some (held_number f y)) (is_some (held_number f z))
+
 abbrev pub in_one_bank : Setting → List ℕ → List ℕ → Bool
-in_one_bank f x y = nat_le 2 (home_of f x).bank && ((home_of f x).bank == (home_of f y).bank)
+in_one_bank f x y =
+    nat_le 2 (home_of f x).bank
+    && (((home_of f x).bank == (home_of f y).bank)
+    && (numbers_alike f (reducer (home_of f x)) (reducer (home_of f y))
+    && numbers_alike f (pos (home_of f x).block) (pos (home_of f y).block)))
 
 abbrev pub both_products : Op → Op → Bool
 both_products op oq = if is_product op then is_product oq else not (is_product oq)
@@ -92,7 +107,9 @@ reduced_alike f x y =
     && ((home_of f y).resident
     && (same_flag (is_cached (home_of f x)) (is_cached (home_of f y))
     && (same_flag (is_masked (home_of f x)) (is_masked (home_of f y))
-    && same_flag ((home_of f x).word == 0) ((home_of f y).word == 0))))
+    && (same_flag ((home_of f x).word == 0) ((home_of f y).word == 0)
+    && (numbers_alike f (reducer (home_of f x)) (reducer (home_of f y))
+    && numbers_alike f (pos (home_of f x).word) (pos (home_of f y).word))))))
 
 -- no steps replace either of two operations
 abbrev pub are_plain : Setting → Op → Tree → Op → Tree → Bool

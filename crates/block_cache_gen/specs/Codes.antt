@@ -82,11 +82,25 @@ abbrev pub operand_unless : Bool → Option ℕ → Option ℕ
 operand_unless true q = None
 operand_unless false q = q
 
+-- the register that holds a number for the whole run, None if none does
+abbrev pub held_number : Setting → ℤ → Option ℕ
+held_number f z = register_of_number f.held z
+
+-- an operation on a register and a number, in register `to`; a number that no register holds is in register `own`
+abbrev pub applied_code : Setting → Op → (to from own : ℕ) → ℤ → List Instr
+applied_code f op to from own z =
+    operand_part (held_number f z) (Li own z ∷ []) ++ Alu op to from (operand_register (held_number f z) own) ∷ []
+
+-- the operation by which an index is reduced, and its number
+abbrev pub reducing : Home → Op
+reducing h = if is_masked h then And else Remu
+
+abbrev pub reducer : Home → ℤ
+reducer h = if is_masked h then pos (h.length - 1) else pos h.length
+
 -- the number of the word in the array that the index in register `from` names, in register `to`
-abbrev pub reduced_code : Home → (to from : ℕ) → List Instr
-reduced_code h to from =
-    if is_masked h then Li (to + 1) (pos (h.length - 1)) ∷ Alu And to from (to + 1) ∷ []
-    else Li (to + 1) (pos h.length) ∷ Alu Remu to from (to + 1) ∷ []
+abbrev pub reduced_code : Setting → Home → (to from : ℕ) → List Instr
+reduced_code f h to from = applied_code f (reducing h) to from (to + 1) (reducer h)
 
 -- Public code compares a public index with the array's length before it takes the remainder, if operations by numbers
 -- are replaced by steps too. Most indexes are below the length, and a remainder takes many cycles.
@@ -111,18 +125,15 @@ compared_code h to =
     ∷ []
 
 -- the same, with a comparison or without one
-abbrev pub numbered_code : Bool → Home → (to from : ℕ) → List Instr
-numbered_code true h to from = compared_code h to
-numbered_code false h to from = reduced_code h to from
+abbrev pub numbered_code : Bool → Setting → Home → (to from : ℕ) → List Instr
+numbered_code true f h to from = compared_code h to
+numbered_code false f h to from = reduced_code f h to from
 
 -- the number of its block in register to + 1, by a shift
-abbrev pub shift_code : ℕ → Home → ℕ → List Instr
-shift_code block_log h to =
-    Li (to + 1) (pos block_log)
-    ∷ Alu Shr (to + 1) to (to + 1)
-    ∷ Li (to + 2) (pos h.block)
-    ∷ Alu Add (to + 1) (to + 1) (to + 2)
-    ∷ []
+abbrev pub shift_code : Setting → Home → ℕ → List Instr
+shift_code f h to =
+    applied_code f Shr (to + 1) to (to + 1) (pos f.profile.block_log)
+    ++ applied_code f Add (to + 1) (to + 1) (to + 2) (pos h.block)
 
 -- both where the index is a number
 abbrev pub fixed_word : Home → ℤ → ℕ
@@ -133,10 +144,9 @@ fixed_code block_log h to z =
     Li to (pos (fixed_word h z)) ∷ Li (to + 1) (pos (h.block + fixed_word h z / 2 ^ block_log)) ∷ []
 
 -- both, by the code of the index
-abbrev pub located_code : Bool → ℕ → Home → (to from : ℕ) → Option ℤ → List Instr → List Instr
-located_code compared block_log h to from (Some z) index = fixed_code block_log h to z
-located_code compared block_log h to from None index =
-    index ++ (numbered_code compared h to from ++ shift_code block_log h to)
+abbrev pub located_code : Bool → Setting → Home → (to from : ℕ) → Option ℤ → List Instr → List Instr
+located_code compared f h to from (Some z) index = fixed_code f.profile.block_log h to z
+located_code compared f h to from None index = index ++ (numbered_code compared f h to from ++ shift_code f h to)
 
 -- the block that register to + 1 names is in the home's slot; where loads are skipped, it is loaded only where it isn't
 abbrev pub load_code : Bool → Home → ℕ → List Instr
@@ -149,29 +159,29 @@ skips mode h = may_skip_loads mode && is_cached h
 
 -- The number of a word in a resident array, in register `to`, becomes its number in the block: the number of the
 -- array's first word is added, unless that is 0.
-abbrev pub offset_code : Home → ℕ → List Instr
-offset_code h to = if h.word == 0 then [] else Li (to + 1) (pos h.word) ∷ Alu Add to to (to + 1) ∷ []
+abbrev pub offset_code : Setting → Home → ℕ → List Instr
+offset_code f h to = if h.word == 0 then [] else applied_code f Add to to (to + 1) (pos h.word)
 
 -- the number of a word of a resident array in its block, in register `to`
-abbrev pub placed_code : Bool → Home → (to from : ℕ) → Option ℤ → List Instr → List Instr
-placed_code compared h to from (Some z) index = Li to (pos (h.word + fixed_word h z)) ∷ []
-placed_code compared h to from None index = index ++ (numbered_code compared h to from ++ offset_code h to)
+abbrev pub placed_code : Bool → Setting → Home → (to from : ℕ) → Option ℤ → List Instr → List Instr
+placed_code compared f h to from (Some z) index = Li to (pos (h.word + fixed_word h z)) ∷ []
+placed_code compared f h to from None index = index ++ (numbered_code compared f h to from ++ offset_code f h to)
 
 -- the number of the word in its block in register `to`, with the block in the home's slot
-abbrev pub access_by : (resident compared : Bool) → ℕ → Mode → Home → (to from : ℕ) → Option ℤ → List Instr → List Instr
-access_by true compared block_log mode h to from fixed index = placed_code compared h to from fixed index
-access_by false compared block_log mode h to from fixed index =
-    located_code compared block_log h to from fixed index ++ load_code (skips mode h) h to
+abbrev pub access_by : (resident compared : Bool) → Setting → Mode → Home → (to from : ℕ) → Option ℤ → List Instr
+    → List Instr
+access_by true compared f mode h to from fixed index = placed_code compared f h to from fixed index
+access_by false compared f mode h to from fixed index =
+    located_code compared f h to from fixed index ++ load_code (skips mode h) h to
 
 -- the part of it that follows the code of the index
-abbrev pub found_by : (resident compared : Bool) → ℕ → Mode → Home → (to from : ℕ) → List Instr
-found_by true compared block_log mode h to from = numbered_code compared h to from ++ offset_code h to
-found_by false compared block_log mode h to from =
-    numbered_code compared h to from ++ shift_code block_log h to ++ load_code (skips mode h) h to
+abbrev pub found_by : (resident compared : Bool) → Setting → Mode → Home → (to from : ℕ) → List Instr
+found_by true compared f mode h to from = numbered_code compared f h to from ++ offset_code f h to
+found_by false compared f mode h to from =
+    numbered_code compared f h to from ++ shift_code f h to ++ load_code (skips mode h) h to
 
-abbrev pub access_code : Bool → ℕ → Mode → Home → (to from : ℕ) → Option ℤ → List Instr → List Instr
-access_code compared block_log mode h to from fixed index =
-    access_by h.resident compared block_log mode h to from fixed index
+abbrev pub access_code : Bool → Setting → Mode → Home → (to from : ℕ) → Option ℤ → List Instr → List Instr
+access_code compared f mode h to from fixed index = access_by h.resident compared f mode h to from fixed index
 
 -- An index that is compared with the length must be in register `to`.
 abbrev pub index_operand : Setting → Bool → Tree → Option ℕ
@@ -179,7 +189,7 @@ index_operand f compared i = operand_unless compared (operand f i)
 
 abbrev pub indexed_code : Setting → Bool → Mode → Home → ℕ → Tree → List Instr → List Instr
 indexed_code f compared mode h to i index =
-    access_code compared f.profile.block_log mode h to (operand_register (index_operand f compared i) to)
+    access_code compared f mode h to (operand_register (index_operand f compared i) to)
     (fixed_index h i) (operand_part (index_operand f compared i) index)
 
 -- After an element is set its block is stored, unless the slot holds it for the whole run.

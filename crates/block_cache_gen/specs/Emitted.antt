@@ -69,10 +69,10 @@ EmitsAccess f mode h mask to i before after =
 abbrev pub EmitsFound : Setting → Mode → Home → (mask to : ℕ) → Tree → CodeBuf → CodeBuf → Type 0
 EmitsFound f mode h mask to i before after =
     let from = operand_register (index_operand f (compares f mode h i) i) to in
-    Appended before after (found_by h.resident (compares f mode h i) f.profile.block_log mode h to from)
+    Appended before after (found_by h.resident (compares f mode h i) f mode h to from)
     (λ place. notes_in mode
     (loaded_notes h.resident (compares f mode h i) None f h mask to
-    (place + length (found_by h.resident (compares f mode h i) f.profile.block_log Public h to from))))
+    (place + length (found_by h.resident (compares f mode h i) f Public h to from))))
 
 abbrev pub EmitsGuard : Setting → Mode → ℕ → Test → CodeBuf → CodeBuf → Type 0
 EmitsGuard f mode to t before after =

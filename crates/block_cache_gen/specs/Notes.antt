@@ -94,13 +94,13 @@ compared_notes false None f mask to place = []
 
 -- the code of public code that follows the number of a word of an array that isn't resident
 abbrev pub loading_code : Setting → Home → ℕ → List Instr
-loading_code f h to = shift_code f.profile.block_log h to ++ load_code (is_cached h) h to
+loading_code f h to = shift_code f h to ++ load_code (is_cached h) h to
 
 -- The notes of an access apart from those of its index, by the place after its code: the note that follows a
 -- comparison, and if the array isn't resident the one that follows the load.
 abbrev pub loaded_notes : (resident compared : Bool) → Option ℤ → Setting → Home → (mask to behind : ℕ) → List Note
 loaded_notes true compared fixed f h mask to behind =
-    compared_notes compared fixed f mask to (behind - length (offset_code h to))
+    compared_notes compared fixed f mask to (behind - length (offset_code f h to))
 loaded_notes false compared fixed f h mask to behind =
     compared_notes compared fixed f mask to (behind - length (loading_code f h to))
     ++ (if is_cached h then note_of f (access_mask mask to) behind ∷ [] else [])

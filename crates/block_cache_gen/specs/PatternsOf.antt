@@ -19,7 +19,7 @@ use Rattle.trace_patterns.specs.Single.{applied_trees, word_tree}
 use Rattle.held_registers.specs.Held.{public_zero}
 use Rattle.block_cache_gen.specs.Homes.{Home, Setting, held_label, home_of, register_for, words_a_block, blocks_set}
 use Rattle.block_cache_gen.specs.Carries.{held_tree}
-use Rattle.block_cache_gen.specs.Codes.{is_masked, fixed_index, fixed_word, operand, operand_part, left_operand, steps_at}
+use Rattle.block_cache_gen.specs.Codes.{fixed_index, fixed_word, held_number, reducer, reducing, operand, operand_part, left_operand, steps_at}
 use Rattle.strength_reduction.specs.Steps.{Step, Constant, Compute, left_by}
 
 -- the cycles of an operation, and of a word that is read or written in a slot
@@ -59,53 +59,54 @@ abbrev pub operand_tree : Setting → Option ℕ → Option Value → Option Val
 operand_tree f (Some r) tree = tree_by r (held_label f r)
 operand_tree f None tree = tree
 
+-- the tree of a number that code makes, and the cycles of an operation on it
+abbrev pub number_in : Setting → ℤ → Option Value
+number_in f z = operand_tree f (held_number f z) (Some (Const z))
+
+abbrev pub applied_shows : Setting → Op → ℤ → List Show
+applied_shows f op z = operand_part (held_number f z) (Gap 1 ∷ []) ++ operation_gap f op ∷ []
+
 -- The number of an element's word in its array: the index taken modulo the length, or what an index that is a number
 -- comes to. Then the number of its block in the bank.
-abbrev pub reduced_tree : Home → Option Value → Option Value
-reduced_tree h index =
-    if is_masked h then applied_trees And index (Some (Const (pos (h.length - 1))))
-    else applied_trees Remu index (Some (Const (pos h.length)))
+abbrev pub reduced_tree : Setting → Home → Option Value → Option Value
+reduced_tree f h index = applied_trees (reducing h) index (number_in f (reducer h))
 
-abbrev pub number_tree : Home → Option ℤ → Option Value → Option Value
-number_tree h (Some z) index = Some (Const (pos (fixed_word h z)))
-number_tree h None index = reduced_tree h index
+abbrev pub number_tree : Setting → Home → Option ℤ → Option Value → Option Value
+number_tree f h (Some z) index = Some (Const (pos (fixed_word h z)))
+number_tree f h None index = reduced_tree f h index
 
 -- the number of a resident array's word in its block
-abbrev pub placed_tree : Home → Option ℤ → Option Value → Option Value
-placed_tree h (Some z) index = Some (Const (pos (h.word + fixed_word h z)))
-placed_tree h None index =
-    if h.word == 0 then reduced_tree h index else applied_trees Add (reduced_tree h index) (Some (Const (pos h.word)))
+abbrev pub placed_tree : Setting → Home → Option ℤ → Option Value → Option Value
+placed_tree f h (Some z) index = Some (Const (pos (h.word + fixed_word h z)))
+placed_tree f h None index =
+    if h.word == 0 then reduced_tree f h index
+    else applied_trees Add (reduced_tree f h index) (number_in f (pos h.word))
 
 abbrev pub shifted_tree : Setting → Home → Option Value → Option Value
 shifted_tree f h number =
-    applied_trees Add (applied_trees Shr number (Some (Const (pos f.profile.block_log)))) (Some (Const (pos h.block)))
+    applied_trees Add (applied_trees Shr number (number_in f (pos f.profile.block_log))) (number_in f (pos h.block))
 
 abbrev pub block_tree : Setting → Home → Option ℤ → Option Value → Option Value
 block_tree f h (Some z) index = Some (Const (pos (h.block + fixed_word h z / words_a_block f)))
-block_tree f h None index = shifted_tree f h (reduced_tree h index)
+block_tree f h None index = shifted_tree f h (reduced_tree f h index)
 
 -- the cycles of finding both
-abbrev pub reducing : Home → Op
-reducing h = if is_masked h then And else Remu
+abbrev pub shifted_shows : Setting → Home → List Show
+shifted_shows f h = applied_shows f Shr (pos f.profile.block_log) ++ applied_shows f Add (pos h.block)
+
+abbrev pub reduced_shows : Setting → Home → List Show
+reduced_shows f h = applied_shows f (reducing h) (reducer h)
 
 abbrev pub found_shows : Setting → Home → Option ℤ → List Show → List Show
 found_shows f h (Some z) index = Gap 1 ∷ Gap 1 ∷ []
-found_shows f h None index =
-    index
-    ++ (Gap 1
-    ∷ operation_gap f (reducing h)
-    ∷ Gap 1
-    ∷ operation_gap f Shr
-    ∷ Gap 1
-    ∷ operation_gap f Add
-    ∷ [])
+found_shows f h None index = index ++ (reduced_shows f h ++ shifted_shows f h)
 
 abbrev pub offset_shows : Setting → Home → List Show
-offset_shows f h = if h.word == 0 then [] else Gap 1 ∷ operation_gap f Add ∷ []
+offset_shows f h = if h.word == 0 then [] else applied_shows f Add (pos h.word)
 
 abbrev pub placed_shows : Setting → Home → Option ℤ → List Show → List Show
 placed_shows f h (Some z) index = Gap 1 ∷ []
-placed_shows f h None index = index ++ (Gap 1 ∷ operation_gap f (reducing h) ∷ offset_shows f h)
+placed_shows f h None index = index ++ (reduced_shows f h ++ offset_shows f h)
 
 -- what a slot holds once a block of a bank is loaded; in plain and encrypted memory its number must be known
 abbrev pub plain_loaded : Setting → Option Value → SymSlot
@@ -174,8 +175,8 @@ access_loads f h fixed index loads = loads_by h.resident f h fixed index loads
 
 -- the word that is read
 abbrev pub element_by : Bool → Setting → Home → Option ℤ → Option Value → Option Value
-element_by true f h fixed index = word_read f (pinned_slot h) (placed_tree h fixed index)
-element_by false f h fixed index = word_read f (element_slot f h fixed index) (number_tree h fixed index)
+element_by true f h fixed index = word_read f (pinned_slot h) (placed_tree f h fixed index)
+element_by false f h fixed index = word_read f (element_slot f h fixed index) (number_tree f h fixed index)
 
 -- the store of its block, where it isn't left in its slot
 abbrev pub stored_by : Bool → SymSlot → List Show

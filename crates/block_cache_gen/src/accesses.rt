@@ -11,7 +11,7 @@ ghost use Rattle.block_cache_gen.specs.Variables.{home_in};
 
 use crate::emitter::{Emitter, label_of};
 use crate::frames::{CodeBuf, Mode};
-use crate::indexes::{put_note_behind, put_numbered};
+use crate::indexes::{put_applied, put_note_behind, put_numbered};
 use crate::variables::Variable;
 use gr_base::Memory;
 use gr_word::{Cmp, Label, Op};
@@ -229,10 +229,16 @@ pub(crate) fn is_resident(variable: Variable) -> bool
 }
 
 // The number of a resident array's word in its block, where the index is a number.
-fn put_placed_word(out: &mut CodeBuf, array: Variable, index: i64, to: u8) -> Result<(), Memory>
+fn put_placed_word(
+    emitter: &Emitter<'_>,
+    out: &mut CodeBuf,
+    array: Variable,
+    index: i64,
+    to: u8,
+) -> Result<(), Memory>
     requires length { 1 ≤ array.place.length }
     ensures appended { OnOk result
-        (Appended out.old out.new (placed_code false (home_in array) to to (Some index) []) no_notes) }
+        (Appended out.old out.new (placed_code false emitter.now (home_in array) to to (Some index) []) no_notes) }
     ensures grows { CodeGrows out.old out.new }
 {
     let place = u64::from(array.place.word) + fixed_word(array, index);
@@ -243,26 +249,28 @@ fn put_placed_word(out: &mut CodeBuf, array: Variable, index: i64, to: u8) -> Re
 }
 
 // The number of a resident array's first word is added to that of a word.
-fn put_offset(out: &mut CodeBuf, array: Variable, to: u8) -> Result<(), Memory>
+fn put_offset(
+    emitter: &Emitter<'_>,
+    out: &mut CodeBuf,
+    array: Variable,
+    to: u8,
+) -> Result<(), Memory>
     requires registers { to + 2 < 19 }
-    ensures appended { OnOk result (Appended out.old out.new (offset_code (home_in array) to) no_notes) }
+    ensures appended { OnOk result (Appended out.old out.new (offset_code emitter.now (home_in array) to) no_notes) }
     ensures grows { CodeGrows out.old out.new }
 {
     if array.place.word == 0 {
         return out.put(&[]);
     }
-    out.put(&[
-        Instr::Li {
-            rd: to + 1,
-            value: i64::from(array.place.word),
-        },
-        Instr::Alu {
-            op: Op::Add,
-            rd: to,
-            ra: to,
-            rb: to + 1,
-        },
-    ])
+    put_applied(
+        emitter,
+        out,
+        Op::Add,
+        to,
+        to,
+        to + 1,
+        i64::from(array.place.word),
+    )
 }
 
 // The number of the resident array's word that the index in register `from` names in its block, in register `to`.
@@ -278,13 +286,13 @@ fn put_placed(
     requires registers { to + 2 < 19 }
     requires room { length out.old.code.items + 6 < 2 ^ 32 }
     ensures appended { OnOk result (Appended out.old out.new
-        (numbered_code compared (home_in array) to from ++ offset_code (home_in array) to)
+        (numbered_code compared emitter.now (home_in array) to from ++ offset_code emitter.now (home_in array) to)
         (λ place. compared_notes compared None emitter.now mask to
-        (place + length (numbered_code compared (home_in array) to from)))) }
+        (place + length (numbered_code compared emitter.now (home_in array) to from)))) }
     ensures grows { CodeGrows out.old out.new }
 {
     put_numbered(emitter, out, array, to, from, compared, mask)?;
-    put_offset(out, array, to)
+    put_offset(emitter, out, array, to)
 }
 
 // The number of the block of the word that a register names, in the next register.
@@ -296,31 +304,27 @@ fn put_block(
 ) -> Result<(), Memory>
     requires registers { to + 2 < 19 }
     ensures appended { OnOk result
-        (Appended out.old out.new (shift_code emitter.now.profile.block_log (home_in array) to) no_notes) }
+        (Appended out.old out.new (shift_code emitter.now (home_in array) to) no_notes) }
     ensures grows { CodeGrows out.old out.new }
 {
-    out.put(&[
-        Instr::Li {
-            rd: to + 1,
-            value: i64::from(emitter.block_log()),
-        },
-        Instr::Alu {
-            op: Op::Shr,
-            rd: to + 1,
-            ra: to,
-            rb: to + 1,
-        },
-        Instr::Li {
-            rd: to + 2,
-            value: i64::from(array.place.block),
-        },
-        Instr::Alu {
-            op: Op::Add,
-            rd: to + 1,
-            ra: to + 1,
-            rb: to + 2,
-        },
-    ])
+    put_applied(
+        emitter,
+        out,
+        Op::Shr,
+        to + 1,
+        to,
+        to + 1,
+        i64::from(emitter.block_log()),
+    )?;
+    put_applied(
+        emitter,
+        out,
+        Op::Add,
+        to + 1,
+        to + 1,
+        to + 2,
+        i64::from(array.place.block),
+    )
 }
 
 /// Appends what leaves the number of the word that the index in register `from` names in register `to`, and that of its
@@ -337,10 +341,10 @@ pub(crate) fn put_located(
     requires registers { to + 2 < 19 }
     requires room { length out.old.code.items + 6 < 2 ^ 32 }
     ensures appended { OnOk result (Appended out.old out.new
-        (numbered_code compared (home_in array) to from
-        ++ shift_code emitter.now.profile.block_log (home_in array) to)
+        (numbered_code compared emitter.now (home_in array) to from
+        ++ shift_code emitter.now (home_in array) to)
         (λ place. compared_notes compared None emitter.now mask to
-        (place + length (numbered_code compared (home_in array) to from)))) }
+        (place + length (numbered_code compared emitter.now (home_in array) to from)))) }
     ensures grows { CodeGrows out.old out.new }
 {
     put_numbered(emitter, out, array, to, from, compared, mask)?;
@@ -402,15 +406,15 @@ pub(crate) fn put_fixed_access(
     requires registers { to + 2 < 19 }
     requires room { length out.old.code.items + 6 < 2 ^ 32 }
     ensures appended { OnOk result (Appended out.old out.new
-        (access_by (home_in array).resident false emitter.now.profile.block_log mode (home_in array) to to (Some index) [])
+        (access_by (home_in array).resident false emitter.now mode (home_in array) to to (Some index) [])
         (λ place. notes_in mode
         (loaded_notes (home_in array).resident false (Some index) emitter.now (home_in array) mask to
-        (place + length (access_by (home_in array).resident false emitter.now.profile.block_log Mode.Public
+        (place + length (access_by (home_in array).resident false emitter.now Mode.Public
         (home_in array) to to (Some index) []))))) }
     ensures grows { CodeGrows out.old out.new }
 {
     if is_resident(array) {
-        return put_placed_word(out, array, index, to);
+        return put_placed_word(emitter, out, array, index, to);
     }
     put_fixed(emitter, out, array, index, to)?;
     put_load(emitter, out, array, to, mode, mask)

@@ -1,4 +1,4 @@
-ghost use Rattle.std.specs.Prelude.{◌==◌, ◌≡◌, ◌+◌, ◌&&◌, ◌||◌, true, is_some, bytes_eq};
+ghost use Rattle.std.specs.Prelude.{◌==◌, ◌≡◌, ◌+◌, ◌&&◌, ◌||◌, pos, true, is_some, bytes_eq};
 ghost use Rattle.gr_word.specs.declared.variables.Label.{Label};
 ghost use Rattle.lt_isa.specs.Object.{bank_kind};
 ghost use Rattle.src_tree.specs.Contexts.{context_of};
@@ -6,13 +6,14 @@ ghost use Rattle.src_tree.specs.Trees.{block_of_all, statement_of, expr_tree};
 ghost use Rattle.src_tree.specs.Trees as trees;
 ghost use Rattle.src_tree.specs.Typing.{TypedBlock, TypedStatement, TypedTree};
 ghost use Rattle.symbolic_values.specs.Sameness.{same_op};
-ghost use Rattle.block_cache_gen.specs.Alike.{held_alike, are_plain, by_same_number, is_same_number, same_flag, reduced_alike, both_products, in_one_bank, is_alike, is_pair, is_product, is_same, pair_count};
-ghost use Rattle.block_cache_gen.specs.Codes.{is_cached, is_masked};
+ghost use Rattle.block_cache_gen.specs.Alike.{held_alike, numbers_alike, are_plain, by_same_number, is_same_number, same_flag, reduced_alike, both_products, in_one_bank, is_alike, is_pair, is_product, is_same, pair_count};
+ghost use Rattle.block_cache_gen.specs.Codes.{is_cached, is_masked, reducer};
 ghost use Rattle.block_cache_gen.specs.Variables.{home_in};
 ghost use Rattle.block_cache_gen.specs.Homes.{home_of};
 
 use crate::accesses::{is_cached, is_masked, is_resident};
 use crate::emitter::Emitter;
+use crate::indexes::reducer;
 use crate::operands::operand;
 use crate::steps::{is_product, may_step};
 use crate::variables::Variable;
@@ -93,34 +94,99 @@ fn kind_of<'a>(emitter: &Emitter<'a>, name: &'a Name) -> BankKind
     bank_kind(bank_of(emitter, name))
 }
 
-// Whether two arrays lie in one oblivious bank.
-fn in_one_bank<'a>(emitter: &Emitter<'a>, x: &'a Name, y: &'a Name) -> bool
-    requires first { is_some (context_of emitter.now.decls x.now) ≡ true }
-    requires second { is_some (context_of emitter.now.decls y.now) ≡ true }
-    ensures { result ≡ in_one_bank emitter.now x.now y.now }
-{
-    kind_of(emitter, x) == BankKind::Oblivious && bank_of(emitter, x) == bank_of(emitter, y)
-}
-
 fn same_flag(one: bool, other: bool) -> bool
     ensures { result ≡ same_flag one other }
 {
     if one { other } else { !other }
 }
 
+// Whether registers hold two numbers for the whole run, or neither.
+fn numbers_alike(emitter: &Emitter<'_>, one: i64, other: i64) -> bool
+    ensures { result ≡ numbers_alike emitter.now one other }
+{
+    same_flag(
+        emitter.number_held(one).is_some(),
+        emitter.number_held(other).is_some(),
+    )
+}
+
+// The same of the numbers by which the indexes of two arrays are reduced.
+fn reducers_alike(emitter: &Emitter<'_>, one: Variable, other: Variable) -> bool
+    ensures { result ≡ numbers_alike emitter.now (reducer (home_in one)) (reducer (home_in other)) }
+{
+    numbers_alike(emitter, reducer(one), reducer(other))
+}
+
+// The same of their first blocks.
+fn blocks_alike(emitter: &Emitter<'_>, one: Variable, other: Variable) -> bool
+    ensures { result ≡ numbers_alike emitter.now (pos (home_in one).block) (pos (home_in other).block) }
+{
+    numbers_alike(
+        emitter,
+        i64::from(one.place.block),
+        i64::from(other.place.block),
+    )
+}
+
+// The same of their first words.
+fn words_alike(emitter: &Emitter<'_>, one: Variable, other: Variable) -> bool
+    ensures { result ≡ numbers_alike emitter.now (pos (home_in one).word) (pos (home_in other).word) }
+{
+    numbers_alike(
+        emitter,
+        i64::from(one.place.word),
+        i64::from(other.place.word),
+    )
+}
+
+// The same of both numbers of two arrays of oblivious banks.
+fn are_found_alike(emitter: &Emitter<'_>, one: Variable, other: Variable) -> bool
+    ensures { result ≡ (numbers_alike emitter.now (reducer (home_in one)) (reducer (home_in other))
+        && numbers_alike emitter.now (pos (home_in one).block) (pos (home_in other).block)) }
+{
+    reducers_alike(emitter, one, other) && blocks_alike(emitter, one, other)
+}
+
+fn found_alike<'a>(emitter: &Emitter<'a>, x: &'a Name, y: &'a Name) -> bool
+    requires first { is_some (context_of emitter.now.decls x.now) ≡ true }
+    requires second { is_some (context_of emitter.now.decls y.now) ≡ true }
+    ensures { result ≡ (numbers_alike emitter.now (reducer (home_of emitter.now x.now)) (reducer (home_of emitter.now y.now))
+        && numbers_alike emitter.now (pos (home_of emitter.now x.now).block) (pos (home_of emitter.now y.now).block)) }
+{
+    are_found_alike(
+        emitter,
+        emitter.variable(x.bytes()),
+        emitter.variable(y.bytes()),
+    )
+}
+
+// Whether two arrays are in one oblivious bank, and registers hold the numbers of their code alike.
+fn in_one_bank<'a>(emitter: &Emitter<'a>, x: &'a Name, y: &'a Name) -> bool
+    requires first { is_some (context_of emitter.now.decls x.now) ≡ true }
+    requires second { is_some (context_of emitter.now.decls y.now) ≡ true }
+    ensures { result ≡ in_one_bank emitter.now x.now y.now }
+{
+    kind_of(emitter, x) == BankKind::Oblivious
+        && (bank_of(emitter, x) == bank_of(emitter, y) && found_alike(emitter, x, y))
+}
+
 // Whether two variables are resident arrays whose indexes are reduced alike.
-fn are_reduced_alike(one: Variable, other: Variable) -> bool
+fn are_reduced_alike(emitter: &Emitter<'_>, one: Variable, other: Variable) -> bool
     ensures { result ≡ ((home_in one).resident
         && ((home_in other).resident
         && (same_flag (is_cached (home_in one)) (is_cached (home_in other))
         && (same_flag (is_masked (home_in one)) (is_masked (home_in other))
-        && same_flag ((home_in one).word == 0) ((home_in other).word == 0))))) }
+        && (same_flag ((home_in one).word == 0) ((home_in other).word == 0)
+        && (numbers_alike emitter.now (reducer (home_in one)) (reducer (home_in other))
+        && numbers_alike emitter.now (pos (home_in one).word) (pos (home_in other).word))))))) }
 {
     is_resident(one)
         && (is_resident(other)
             && (same_flag(is_cached(one), is_cached(other))
                 && (same_flag(is_masked(one), is_masked(other))
-                    && same_flag(one.place.word == 0, other.place.word == 0))))
+                    && (same_flag(one.place.word == 0, other.place.word == 0)
+                        && (reducers_alike(emitter, one, other)
+                            && words_alike(emitter, one, other))))))
 }
 
 fn reduced_alike<'a>(emitter: &Emitter<'a>, x: &'a Name, y: &'a Name) -> bool
@@ -128,7 +194,11 @@ fn reduced_alike<'a>(emitter: &Emitter<'a>, x: &'a Name, y: &'a Name) -> bool
     requires second { is_some (context_of emitter.now.decls y.now) ≡ true }
     ensures { result ≡ reduced_alike emitter.now x.now y.now }
 {
-    are_reduced_alike(emitter.variable(x.bytes()), emitter.variable(y.bytes()))
+    are_reduced_alike(
+        emitter,
+        emitter.variable(x.bytes()),
+        emitter.variable(y.bytes()),
+    )
 }
 
 // Whether elements of two arrays with alike indexes are alike.

@@ -1,15 +1,18 @@
 ghost use Rattle.std.specs.Prelude.{◌≡◌, ◌+◌, ◌^◌, ◌<◌, [], ◌∷◌, None, pos, ◌+ℤ◌, OnOk, length};
-ghost use Rattle.block_cache_gen.specs.Codes.{compared_code, least_word, numbered_code, reduced_code};
+ghost use Rattle.block_cache_gen.specs.Codes.{applied_code, compared_code, least_word, numbered_code, reduced_code, reducer, reducing};
 ghost use Rattle.block_cache_gen.specs.Notes.{compared_notes, note_of, unmarked};
 ghost use Rattle.block_cache_gen.specs.Emitted.{Appended, CodeGrows, no_notes};
+ghost use Rattle.block_cache_gen.specs.Settings.{home_at};
 ghost use Rattle.block_cache_gen.specs.Variables.{home_in};
 
 use crate::accesses::{is_masked, unmarked};
 use crate::emitter::Emitter;
 use crate::frames::CodeBuf;
+use crate::operands::operand_register;
 use crate::variables::Variable;
+use bank_alloc::Place;
 use gr_base::Memory;
-use gr_word::{Cmp, Op};
+use gr_word::{Cmp, Label, Op};
 use lt_isa::{Instr, Note};
 
 /// Appends a note after the code so far. The only error is want of memory.
@@ -42,15 +45,15 @@ pub(crate) fn put_numbered(
 ) -> Result<(), Memory>
     requires registers { to + 2 < 19 }
     requires room { length out.old.code.items + 6 < 2 ^ 32 }
-    ensures appended { OnOk result (Appended out.old out.new (numbered_code compared (home_in array) to from)
+    ensures appended { OnOk result (Appended out.old out.new (numbered_code compared emitter.now (home_in array) to from)
         (λ place. compared_notes compared None emitter.now mask to
-        (place + length (numbered_code compared (home_in array) to from)))) }
+        (place + length (numbered_code compared emitter.now (home_in array) to from)))) }
     ensures grows { CodeGrows out.old out.new }
 {
     if compared {
         return put_compared(emitter, out, array, to, mask);
     }
-    put_reduced(out, array, to, from)
+    put_reduced(emitter, out, array, to, from)
 }
 
 // An array's length less 2^63.
@@ -109,28 +112,89 @@ fn put_compared(
     put_note_behind(emitter, out, unmarked(mask, to))
 }
 
-// The index in a register becomes the number of the word.
-fn put_reduced(out: &mut CodeBuf, array: Variable, to: u8, from: u8) -> Result<(), Memory>
-    requires registers { to + 2 < 19 }
-    ensures appended { OnOk result (Appended out.old out.new (reduced_code (home_in array) to from) no_notes) }
+/// Appends an operation on a register and a number, whose result is in register `to`. If no register holds the number
+/// for the whole run, it is loaded into register `own` first. The only error is want of memory.
+pub(crate) fn put_applied(
+    emitter: &Emitter<'_>,
+    out: &mut CodeBuf,
+    op: Op,
+    to: u8,
+    from: u8,
+    own: u8,
+    number: i64,
+) -> Result<(), Memory>
+    ensures appended { OnOk result (Appended out.old out.new (applied_code emitter.now op to from own number) no_notes) }
     ensures grows { CodeGrows out.old out.new }
 {
-    let masked = is_masked(array);
-    let (op, value) = if masked {
-        (Op::And, array.place.length.saturating_sub(1))
-    } else {
-        (Op::Remu, array.place.length)
+    let held = emitter.number_held(number);
+    let operation = Instr::Alu {
+        op,
+        rd: to,
+        ra: from,
+        rb: operand_register(held, own),
     };
-    out.put(&[
-        Instr::Li {
-            rd: to + 1,
-            value: i64::from(value),
-        },
-        Instr::Alu {
-            op,
-            rd: to,
-            ra: from,
-            rb: to + 1,
-        },
-    ])
+    match held {
+        Some(_) => out.put(&[operation]),
+        None => out.put(&[
+            Instr::Li {
+                rd: own,
+                value: number,
+            },
+            operation,
+        ]),
+    }
+}
+
+// The operation by which an index of an array is reduced.
+fn reducing(array: Variable) -> Op
+    ensures { result ≡ reducing (home_in array) }
+{
+    if is_masked(array) { Op::And } else { Op::Remu }
+}
+
+/// The number by which an index of an array is reduced: the length, or 1 less if a mask does it.
+pub(crate) fn reducer(array: Variable) -> i64
+    ensures { result ≡ reducer (home_in array) }
+{
+    if is_masked(array) {
+        i64::from(array.place.length.saturating_sub(1))
+    } else {
+        i64::from(array.place.length)
+    }
+}
+
+/// The same of an array at a place. It serves `code_gen`, which chooses the numbers that registers hold.
+pub fn reducer_at(place: Place) -> i64
+    ensures { result ≡ reducer (home_at [] place 0) }
+{
+    reducer(Variable {
+        label: Label::Public,
+        place,
+        slot: 0,
+        resident: false,
+        held: None,
+    })
+}
+
+// The index in a register becomes the number of the word.
+fn put_reduced(
+    emitter: &Emitter<'_>,
+    out: &mut CodeBuf,
+    array: Variable,
+    to: u8,
+    from: u8,
+) -> Result<(), Memory>
+    requires registers { to + 2 < 19 }
+    ensures appended { OnOk result (Appended out.old out.new (reduced_code emitter.now (home_in array) to from) no_notes) }
+    ensures grows { CodeGrows out.old out.new }
+{
+    put_applied(
+        emitter,
+        out,
+        reducing(array),
+        to,
+        from,
+        to + 1,
+        reducer(array),
+    )
 }

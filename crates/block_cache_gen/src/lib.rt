@@ -27,5 +27,6 @@ pub use alike::pair_count;
 pub use calls::{emit_expr, emit_guard, emit_set};
 pub use emitter::{Emitter, label_of};
 pub use frames::{CodeBuf, Frame, Mode};
+pub use indexes::reducer_at;
 pub use laws::{home_laws, pair_laws, twin_laws};
 pub use statements::{put_guard, put_set_element, put_set_variable};

@@ -1,6 +1,16 @@
 -- What registers hold for the whole run of a program whose numbers are words is sound.
-use Rattle.std.proofs.Common.{◌≡◌, ℕ, ◌+◌, ◌<◌, ◌≤◌, Bool, true, false, ℤ, pos, List, [], ◌∷◌, ◌++◌, length, length-append, arith}
-use Rattle.std.specs.Prelude.{is_some, nat_lt, if◌then◌else◌}
+use Rattle.std.proofs.Common.{◌≡◌, ℕ, ◌+◌, ◌-◌, ◌^◌, ◌<◌, ◌≤◌, Bool, true, false, ℤ, pos, List, [], ◌∷◌, ◌++◌, length, length-append, arith}
+use Rattle.std.specs.Prelude.{All, is_some, nat_lt, ◌==◌, if◌then◌else◌}
+use Rattle.std.proofs.lemmas.List.Elements.{All-from_get_or, All-head, All-tail}
+use Rattle.std.proofs.Math.Pow.{pow_mono}
+use Rattle.gr_word.specs.Words.{IsWord}
+use Rattle.bank_alloc.specs.declared.places.Place.{Place}
+use Rattle.src_tree.specs.Limits.{IsWithinLimits}
+use Rattle.scratch_alloc.specs.Plans.{Plan, IsSoundPlan, no_place}
+use Rattle.block_cache_gen.specs.Codes.{is_masked}
+use Rattle.block_cache_gen.specs.Settings.{home_at}
+use Rattle.block_cache_gen.proofs.RangesOfCode.{small-word}
+use Rattle.block_cache_gen.proofs.Settled.{place-length}
 use Rattle.src_tree.specs.declared.trees.Decl.{Decl}
 use Rattle.src_tree.specs.Trees.{Tree, Number, Variable, Element, Operation, Test, Statement, SetVariable, SetElement, Choice, Loop, Block, Nothing, Then, Source}
 use Rattle.held_registers.specs.declared.registers.Held.{Held}
@@ -9,7 +19,7 @@ use Rattle.held_registers.specs.Held.{held_scalars, register_of_number, scalars_
 use Rattle.held_registers.proofs.Sound.{held_scalars-sound, with_number-sound}
 use Rattle.block_cache_gen.specs.ProgramWords.{BlockHasWords, StatementHasWords}
 use Rattle.block_cache_gen.specs.TreeWords.{HasWords, TestHasWords}
-use Rattle.code_gen.specs.HeldNumbers.{held_for, with_block, with_statement, with_test, with_tree}
+use Rattle.code_gen.specs.HeldNumbers.{held_for, reducer_at, with_block, with_place, with_places, with_statement, with_test, with_tree}
 
 -- sound, and the zeros are among them
 record SoundSome (decls : List Decl) (held : List Held) : Type 0 where
@@ -52,6 +62,53 @@ tree-sound decls held (Element x i) words is = tree-sound decls held i words is
 tree-sound decls held (Operation op a b) words is =
     tree-sound decls (with_tree held a) b words.1 (tree-sound decls held a words.0 is)
 
+-- the length and the first word of a place are in their ranges
+pub record PlaceFits (q : Place) : Type 0 where
+  pub length : q.length < 2 ^ 32
+  pub word : q.word < 2 ^ 16
+
+pub places-fit : (p : Source) (w : ℕ) (plan : Plan) → IsWithinLimits p → IsSoundPlan p w plan → w ≤ 9
+    → All PlaceFits plan.places
+places-fit p w plan limits sound low =
+    All-from_get_or PlaceFits plan.places no_place
+    (λ k below.
+    let there = omega (arith, below, sound.places) in
+    let size = place-length p w plan k limits sound there in
+    let most : 2 ^ w ≤ 512 = pow_mono low in
+    record { length = omega (arith, size.1); word = omega (arith, (sound.place k there).word, most) })
+
+reducer-word : (q : Place) → PlaceFits q → IsWord (reducer_at q)
+reducer-word q fits = by (is_masked (home_at [] q 0))
+  where
+    by : (masked : Bool) → IsWord (if masked then pos (q.length - 1) else pos q.length)
+    by true = let long = fits.length in small-word (q.length - 1) (omega arith)
+    by false = let long = fits.length in small-word q.length (omega arith)
+
+place-sound : (decls : List Decl) (held : List Held) (q : Place) → PlaceFits q → SoundSome decls held
+    → SoundSome decls (with_place held q)
+place-sound decls held q fits is = by (q.length == 1)
+  where
+    by : (one : Bool) → SoundSome decls
+        (if one then held else with_number (with_number held (reducer_at q)) (pos q.word))
+    by true = is
+    by false =
+        let first = with_number held (reducer_at q) in
+        let some = with_number-some held (reducer_at q) is.some in
+        let inside = fits.word in
+        record {
+          sound =
+              with_number-sound decls first (pos q.word) some (small-word q.word (omega arith))
+              (with_number-sound decls held (reducer_at q) is.some (reducer-word q fits) is.sound);
+          some = with_number-some first (pos q.word) some;
+        }
+
+places-sound : (decls : List Decl) (held : List Held) (places : List Place) → All PlaceFits places
+    → SoundSome decls held → SoundSome decls (with_places held places)
+places-sound decls held [] fit is = is
+places-sound decls held (q ∷ places) fit is =
+    places-sound decls (with_place held q) places (All-tail PlaceFits q places fit)
+    (place-sound decls held q (All-head PlaceFits q places fit) is)
+
 test-sound : (decls : List Decl) (held : List Held) (t : Test) → TestHasWords t → SoundSome decls held
     → SoundSome decls (with_test held t)
 test-sound decls held t words is =
@@ -75,9 +132,11 @@ mutual
   block-sound decls held (Then s rest) words is =
       block-sound decls (with_statement held s) rest words.1 (statement-sound decls held s words.0 is)
 
-pub held_for-sound : (p : Source) → BlockHasWords p.body → IsSoundHeld p.decls (held_for p)
+pub held_for-sound : (p : Source) (places : List Place) → BlockHasWords p.body → All PlaceFits places
+    → IsSoundHeld p.decls (held_for p places)
 unfolding held_for
-held_for-sound p words =
-    let is = block-sound p.decls (held_scalars p.decls) p.body words
-    (record { sound = held_scalars-sound p.decls; some = held_scalars-some p.decls }) in
+held_for-sound p places words fit =
+    let is = block-sound p.decls (with_places (held_scalars p.decls) places) p.body words
+    (places-sound p.decls (held_scalars p.decls) places fit
+    (record { sound = held_scalars-sound p.decls; some = held_scalars-some p.decls })) in
     is.sound

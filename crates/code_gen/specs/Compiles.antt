@@ -51,7 +51,8 @@ stores_in p profile = stores_by p (standard_plan p profile.block_log) profile fa
 -- and with it, where expressions are made cheaper and registers hold the first scalars and numbers
 abbrev pub stores_with_residents : Source → Profile → ℕ
 stores_with_residents p profile =
-    stores_by (folded_source p) (resident_plan p profile.block_log) profile true (held_for (folded_source p))
+    stores_by (folded_source p) (resident_plan p profile.block_log) profile true
+    (held_for (folded_source p) (resident_plan p profile.block_log).places)
 
 -- A program is refused where its variables lack room, as the first of them does. Want of memory says nothing.
 abbrev pub ExplainsRoom : CompileError → Source → ℕ → Type 0

@@ -1,9 +1,24 @@
--- What registers hold for the whole run of a compiled program: its first scalars, then the numbers of its expressions in
--- the order of their code, as long as a register is left. (This project's layout of compiled code.)
-use Rattle.std.specs.Prelude.{List}
+-- What registers hold for the whole run of a compiled program, as long as a register is left: its first scalars; then,
+-- for each array by declaration, the number that reduces its index and that of its first word; then the numbers of its
+-- expressions in the order of their code. (This project's layout of compiled code.)
+use Rattle.std.specs.Prelude.{◌==◌, if◌then◌else◌, ℤ, pos, List, [], ◌∷◌}
 use Rattle.src_tree.specs.Trees.{Tree, Number, Variable, Element, Operation, Test, Statement, SetVariable, SetElement, Choice, Loop, Block, Nothing, Then, Source}
+use Rattle.bank_alloc.specs.declared.places.Place.{Place}
+use Rattle.block_cache_gen.specs.Codes.{reducer}
+use Rattle.block_cache_gen.specs.Settings.{home_at}
 use Rattle.held_registers.specs.declared.registers.Held.{Held}
 use Rattle.held_registers.specs.Held.{held_scalars, with_number}
+
+abbrev pub reducer_at : Place → ℤ
+reducer_at q = reducer (home_at [] q 0)
+
+abbrev pub with_place : List Held → Place → List Held
+with_place held q =
+    if q.length == 1 then held else with_number (with_number held (reducer_at q)) (pos q.word)
+
+abbrev pub with_places : List Held → List Place → List Held
+with_places held [] = held
+with_places held (q ∷ places) = with_places (with_place held q) places
 
 abbrev pub with_tree : List Held → Tree → List Held
 with_tree held (Number z) = with_number held z
@@ -25,5 +40,5 @@ abbrev mutual
   with_block held Nothing = held
   with_block held (Then s rest) = with_block (with_statement held s) rest
 
-unfoldable pub held_for : Source → List Held
-held_for p = with_block (held_scalars p.decls) p.body
+unfoldable pub held_for : Source → List Place → List Held
+held_for p places = with_block (with_places (held_scalars p.decls) places) p.body

@@ -131,12 +131,12 @@ fn planned_folded(
     requires profile { ProfileFits p.now }
     requires latencies { LatenciesFit l.now }
     ensures made { IfOk result (λ o. IsMadeOf (folded_source (source_of program.now)) (plan_from places.now slots.now) p.now
-        true (held_for (folded_source (source_of program.now))) l.now o) }
+        true (held_for (folded_source (source_of program.now)) places.now.of_var.items) l.now o) }
     ensures numbers { OnOk result (BlockNumbersFit (source_of program.now).body) }
     ensures words { OnOk result (BlockHasWords (folded_source (source_of program.now)).body) }
 {
     let program = folded(alloc, program)?;
-    let held = held_for(alloc, &program)?;
+    let held = held_for(alloc, &program, places.of_var.as_slice())?;
     planned(alloc, &program, places, slots, p, true, held.as_slice(), l)
 }
 

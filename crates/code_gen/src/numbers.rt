@@ -2,8 +2,10 @@ ghost use Rattle.std.specs.Prelude.{◌≡◌, ◌≤◌, IfOk, OnOk, length};
 ghost use Rattle.src_tree.specs.Trees.{block_of_all, expr_tree, source_of, statement_of, test_of};
 ghost use Rattle.block_cache_gen.specs.ProgramWords.{BlockHasWords, StatementHasWords};
 ghost use Rattle.block_cache_gen.specs.TreeWords.{HasWords, TestHasWords};
-ghost use Rattle.code_gen.specs.HeldNumbers.{held_for, with_block, with_statement, with_test, with_tree};
+ghost use Rattle.code_gen.specs.HeldNumbers.{held_for, with_block, with_place, with_places, with_statement, with_test, with_tree};
 
+use bank_alloc::Place;
+use block_cache_gen::reducer_at;
 use gr_base::Memory;
 use held_registers::{Held, held_scalars, hold_number};
 use src_tree::{Expr, Guard, Program, Stmt};
@@ -75,15 +77,44 @@ fn hold_block(held: &mut Vec<Held>, statements: &[Stmt]) -> Result<(), Memory>
     Ok(())
 }
 
-/// What registers hold for the whole run of a program: its first scalars, then the numbers of its expressions in the order
-/// of their code. The only error is want of memory.
+// Gives the numbers that the code of an array needs registers, if the place is an array's.
+fn hold_place(held: &mut Vec<Held>, place: Place) -> Result<(), Memory>
+    requires few { length held.old.items ≤ 13 }
+    ensures held { OnOk result (held.new.items ≡ with_place held.old.items place) }
+    ensures few { OnOk result (length held.new.items ≤ 13) }
+{
+    if place.length == 1 {
+        return Ok(());
+    }
+    hold_number(held, reducer_at(place))?;
+    hold_number(held, i64::from(place.word))
+}
+
+fn hold_places(held: &mut Vec<Held>, places: &[Place]) -> Result<(), Memory>
+    requires few { length held.old.items ≤ 13 }
+    ensures held { OnOk result (held.new.items ≡ with_places held.old.items places.now) }
+    ensures few { OnOk result (length held.new.items ≤ 13) }
+{
+    for place in places {
+        hold_place(held, *place)?;
+    }
+    Ok(())
+}
+
+/// What registers hold for the whole run of a program: its first scalars, then the numbers that the code of its arrays
+/// needs, then those of its expressions in the order of their code. The only error is want of memory.
 #[tactic(auto, unfolding(crate::specs::HeldNumbers::held_for))]
-pub(crate) fn held_for(alloc: Global, program: &Program) -> Result<Vec<Held>, Memory>
+pub(crate) fn held_for(
+    alloc: Global,
+    program: &Program,
+    places: &[Place],
+) -> Result<Vec<Held>, Memory>
     requires few { length program.now.decls.items ≤ 256 }
-    ensures held { IfOk result (λ held. held.items ≡ held_for (source_of program.now)) }
+    ensures held { IfOk result (λ held. held.items ≡ held_for (source_of program.now) places.now) }
     ensures words { OnOk result (BlockHasWords (source_of program.now).body) }
 {
     let mut held = held_scalars(alloc, program.decls.as_slice())?;
+    hold_places(&mut held, places)?;
     hold_block(&mut held, program.body.as_slice())?;
     Ok(held)
 }

@@ -61,7 +61,7 @@ pub spelling-compiled : (p : Source) (target : Target) (latencies : Latencies) (
     → Implements p o → HasLayoutFor target.fast p target.profile.block_log o → IsFor target.profile latencies o
     → stored_words o.code
     ≡ stores_by (source_for target.fast p) (plan_for target.fast p target.profile.block_log) target.profile target.fast
-    (held_for target.fast p)
+    (held_for target.fast p target.profile.block_log)
     → IsCompiledTo p target (spelling o)
 spelling-compiled p target latencies o usually room ranges accepted implements layout machine stores = record {
   room = room;

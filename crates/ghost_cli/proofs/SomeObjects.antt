@@ -26,7 +26,7 @@ use Rattle.block_cache_gen.proofs.RangesOfCode.{small-word}
 use Rattle.code_gen.specs.Compiles.{LatenciesFit}
 use Rattle.code_gen.specs.HeldNumbers.{held_for}
 use Rattle.code_gen.proofs.Assembled.{made-promises}
-use Rattle.code_gen.proofs.HeldNumbers.{held_for-sound}
+use Rattle.code_gen.proofs.HeldNumbers.{held_for-sound, places-fit}
 use Rattle.code_gen.proofs.FoldedPlans.{folded-implements, folded-laid, folded-sound}
 use Rattle.call_replies.specs.declared.source_faults.SourceFault.{SourceFault}
 use Rattle.ghost_cli.specs.declared.targets.Target.{Target}
@@ -136,8 +136,9 @@ module _ (p : Source) (target : Target) (profile : ProfileFits target.profile) (
       let plan = resident_plan p w in
       let q = folded_source p in
       let words = block-folds p.body fits.words in
-      let held = held_for q in
-      let holds = held_for-sound q words in
+      let held = held_for q plan.places in
+      let holds = held_for-sound q plan.places words
+      (places-fit p w plan within (resident_sound p w within profile.block_log room) profile.block_log.1) in
       let sound = folded-sound p w plan (resident_sound p w within profile.block_log room) in
       let typed' = folded-source_typed p typed in
       let within' = folded-within p within in

@@ -44,9 +44,9 @@ source_for false p = p
 source_for true p = folded_source p
 
 -- what registers hold for the whole run: with `--fast` the first scalars and numbers
-abbrev pub held_for : Bool → Source → List Held
-held_for false p = []
-held_for true p = code.held_for (folded_source p)
+abbrev pub held_for : Bool → Source → ℕ → List Held
+held_for false p w = []
+held_for true p w = code.held_for (folded_source p) (resident_plan p w).places
 
 -- There is room for the program's variables. The bytes encode an object that is accepted, that computes what the
 -- program means, and that has the program's layout for the profile's blocks, that profile with the usual latencies, and
@@ -61,7 +61,7 @@ pub record IsCompiledTo (p : Source) (target : Target) (bytes : List ℕ) : Type
   pub machine : IsFor target.profile usual_latencies o
   pub stores : stored_words o.code
       ≡ stores_by (source_for target.fast p) (plan_for target.fast p target.profile.block_log) target.profile
-      target.fast (held_for target.fast p)
+      target.fast (held_for target.fast p target.profile.block_log)
 
 -- what lacks room, as it is printed; want of memory isn't a fault
 abbrev pub room_fault : CompileError → Option SourceFault

@@ -17,9 +17,9 @@ returns-then-is_resident-clause-appended c =
     found_placed c.args.emitter.now c.args.mode h c.args.mask c.args.to c.args.from (expr_tree c.args.index.now)
     c.args.out.now c.put_placed.new.out c.requires.from (sym c.is_resident.ensures ∙ c.if-is_resident.true)
     (subst (λ (near : Bool). Appended c.args.out.now c.put_placed.new.out
-    (numbered_code near h c.args.to c.args.from ++ offset_code h c.args.to)
+    (numbered_code near c.args.emitter.now h c.args.to c.args.from ++ offset_code c.args.emitter.now h c.args.to)
     (λ place. compared_notes near None c.args.emitter.now c.args.mask c.args.to
-    (place + length (numbered_code near h c.args.to c.args.from)))) c.compares-compared.ensures x))
+    (place + length (numbered_code near c.args.emitter.now h c.args.to c.args.from)))) c.compares-compared.ensures x))
     c.put_placed.ensures.appended
 
 pub returns-clause-appended : goal.returns-clause-appended
@@ -29,8 +29,8 @@ returns-clause-appended c =
     (found_loaded c.args.emitter.now c.args.mode h c.args.mask c.args.to c.args.from (expr_tree c.args.index.now)
     c.args.out.now c.put_located.new.out c.put_load.new.out c.requires.from (sym c.is_resident.ensures ∙ c.if-is_resident.false)
     (subst (λ (near : Bool). Appended c.args.out.now c.put_located.new.out
-    (numbered_code near h c.args.to c.args.from ++ shift_code c.args.emitter.now.profile.block_log h c.args.to)
+    (numbered_code near c.args.emitter.now h c.args.to c.args.from ++ shift_code c.args.emitter.now h c.args.to)
     (λ place. compared_notes near None c.args.emitter.now c.args.mask c.args.to
-    (place + length (numbered_code near h c.args.to c.args.from)))) c.compares-compared.ensures
+    (place + length (numbered_code near c.args.emitter.now h c.args.to c.args.from)))) c.compares-compared.ensures
     c.in_ok-put_located.ensures.appended))
     c.put_load.ensures.appended

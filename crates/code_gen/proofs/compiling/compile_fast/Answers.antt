@@ -11,7 +11,7 @@ use Rattle.source_folding.proofs.FoldedPrograms.{folded-source_typed, folded-wit
 use Rattle.code_gen.specs.HeldNumbers.{held_for}
 use Rattle.code_gen.specs.Made.{IsMadeOf}
 use Rattle.code_gen.proofs.Assembled.{CompilePromises, made-promises}
-use Rattle.code_gen.proofs.HeldNumbers.{held_for-sound}
+use Rattle.code_gen.proofs.HeldNumbers.{held_for-sound, places-fit}
 use Rattle.code_gen.proofs.FoldedPlans.{folded-sound, folded-implements, folded-laid, folded-short}
 use Rattle.code_gen.proofs.compiling.compile_fast.Goals as goal
 
@@ -28,26 +28,29 @@ returns-in-Ok-planned_folded c =
     let p = c.program-program in
     let w = c.args.p.now.block_log in
     let source = source_of p.result.now in
-    let held = held_for (folded_source source) in
-    let holds = held_for-sound (folded_source source) c.in-Ok-planned_folded.ensures.words in
+    let places = (resident_plan source w).places in
+    let held = held_for (folded_source source) places in
     let limits = subst (λ q. IsWithinLimits (source_of q)) (sym p.ensures.program) p.ensures.within in
     let typed = subst (λ q. IsTyped (source_of q)) (sym p.ensures.program) p.ensures.typed in
     let sound = resident_sound source w limits c.requires.profile.block_log c.in-Ok.ensures.fits in
+    let holds = held_for-sound (folded_source source) places c.in-Ok-planned_folded.ensures.words
+    (places-fit source w (resident_plan source w) limits sound c.requires.profile.block_log.1) in
     let object = c.in-Ok-planned_folded.object in
-    let made = subst (λ plan. IsMadeOf (folded_source source) plan c.args.p.now true held c.args.l.now object)
+    let made = subst (λ plan. IsMadeOf (folded_source source) plan c.args.p.now true
+    (held_for (folded_source source) plan.places) c.args.l.now object)
     c.in-Ok.ensures.plan c.in-Ok-planned_folded.ensures.made in
     let numbers = subst (λ q. BlockNumbersFit (source_of q).body) p.ensures.program
     c.in-Ok-planned_folded.ensures.numbers in
-    let layout = subst (λ q. IsMadeOf (folded_source (source_of q)) (resident_plan (source_of q) w) c.args.p.now true (held_for (folded_source (source_of q)))
+    let layout = subst (λ q. IsMadeOf (folded_source (source_of q)) (resident_plan (source_of q) w) c.args.p.now true (held_for (folded_source (source_of q)) (resident_plan (source_of q) w).places)
     c.args.l.now object) p.ensures.program made in
-    let h = subst (λ q. CompilePromises (folded_source (source_of q)) (resident_plan (source_of q) w) c.args.p.now true (held_for (folded_source (source_of q)))
+    let h = subst (λ q. CompilePromises (folded_source (source_of q)) (resident_plan (source_of q) w) c.args.p.now true (held_for (folded_source (source_of q)) (resident_plan (source_of q) w).places)
     c.args.l.now object)
     p.ensures.program
     (made-promises (folded_source source) (resident_plan source w) c.args.p.now true held c.args.l.now
     (folded-source_typed source typed) (folded-within source limits)
     (folded-sound source w (resident_plan source w) sound) holds
     (λ some. (record { bank = 1; block = 0 }, refl, refl)) c.requires.profile object made) in
-    let few = subst (λ q. length (held_for (folded_source (source_of q))) ≤ 13) p.ensures.program holds.few in
+    let few = subst (λ q. length (held_for (folded_source (source_of q)) (resident_plan (source_of q) w).places) ≤ 13) p.ensures.program holds.few in
     record {
       accepted = h.accepted;
       implements = folded-implements (source_of c.args.t.now) object numbers h.implements;
@@ -56,7 +59,8 @@ returns-in-Ok-planned_folded c =
       machine = h.machine;
       size =
           let short = folded-short (source_of c.args.t.now) object
-          (64 + 4 * length (held_for (folded_source (source_of c.args.t.now)))) h.size in
+          (64 + 4 * length (held_for (folded_source (source_of c.args.t.now))
+          (resident_plan (source_of c.args.t.now) w).places)) h.size in
           omega arith;
       stores = h.stores;
       in_range = layout.in_range;
