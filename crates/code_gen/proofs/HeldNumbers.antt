@@ -72,10 +72,11 @@ pub places-fit : (p : Source) (w : ℕ) (plan : Plan) → IsWithinLimits p → I
 places-fit p w plan limits sound low =
     All-from_get_or PlaceFits plan.places no_place
     (λ k below.
-    let there = omega (arith, below, sound.places) in
+    let there : k < length p.decls = omega (arith, below, sound.places) in
     let size = place-length p w plan k limits sound there in
-    let most : 2 ^ w ≤ 512 = pow_mono low in
-    record { length = omega (arith, size.1); word = omega (arith, (sound.place k there).word, most) })
+    let place = sound.place k there in
+    let most : 2 ^ w ≤ 2 ^ 9 = pow_mono low in
+    record { length = omega (arith, size.1); word = omega (arith, place.word, most) })
 
 reducer-word : (q : Place) → PlaceFits q → IsWord (reducer_at q)
 reducer-word q fits = by (is_masked (home_at [] q 0))

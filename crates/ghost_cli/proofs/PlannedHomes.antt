@@ -35,13 +35,11 @@ use Rattle.scratch_alloc.proofs.Serving.{serves-within}
 use Rattle.held_registers.specs.declared.registers.Held.{Held}
 use Rattle.held_registers.specs.declared.registers.Held.TheVariants.{Number, Scalar}
 use Rattle.held_registers.specs.Held.{IsSoundHeld}
-use Rattle.held_registers.proofs.Found.{scalar-held}
 use Rattle.block_cache_gen.specs.Homes.{Pin, Setting, no_home}
 use Rattle.block_cache_gen.specs.ProgramWords.{BlockHasWords}
 use Rattle.block_cache_gen.specs.ServedBlocks.{block_served}
 use Rattle.block_cache_gen.specs.Settings.{homes_at, setting_for}
 use Rattle.block_cache_gen.proofs.HeldBeginning.{held-at}
-use Rattle.block_cache_gen.proofs.HeldScalars.{held-inside}
 use Rattle.block_cache_gen.proofs.RangesOfCode.{HomeFits, HomesFit}
 use Rattle.block_cache_gen.proofs.ServedBlocks.{served-home, first-all}
 use Rattle.block_cache_gen.proofs.Settled.{get_or-homes_at, length-homes_at, place-length}
@@ -136,8 +134,7 @@ module _ (p : Source) (plan : Plan) (given : Profile) (reduces : Bool) (held : L
   homes-fit : HomesFit (length plan.blocks) f
   homes-fit = record {
     block_log = fits.block_log.1;
-    registers = λ x r found.
-        let n = variable_number p.decls x in (held-inside holds r (Scalar n) (scalar-held held n r found)).0;
+    held = holds;
     pins = λ slot pin pinned. (sound.pins slot pin pinned).bank;
     homes = λ x label shape known.
         home_fits-at (variable_number p.decls x) (number-below p.decls x (label, shape) known);
