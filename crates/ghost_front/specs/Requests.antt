@@ -36,6 +36,7 @@ is_tool word =
     bytes_eq word (codes "diff")
     || bytes_eq word (codes "count")
     || bytes_eq word (codes "layout")
+    || bytes_eq word (codes "listing")
     || bytes_eq word (codes "profile")
     || bytes_eq word (codes "test")
     || bytes_eq word (codes "expand")

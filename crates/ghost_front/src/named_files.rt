@@ -6,7 +6,7 @@ use crate::tools::Tool;
 use clap::ArgMatches;
 use command_words::verbs::{matches_of, verb_named};
 use explain_words::Kind;
-use ghost_tools::words::{self, COUNT, DIFF, LAYOUT, PROFILE, TEST};
+use ghost_tools::words::{self, COUNT, DIFF, LAYOUT, LISTING, PROFILE, TEST};
 use gr_base::Memory;
 use std::alloc::Global;
 
@@ -74,6 +74,7 @@ impl<'a> NamedFiles<'a> {
             Tool::Count => COUNT,
             Tool::Expand => EXPAND,
             Tool::Layout => LAYOUT,
+            Tool::Listing => LISTING,
             Tool::Profile => PROFILE,
             Tool::Test => TEST,
         };

@@ -11,7 +11,7 @@ use crate::expanding::expand;
 use crate::named_files::NamedFiles;
 use crate::serving::{Ended, Stop, refused, starved, take_input};
 use crate::streams::StreamShelf;
-use ghost_tools::{count, diff, layout, profile, test};
+use ghost_tools::{count, diff, layout, listing, profile, test};
 use gr_outside::{Shelf, Sink};
 use std::alloc::Global;
 use std::io::Read;
@@ -25,6 +25,8 @@ pub(crate) enum Tool {
     Count,
     /// Prints where the compiler stores variables.
     Layout,
+    /// Prints the assembly of a program with its lines.
+    Listing,
     /// Prints what each line of a program costs.
     Profile,
     /// Prints a program without its calls.
@@ -54,6 +56,9 @@ fn tool_named(word: &str) -> Option<Tool>
     }
     if word == "layout" {
         return Some(Tool::Layout);
+    }
+    if word == "listing" {
+        return Some(Tool::Listing);
     }
     if word == "profile" {
         return Some(Tool::Profile);
@@ -107,6 +112,7 @@ fn run_tool<F: Shelf + Drop, O: Sink>(
         Tool::Diff => diff(alloc, words, shelf, out),
         Tool::Count => count(alloc, words, shelf, out),
         Tool::Layout => layout(alloc, words, shelf, out),
+        Tool::Listing => listing(alloc, words, shelf, out),
         Tool::Profile => profile(alloc, words, shelf, out),
         Tool::Expand => expand(alloc, words, shelf, out),
         Tool::Test => test(alloc, words, shelf, out),

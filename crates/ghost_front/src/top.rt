@@ -21,7 +21,7 @@ use std::io::Read;
 /// All that the program does, and its exit status. The words are those that follow the program's name.
 ///
 /// The front handles `help`, `--version`, `--which` and `--help` itself, and does the verbs `diff`, `count`, `layout`,
-/// `profile` and `test` by `ghost_tools`, and `expand`. For all other words it calls `ghost_cli::ghostrider`, with `-` as
+/// `listing`, `profile` and `test` by `ghost_tools`, and `expand`. For all other words it calls `ghost_cli::ghostrider`, with `-` as
 /// the name of a standard stream. A file `-` that is read is standard input; if OUT is `-`, the file goes to `out` and
 /// the verb's text to `errors`. Two files can't both be standard input, and OUT can't be a file that is read: both are
 /// usage errors, status 2.

@@ -78,6 +78,11 @@ pub(crate) const VERBS: [VerbHelp; 16] = [
             secret index that makes an array oblivious, or the slot of the scratchpad.\n",
     },
     VerbHelp {
+        usage: "listing SRC [--fast] [--block-log W] [--window P:O:C] [--procs]",
+        text: "    Prints the assembly of a program. Each line of the source is a comment before the\n    \
+            instructions that were made of it, and each instruction has its place and its cycles.\n",
+    },
+    VerbHelp {
         usage: "profile SRC INPUT [--fast] [--block-log W] [--window P:O:C] [--procs] [--cycles N]",
         text: "    Compiles and runs a program and prints for each of its lines the cycles, the accesses to\n    \
             memory, and how many of the cycles only pad the arms of branches on secrets.\n",
@@ -103,8 +108,8 @@ pub(crate) const NOTES: &str =
     to 18446744073709551615; the default is 0. W is from 3 to 9; the default is 9. A file to read may be\n\
     `-`, standard input; if OUT is `-`, the file goes to standard output, and the verb's line to standard\n\
     error. Exit status: 0 done, 1 traces differ (diff), a case fails (test) or code has an unknown form\n\
-    (profile), 2 usage error, 3 a file couldn't be read, 4 output couldn't be written, 5 out of memory,\n\
-    6 not an object file, 7 object rejected, 8 source rejected, 9 inputs don't fit, 10 cycles or\n\
+    (listing, profile), 2 usage error, 3 a file couldn't be read, 4 output couldn't be written, 5 out of\n\
+    memory, 6 not an object file, 7 object rejected, 8 source rejected, 9 inputs don't fit, 10 cycles or\n\
     iterations are spent, 11 file too long, 12 not an assembly text, 13 object can't be a core of the bus;\n\
     of the script only 69 no toolchain to build with, 70 the build failed.\n";
 

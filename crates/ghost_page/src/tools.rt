@@ -4,12 +4,12 @@ ghost use Rattle.std.specs.Str.{IsUtf8};
 use crate::answers::{Answer, put};
 use crate::calls::{NO_MEMORY, USAGE};
 use crate::given::{shelf_of, words_of};
-use ghost_tools::{layout, profile};
+use ghost_tools::{layout, listing, profile};
 use gr_base::Memory;
 use gr_outside::{MemShelf, MemSink};
 use std::alloc::Global;
 
-/// Calls the tool `layout` or `profile` with these words, one a line, the tool's name first, over two files that are
+/// Calls the tool `layout`, `listing` or `profile` with these words, one a line, the tool's name first, over two files that are
 /// called `program` and `input`. Its text is written to the beginning of `text`.
 ///
 /// The status is the tool's, 2 if the words aren't UTF-8 or name no such tool, and 5 if memory ran out. It is 4 if the
@@ -68,6 +68,7 @@ fn tool_status(alloc: Global, words: &[&str], shelf: &mut MemShelf, sink: &mut M
     };
     match *word {
         "layout" => layout(alloc, words, shelf, sink),
+        "listing" => listing(alloc, words, shelf, sink),
         "profile" => profile(alloc, words, shelf, sink),
         _ => USAGE as u8,
     }

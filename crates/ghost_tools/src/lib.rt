@@ -1,6 +1,7 @@
 //! Tools over the machine and the compiler: [`diff`] compares the traces of two runs, [`count`] counts the events of
-//! one, [`layout`] prints where the compiler stores each variable and why, [`profile`] prints what each line of a
-//! program costs, and [`test`] tries a program on cases.
+//! one, [`layout`] prints where the compiler stores each variable and why, [`listing`] prints the assembly of a program with
+//! the source line of each instruction, [`profile`] prints what each line of a program costs, and [`test`] tries a program
+//! on cases.
 //!
 //! [`compare`] and [`count_events`] say what their results mean of the traces, by the machine's own definitions. Both
 //! read a trace window by window of cycles, so that the memory needed doesn't grow with the trace. No tool writes a file.
@@ -8,6 +9,7 @@
 
 mod case_problems;
 mod cases;
+mod code_rows;
 pub mod comparing;
 pub mod count_tool;
 pub mod counting;
@@ -15,6 +17,9 @@ pub mod diff_tool;
 pub mod differences;
 mod expectations;
 pub mod layout_tool;
+mod listing_lines;
+pub mod listing_tool;
+mod procedure_lines;
 mod profile_lines;
 pub mod profile_tool;
 mod reasons;
@@ -34,5 +39,6 @@ pub use count_tool::count;
 pub use counting::{Tally, count_events};
 pub use diff_tool::diff;
 pub use layout_tool::layout;
+pub use listing_tool::listing;
 pub use profile_tool::profile;
 pub use test_tool::test;

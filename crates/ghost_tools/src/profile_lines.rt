@@ -1,10 +1,9 @@
 //! The lines of a program as rows of a table of costs.
 
-ghost use Rattle.std.specs.Prelude.{◌≤◌, IfOk, IfSome, length};
-
-use crate::source_texts::{SourceText, piece, push_ascii};
+use crate::code_rows::{CodeRows, START_AND_END};
+use crate::source_texts::{piece, push_ascii};
 use gr_base::Memory;
-use line_costs::{Costs, Owner, Owners, Part};
+use line_costs::Costs;
 use processor::End;
 use std::alloc::Global;
 
@@ -14,101 +13,22 @@ const MOST_SHOWN: usize = 60;
 /// The width of a column of numbers.
 const WIDTH: usize = 12;
 
-/// In which row each instruction is counted. Row 0 has the loads at a program's start and the stores at its end, and
-/// each line has the row after its number.
-#[derive(Drop)]
-pub(crate) struct LineRows {
-    pub(crate) parts: Vec<Part>,
-    // whether an instruction belongs to a row
-    used: Vec<bool>,
-}
-
-/// The rows of instructions with these owners, where `lines` has the line of each statement. `None` if a statement has
-/// no line.
-pub(crate) fn line_rows(
-    alloc: Global,
-    owners: &Owners,
-    lines: &[u32],
-) -> Result<Option<LineRows>, Memory> {
-    let mut rows = LineRows {
-        parts: Vec::new(alloc),
-        used: vec![in alloc; false; row_count(lines)]?,
-    };
-    for owner in owners.iter() {
-        let Some(part) = part_of(*owner, lines) else {
-            return Ok(None);
-        };
-        rows.parts.push(part)?;
-        rows.mark(part.row as usize);
-    }
-    Ok(Some(rows))
-}
-
-// How many rows there are: one for each line up to the last with a statement, and one for the start and the end.
-fn row_count(lines: &[u32]) -> usize {
-    let mut count: usize = 1;
-    for line in lines {
-        count = count.max((*line as usize).saturating_add(2));
-    }
-    count
-}
-
-// Where an instruction is counted, `None` if its statement has no line.
-fn part_of(owner: Option<Owner>, lines: &[u32]) -> Option<Part> {
-    let Some(owner) = owner else {
-        return Some(Part {
-            row: 0,
-            pads: false,
-        });
-    };
-    let line = lines.get(owner.statement as usize)?;
-    Some(Part {
-        row: line.saturating_add(1),
-        pads: owner.pads,
-    })
-}
-
-impl LineRows {
-    /// How many rows there are.
-    pub(crate) fn count(&self) -> usize {
-        self.used.len()
-    }
-
-    fn mark(&mut self, row: usize) {
-        if row < self.used.len() {
-            self.used[row] = true;
+/// The table of a run's costs, each row with its line of the text, and how the run ended.
+pub(crate) fn table(alloc: Global, rows: &CodeRows, costs: &Costs) -> Result<String, Memory> {
+    let mut text = String::new(alloc);
+    text.push_str("      cycles    accesses     padding  line\n")?;
+    push_row(alloc, &mut text, costs, START_AND_END as usize)?;
+    text.push_str("     -  start and end\n")?;
+    for (number, line) in rows.source.text.split(|byte| *byte == b'\n').enumerate() {
+        let row = number.saturating_add(1);
+        if rows.is_used(row) {
+            push_row(alloc, &mut text, costs, row)?;
+            push_line(alloc, &mut text, row, line)?;
         }
     }
-
-    /// The table of a run's costs, each row with its line of the text, and how the run ended.
-    pub(crate) fn table(
-        &self,
-        alloc: Global,
-        source: &SourceText,
-        costs: &Costs,
-    ) -> Result<String, Memory> {
-        let mut text = String::new(alloc);
-        text.push_str("      cycles    accesses     padding  line\n")?;
-        push_row(alloc, &mut text, costs, 0)?;
-        text.push_str("     -  start and end\n")?;
-        for (number, line) in source.text.split(|byte| *byte == b'\n').enumerate() {
-            let row = number.saturating_add(1);
-            if is_used(&self.used, row) {
-                push_row(alloc, &mut text, costs, row)?;
-                push_line(alloc, &mut text, row, line)?;
-            }
-        }
-        push_total(alloc, &mut text, costs)?;
-        push_end(alloc, &mut text, costs.end)?;
-        Ok(text)
-    }
-}
-
-fn is_used(used: &[bool], row: usize) -> bool {
-    match used.get(row) {
-        Some(used) => *used,
-        None => false,
-    }
+    push_total(alloc, &mut text, costs)?;
+    push_end(alloc, &mut text, costs.end)?;
+    Ok(text)
 }
 
 fn push_end(alloc: Global, text: &mut String, end: End) -> Result<(), Memory> {
@@ -150,8 +70,8 @@ fn sum_of(counts: &[u64]) -> u64 {
     sum
 }
 
-// Adds a number, aligned at the right.
-fn push_number(alloc: Global, text: &mut String, number: u64, width: usize) -> Result<(), Memory> {
+/// Adds a number, aligned at the right.
+pub(crate) fn push_number(alloc: Global, text: &mut String, number: u64, width: usize) -> Result<(), Memory> {
     let digits = format!(in alloc; "{number}")?;
     for _ in digits.len()..width.max(digits.len()) {
         text.push_str(" ")?;

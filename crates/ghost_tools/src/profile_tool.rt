@@ -4,24 +4,21 @@ ghost use Rattle.lt_isa.specs.Start.{FitsObject, final, start_state, trace};
 ghost use Rattle.processor.specs.Ends.{EndsAs};
 ghost use Rattle.line_costs.specs.Costs.{accesses_of, CountsSteps, end_cycle, total};
 
-use crate::profile_lines::line_rows;
-use crate::reasons::slots_of;
+use crate::code_rows::{CodeRows, rows_of_code};
+use crate::profile_lines::table;
 use crate::reports::{Report, end_status, print};
-use crate::source_texts::SourceText;
-use crate::sources::{ReadSource, SourceWords, accepted_of, read_source, source_in_words};
+use crate::sources::{SourceWords, accepted_of, read_source, source_in_words};
 use crate::words::{PROFILE, matches_of};
 use call_replies::replies::Reply;
 use clap::ArgMatches;
 use command_words::options::{number_given, value};
-use flow_types::Typed;
 use ghost_cli::compile::object_of;
 use ghost_cli::oblivious::{SeededOram, load_seeded};
 use ghost_cli::reading::find_inputs;
-use ghost_cli::targets::Target;
 use gr_base::Memory;
 use gr_outside::{Shelf, Sink};
 use gr_word::Inputs;
-use line_costs::{CompiledCode, Costs, Owners, Part, owners_of, run_costs};
+use line_costs::{Costs, Part, run_costs};
 use lt_checker::Accepted;
 use std::alloc::Global;
 
@@ -39,7 +36,8 @@ const OTHER_FORM: u8 = 1;
 /// The tool `profile SRC INPUT [--fast] [--block-log W] [--window P:O:C] [--procs] [--cycles N]`: compiles a program in
 /// memory, runs it on inputs, and prints for each line of the source the cycles and the accesses of its instructions, and
 /// how many of the cycles are padding: those that an arm of a branch on a secret takes only to show the same as the other
-/// arm. The cycles of all rows sum to those of the run. With `--procs` the lines are those of the program without calls.
+/// arm. The cycles of all rows sum to those of the run. With `--procs` the line of a procedure has the instructions of all
+/// its calls.
 ///
 /// Statuses: 0 the run halted; 10 it didn't within its cycles; 1 the code isn't of the form that the compiler gives it, so
 /// that no table is printed; 2, 3, 5, 8, 9 and 11 as of `compile` and `run`, with the same lines; 4 the text couldn't be
@@ -86,41 +84,19 @@ fn profile_files<'a, S: Shelf>(
     ensures { (S.seen shelf.new).files ≡ (S.seen shelf.old).files }
 {
     let source = read_source(alloc, asked.source, shelf)?;
-    let target = asked.source.target;
-    let object = object_of(alloc, &source.program, &target)?;
+    let object = object_of(alloc, &source.program, &asked.source.target)?;
     let accepted = accepted_of(alloc, object)?;
     let inputs = find_inputs(alloc, &accepted, asked.input, shelf)?;
-    let ReadSource { text, program } = source;
-    let owners = owners_in(alloc, &program, &accepted, &target)?;
-    let source = SourceText::of(alloc, text, program.program(), asked.source.procs)?;
-    Ok(report(alloc, &source, owners, &accepted, &inputs, asked.cycles)?)
-}
-
-// The statement of each instruction of a program's object.
-fn owners_in(
-    alloc: Global,
-    program: &Typed,
-    accepted: &Accepted,
-    target: &Target,
-) -> Result<Option<Owners>, Memory>
-    requires { ProfileFits target.now.profile }
-{
-    let decls = program.program().decls.as_slice();
-    let slots = slots_of(alloc, program, target)?;
-    let compiled = CompiledCode {
-        code: accepted.object().code(),
-        taken: target.profile.taken,
-        decls,
-        slots: &slots,
-    };
-    owners_of(alloc, compiled, program.program())
+    match rows_of_code(alloc, source, accepted.object().code(), asked.source)? {
+        Some(rows) => Ok(report(alloc, &rows, &accepted, &inputs, asked.cycles)?),
+        None => Ok(other_form(alloc, "profile")?),
+    }
 }
 
 // Prints what each line of a run costs.
 fn report(
     alloc: Global,
-    source: &SourceText,
-    owners: Option<Owners>,
+    rows: &CodeRows,
     accepted: &Accepted,
     inputs: &Inputs,
     cycles: u32,
@@ -128,19 +104,12 @@ fn report(
     requires in_range { IsInRange accepted.now }
     requires fits { FitsObject accepted.now inputs.now }
 {
-    let Some(owners) = owners else {
-        return other_form(alloc);
-    };
-    let lines = source.statement_lines(alloc)?;
-    let Some(rows) = line_rows(alloc, &owners, &lines)? else {
-        return other_form(alloc);
-    };
     let count = rows.count();
     if accepted.object().profile().taken < 2 || count < 1 {
-        return other_form(alloc);
+        return other_form(alloc, "profile");
     }
     let costs = costs_of_run(alloc, accepted, inputs, &rows.parts, count, cycles)?;
-    let text = rows.table(alloc, source, &costs)?;
+    let text = table(alloc, rows, &costs)?;
     Ok(Report {
         status: end_status(costs.end),
         text,
@@ -172,12 +141,10 @@ fn costs_of_run(
     run_costs(alloc, &mut machine, parts, rows, cycles)
 }
 
-fn other_form(alloc: Global) -> Result<Report, Memory> {
+/// The report of a tool that prints nothing, since the code has an unknown form.
+pub(crate) fn other_form(alloc: Global, tool: &str) -> Result<Report, Memory> {
     Ok(Report {
         status: OTHER_FORM,
-        text: String::from_str(
-            alloc,
-            "no profile: the code of this program has an unknown form\n",
-        )?,
+        text: format!(in alloc; "no {tool}: the code of this program has an unknown form\n")?,
     })
 }

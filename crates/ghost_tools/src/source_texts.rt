@@ -39,6 +39,21 @@ pub(crate) struct Spot {
 }
 
 impl SourceText {
+    /// The text of a file.
+    pub(crate) fn of_file(alloc: Global, text: Vec<u8>) -> Result<SourceText, Memory> {
+        let tokens = tokens_of(alloc, &text)?;
+        Ok(SourceText {
+            text,
+            tokens,
+            expanded: false,
+        })
+    }
+
+    /// The tokens of the text; none if it doesn't split into tokens.
+    pub(crate) fn tokens(&self) -> &[Token] {
+        self.tokens.as_slice()
+    }
+
     /// The text of a program that was read from a file, with procedures or without.
     pub(crate) fn of(
         alloc: Global,
@@ -80,12 +95,28 @@ impl SourceText {
         }
     }
 
-    // Whether a statement begins at a token. In their order statements have their numbers.
+    // Whether a statement begins at a token outside of brackets. In their order statements have their numbers.
     fn begins_statement(&self, at: usize) -> bool {
         if self.is(at, "if") || self.is(at, "while") {
             return true;
         }
-        self.is_name(at) && self.follows_end(at)
+        self.is_name(at) && self.follows_end(at) && !self.begins_procedure(at)
+    }
+
+    // Whether a procedure begins at a name.
+    fn begins_procedure(&self, at: usize) -> bool {
+        self.is(at, "proc") && self.is_name(at.saturating_add(1))
+    }
+
+    // How many round brackets are open after a token, if this many were open before it.
+    fn brackets_after(&self, at: usize, open: usize) -> usize {
+        if self.is(at, "(") {
+            return open.saturating_add(1);
+        }
+        if self.is(at, ")") {
+            return open.saturating_sub(1);
+        }
+        open
     }
 
     // Whether a declaration, a statement or a block ends before a token.
@@ -96,19 +127,21 @@ impl SourceText {
         }
     }
 
-    /// The line of each statement, from 0, in order.
+    /// The line of each statement, from 0, in order, those of procedures and calls among them.
     pub(crate) fn statement_lines(&self, alloc: Global) -> Result<Vec<u32>, Memory> {
         let mut lines = Vec::new(alloc);
         let mut reached = 0usize;
         let mut line: u32 = 0;
+        let mut open = 0usize;
         for (at, token) in self.tokens.iter().enumerate() {
             let start = token.start as usize;
             let between = piece(&self.text, reached, start.saturating_sub(reached));
             line = line.saturating_add(line_feeds(between));
             reached = start;
-            if self.begins_statement(at) {
+            if open == 0 && self.begins_statement(at) {
                 lines.push(line)?;
             }
+            open = self.brackets_after(at, open);
         }
         Ok(lines)
     }

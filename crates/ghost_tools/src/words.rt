@@ -31,6 +31,15 @@ pub const LAYOUT: VerbWords<'static> = VerbWords {
     flags: &["procs", "fast"],
 };
 
+/// The words that `listing` takes.
+pub const LISTING: VerbWords<'static> = VerbWords {
+    name: "listing",
+    place: Argument::Word,
+    places: &["SRC"],
+    options: &["block-log", "window"],
+    flags: &["procs", "fast"],
+};
+
 /// The words that `test` takes.
 pub const TEST: VerbWords<'static> = VerbWords {
     name: "test",
