@@ -4,26 +4,40 @@
 
 const Editor = (() => {
   const COSTS = 'line-costs';
-  const COMMENTS = { source: /^\/\/.*/, assembly: /^;.*/ };
+
+  const escaped = (literal) => literal.replace(/[^\w]/g, '\\$&');
+  const oneOf = (literals) => new RegExp(`^(?:${literals.map(escaped).join('|')})(?!\\w)`);
 
   // colours the words of a source or of an assembly text
-  const modeOf = (form) => () => ({
-    token(stream) {
-      if (stream.match(COMMENTS[form])) return 'comment';
-      const label = stream.match(/^(?:public|secret)\b/);
-      if (label) return label[0];
-      if (stream.match(/^(?:\.\w+|(?:int|if|else|while|proc)\b)/)) return 'keyword';
-      if (!stream.match(/^\w+/)) stream.next();
-      return null;
-    },
-  });
-  for (const form of ['source', 'assembly']) CodeMirror.defineMode(`ghost-${form}`, modeOf(form));
+  function modeOf({ comment, labels, keywords, procedure }) {
+    const [comments, labelled, keyed] = [new RegExp(`^${escaped(comment)}.*`), oneOf(labels), oneOf(keywords)];
+    const procedures = procedure && new RegExp(`^${procedure}(?=\\s+[A-Za-z_]\\w*\\s*\\()`);
+    return () => ({
+      token(stream) {
+        if (stream.match(comments)) return 'comment';
+        const label = stream.match(labelled);
+        if (label) return label[0];
+        if (stream.match(keyed) || (procedures && stream.match(procedures))) return 'keyword';
+        if (!stream.match(/^\w+/)) stream.next();
+        return null;
+      },
+    });
+  }
+  for (const form of Object.keys(WORDS)) CodeMirror.defineMode(`ghost-${form}`, modeOf(WORDS[form]));
 
   let code = null;
+  let lit = null;                     // the line that is lit
   let marks = [];
   let hasCosts = false;
 
-  function make(parent, edited) {
+  // the number of the line at which a pointer is, from 1; null beside the lines
+  function lineUnder({ clientX, clientY }) {
+    const { line, outside } = code.coordsChar({ left: clientX, top: clientY }, 'window');
+    return outside > 0 ? null : line + 1;
+  }
+
+  // `edited` is called after an edit; `pointed` and `moved` with the line at which the pointer or the cursor is
+  function make(parent, { edited, pointed, moved }) {
     code = CodeMirror(parent, {
       mode: 'ghost-source', lineNumbers: true, lineSeparator: '\n', tabSize: 4, indentUnit: 4, undoDepth: 1000,
       screenReaderLabel: 'Program', extraKeys: { Tab: false, 'Shift-Tab': false, 'Ctrl-Enter': false },
@@ -32,6 +46,10 @@ const Editor = (() => {
       clear();
       edited();
     });
+    code.on('cursorActivity', () => moved(code.getCursor().line + 1));
+    const frame = code.getScrollerElement();
+    frame.onpointermove = (event) => { if (event.pointerType !== 'touch') pointed(lineUnder(event)); };
+    frame.onpointerleave = () => pointed(null);
     const field = code.getInputField();
     field.id = 'source';
     field.setAttribute('aria-describedby', 'verdict');
@@ -46,6 +64,7 @@ const Editor = (() => {
 
   function open(text, readOnly) {
     clear();
+    light(null);
     code.swapDoc(text);
     if (code.getOption('readOnly') !== readOnly) code.setOption('readOnly', readOnly);
   }
@@ -108,6 +127,17 @@ const Editor = (() => {
     code.scrollIntoView({ line: line - 1, ch: 0 }, 80);
   }
 
+  // lights up a line, and no other
+  function light(line) {
+    if (lit) code.removeLineClass(lit, 'wrap', 'lit');
+    lit = line === null ? null : code.getLineHandle(line - 1);
+    if (lit) code.addLineClass(lit, 'wrap', 'lit');
+  }
+
+  const reveal = (line) => code.scrollIntoView({ line: line - 1, ch: 0 }, 80);
+
+  const lineAt = (line) => code.getLine(line - 1) || '';
+
   // moves the cursor to a place, or to the end if the text has no such line any more
   function goTo({ line, column }) {
     const words = code.getLine(line - 1) || '';
@@ -121,6 +151,9 @@ const Editor = (() => {
     mark,
     clear,
     showCosts,
+    light,
+    reveal,
+    lineAt,
     textFrom,
     setForm,
     goTo,

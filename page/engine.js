@@ -107,18 +107,26 @@ function ghostEngine() {
     return ended === 0 && textLength <= room ? decoder.decode(bytesAt(text, textLength)) : '';
   }
 
-  // What the tool `layout` or `profile` prints, and its status. A module that was made without the tools fails as if
-  // they were unknown.
-  function tool(words, program, input) {
+  // one call of a tool with this much room for its text
+  function toolOnce(words, program, input, room) {
     const { exports, put, bytesAt, told } = instance();
-    if (!exports.ghost_tool) return { status: USAGE, text: '' };
-    const given = [coder.encode(words.join('\n')), bytesOf(program), bytesOf(input)].flatMap(put);
-    const room = roomOf(22);
+    if (!exports.ghost_tool) return { status: USAGE, text: new Uint8Array(0) };
+    const given = [coder.encode(words.join('\n')), program, input].flatMap(put);
     const text = roomIn(exports, room);
     const answer = roomIn(exports, 24);
     exports.ghost_tool(...given, text, BigInt(room), answer);
     const { status, textLength } = told(answer);
-    return { status, text: decoder.decode(bytesAt(text, Math.min(textLength, room))) };
+    return { status, text: bytesAt(text, Math.min(textLength, room)) };
+  }
+
+  // What the tool `layout`, `listing` or `profile` prints, and its status. A module that was made without the tools fails
+  // as if they were unknown.
+  function tool(words, program, input) {
+    const [given, inputs] = [bytesOf(program), bytesOf(input)];
+    for (let bits = 20; ; bits += 3) {
+      const told = toolOnce(words, given, inputs, roomOf(bits));
+      if (told.status !== 4 || 2 ** bits >= MOST_TEXT) return told;
+    }
   }
 
   // ---- traces

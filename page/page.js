@@ -300,7 +300,7 @@ function listen() {
 
 function begin() {
   for (let size = 8; size >= 3; size -= 1) at('block-log').add(new Option(2 ** size, size));
-  Editor.make(at('editor'), () => changed('program'));
+  Editor.make(at('editor'), { edited: () => changed('program'), pointed: Links.point, moved: Links.cursorAt });
   Documents.addExamples();
   listenToInputs();
   listenToOptions();

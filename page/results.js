@@ -15,6 +15,7 @@ const Results = (() => {
   function clear() {
     for (const url of urls) URL.revokeObjectURL(url);
     urls = [];
+    Links.end();
     at('shown').replaceChildren();
     at('saves').replaceChildren();
     at('results').classList.remove('stale');
@@ -46,7 +47,8 @@ const Results = (() => {
     },
     compile(result, job) {
       heading(`The object as assembly: ${counted(result.listing.starts.length, 'line')}`);
-      Listing.show(at('shown'), result.listing, 'listing', 'The object as assembly');
+      const show = result.listing.owners ? Links.show : Listing.show;
+      show(at('shown'), result.listing, 'listing', 'The object as assembly');
       Layout.show(at('shown'), result.layout, job, result.reasons);
       offer('save-listing', result.listing.bytes, 'text/plain', `${job.base}.asm`, 'Save the assembly');
       return ['good', [`The object has ${grouped(result.object.length)} bytes.`]];
@@ -96,6 +98,7 @@ const Results = (() => {
   // greys the result that is shown, and takes the offers to save back
   function makeStale(job) {
     if (at('results').classList.contains('stale')) return;
+    Links.end();
     at('results').classList.add('stale');
     at('saves').replaceChildren();
     at('stale').textContent = `Something was changed after this. It is the result for ${job.name} as it was before.`;

@@ -6,6 +6,7 @@ function ghostWorker(engine, objects, marks, tell) {
   const STATUS_SPENT = 10;
   const STEPS = { check: 2, compile: 2, run: 4, trace: 4 };
   const MOST_SAID = 4000;             // bytes of a step's text that are passed on
+  const NO_OWNER = 0xffffffff;        // of a line of a listing before the first instruction
   const decoder = new TextDecoder();
 
   // The steps of a job. Each has the words of its call and the two files that it reads. The program is an object, an
@@ -45,11 +46,16 @@ function ghostWorker(engine, objects, marks, tell) {
       return this.call('compile', ['compile', 'program', 'output', ...this.compilation()], program).output;
     }
 
-    // what a tool prints about a source; null for other programs, and if the tool fails
-    told(words, input, good = [0]) {
+    // the bytes that a tool prints about a source; null for other programs, and if the tool fails
+    printed(words, input, good = [0]) {
       if (this.job.form !== 'source') return null;
       const { status, text } = engine.tool([...words, ...this.compilation()], this.job.program, input);
       return good.includes(status) ? text : null;
+    }
+
+    told(words, input, good) {
+      const text = this.printed(words, input, good);
+      return text && decoder.decode(text);
     }
 
     // why each variable is where it is
@@ -57,9 +63,16 @@ function ghostWorker(engine, objects, marks, tell) {
       return this.told(['layout', 'program']);
     }
 
-    // What each line costs in both runs. The lines of a source with procedures would be those of another text.
+    // the assembly of a source with the lines that it was made of, and of other programs without lines
+    listing(object) {
+      tell({ kind: 'step', what: 'list', step: this.total - 1, of: this.total });
+      const bytes = this.printed(['listing', 'program']);
+      if (!bytes) return listingOf(this.call('disassemble', ['dis', 'program', 'output'], object).output);
+      return linkedListing(bytes);
+    }
+
+    // what each line costs in both runs
     profiles() {
-      if (this.job.options.procedures) return null;
       const words = ['profile', 'program', 'input', '--cycles', this.job.options.cycles];
       const tables = this.job.inputs.map((input) => this.told(words, input, [0, STATUS_SPENT]));
       return tables.includes(null) ? null : tables;
@@ -85,8 +98,7 @@ function ghostWorker(engine, objects, marks, tell) {
 
     compile() {
       const object = this.made();
-      const { output } = this.call('disassemble', ['dis', 'program', 'output'], object);
-      return { object, reasons: this.reasons(), listing: { bytes: output, starts: startsOf(output) } };
+      return { object, reasons: this.reasons(), listing: this.listing(object) };
     }
 
     run() {
@@ -126,6 +138,43 @@ function ghostWorker(engine, objects, marks, tell) {
     return at === bytes.length && count > 1 ? starts.subarray(0, count - 1) : starts;
   }
 
+  const listingOf = (bytes) => ({ bytes, starts: startsOf(bytes), owners: null });
+
+  const SEMICOLON = 59;
+  const HEAD = /^; (?:line (\d+): |start and end$)/;
+
+  // the owner that a comment names for the lines after it, or the one before if it names none
+  function ownerIn(comment, before) {
+    const head = HEAD.exec(comment);
+    return head ? Number(head[1] || 0) : before;
+  }
+
+  // A listing with the owner of each line, and of each owner its first line and how many instructions it has.
+  function linkedListing(bytes) {
+    const listing = listingOf(bytes);
+    const { starts } = listing;
+    const owners = new Uint32Array(starts.length);
+    const index = new Map();
+    let owner = NO_OWNER;
+    starts.forEach((start, row) => {
+      const end = row + 1 < starts.length ? starts[row + 1] - 1 : bytes.length;
+      if (bytes[start] === SEMICOLON) owner = ownerIn(decoder.decode(bytes.subarray(start, end)).trimEnd(), owner);
+      owners[row] = owner;
+      if (owner === NO_OWNER) return;
+      if (!index.has(owner)) index.set(owner, { row, count: 0, pads: 0 });
+      count(index.get(owner), bytes.subarray(start, end));
+    });
+    return { ...listing, owners, index: [...index] };
+  }
+
+  // counts a line that is an instruction: it is indented, and no note
+  function count(found, line) {
+    const [SPACE, DOT, S] = [32, 46, 115];
+    if (line[0] !== SPACE || line[4] === DOT) return;
+    found.count += 1;
+    if (line[line.length - 1] === S && line.length > 4 && decoder.decode(line.subarray(-5)) === ' pads') found.pads += 1;
+  }
+
   // a step as it is passed to the page
   const plainStep = ({ what, words, status, milliseconds, text, explained }) => ({
     what, words, status, milliseconds, explained, text: decoder.decode(text.subarray(0, MOST_SAID)) });
@@ -147,7 +196,7 @@ function ghostWorker(engine, objects, marks, tell) {
   function buffersOf({ traces = [], listing, outputs = [] }) {
     const arrays = traces.flatMap(({ text, stamps, kinds, starts, byKind }) => [text, stamps, kinds, starts,
       ...byKind.values()]);
-    const texts = [listing && listing.bytes, ...outputs.map((it) => it.bytes)];
+    const texts = [listing && listing.bytes, listing && listing.owners, ...outputs.map((it) => it.bytes)];
     return [...new Set([...arrays, ...texts].filter(Boolean).map((it) => it.buffer))];
   }
 

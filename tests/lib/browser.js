@@ -23,8 +23,8 @@ function find() {
 }
 
 // keys that type no letter, with the code by which the browser knows them
-const KEY_CODES = { Enter: 13, Tab: 9, Escape: 27, Home: 36, End: 35, ArrowLeft: 37, ArrowRight: 39, ArrowDown: 40,
-  Backspace: 8, ' ': 32 };
+const KEY_CODES = { Enter: 13, Tab: 9, Escape: 27, Home: 36, End: 35, ArrowLeft: 37, ArrowRight: 39, ArrowUp: 38, ArrowDown: 40,
+  PageUp: 33, PageDown: 34, Backspace: 8, ' ': 32 };
 const KEY_TEXTS = { Enter: '\r', ' ': ' ' };
 
 class Browser {

@@ -6,7 +6,7 @@ const chromium = require('./browser.js');
 const firefox = require('./firefox.js');
 const { User } = require('./page/user.js');
 
-const GROUPS = ['examples', 'verdicts', 'files', 'inputs', 'picture', 'access', 'speed'];
+const GROUPS = ['examples', 'links', 'verdicts', 'files', 'inputs', 'picture', 'access', 'speed'];
 const [out, ...chosen] = process.argv.slice(2);
 
 async function play(user, group) {

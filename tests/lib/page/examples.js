@@ -27,7 +27,7 @@ async function examples(user) {
     const checked = await user.presses('check');
     user.says(checked.startsWith('Accepted') && await user.tone() === 'good', `${name}: check`, checked);
     await user.presses('compile');
-    const listed = (await user.textOf('listing')).startsWith('.object ');
+    const listed = /^\.object /m.test(await user.textOf('listing'));
     user.says(listed && (await user.textOf('save')).startsWith('Save the object'),
       `${name}: compile shows the assembly and offers the object`);
     await user.presses('run');

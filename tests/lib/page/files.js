@@ -66,7 +66,7 @@ async function savesFiles(user) {
   user.says(name === 'my own.obj' && Buffer.compare(bytes, Buffer.from(expected)) === 0,
     'Save has the name of the file', name);
   const listing = await user.saves('#save-listing');
-  user.says(listing.name === 'my own.asm' && listing.bytes.toString().startsWith('.object '),
+  user.says(listing.name === 'my own.asm' && /^\.object /m.test(listing.bytes.toString()),
     'so has the assembly', listing.name);
   await user.chooses('findmax.gr');
   await user.presses('run');

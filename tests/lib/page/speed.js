@@ -39,6 +39,26 @@ async function keys(user) {
   user.says(middle < KEY * CROWDED, `a key in a source of 1 MiB takes ${middle.toFixed(0)} ms`, times.join());
 }
 
+// the keys that go through a source of 1 MiB, and what they light up
+async function linkedKeys(user) {
+  const source = `public int x;\n${'// a comment, and another, and one more\n'.repeat(25000)}${'x = x + 1;\n'.repeat(2000)}`;
+  await user.opensFile('linked.gr', source);
+  await user.presses('compile');
+  await user.value("document.querySelector('.CodeMirror').CodeMirror.setCursor(25900, 0)");
+  await user.value("document.querySelector('.CodeMirror').CodeMirror.focus()");
+  await user.waits(500);
+  const times = [];
+  for (let i = 0; i < 5; i += 1) {
+    times.push(await taken(user, async () => {
+      await user.browser.key('ArrowDown');
+      await user.value('new Promise((resolve) => requestAnimationFrame(() => setTimeout(resolve)))');
+    }));
+  }
+  const middle = times.sort((a, b) => a - b)[2];
+  user.says(middle < KEY * CROWDED, `a key that lights up other instructions takes ${middle.toFixed(0)} ms`, times.join());
+  user.says(/^Line 25,906: \d+ instructions/.test(await user.textOf('linked')), 'and says which', await user.textOf('linked'));
+}
+
 async function opening(user) {
   const text = `.object 1 3 1 70 2 3\n.bank 4 634\n.bank 4 662\n${'add r1 r2 r3\n'.repeat(385000)}halt\n`;
   const time = await taken(user, () => user.opensFile('large.asm', text));
@@ -65,4 +85,4 @@ async function firstAnswer(user) {
   user.says(time < ANSWER * CROWDED, `the page is busy for ${time.toFixed(0)} ms until its first verdict`);
 }
 
-module.exports = [keys, opening, listing, firstAnswer];
+module.exports = [keys, linkedKeys, opening, listing, firstAnswer];
