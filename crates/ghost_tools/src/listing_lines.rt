@@ -15,8 +15,10 @@ const MOST_SHOWN: usize = 100;
 /// The column at which the comment of an instruction begins.
 const COMMENT: usize = 36;
 
-/// The widths of the columns of places and of cycles.
+/// The width of the column of places.
 const PLACES: usize = 8;
+
+/// The width of the column of cycles.
 const CYCLES: usize = 8;
 
 /// What the comments of a listing mean.
@@ -111,7 +113,8 @@ impl<'a> Listing<'a> {
             self.text.push_str("; start and end\n")?;
             return Ok(());
         }
-        self.text.push_str(format!(in alloc; "; line {row}: ")?.as_str())?;
+        self.text
+            .push_str(format!(in alloc; "; line {row}: ")?.as_str())?;
         if let Some(line) = lines.get((row as usize).saturating_sub(1)) {
             push_ascii(&mut self.text, piece(line.trim_ascii_end(), 0, MOST_SHOWN))?;
         }
@@ -133,7 +136,8 @@ impl<'a> Listing<'a> {
         self.text.push_str(" ;")?;
         push_number(alloc, &mut self.text, self.place as u64, PLACES)?;
         self.push_cycles(alloc, object)?;
-        self.text.push_str(if part.pads { "  pads\n" } else { "\n" })?;
+        self.text
+            .push_str(if part.pads { "  pads\n" } else { "\n" })?;
         Ok(())
     }
 
@@ -150,7 +154,8 @@ impl<'a> Listing<'a> {
         push_number(alloc, &mut self.text, cycles, CYCLES)?;
         if let Instr::Br { .. } = instruction {
             let taken = latency(object, instruction, true, bank);
-            self.text.push_str(format!(in alloc; " or {taken}")?.as_str())?;
+            self.text
+                .push_str(format!(in alloc; " or {taken}")?.as_str())?;
         }
         Ok(())
     }

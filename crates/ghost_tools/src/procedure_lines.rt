@@ -39,7 +39,8 @@ pub(crate) fn lines_without_calls(
 ) -> Result<Option<Vec<u32>>, Memory> {
     let bodies = bodies_of(alloc, file, lines)?;
     let body = bodies.row_of(file);
-    if lines.len() != body.first.saturating_add(statements_in_all(body.statements)) {
+    let count = statements_in_all(body.statements);
+    if lines.len() != body.first.saturating_add(count) {
         return Ok(None);
     }
     let mut waiting = Vec::new(alloc);
@@ -163,7 +164,8 @@ impl<'a> Bodies<'a> {
     fn row_of(&self, file: &'a ProcFile) -> Row<'a> {
         let mut first = 0usize;
         if let Some(last) = self.rows.as_slice().last() {
-            first = last.first.saturating_add(statements_in_all(last.statements));
+            let count = statements_in_all(last.statements);
+            first = last.first.saturating_add(count);
         }
         Row {
             statements: file.body.as_slice(),

@@ -71,7 +71,12 @@ fn sum_of(counts: &[u64]) -> u64 {
 }
 
 /// Adds a number, aligned at the right.
-pub(crate) fn push_number(alloc: Global, text: &mut String, number: u64, width: usize) -> Result<(), Memory> {
+pub(crate) fn push_number(
+    alloc: Global,
+    text: &mut String,
+    number: u64,
+    width: usize,
+) -> Result<(), Memory> {
     let digits = format!(in alloc; "{number}")?;
     for _ in digits.len()..width.max(digits.len()) {
         text.push_str(" ")?;
