@@ -53,6 +53,14 @@ const Layout = (() => {
     if (!held.length) made(item, 'span', { class: 'quiet' }, 'free');
   }
 
+  // An object with the names that the tool `layout` prints, a line for each variable, in the same order. Only the names of
+  // variables that calls add are others.
+  function withNames(layout, lines) {
+    const names = (lines || '').split('\n').map((line) => /^\w+ (\w+)/.exec(line)).filter(Boolean).map((it) => it[1]);
+    if (names.length !== layout.symbols.length) return layout;
+    return { ...layout, symbols: layout.symbols.map((it, i) => ({ ...it, name: names[i] })) };
+  }
+
   // the reason of each variable's place, by its name, from the lines of the tool `layout`
   function reasonsIn(lines) {
     const found = (lines || '').split('\n').map((line) => /^\w+ (\w+)[^;]*; (.*)$/.exec(line)).filter(Boolean);
@@ -97,5 +105,5 @@ const Layout = (() => {
     });
   }
 
-  return { show };
+  return { show, withNames };
 })();

@@ -71,7 +71,7 @@ const Results = (() => {
       if (job.options.paths && hasPaths) tree = Tree.show(at('shown'), result);
       Costs.show(at('shown'), result.costs);
       const members = job.inputs.map(Inputs.read);
-      const meaning = Difference.meaning(result, Inputs.disagreements(result.layout.symbols, members));
+      const meaning = Difference.meaning(result, Inputs.disagreements(Objects.read(result.object).symbols, members));
       const isEqual = verdict === Difference.VERDICTS.equal;
       return [isEqual ? 'good' : 'told', [`Accepted. ${Difference.summary(result)}`, meaning]];
     },
@@ -86,7 +86,7 @@ const Results = (() => {
       if (place && !isStale) Editor.mark(place);
       return;
     }
-    result.layout = Objects.read(result.object);
+    result.layout = Layout.withNames(Objects.read(result.object), result.reasons);
     offer('save', result.object, 'application/octet-stream', `${job.base}.obj`,
       `Save the object (${grouped(result.object.length)} bytes)`);
     const [tone, sentences] = SHOWS[job.verb](result, job);

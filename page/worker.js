@@ -58,7 +58,7 @@ function ghostWorker(engine, objects, marks, tell) {
       return text && decoder.decode(text);
     }
 
-    // why each variable is where it is
+    // the name of each variable, and why it is where it is
     reasons() {
       return this.told(['layout', 'program']);
     }
@@ -118,6 +118,7 @@ function ghostWorker(engine, objects, marks, tell) {
       const { banks } = objects.read(object);
       return {
         object,
+        reasons: this.job.options.procedures ? this.reasons() : null,
         traces: traces.map((trace) => ({ ...trace, byKind: marks.stampsByKind(trace) })),
         differ: engine.firstDifference(...traces),
         costs: traces.map((trace) => marks.costOf(trace, banks, Number(cycles))),

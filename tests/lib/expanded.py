@@ -64,6 +64,17 @@ def wrong(folder, source):
                 return f'{own} is {value} and {left[1].get(own)}'
     elif left[0] != left[1]:
         return f'eval: {left}'
+    return other_names(folder)
+
+
+def other_names(folder):
+    """What is wrong with the names and the places that `layout` and `profile` print of a source, '' if nothing is."""
+    own, made = (call(folder, 'layout', *words)[1] for words in (('own.gr', '--procs'), ('made.gr',)))
+    if own.replace(b' of the program without calls', b'') != made:
+        return f'layout --procs differs from layout of the expansion: {own!r}'
+    _, table = call(folder, 'profile', '--procs', 'own.gr', 'in.json', '--cycles', '10000')
+    if re.search(rb'\b__[0-9]', table):
+        return f'profile: {table!r}'
     return ''
 
 

@@ -1,143 +1,53 @@
-//! The text of the program that a file with procedures is without its calls.
+//! The program without calls that a file with procedures is, as people read it.
 
-use crate::procedures::{Counted, Frame, Place, Procedures};
+use crate::shown_names::{number_in, shown_names};
 use crate::tokens::{SOURCE_BYTES, Tokens, tokens_of};
 use gr_base::Memory;
-use itoa::Buffer;
-use procs_parser::parse_procs;
-use src_procs::{InlineError, inline, is_hidden};
+use gr_word::Name;
+use src_procs::is_hidden;
 use src_tree::{Decl, Program, print};
 use std::alloc::Global;
 
-/// The most bytes of a name.
-const NAME_BYTES: usize = 32;
+/// The spaces before a line for each block around it.
+const INDENT: usize = 4;
 
-/// The most new variables that get names.
-const MOST_NAMED: usize = 256;
+/// A program without calls as people read it: its text, and the names of its variables in the text, in the order of
+/// declaration.
+#[derive(Drop)]
+pub struct WithoutCalls {
+    pub text: String,
+    pub names: Vec<Name>,
+}
 
-/// The text of the program that a file with procedures is without its calls. Each new variable has the name of its
-/// procedure and of its parameter or local, as `max_k`, with a number if a name is taken. `None` if the text isn't a file
-/// with procedures whose calls can be replaced.
-pub fn without_calls(alloc: Global, text: &[u8]) -> Result<Option<Vec<u8>>, Memory> {
-    if text.len() > SOURCE_BYTES {
-        return Ok(None);
-    }
+/// The program that a file with procedures is without its calls, as people read it. A variable of the file keeps its
+/// name. One that a call adds has the name of its procedure and of its parameter or local, as `max_k`, with a number if
+/// that name is taken. `text` is the file's, and `program` is the one that it was read as.
+pub fn without_calls(
+    alloc: Global,
+    text: &[u8],
+    program: &Program,
+) -> Result<WithoutCalls, Memory> {
     let all = tokens_of(alloc, text)?;
     let all = all.as_slice();
-    let Ok(file) = parse_procs(alloc, all) else {
-        return Ok(None);
-    };
-    let program = match inline(alloc, &file) {
-        Ok(program) => program,
-        Err(InlineError::Memory) => return Err(Memory),
-        Err(_) => return Ok(None),
-    };
-    let own = file.decls.len();
-    let tokens = Tokens {
-        name: "",
-        text,
-        all,
-    };
-    let names = new_names(alloc, tokens, own, &program)?;
-    Ok(Some(laid_out(alloc, &print(alloc, &program)?, &names)?))
+    let names = shown_names(
+        alloc,
+        Tokens {
+            name: "",
+            text,
+            all,
+        },
+        &program.decls,
+    )?;
+    let text = laid_out(alloc, &print(alloc, program)?, &program.decls, &names)?;
+    Ok(WithoutCalls { text, names })
 }
 
-// The names of the new variables of a program, whose file has `own` variables of its own. None if there are too many.
-fn new_names(
-    alloc: Global,
-    tokens: Tokens<'_>,
-    own: usize,
-    program: &Program,
-) -> Result<Vec<Vec<u8>>, Memory> {
-    let mut names = Vec::new(alloc);
-    let added = program.decls.len().saturating_sub(own);
-    if added > MOST_NAMED {
-        return Ok(names);
-    }
-    let procedures = Procedures::of(alloc, tokens)?;
-    for number in 0..added {
-        let wanted = wanted_name(alloc, &procedures, number as u64)?;
-        let (declared, _) = program
-            .decls
-            .as_slice()
-            .split_at(own.min(program.decls.len()));
-        let name = free_name(alloc, declared, names.as_slice(), wanted.as_slice())?;
-        names.push(name)?;
-    }
-    Ok(names)
-}
-
-// The name of a procedure and of its parameter or local, for the new variable of a number.
-fn wanted_name(alloc: Global, procedures: &Procedures<'_>, number: u64) -> Result<Vec<u8>, Memory> {
-    let tokens = procedures.tokens;
-    let mut name = Vec::new(alloc);
-    if let Some(origin) = procedures.origin(alloc, Counted::Variables, number)?
-        && let Place::Own(Frame { callee, .. }, place) = origin.place
-        && let Some((target, _)) = tokens.own_of(callee, place)
-    {
-        name.extend_from_slice(tokens.word(callee.name))?;
-        name.push(b'_')?;
-        name.extend_from_slice(tokens.word(target.name))?;
-    }
-    if name.is_empty() || is_hidden(name.as_slice()) {
-        name.clear();
-        name.extend_from_slice(b"call")?;
-    }
-    Ok(name)
-}
-
-// Whether a name is declared, or is one of the names of new variables.
-fn is_taken(declared: &[Decl], names: &[Vec<u8>], name: &[u8]) -> bool {
-    for decl in declared {
-        if decl.name.bytes() == name {
-            return true;
-        }
-    }
-    for other in names {
-        if other.as_slice() == name {
-            return true;
-        }
-    }
-    false
-}
-
-// A name that isn't taken: the one that is wanted, or its beginning with a number.
-fn free_name(
-    alloc: Global,
-    declared: &[Decl],
-    names: &[Vec<u8>],
-    wanted: &[u8],
-) -> Result<Vec<u8>, Memory> {
-    let mut name = cut(alloc, wanted, NAME_BYTES)?;
-    for number in 2..u64::MAX {
-        if !is_taken(declared, names, name.as_slice()) {
-            break;
-        }
-        let mut buffer = Buffer::new();
-        let digits = buffer.format(number).as_bytes();
-        name = cut(
-            alloc,
-            wanted,
-            NAME_BYTES.saturating_sub(digits.len()).saturating_sub(1),
-        )?;
-        name.push(b'_')?;
-        name.extend_from_slice(digits)?;
-    }
-    Ok(name)
-}
-
-// The first `most` bytes of a name.
-fn cut(alloc: Global, name: &[u8], most: usize) -> Result<Vec<u8>, Memory> {
-    let (front, _) = name.split_at(most.min(name.len()));
-    Ok(front.to_vec(alloc)?)
-}
-
-// A program's text in the usual layout, with these names in the place of `__0`, `__1` and so on, and without blocks
-// `else { }`.
-fn laid_out(alloc: Global, text: &[u8], names: &[Vec<u8>]) -> Result<Vec<u8>, Memory> {
-    let mut out = Vec::new(alloc);
+// A program's text in the usual layout, with these names of its variables. A text that is too long for a source with
+// spaces at the beginning of its lines has none.
+fn laid_out(alloc: Global, text: &[u8], decls: &[Decl], names: &[Name]) -> Result<String, Memory> {
     if text.len() > SOURCE_BYTES {
-        out.extend_from_slice(text)?;
+        let mut out = String::new(alloc);
+        push_ascii(text, &mut out)?;
         return Ok(out);
     }
     let all = tokens_of(alloc, text)?;
@@ -146,6 +56,33 @@ fn laid_out(alloc: Global, text: &[u8], names: &[Vec<u8>]) -> Result<Vec<u8>, Me
         text,
         all: all.as_slice(),
     };
+    let added = added_names(decls, names);
+    let indented = in_lines(alloc, tokens, added, INDENT)?;
+    if indented.len() <= SOURCE_BYTES {
+        return Ok(indented);
+    }
+    in_lines(alloc, tokens, added, 0)
+}
+
+// The names of the variables that calls add, which are declared after all others.
+fn added_names<'a>(decls: &[Decl], names: &'a [Name]) -> &'a [Name] {
+    let mut own = 0usize;
+    for decl in decls {
+        if !is_hidden(decl.name.bytes()) {
+            own = own.saturating_add(1);
+        }
+    }
+    names.split_at(own.min(names.len())).1
+}
+
+// The tokens of a printed program, a statement a line, with the names of added variables, and without blocks `else { }`.
+fn in_lines(
+    alloc: Global,
+    tokens: Tokens<'_>,
+    added: &[Name],
+    indent: usize,
+) -> Result<String, Memory> {
+    let mut out = String::new(alloc);
     let mut depth = 0usize;
     let mut at = 0usize;
     for _ in 0..tokens.all.len() {
@@ -155,52 +92,54 @@ fn laid_out(alloc: Global, text: &[u8], names: &[Vec<u8>]) -> Result<Vec<u8>, Me
         if tokens.is(at, "}") {
             depth = depth.saturating_sub(1);
         }
-        put_gap(tokens, at, depth, &mut out)?;
-        out.extend_from_slice(named(tokens.word(at), names))?;
+        put_gap(tokens, at, depth.saturating_mul(indent), &mut out)?;
+        push_ascii(shown(tokens.word(at), added), &mut out)?;
         if tokens.is(at, "{") {
             depth = depth.saturating_add(1);
         }
         at = at.saturating_add(1);
     }
-    out.push(b'\n')?;
+    out.push('\n')?;
     Ok(out)
 }
 
-// What is between a token of a printed program and the one before it.
-fn put_gap(tokens: Tokens<'_>, at: usize, depth: usize, out: &mut Vec<u8>) -> Result<(), Memory> {
+// What is between a token of a printed program and the one before it. A line begins with `spaces` spaces.
+fn put_gap(tokens: Tokens<'_>, at: usize, spaces: usize, out: &mut String) -> Result<(), Memory> {
     if at == 0 || at >= tokens.all.len() {
         return Ok(());
     }
     if tokens.begins_line(at) && !tokens.is(at, "else") {
-        out.push(b'\n')?;
-        for _ in 0..depth {
-            out.extend_from_slice(b"    ")?;
+        out.push('\n')?;
+        for _ in 0..spaces {
+            out.push(' ')?;
         }
         return Ok(());
     }
     let is_close = matches!(tokens.word(at), b";" | b")" | b"[" | b"]");
     if !is_close && !matches!(tokens.before(at), b"(" | b"[") {
-        out.push(b' ')?;
+        out.push(' ')?;
     }
     Ok(())
 }
 
-// The name of a new variable, and any other word as it is.
-fn named<'a>(word: &'a [u8], names: &'a [Vec<u8>]) -> &'a [u8] {
+// Adds ASCII characters.
+fn push_ascii(bytes: &[u8], out: &mut String) -> Result<(), Memory> {
+    for byte in bytes {
+        out.push(char::from(*byte))?;
+    }
+    Ok(())
+}
+
+// The name of an added variable, and any other word as it is.
+fn shown<'a>(word: &'a [u8], added: &'a [Name]) -> &'a [u8] {
     if !is_hidden(word) {
         return word;
     }
-    match names.get(number_in(word)) {
-        Some(name) => name.as_slice(),
+    match number_in(word) {
+        Some(number) => match added.get(number) {
+            Some(name) => name.bytes(),
+            None => word,
+        },
         None => word,
     }
-}
-
-// The number in a name of a new variable, and the greatest of all numbers if there is none.
-fn number_in(word: &[u8]) -> usize {
-    let (_, digits) = word.split_at(word.len().min(2));
-    let Ok(digits) = std::str::from_utf8(digits) else {
-        return usize::MAX;
-    };
-    digits.parse::<usize>().unwrap_or(usize::MAX)
 }

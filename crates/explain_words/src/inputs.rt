@@ -9,6 +9,7 @@ use crate::looks::put_other_kind;
 use crate::members::{Described, ValueKind, described_member, item_at, member_at};
 use crate::nearest::Nearest;
 use crate::objects::object_in;
+use crate::shown_names::is_added;
 use crate::texts::{Source, spot_at};
 use crate::tokens::SOURCE_BYTES;
 use crate::words::Words;
@@ -66,6 +67,9 @@ fn program_of(alloc: Global, tokens: &[Token], has_procs: bool) -> Option<Progra
 const JSON_FORM: &str =
     "Inputs are one object, `{\"n\":3,\"a\":[1,2,3]}`: names in double quotation marks, decimal integers, and a comma \
     between two members or items, with none after the last.";
+
+/// The most variables that are named.
+const NAMES_SHOWN: u32 = 20;
 
 /// A text of inputs, and what it should give.
 #[derive(Clone, Copy)]
@@ -157,12 +161,24 @@ impl Given<'_> {
             Ok(None) => {}
             Err(_) => out.starve(),
         }
+        self.put_variables(out);
+    }
+
+    // Adds the names of the first variables, without those that calls add.
+    fn put_variables(&self, out: &mut Words) {
+        let mut count = 0u32;
         out.say("The variables are");
-        for want in self.wants.iter().take(20) {
-            out.say(" ");
-            out.quote(want.name.bytes());
+        for want in self.wants {
+            if !is_added(want.name.bytes()) {
+                if count == NAMES_SHOWN {
+                    return out.line(" ..");
+                }
+                count = count.saturating_add(1);
+                out.say(" ");
+                out.quote(want.name.bytes());
+            }
         }
-        out.line(if self.wants.len() > 20 { " .." } else { "" });
+        out.line("");
     }
 
     // A member whose value isn't what its variable wants.
@@ -207,7 +223,7 @@ impl Given<'_> {
     }
 }
 
-// The name of the variable that is nearest to a name, if one is near.
+// The name of the variable that is nearest to a name, if one is near and no call adds it.
 fn nearest_variable<'a>(
     alloc: Global,
     name: &str,
@@ -215,7 +231,9 @@ fn nearest_variable<'a>(
 ) -> Result<Option<&'a [u8]>, Memory> {
     let mut nearest = Nearest::to(alloc, name.as_bytes())?;
     for want in wants {
-        nearest.compare(alloc, want.name.bytes())?;
+        if !is_added(want.name.bytes()) {
+            nearest.compare(alloc, want.name.bytes())?;
+        }
     }
     Ok(nearest.found())
 }

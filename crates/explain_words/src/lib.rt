@@ -5,6 +5,8 @@
 //! below it, and what to write instead. If no fault is found, nothing is printed. The words are tested and no contract
 //! fixes them; it is proved that each call ends, is safe, names places within the file, and prints nothing that a
 //! terminal acts on.
+//!
+//! [`without_calls`] is the program without calls that a file with procedures is, with names for people.
 #![tactic(auto)]
 
 mod arms;
@@ -30,6 +32,7 @@ mod procedures;
 mod refusals;
 mod reports;
 mod sentences;
+mod shown_names;
 mod sight;
 mod sources;
 mod statements;
@@ -43,5 +46,5 @@ mod warnings;
 mod words;
 
 pub use calls::{Call, File, Kind};
-pub use expanding::without_calls;
+pub use expanding::{WithoutCalls, without_calls};
 pub use words::Words;

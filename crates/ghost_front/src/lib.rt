@@ -2,7 +2,6 @@
 #![tactic(auto)]
 
 mod answering;
-mod expanding;
 mod explaining;
 mod help;
 mod named_files;

@@ -1,12 +1,11 @@
 //! Which words of a call name files: those that are read, and the one that is written.
 
-use crate::expanding::EXPAND;
 use crate::streams::DASH;
 use crate::tools::Tool;
 use clap::ArgMatches;
 use command_words::verbs::{matches_of, verb_named};
 use explain_words::Kind;
-use ghost_tools::words::{self, COUNT, DIFF, LAYOUT, LISTING, PROFILE, TEST};
+use ghost_tools::words::{self, COUNT, DIFF, EXPAND, LAYOUT, LISTING, PROFILE, TEST};
 use gr_base::Memory;
 use std::alloc::Global;
 

@@ -7,11 +7,10 @@ ghost use Rattle.ghost_front.specs.Requests.{asks_tool, is_tool};
 ghost use Rattle.ghost_front.specs.Served.{KeepsOthers};
 ghost use Rattle.ghost_front.specs.Streams.{told};
 
-use crate::expanding::expand;
 use crate::named_files::NamedFiles;
 use crate::serving::{Ended, Stop, refused, starved, take_input};
 use crate::streams::StreamShelf;
-use ghost_tools::{count, diff, layout, listing, profile, test};
+use ghost_tools::{count, diff, expand, layout, listing, profile, test};
 use gr_outside::{Shelf, Sink};
 use std::alloc::Global;
 use std::io::Read;

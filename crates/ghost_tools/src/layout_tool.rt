@@ -11,14 +11,14 @@ use call_replies::replies::Reply;
 use ghost_cli::compile::object_of;
 use gr_base::Memory;
 use gr_outside::{Shelf, Sink};
-use gr_word::Shape;
+use gr_word::{Name, Shape};
 use lt_isa::{BankKind, Object, Symbol, bank_kind};
 use std::alloc::Global;
 
 /// The tool `layout SRC [--fast] [--block-log W] [--window P:O:C] [--procs]`: compiles a program in memory, and prints in
 /// which bank and from which word on each variable is stored, and why: the secret index that makes an array oblivious,
-/// or the slot of the scratchpad that holds the variable for the whole run or caches its blocks. With `--procs` places
-/// are those of the program without calls.
+/// or the slot of the scratchpad that holds the variable for the whole run or caches its blocks. With `--procs` the
+/// names and the places are those of the program that `expand` prints.
 ///
 /// Statuses: 0 the program was compiled; 2, 3, 5, 8 and 11 as of `compile`, with the same lines; 4 the text couldn't be
 /// printed.
@@ -72,17 +72,17 @@ fn lay_out_file<'a, S: Shelf>(
 fn report(alloc: Global, object: &Object, reasons: Reasons<'_>) -> Result<Report, Memory> {
     let mut text = String::new(alloc);
     for symbol in object.symbols() {
-        push_line(alloc, &mut text, symbol)?;
+        push_line(alloc, &mut text, symbol, reasons.name_of(symbol))?;
         reasons.push_reason(alloc, &mut text, object, symbol)?;
         text.push_str("\n")?;
     }
     Ok(Report { status: 0, text })
 }
 
-fn push_line(alloc: Global, text: &mut String, symbol: &Symbol) -> Result<(), Memory> {
+fn push_line(alloc: Global, text: &mut String, symbol: &Symbol, name: &Name) -> Result<(), Memory> {
     text.push_str(label_text(symbol.label))?;
     text.push_str(" ")?;
-    push_name(text, &symbol.name)?;
+    push_name(text, name)?;
     let length = symbol.length;
     if let Shape::Array = symbol.shape {
         text.push_str(format!(in alloc; "[{length}]")?.as_str())?;

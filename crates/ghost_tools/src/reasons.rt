@@ -8,6 +8,7 @@ use bank_alloc::banks;
 use flow_types::Typed;
 use ghost_cli::targets::Target;
 use gr_base::Memory;
+use gr_word::Name;
 use lt_isa::{BankKind, Object, Symbol, bank_kind};
 use resident_alloc::resident_plan;
 use scratch_alloc::{SlotPlan, slots};
@@ -52,6 +53,14 @@ pub(crate) fn is_pinned(slots: &SlotPlan, slot: u8) -> bool {
 }
 
 impl Reasons<'_> {
+    /// The name of an object's variable as the text has it.
+    pub(crate) fn name_of<'a>(&'a self, symbol: &'a Symbol) -> &'a Name {
+        match number_of(self.decls, symbol.name.bytes()) {
+            Some(number) => self.source.name_of(number, &symbol.name),
+            None => &symbol.name,
+        }
+    }
+
     /// Adds why a variable of an object is in its bank.
     pub(crate) fn push_reason(
         &self,
@@ -130,7 +139,7 @@ impl Reasons<'_> {
             if other != number && *own == slot {
                 if sharers < MOST_NAMED {
                     text.push_str(if sharers == 0 { ", shared with " } else { ", " })?;
-                    push_name(text, &decl.name)?;
+                    push_name(text, self.source.name_of(other, &decl.name))?;
                 }
                 sharers = sharers.saturating_add(1);
             }

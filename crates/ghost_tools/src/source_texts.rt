@@ -2,11 +2,11 @@
 
 ghost use Rattle.std.specs.Prelude.{◌≤◌, IfOk, length};
 
-use crate::variables::number_of;
+use explain_words::{WithoutCalls, without_calls};
 use gr_base::Memory;
-use gr_word::Label;
+use gr_word::{Label, Name};
 use src_lexer::{LexError, Token, TokenKind, lex};
-use src_tree::{Decl, Program, print};
+use src_tree::{Decl, Program};
 use std::alloc::Global;
 use std::collections::BTreeSet;
 
@@ -16,11 +16,13 @@ const MOST_BYTES: usize = 1_048_576;
 /// The most tokens of an access that are quoted.
 const MOST_QUOTED: usize = 16;
 
-/// A program's text with its tokens: the file's own, or for a file with procedures that of the program without calls.
+/// A program's text with its tokens and the names of its variables, in the order of declaration: the file's own, or for a
+/// file with procedures those of the program that `expand` prints.
 #[derive(Drop)]
 pub(crate) struct SourceText {
     pub(crate) text: Vec<u8>,
     tokens: Vec<Token>,
+    names: Vec<Name>,
     pub(crate) expanded: bool,
 }
 
@@ -61,18 +63,45 @@ impl SourceText {
         program: &Program,
         procs: bool,
     ) -> Result<SourceText, Memory> {
-        let text = if procs {
-            drop(text);
-            print(alloc, program)?
-        } else {
-            text
-        };
+        if procs {
+            let WithoutCalls { text, names } = without_calls(alloc, &text, program)?;
+            return SourceText::with_names(alloc, text.into_bytes(), names, true);
+        }
+        let names = own_names(alloc, &program.decls)?;
+        SourceText::with_names(alloc, text, names, false)
+    }
+
+    fn with_names(
+        alloc: Global,
+        text: Vec<u8>,
+        names: Vec<Name>,
+        expanded: bool,
+    ) -> Result<SourceText, Memory> {
         let tokens = tokens_of(alloc, &text)?;
         Ok(SourceText {
             text,
             tokens,
-            expanded: procs,
+            names,
+            expanded,
         })
+    }
+
+    /// The name of a variable in the text, by its number, or the other name if there is no such variable.
+    pub(crate) fn name_of<'a>(&'a self, number: usize, otherwise: &'a Name) -> &'a Name {
+        match self.names.get(number) {
+            Some(name) => name,
+            None => otherwise,
+        }
+    }
+
+    // The number of the variable of a name in the text, in the order of declaration.
+    fn number_of(&self, name: &[u8]) -> Option<usize> {
+        for (number, own) in self.names.iter().enumerate() {
+            if own.bytes() == name {
+                return Some(number);
+            }
+        }
+        None
     }
 
     // The text of a token, empty if there is none.
@@ -152,13 +181,13 @@ impl SourceText {
         alloc: Global,
         decls: &'a [Decl],
     ) -> Result<Vec<Option<Access>>, Memory> {
-        let secrets = secret_names(alloc, decls)?;
+        let secrets = self.secret_names(alloc, decls)?;
         let mut found = vec![in alloc; None; decls.len()]?;
         for at in 0..self.tokens.len() {
             if self.is_name(at) && self.is(at.saturating_add(1), "[") {
                 let end = self.index_end(at.saturating_add(1));
                 if self.names_one_of(&secrets, at.saturating_add(2), end) {
-                    if let Some(number) = number_of(decls, self.word(at)) {
+                    if let Some(number) = self.number_of(self.word(at)) {
                         keep_first(&mut found, number, Access { name: at, end });
                     }
                 }
@@ -181,6 +210,21 @@ impl SourceText {
             }
         }
         self.tokens.len()
+    }
+
+    // The names of the secret variables in the text.
+    fn secret_names<'a>(
+        &'a self,
+        alloc: Global,
+        decls: &[Decl],
+    ) -> Result<BTreeSet<&'a [u8]>, Memory> {
+        let mut secrets = BTreeSet::new(alloc);
+        for (name, decl) in self.names.iter().zip(decls) {
+            if decl.label == Label::Secret && secrets.insert(name.bytes()).is_err() {
+                return Err(Memory);
+            }
+        }
+        Ok(secrets)
     }
 
     // Whether one of some names is among the tokens from one to an end.
@@ -256,16 +300,11 @@ fn keep_first(found: &mut [Option<Access>], number: usize, access: Access) {
     }
 }
 
-// The names of the secret variables.
-fn secret_names<'a>(alloc: Global, decls: &'a [Decl]) -> Result<BTreeSet<&'a [u8]>, Memory> {
-    let mut names = BTreeSet::new(alloc);
+// The names of variables as they are declared.
+fn own_names(alloc: Global, decls: &[Decl]) -> Result<Vec<Name>, Memory> {
+    let mut names = Vec::new(alloc);
     for decl in decls {
-        if decl.label == Label::Secret {
-            match names.insert(decl.name.bytes()) {
-                Ok(_) => {}
-                Err(_) => return Err(Memory),
-            }
-        }
+        names.push(decl.name.copy(alloc)?)?;
     }
     Ok(names)
 }

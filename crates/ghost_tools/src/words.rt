@@ -58,6 +58,15 @@ pub const PROFILE: VerbWords<'static> = VerbWords {
     flags: &["procs", "fast"],
 };
 
+/// The words that `expand` takes.
+pub const EXPAND: VerbWords<'static> = VerbWords {
+    name: "expand",
+    place: Argument::Word,
+    places: &["SRC"],
+    options: &[],
+    flags: &[],
+};
+
 /// What a tool finds in the words, its name first, or `None` if they don't fit.
 pub fn matches_of<'a>(
     alloc: Global,
