@@ -1,1 +1,3 @@
+pub mod FaultyFiles
 pub mod Plain
+pub mod ShownNames

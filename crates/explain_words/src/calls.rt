@@ -1,7 +1,8 @@
 //! A call of the program that met a fault: which of its files are read again, and the words about each.
 
-ghost use Rattle.std.specs.Prelude.{◌≤◌, IfOk, IfSome, All};
+ghost use Rattle.std.specs.Prelude.{◌≡◌, ◌≤◌, true, IfOk, IfSome, All};
 ghost use Rattle.gr_word.specs.Fitting.{AreVariables};
+ghost use Rattle.explain_words.specs.FaultyFiles.{MayHaveFault, MayHaveWarnings};
 ghost use Rattle.explain_words.specs.Plain.{IsPlain};
 
 use crate::assembly::explain_assembly;
@@ -20,6 +21,7 @@ use crate::words::Words;
 use gr_base::Memory;
 use gr_word::Want;
 use std::alloc::Global;
+use std::marker::Model;
 
 /// The logarithm of a block's words for which no option says a number.
 const USUAL_BLOCK_LOG: u8 = 9;
@@ -67,13 +69,21 @@ pub struct File<'a> {
     pub bytes: &'a [u8],
 }
 
-/// A call of the program that met a fault.
+/// A call of the program that met a fault. Contracts see its exit status.
 #[derive(Drop)]
 pub struct Call<'a, 'b> {
     status: u8,
     usage: &'a str,
     words: &'b [&'a str],
     sorted: Sorted<'a>,
+}
+
+impl<'a, 'b> Model for Call<'a, 'b> {
+    ghost use Rattle.std.specs.Prelude.{ℕ};
+
+    ghost Value = { ℕ };
+
+    ghost view = { λ call. call.status };
 }
 
 impl<'a, 'b> Call<'a, 'b> {
@@ -84,7 +94,9 @@ impl<'a, 'b> Call<'a, 'b> {
         status: u8,
         usage: &'a str,
         words: &'b [&'a str],
-    ) -> Result<Call<'a, 'b>, Memory> {
+    ) -> Result<Call<'a, 'b>, Memory>
+        ensures { IfOk result (λ call. call ≡ status) }
+    {
         let sorted = Sorted::of(alloc, usage, words)?;
         Ok(Call {
             status,
@@ -99,24 +111,34 @@ impl<'a, 'b> Call<'a, 'b> {
         self.sorted.placed.as_slice()
     }
 
-    /// What the file in a place is to be, if its fault may be there.
-    pub fn kind_at(&self, place: usize) -> Option<Kind> {
+    /// What the file in a place is to be, if the fault may be there, or if a call that did its work may have warnings of it.
+    pub fn kind_at(&self, place: usize) -> Option<Kind>
+        ensures { IfSome result (MayHaveFault self.now) }
+    {
         let mut places = self.usage.split(" ").skip(1);
         let repeats = is_word_of(self.usage, b"..");
         let kind = Kind::named(places.nth(if repeats { place % 2 } else { place })?)?;
-        let is_read = match self.status {
+        if self.is_read(kind) { Some(kind) } else { None }
+    }
+
+    // Whether files of a kind are read again.
+    fn is_read(&self, kind: Kind) -> bool
+        ensures { result ≡ true → MayHaveFault self.now kind }
+    {
+        match self.status {
             6 | 7 | 13 => matches!(kind, Kind::Object),
             8 => matches!(kind, Kind::Source),
             12 => matches!(kind, Kind::Assembly),
             9 | 11 => true,
             0 => self.is_warned(kind),
             _ => false,
-        };
-        if is_read { Some(kind) } else { None }
+        }
     }
 
     // Whether a file of a call that did its work may have warnings.
-    fn is_warned(&self, kind: Kind) -> bool {
+    fn is_warned(&self, kind: Kind) -> bool
+        ensures { result ≡ true → MayHaveWarnings kind }
+    {
         match kind {
             Kind::Source => is_word_of("compile eval", self.verb().as_bytes()),
             Kind::Inputs => is_word_of("eval run trace", self.verb().as_bytes()),

@@ -1,5 +1,9 @@
 //! The program without calls that a file with procedures is, as people read it.
 
+ghost use Rattle.std.specs.Prelude.{IfOk};
+ghost use Rattle.src_tree.specs.Typing.{DeclaredOnce};
+ghost use Rattle.explain_words.specs.ShownNames.{AreShown};
+
 use crate::shown_names::{number_in, shown_names};
 use crate::tokens::{SOURCE_BYTES, Tokens, tokens_of};
 use gr_base::Memory;
@@ -22,11 +26,10 @@ pub struct WithoutCalls {
 /// The program that a file with procedures is without its calls, as people read it. A variable of the file keeps its
 /// name. One that a call adds has the name of its procedure and of its parameter or local, as `max_k`, with a number if
 /// that name is taken. `text` is the file's, and `program` is the one that it was read as.
-pub fn without_calls(
-    alloc: Global,
-    text: &[u8],
-    program: &Program,
-) -> Result<WithoutCalls, Memory> {
+pub fn without_calls(alloc: Global, text: &[u8], program: &Program) -> Result<WithoutCalls, Memory>
+    ensures { DeclaredOnce program.now.decls.items
+        → IfOk result (λ made. AreShown program.now.decls.items made.names.items) }
+{
     let all = tokens_of(alloc, text)?;
     let all = all.as_slice();
     let names = shown_names(

@@ -1,5 +1,9 @@
 //! The names of variables for people. A variable that a call adds is named after its procedure and its parameter or local.
 
+ghost use Rattle.std.specs.Prelude.{◌≡◌, false, IfOk};
+ghost use Rattle.src_tree.specs.Typing.{DeclaredOnce};
+ghost use Rattle.explain_words.specs.ShownNames.{AreShown, IsNew};
+
 use crate::procedures::{Counted, Frame, Place, Procedures};
 use crate::tokens::Tokens;
 use gr_base::Memory;
@@ -35,7 +39,9 @@ pub(crate) fn shown_names(
     alloc: Global,
     tokens: Tokens<'_>,
     decls: &[Decl],
-) -> Result<Vec<Name>, Memory> {
+) -> Result<Vec<Name>, Memory>
+    ensures { DeclaredOnce decls.now → IfOk result (λ names. AreShown decls.now names.items) }
+{
     let procedures = Procedures::of(alloc, tokens)?;
     let mut names = Vec::new(alloc);
     let mut added = 0u64;
@@ -76,7 +82,9 @@ fn free_name(
     declared: &[Decl],
     names: &[Name],
     wanted: &[u8],
-) -> Result<Name, Memory> {
+) -> Result<Name, Memory>
+    ensures { IfOk result (IsNew declared.now names.now) }
+{
     let mut name = beginning(alloc, wanted, NAME_BYTES)?;
     for number in 2..u64::MAX {
         if name_fits(&name) && !is_taken(declared, names, &name) {
@@ -89,7 +97,9 @@ fn free_name(
 }
 
 // Whether a name is declared, or is one of some names.
-fn is_taken(declared: &[Decl], names: &[Name], name: &[u8]) -> bool {
+fn is_taken(declared: &[Decl], names: &[Name], name: &[u8]) -> bool
+    ensures { result ≡ false → IsNew declared.now names.now name.now }
+{
     for decl in declared {
         if decl.name.bytes() == name {
             return true;
