@@ -1,164 +1,99 @@
 -- The open blocks of a state are the open braces of its tokens.
-use Rattle.std.proofs.Common.{◌≡◌, ℕ, ◌+◌, Bool, true, false, List, [], ◌∷◌, Option, Some, None, refl, sym, ap, ◌∙◌, arith}
+use Rattle.std.proofs.Common.{◌≡◌, ℕ, ◌+◌, Bool, true, false, List, [], ◌∷◌, Option, Some, None, refl, sym, ap, ◌∙◌, subst, arith}
 use Rattle.std.specs.Prelude.{nat_lt, bytes_eq, if◌then◌else◌}
 use Rattle.src_lexer.specs.declared.tokens.TokenKind.{TokenKind}
 use Rattle.src_lexer.specs.declared.tokens.TokenKind.TheVariants as kind
 use Rattle.src_tree.specs.declared.trees.Decl.{Decl}
-use Rattle.src_tree.specs.Trees.{Tree, Test}
 use Rattle.src_procs.specs.Trees.{Statement, Parameter, Procedure}
 use Rattle.procs_parser.specs.FileGrammar.{proc_word}
 use Rattle.src_parser.specs.Grammar.{Limits}
 use Rattle.src_parser.specs.Headings.{HeadingState, Begun, Declared, heading_advanced}
-use Rattle.src_parser.specs.Operands.{Reading, At, Wanted, TokenStep, Moves, Stops, Deep, reads, whole, used_of}
-use Rattle.src_parser.specs.Parts.{Form, VariableSet, ElementSet, GuardRead, PartState, Still, Done, targeting, part_advanced}
-use Rattle.src_parser.specs.Tokenwise.{Advance, Goes, Wrong, mapped}
+use Rattle.src_parser.specs.Statements.{Outer, Phase, Ready, MayElse, InPart, Guarded, Otherwise, Blocks, Among, performed, is_complete, complete_of, depth_in, depth_of}
+use Rattle.src_parser.specs.Tokenwise.{Advance, Goes, Wrong}
 use Rattle.src_parser.proofs.Tokenwise.{Counted}
-use Rattle.src_parser.proofs.Braces.{same_state, mapped_goes, braces_counted, moves_counted, targeting_counted, part_counted, heading_counted}
-use Rattle.procs_parser.specs.FileAdvances.{Outer, InFirst, InSecond, InLoop, Phase, Ready, MayElse, Named, Calling, Argument, Called, InPart, Guarded, Otherwise, ParserState, Between, Declaring, Doing, Naming, Front, Outside, InProcedure, HeadPhase, Opening, NoneYet, OneMore, ScalarLabelled, ScalarTyped, ArrayTyped, ArrayTitled, ArrayClosing, Behind, AllRead, LocalFresh, LocalLabelled, LocalTyped, LocalTitled, depth_of, head_depth, opening, parameter_begins, names_next, is_hidden_token, taken, leaving, between_statements, chosen, elsing, with_part, behind_name, behind_argument, argument_ends, in_argument, calling, calling_ends, entering, otherwise, does, between, with_heading, advanced, open_braces}
+use Rattle.src_parser.proofs.Braces.{same_state, mapped_goes, braces_counted, heading_counted}
+use Rattle.src_parser.proofs.StatementBraces.{statements_counted}
+use Rattle.procs_parser.specs.Calls.{CallStep, Still, Done, call_advanced}
+use Rattle.procs_parser.specs.FileAdvances.{ParserState, Between, Declaring, Doing, Calling, Naming, Front, Outside, InProcedure, HeadPhase, Opening, NoneYet, OneMore, ScalarLabelled, ScalarTyped, ArrayTyped, ArrayTitled, ArrayClosing, Behind, AllRead, LocalFresh, LocalLabelled, LocalTyped, LocalTitled, front_depth, with_calls, head_depth, performs, ending, brace_next, target_of, bracket_next, opening, word_next, statement_next, with_call, starts, between, parameter_begins, names_next, is_hidden_token, taken, with_heading, advanced, open_braces}
+use Rattle.procs_parser.proofs.CallLimits.{call_counted}
 
 same_count : (x y : ParserState) → ◌≡◌ {A = Advance ParserState} (Goes x) (Goes y) → open_braces y ≡ open_braces x
 same_count x y e = ap open_braces (sym (same_state x y e))
 
-leaving_counted : (front : Front) (outer : List Outer) (here : List Statement) (next : ParserState)
-    → leaving front outer here ≡ Goes next → depth_of front outer ≡ open_braces next + 1
-leaving_counted (Outside decls procedures) [] here next e = absurd (cc)
-leaving_counted (InProcedure decls procedures name ps ls) [] here next e = let h = same_count _ next e in omega arith
-leaving_counted front (InFirst test before ∷ outer) here next e = let h = same_count _ next e in omega arith
-leaving_counted front (InSecond test first before ∷ outer) here next e = let h = same_count _ next e in omega arith
-leaving_counted front (InLoop test before ∷ outer) here next e = let h = same_count _ next e in omega arith
+performs_counted : (most : Limits) (front : Front) (blocks : Blocks Statement) (k : TokenKind) (next : ParserState)
+    → performs most front blocks k ≡ Goes next
+    → Counted k most.braces (depth_of (front_depth front) blocks) (open_braces next)
+performs_counted most front blocks k next e =
+    mapped_goes (Doing front) (performed with_calls most (front_depth front) blocks k) next e
+    (λ x is at. subst (λ z. Counted k most.braces (depth_of (front_depth front) blocks) (open_braces z)) at
+    (statements_counted with_calls (front_depth front) most blocks k x is))
 
-beginning_counted : (most : ℕ) (front : Front) (outer : List Outer) (here : List Statement) (k : TokenKind)
-    (next : ParserState) → between_statements front outer here k ≡ Goes next
-    → Counted k most (depth_of front outer) (open_braces next)
-beginning_counted most front outer here (kind.Word name) next e = same_count _ next e
-beginning_counted most front outer here kind.If next e = same_count _ next e
-beginning_counted most front outer here kind.While next e = same_count _ next e
-beginning_counted most front outer here kind.RBrace next e = leaving_counted front outer here next e
-beginning_counted most front outer here _ next e = absurd (cc)
+-- a procedure has one brace
+ending_counted : (front : Front) (o : Option (List Statement)) (next : ParserState) → ending front o ≡ Goes next
+    → front_depth front ≡ open_braces next + 1
+ending_counted (InProcedure decls procedures name ps ls) (Some body) next e =
+    let h = same_count _ next e in omega arith
+ending_counted _ _ next e = absurd (cc)
 
-elsing_counted : (most : ℕ) (front : Front) (outer : List Outer) (here : List Statement) (test : Test)
-    (first : List Statement) (k : TokenKind) (next : ParserState)
-    → elsing front outer here test first k ≡ Goes next → Counted k most (depth_of front outer) (open_braces next)
-elsing_counted most front outer here test first kind.Else next e = same_count _ next e
-elsing_counted most front outer here test first k next e =
-    beginning_counted most front outer (chosen here test first) k next e
+-- complete statements are in no block
+complete_depth : (outside : ℕ) (blocks : Blocks Statement) → is_complete blocks ≡ true
+    → depth_of outside blocks ≡ outside
+complete_depth outside (Among [] here Ready) e = omega arith
+complete_depth outside (Among [] here (MayElse test first)) e = omega arith
+complete_depth outside _ e = absurd (cc)
 
-opening_counted : (front : Front) (outer : List Outer) (here : List Statement) (b : Bool) (name : List ℕ)
-    (next : ParserState) → opening front outer here b name ≡ Goes next → depth_of front outer ≡ open_braces next
+brace_counted : (most : Limits) (front : Front) (blocks : Blocks Statement) (b : Bool) → is_complete blocks ≡ b
+    → (next : ParserState) → brace_next most front blocks b ≡ Goes next
+    → Counted kind.RBrace most.braces (depth_of (front_depth front) blocks) (open_braces next)
+brace_counted most front blocks true is next e =
+    complete_depth (front_depth front) blocks is ∙ ending_counted front (complete_of with_calls blocks) next e
+brace_counted most front blocks false is next e = performs_counted most front blocks kind.RBrace next e
+
+bracket_counted : (most : Limits) (front : Front) (outer : List (Outer Statement)) (here : List Statement)
+    (phase : Phase Statement) (o : Option (List ℕ)) (next : ParserState)
+    → bracket_next most front outer here phase o ≡ Goes next
+    → Counted kind.LParen most.braces (depth_in (front_depth front) outer) (open_braces next)
+bracket_counted most front outer here phase (Some name) next e = same_count _ next e
+bracket_counted most front outer here phase None next e =
+    performs_counted most front (Among outer here phase) kind.LParen next e
+
+opening_counted : (front : Front) (outer : List (Outer Statement)) (here : List Statement) (b : Bool) (name : List ℕ)
+    (next : ParserState) → opening front outer here b name ≡ Goes next
+    → open_braces next ≡ depth_in (front_depth front) outer
 opening_counted (Outside decls procedures) [] [] true name next e = let h = same_count _ next e in omega arith
 opening_counted _ _ _ _ name next e = absurd (cc)
 
-part_count : (front : Front) (outer : List Outer) (here : List Statement) (s : PartState)
-    → open_braces (with_part front outer here s) ≡ depth_of front outer
-part_count front outer here (Still part) = refl
-part_count front outer here (Done (VariableSet name value)) = refl
-part_count front outer here (Done (ElementSet name index value)) = refl
-part_count front outer here (Done (GuardRead form test)) = refl
+word_counted : (most : Limits) (front : Front) (outer : List (Outer Statement)) (here : List Statement)
+    (phase : Phase Statement) (other : List ℕ) (o : Option (List ℕ)) (next : ParserState)
+    → word_next most front outer here phase other o ≡ Goes next
+    → Counted (kind.Word other) most.braces (depth_in (front_depth front) outer) (open_braces next)
+word_counted most front outer here phase other (Some name) next e =
+    opening_counted front outer here (bytes_eq name proc_word) other next e
+word_counted most front outer here phase other None next e =
+    performs_counted most front (Among outer here phase) (kind.Word other) next e
 
-assigned_counted : (most : ℕ) (front : Front) (outer : List Outer) (here : List Statement) (name : List ℕ)
-    (k : TokenKind) (next : ParserState) → mapped (with_part front outer here) (targeting name k) ≡ Goes next
-    → Counted k most (depth_of front outer) (open_braces next)
-assigned_counted most front outer here name k next e =
-    mapped_goes (with_part front outer here) (targeting name k) next e
-    (λ s is at. targeting_counted most name k s (depth_of front outer) (open_braces next) is
-    (ap open_braces (sym at) ∙ part_count front outer here s))
+statement_counted : (most : Limits) (front : Front) (blocks : Blocks Statement) (k : TokenKind) (next : ParserState)
+    → statement_next most front blocks k ≡ Goes next
+    → Counted k most.braces (depth_of (front_depth front) blocks) (open_braces next)
+statement_counted most front (Among outer here phase) kind.LParen next e =
+    bracket_counted most front outer here phase (target_of phase) next e
+statement_counted most front (Among outer here phase) (kind.Word other) next e =
+    word_counted most front outer here phase other (target_of phase) next e
+statement_counted most front (Among outer here phase) kind.RBrace next e =
+    brace_counted most front (Among outer here phase) (is_complete (Among outer here phase)) refl next e
+statement_counted most front (Among outer here phase) k next e =
+    performs_counted most front (Among outer here phase) k next e
 
-behind_name_counted : (most : ℕ) (front : Front) (outer : List Outer) (here : List Statement) (name : List ℕ)
-    (k : TokenKind) (next : ParserState)
-    → behind_name front outer here name k ≡ Goes next → Counted k most (depth_of front outer) (open_braces next)
-behind_name_counted most front outer here name kind.LParen next e = same_count _ next e
-behind_name_counted most front outer here name (kind.Word other) next e =
-    sym (opening_counted front outer here (bytes_eq name proc_word) other next e)
-behind_name_counted most front outer here name k next e = assigned_counted most front outer here name k next e
-
-calling_ends_counted : (most : ℕ) (front : Front) (outer : List Outer) (here : List Statement) (name : List ℕ)
-    (es : List Tree) (k : TokenKind) (next : ParserState)
-    → calling_ends front outer here name es k ≡ Goes next → Counted k most (depth_of front outer) (open_braces next)
-calling_ends_counted most front outer here name es kind.Semi next e = same_count _ next e
-calling_ends_counted most front outer here name es _ next e = absurd (cc)
-
-entering_counted : (most : Limits) (front : Front) (outer : List Outer) (here : List Statement) (form : Form)
-    (test : Test) (k : TokenKind) (next : ParserState)
-    → entering most front outer here form test k ≡ Goes next → Counted k most.braces (depth_of front outer)
-    (open_braces next)
-entering_counted most front outer here form test kind.LBrace next e =
-    braces_counted open_braces most.braces (depth_of front outer)
-    (nat_lt (depth_of front outer) most.braces) _ next refl
-    (omega arith) e
-entering_counted most front outer here form test _ next e = absurd (cc)
-
-otherwise_counted : (most : Limits) (front : Front) (outer : List Outer) (here : List Statement) (test : Test)
-    (first : List Statement) (k : TokenKind) (next : ParserState)
-    → otherwise most front outer here test first k ≡ Goes next
-    → Counted k most.braces (depth_of front outer) (open_braces next)
-otherwise_counted most front outer here test first kind.LBrace next e =
-    braces_counted open_braces most.braces (depth_of front outer)
-    (nat_lt (depth_of front outer) most.braces) _ next refl
-    (omega arith) e
-otherwise_counted most front outer here test first _ next e = absurd (cc)
-
-argument_counted : (most : ℕ) (front : Front) (outer : List Outer) (here : List Statement) (name : List ℕ)
-    (before : List Tree) (tree : Tree) (used : ℕ) (k : TokenKind) (next : ParserState)
-    → behind_argument front outer here name before tree used k ≡ Goes next
-    → Counted k most (depth_of front outer) (open_braces next)
-argument_counted most front outer here name before tree used kind.Semi next e = same_count _ next e
-argument_counted most front outer here name before tree used kind.RParen next e = same_count _ next e
-argument_counted most front outer here name before tree used _ next e = absurd (cc)
-
-argument_ends_counted : (most : ℕ) (front : Front) (outer : List Outer) (here : List Statement) (name : List ℕ)
-    (before : List Tree) (o : Option Tree) (used : ℕ) (k : TokenKind) (next : ParserState)
-    → argument_ends front outer here name before o used k ≡ Goes next
-    → Counted k most (depth_of front outer) (open_braces next)
-argument_ends_counted most front outer here name before None used k next e = absurd (cc)
-argument_ends_counted most front outer here name before (Some tree) used k next e =
-    argument_counted most front outer here name before tree used k next e
-
-in_argument_counted : (most : Limits) (front : Front) (outer : List Outer) (here : List Statement) (name : List ℕ)
-    (before : List Tree) (x : Reading) (k : TokenKind) (s : TokenStep) → reads most x k ≡ s → (next : ParserState)
-    → in_argument front outer here name before k s ≡ Goes next
-    → Counted k most.braces (depth_of front outer) (open_braces next)
-in_argument_counted most front outer here name before x k (Moves y) is next e =
-    moves_counted most x y k (depth_of front outer) (open_braces next) is (same_count _ next e)
-in_argument_counted most front outer here name before x k (Stops y) is next e =
-    argument_ends_counted most.braces front outer here name before (whole y) (used_of y) k next e
-in_argument_counted most front outer here name before x k Deep is next e = absurd (cc)
-
-calling_counted : (most : Limits) (front : Front) (outer : List Outer) (here : List Statement) (name : List ℕ)
-    (k : TokenKind) (next : ParserState) → calling most front outer here name k ≡ Goes next
-    → Counted k most.braces (depth_of front outer) (open_braces next)
-calling_counted most front outer here name kind.RParen next e = same_count _ next e
-calling_counted most front outer here name k next e =
-    in_argument_counted most front outer here name [] (At [] 0 0 Wanted) k (reads most (At [] 0 0 Wanted) k) refl
-    next e
-
-does_counted : (most : Limits) (front : Front) (outer : List Outer) (here : List Statement) (mode : Phase)
-    (k : TokenKind)
-    (next : ParserState)
-    → does most front outer here mode k ≡ Goes next → Counted k most.braces (depth_of front outer) (open_braces next)
-does_counted most front outer here Ready k next e = beginning_counted most.braces front outer here k next e
-does_counted most front outer here (MayElse test first) k next e =
-    elsing_counted most.braces front outer here test first k next e
-does_counted most front outer here (Named name) k next e =
-    behind_name_counted most.braces front outer here name k next e
-does_counted most front outer here (Calling name) k next e = calling_counted most front outer here name k next e
-does_counted most front outer here (Called name es) k next e =
-    calling_ends_counted most.braces front outer here name es k next e
-does_counted most front outer here (Argument name before x) k next e =
-    in_argument_counted most front outer here name before x k (reads most x k) refl next e
-does_counted most front outer here (InPart part) k next e =
-    mapped_goes (with_part front outer here) (part_advanced most part k) next e
-    (λ s is at. part_counted most part k s (depth_of front outer) (open_braces next) is
-    (ap open_braces (sym at) ∙ part_count front outer here s))
-does_counted most front outer here (Guarded form test) k next e =
-    entering_counted most front outer here form test k next e
-does_counted most front outer here (Otherwise test first) k next e =
-    otherwise_counted most front outer here test first k next e
-
-between_counted : (most : ℕ) (decls : List Decl) (k : TokenKind) (next : ParserState)
-    → between decls k ≡ Goes next → Counted k most 0 (open_braces next)
+between_counted : (most : Limits) (decls : List Decl) (k : TokenKind) (next : ParserState)
+    → between most decls k ≡ Goes next → Counted k most.braces 0 (open_braces next)
 between_counted most decls kind.Public next e = same_count _ next e
 between_counted most decls kind.Secret next e = same_count _ next e
-between_counted most decls k next e = beginning_counted most (Outside decls []) [] [] k next e
+between_counted most decls k next e = statement_counted most (Outside decls []) (Among [] [] Ready) k next e
+
+call_count : (front : Front) (outer : List (Outer Statement)) (here : List Statement) (name : List ℕ) (s : CallStep)
+    → open_braces (with_call front outer here name s) ≡ depth_in (front_depth front) outer
+call_count front outer here name (Still call) = refl
+call_count front outer here name (Done es) = refl
 
 heading_count : (decls : List Decl) (s : HeadingState) → open_braces (with_heading decls s) ≡ 0
 heading_count decls (Begun heading) = refl
@@ -201,7 +136,7 @@ names_counted most decls procedures name (AllRead ps) _ next e = absurd (cc)
 names_counted most decls procedures name (LocalFresh ps ls) kind.Public next e = same_count _ next e
 names_counted most decls procedures name (LocalFresh ps ls) kind.Secret next e = same_count _ next e
 names_counted most decls procedures name (LocalFresh ps ls) k next e =
-    beginning_counted most.braces (InProcedure decls procedures name ps ls) [] [] k next e
+    statement_counted most (InProcedure decls procedures name ps ls) (Among [] [] Ready) k next e
 names_counted most decls procedures name (LocalLabelled ps ls label) kind.Int next e = same_count _ next e
 names_counted most decls procedures name (LocalLabelled ps ls label) _ next e = absurd (cc)
 names_counted most decls procedures name (LocalTyped ps ls label) (kind.Word x) next e = same_count _ next e
@@ -211,14 +146,19 @@ names_counted most decls procedures name (LocalTitled ps ls label x) _ next e = 
 
 plain_counted : (most : Limits) (state : ParserState) (k : TokenKind) (next : ParserState)
     → advanced most state k ≡ Goes next → Counted k most.braces (open_braces state) (open_braces next)
-plain_counted most (Between decls) k next e = between_counted most.braces decls k next e
+plain_counted most (Between decls) k next e = between_counted most decls k next e
 plain_counted most (Declaring decls heading) k next e =
     mapped_goes (with_heading decls) (heading_advanced heading k) next e
     (λ s is at. heading_counted most.braces heading k s 0 (open_braces next) is
     (ap open_braces (sym at) ∙ heading_count decls s))
 plain_counted most (Naming decls procedures name phase) k next e =
     names_counted most decls procedures name phase k next e
-plain_counted most (Doing front outer here mode) k next e = does_counted most front outer here mode k next e
+plain_counted most (Doing front blocks) k next e = statement_counted most front blocks k next e
+plain_counted most (Calling front outer here name call) k next e =
+    mapped_goes (with_call front outer here name) (call_advanced most call k) next e
+    (λ s is at. subst (λ n. Counted k most.braces (depth_in (front_depth front) outer) n)
+    (sym (ap open_braces (sym at) ∙ call_count front outer here name s))
+    (call_counted most call k s (depth_in (front_depth front) outer) is))
 
 -- a name that is hidden isn't taken
 pub shown : (b : Bool) (t : Advance ParserState) (next : ParserState) → (if b then Wrong else t) ≡ Goes next

@@ -1,9 +1,12 @@
+pub mod CallTokens
+pub mod CallLimits
+pub mod BlocksSpelled
+pub mod StandingFiles
+pub mod StepsOfFiles
 pub mod RoomsOfFiles
 pub mod BracesOfFiles
-pub mod StandingFiles
 pub mod CompletingFiles
-pub mod StepsOfFiles
-pub mod ParsedFiles
+pub mod StatementsOfFiles
 pub mod ReadFiles
 pub mod FileLaws
 pub mod PlainNames

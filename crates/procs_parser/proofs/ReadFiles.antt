@@ -13,8 +13,10 @@ use Rattle.src_parser.specs.Tokenwise.{Advance, Goes, Wrong, after_advance, with
 use Rattle.src_parser.specs.Headings.{declared}
 use Rattle.src_parser.specs.Grammar.{Limits, Declares, NoMore, Scalar, Array}
 use Rattle.procs_parser.specs.FileGrammar.{HasNoHiddenName, SpellsBlock, Ends, SpellsParameter, AScalar, AnArray, SpellsParameters, LastOne, Another, Parameters, NoParameter, SomeParameters, Locals, NoLocal, Local, Procedures, NoProcedure, AProcedure, SpellsFile, AFile}
-use Rattle.procs_parser.specs.FileAdvances.{Ready, Between, Naming, Doing, NoneYet, OneMore, Behind, AllRead, LocalFresh, Outside, InProcedure, is_hidden_token, taken, advanced, program_of, ParserState}
-use Rattle.procs_parser.proofs.ParsedFiles.{parsed, written, block_again}
+use Rattle.src_parser.specs.Statements.{Among, Ready}
+use Rattle.procs_parser.specs.FileAdvances.{Between, Naming, Doing, NoneYet, OneMore, Behind, AllRead, LocalFresh, Outside, InProcedure, is_hidden_token, taken, advanced, program_of, ParserState}
+use Rattle.procs_parser.proofs.BlocksSpelled.{block_again}
+use Rattle.procs_parser.proofs.StatementsOfFiles.{parsed, body_read}
 
 -- tokens that don't begin with a label
 abbrev NoLabel : List TokenKind → Type 0
@@ -35,7 +37,7 @@ procedures_no_label _ more h = tt
 
 -- before the first statement of a file, and of a procedure
 file_starts : (most : Limits) (decls : List Decl) (tokens : List TokenKind) → NoLabel tokens
-    → parsed most (Between decls) tokens ≡ parsed most (Doing (Outside decls []) [] [] Ready) tokens
+    → parsed most (Between decls) tokens ≡ parsed most (Doing (Outside decls []) (Among [] [] Ready)) tokens
 file_starts most decls [] h = refl
 file_starts most decls (kind.Public ∷ ks) h = absurd h
 file_starts most decls (kind.Secret ∷ ks) h = absurd h
@@ -44,7 +46,7 @@ file_starts most decls (_ ∷ ks) h = refl
 body_starts : (most : Limits) (decls : List Decl) (procedures : List Procedure) (name : List ℕ) (ps : List Parameter)
     (ls : List Decl) (tokens : List TokenKind) → NoLabel tokens
     → parsed most (Naming decls procedures name (LocalFresh ps ls)) tokens
-    ≡ parsed most (Doing (InProcedure decls procedures name ps ls) [] [] Ready) tokens
+    ≡ parsed most (Doing (InProcedure decls procedures name ps ls) (Among [] [] Ready)) tokens
 body_starts most decls procedures name ps ls [] h = refl
 body_starts most decls procedures name ps ls (kind.Public ∷ ks) h = absurd h
 body_starts most decls procedures name ps ls (kind.Secret ∷ ks) h = absurd h
@@ -142,10 +144,10 @@ opens most decls procedures name ps ks room =
 -- procedures are read as their list
 procedures_parsed : (most : Limits) {ts : List TokenKind} {procedures : List Procedure}
     → Procedures most ts procedures → (decls : List Decl) (before : List Procedure) (ks : List TokenKind)
-    → parsed most (Doing (Outside decls before) [] [] Ready) (ts ++ ks)
-    ≡ parsed most (Doing (Outside decls (before ++ procedures)) [] [] Ready) ks
+    → parsed most (Doing (Outside decls before) (Among [] [] Ready)) (ts ++ ks)
+    ≡ parsed most (Doing (Outside decls (before ++ procedures)) (Among [] [] Ready)) ks
 procedures_parsed most NoProcedure decls before ks =
-    ap (λ z. parsed most (Doing (Outside decls z) [] [] Ready) ks) (sym (append-nil before))
+    ap (λ z. parsed most (Doing (Outside decls z) (Among [] [] Ready)) ks) (sym (append-nil before))
 procedures_parsed most (AProcedure {ps = ps} {ls = ls} {body = body} {rest = rest} {parameters = parameters}
     {locals = locals} {block = block} {others = others} name p room l w more) decls before ks =
     rw (
@@ -158,13 +160,13 @@ procedures_parsed most (AProcedure {ps = ps} {ls = ls} {body = body} {rest = res
     ∙ (locals_parsed most l decls before name parameters [] (body ++ kind.RBrace ∷ (rest ++ ks))
     ∙ (body_starts most decls before name parameters locals (body ++ kind.RBrace ∷ (rest ++ ks))
     (writes_no_label w (kind.RBrace ∷ (rest ++ ks)) tt)
-    ∙ (written w (InProcedure decls before name parameters locals) [] [] (kind.RBrace ∷ (rest ++ ks)) refl tt
+    ∙ (body_read w (InProcedure decls before name parameters locals) refl (kind.RBrace ∷ (rest ++ ks)) tt
     ∙ (ap (λ z. parsed most (Doing (Outside decls
-    (before ++ record { name = name; parameters = parameters; locals = locals; body = z } ∷ [])) [] [] Ready)
+    (before ++ record { name = name; parameters = parameters; locals = locals; body = z } ∷ [])) (Among [] [] Ready))
     (rest ++ ks)) (block_again block)
     ∙ (procedures_parsed most more decls
     (before ++ record { name = name; parameters = parameters; locals = locals; body = block } ∷ []) ks
-    ∙ ap (λ z. parsed most (Doing (Outside decls z) [] [] Ready) ks)
+    ∙ ap (λ z. parsed most (Doing (Outside decls z) (Among [] [] Ready)) ks)
     (append_assoc before (record { name = name; parameters = parameters; locals = locals; body = block } ∷ [])
     others))))))))
 
@@ -176,8 +178,8 @@ file_parsed {most} (AFile {front = front} {middle = middle} {back = back} {decls
     ∙ (file_starts most decls (middle ++ back)
     (procedures_no_label p back (subst NoLabel (append-nil back) (writes_no_label w [] tt)))
     ∙ (procedures_parsed most p decls [] back
-    ∙ (ap (λ z. parsed most (Doing (Outside decls procedures) [] [] Ready) z) (sym (append-nil back))
-    ∙ (written w (Outside decls procedures) [] [] [] refl tt
+    ∙ (ap (λ z. parsed most (Doing (Outside decls procedures) (Among [] [] Ready)) z) (sym (append-nil back))
+    ∙ (body_read w (Outside decls procedures) refl [] tt
     ∙ ap (λ z. Some (record { decls = decls; procedures = procedures; body = z })) (block_again body)))))
 
 -- where no name is hidden, each token is taken as it is

@@ -4,110 +4,61 @@ use Rattle.std.specs.Prelude.{bytes_eq, if◌then◌else◌}
 use Rattle.src_lexer.specs.declared.tokens.TokenKind.{TokenKind}
 use Rattle.src_lexer.specs.declared.tokens.TokenKind.TheVariants as kind
 use Rattle.src_tree.specs.declared.trees.Decl.{Decl}
-use Rattle.src_tree.specs.Trees.{Tree, Test}
 use Rattle.src_procs.specs.Trees.{Statement, Parameter, Procedure}
 use Rattle.procs_parser.specs.FileGrammar.{proc_word}
 use Rattle.src_parser.specs.Headings.{heading_advanced}
-use Rattle.src_parser.specs.Operands.{Reading, At, Wanted, whole, used_of}
-use Rattle.src_parser.specs.Parts.{Form, targeting}
-use Rattle.src_parser.specs.Tokenwise.{Goes, Wrong, TooMuch, mapped}
+use Rattle.src_parser.specs.Statements.{Outer, Phase, Ready, Blocks, Among, is_complete, complete_of, depth_in, depth_of}
+use Rattle.src_parser.specs.Tokenwise.{Goes, Wrong, TooMuch}
 use Rattle.src_parser.proofs.Tokenwise.{Shape}
-use Rattle.src_parser.proofs.Rooms.{constant, wrong_not_much, brace_room, mapped_not, mapped_shape, step_shape, targeting_not, part_shape, heading_not, reads_shape}
-use Rattle.procs_parser.specs.FileAdvances.{Outer, InFirst, Phase, Ready, MayElse, Named, Calling, Argument, Called, InPart, Guarded, Otherwise, ParserState, Between, Declaring, Doing, Naming, Front, Outside, InProcedure, HeadPhase, Opening, NoneYet, OneMore, ScalarLabelled, ScalarTyped, ArrayTyped, ArrayTitled, ArrayClosing, Behind, AllRead, LocalFresh, LocalLabelled, LocalTyped, LocalTitled, depth_of, opening, parameter_begins, names_next, is_hidden_token, taken, head_depth, leaving, between_statements, chosen, elsing, with_part, behind_name, behind_argument, argument_ends, calling, calling_ends, entering, otherwise, does, between, with_heading, advanced, open_braces}
+use Rattle.src_parser.proofs.Rooms.{constant, wrong_not_much, brace_room, mapped_shape, heading_not}
+use Rattle.src_parser.proofs.StatementRooms.{statements_shape}
+use Rattle.procs_parser.specs.FileAdvances.{ParserState, Between, Declaring, Doing, Calling, Naming, Front, Outside, InProcedure, HeadPhase, Opening, NoneYet, OneMore, ScalarLabelled, ScalarTyped, ArrayTyped, ArrayTitled, ArrayClosing, Behind, AllRead, LocalFresh, LocalLabelled, LocalTyped, LocalTitled, front_depth, with_calls, performs, ending, brace_next, target_of, bracket_next, opening, word_next, statement_next, with_call, starts, between, parameter_begins, names_next, is_hidden_token, taken, head_depth, with_heading, advanced, open_braces}
+use Rattle.procs_parser.proofs.CallLimits.{call_shape}
 
-leaving_not : (front : Front) (outer : List Outer) (here : List Statement) → leaving front outer here ≢ TooMuch
-leaving_not (Outside decls procedures) [] here e = absurd (cc)
-leaving_not (InProcedure decls procedures name ps ls) [] here e = absurd (cc)
-leaving_not front (InFirst test before ∷ outer) here e = absurd (cc)
-leaving_not front (_ ∷ outer) here e = absurd (cc)
+performs_shape : (front : Front) (blocks : Blocks Statement) (k : TokenKind)
+    → Shape ParserState k (depth_of (front_depth front) blocks) (λ most. performs most front blocks k)
+performs_shape front blocks k = mapped_shape (Doing front) (statements_shape with_calls (front_depth front) blocks k)
 
-beginning_not : (front : Front) (outer : List Outer) (here : List Statement) (k : TokenKind)
-    → between_statements front outer here k ≢ TooMuch
-beginning_not front outer here kind.RBrace e = leaving_not front outer here e
-beginning_not front outer here _ e = absurd (cc)
+ending_not : (front : Front) (o : Option (List Statement)) → ending front o ≢ TooMuch
+ending_not (InProcedure decls procedures name ps ls) (Some body) e = absurd (cc)
+ending_not _ _ e = absurd (cc)
 
-elsing_not : (front : Front) (outer : List Outer) (here : List Statement) (test : Test) (first : List Statement)
-    (k : TokenKind) → elsing front outer here test first k ≢ TooMuch
-elsing_not front outer here test first kind.Else e = absurd (cc)
-elsing_not front outer here test first k e = beginning_not front outer (chosen here test first) k e
+brace_shape : (front : Front) (blocks : Blocks Statement) (b : Bool)
+    → Shape ParserState kind.RBrace (depth_of (front_depth front) blocks) (λ most. brace_next most front blocks b)
+brace_shape front blocks true = constant _ (ending_not front (complete_of with_calls blocks))
+brace_shape front blocks false = performs_shape front blocks kind.RBrace
 
-opening_not : (front : Front) (outer : List Outer) (here : List Statement) (b : Bool) (name : List ℕ)
+bracket_shape : (front : Front) (outer : List (Outer Statement)) (here : List Statement) (phase : Phase Statement)
+    (o : Option (List ℕ)) → Shape ParserState kind.LParen (depth_in (front_depth front) outer)
+    (λ most. bracket_next most front outer here phase o)
+bracket_shape front outer here phase (Some name) = constant _ (λ e. absurd (cc))
+bracket_shape front outer here phase None = performs_shape front (Among outer here phase) kind.LParen
+
+opening_not : (front : Front) (outer : List (Outer Statement)) (here : List Statement) (b : Bool) (name : List ℕ)
     → opening front outer here b name ≢ TooMuch
 opening_not (Outside decls procedures) [] [] true name e = absurd (cc)
 opening_not _ _ _ _ name e = absurd (cc)
 
-assigned_not : (front : Front) (outer : List Outer) (here : List Statement) (name : List ℕ) (k : TokenKind)
-    → mapped (with_part front outer here) (targeting name k) ≢ TooMuch
-assigned_not front outer here name k e =
-    mapped_not (with_part front outer here) (targeting name k) (targeting_not name k) e
+word_shape : (front : Front) (outer : List (Outer Statement)) (here : List Statement) (phase : Phase Statement)
+    (other : List ℕ) (o : Option (List ℕ)) → Shape ParserState (kind.Word other) (depth_in (front_depth front) outer)
+    (λ most. word_next most front outer here phase other o)
+word_shape front outer here phase other (Some name) =
+    constant _ (opening_not front outer here (bytes_eq name proc_word) other)
+word_shape front outer here phase other None = performs_shape front (Among outer here phase) (kind.Word other)
 
-behind_name_not : (front : Front) (outer : List Outer) (here : List Statement) (name : List ℕ) (k : TokenKind)
-    → behind_name front outer here name k ≢ TooMuch
-behind_name_not front outer here name kind.LParen e = absurd (cc)
-behind_name_not front outer here name (kind.Word other) e =
-    opening_not front outer here (bytes_eq name proc_word) other e
-behind_name_not front outer here name k e = assigned_not front outer here name k e
+statement_shape : (front : Front) (blocks : Blocks Statement) (k : TokenKind)
+    → Shape ParserState k (depth_of (front_depth front) blocks) (λ most. statement_next most front blocks k)
+statement_shape front (Among outer here phase) kind.LParen = bracket_shape front outer here phase (target_of phase)
+statement_shape front (Among outer here phase) (kind.Word other) =
+    word_shape front outer here phase other (target_of phase)
+statement_shape front (Among outer here phase) kind.RBrace =
+    brace_shape front (Among outer here phase) (is_complete (Among outer here phase))
+statement_shape front (Among outer here phase) k = performs_shape front (Among outer here phase) k
 
-calling_ends_not : (front : Front) (outer : List Outer) (here : List Statement) (name : List ℕ) (es : List Tree)
-    (k : TokenKind) → calling_ends front outer here name es k ≢ TooMuch
-calling_ends_not front outer here name es kind.Semi e = absurd (cc)
-calling_ends_not front outer here name es _ e = absurd (cc)
-
-argument_not : (front : Front) (outer : List Outer) (here : List Statement) (name : List ℕ) (before : List Tree)
-    (tree : Tree) (used : ℕ) (k : TokenKind) → behind_argument front outer here name before tree used k ≢ TooMuch
-argument_not front outer here name before tree used kind.Semi e = absurd (cc)
-argument_not front outer here name before tree used kind.RParen e = absurd (cc)
-argument_not front outer here name before tree used _ e = absurd (cc)
-
-argument_ends_not : (front : Front) (outer : List Outer) (here : List Statement) (name : List ℕ) (before : List Tree)
-    (o : Option Tree) (used : ℕ) (k : TokenKind) → argument_ends front outer here name before o used k ≢ TooMuch
-argument_ends_not front outer here name before None used k e = absurd (cc)
-argument_ends_not front outer here name before (Some tree) used k e =
-    argument_not front outer here name before tree used k e
-
-argument_shape : (front : Front) (outer : List Outer) (here : List Statement) (name : List ℕ) (before : List Tree)
-    (x : Reading) (k : TokenKind)
-    → Shape ParserState k (depth_of front outer) (λ most. does most front outer here (Argument name before x) k)
-argument_shape front outer here name before x k =
-    step_shape (λ y. Doing front outer here (Argument name before y))
-    (λ y. argument_ends front outer here name before (whole y) (used_of y) k)
-    (λ y. argument_ends_not front outer here name before (whole y) (used_of y) k) (reads_shape x k)
-
-entering_shape : (front : Front) (outer : List Outer) (here : List Statement) (form : Form) (test : Test)
-    (k : TokenKind)
-    → Shape ParserState k (depth_of front outer) (λ most. entering most front outer here form test k)
-entering_shape front outer here form test kind.LBrace = brace_room (depth_of front outer) _
-entering_shape front outer here form test _ = constant Wrong wrong_not_much
-
-otherwise_shape : (front : Front) (outer : List Outer) (here : List Statement) (test : Test)
-    (first : List Statement) (k : TokenKind)
-    → Shape ParserState k (depth_of front outer) (λ most. otherwise most front outer here test first k)
-otherwise_shape front outer here test first kind.LBrace = brace_room (depth_of front outer) _
-otherwise_shape front outer here test first _ = constant Wrong wrong_not_much
-
-calling_shape : (front : Front) (outer : List Outer) (here : List Statement) (name : List ℕ) (k : TokenKind)
-    → Shape ParserState k (depth_of front outer) (λ most. calling most front outer here name k)
-calling_shape front outer here name kind.RParen = constant (Goes (Doing front outer here (Called name [])))
-    (λ e. absurd (cc))
-calling_shape front outer here name k = argument_shape front outer here name [] (At [] 0 0 Wanted) k
-
-does_shape : (front : Front) (outer : List Outer) (here : List Statement) (mode : Phase) (k : TokenKind)
-    → Shape ParserState k (depth_of front outer) (λ most. does most front outer here mode k)
-does_shape front outer here Ready k = constant _ (beginning_not front outer here k)
-does_shape front outer here (MayElse test first) k = constant _ (elsing_not front outer here test first k)
-does_shape front outer here (Named name) k = constant _ (behind_name_not front outer here name k)
-does_shape front outer here (Calling name) k = calling_shape front outer here name k
-does_shape front outer here (Called name es) k = constant _ (calling_ends_not front outer here name es k)
-does_shape front outer here (Argument name before x) k = argument_shape front outer here name before x k
-does_shape front outer here (InPart part) k =
-    mapped_shape (with_part front outer here) (part_shape part k (depth_of front outer))
-does_shape front outer here (Guarded form test) k = entering_shape front outer here form test k
-does_shape front outer here (Otherwise test first) k = otherwise_shape front outer here test first k
-
-between_not : (decls : List Decl) (k : TokenKind) → between decls k ≢ TooMuch
-between_not decls kind.Public e = absurd (cc)
-between_not decls kind.Secret e = absurd (cc)
-between_not decls k e = beginning_not (Outside decls []) [] [] k e
+between_shape : (decls : List Decl) (k : TokenKind) → Shape ParserState k 0 (λ most. between most decls k)
+between_shape decls kind.Public = constant _ (λ e. absurd (cc))
+between_shape decls kind.Secret = constant _ (λ e. absurd (cc))
+between_shape decls k = statement_shape (Outside decls []) (Among [] [] Ready) k
 
 parameter_not : (decls : List Decl) (procedures : List Procedure) (name : List ℕ) (ps : List Parameter) (k : TokenKind)
     → parameter_begins decls procedures name ps k ≢ TooMuch
@@ -130,7 +81,7 @@ local_shape : (decls : List Decl) (procedures : List Procedure) (name : List ℕ
     → Shape ParserState k 1 (λ most. names_next most decls procedures name (LocalFresh ps ls) k)
 local_shape decls procedures name ps ls kind.Public = constant _ (λ e. absurd (cc))
 local_shape decls procedures name ps ls kind.Secret = constant _ (λ e. absurd (cc))
-local_shape decls procedures name ps ls k = constant _ (beginning_not (InProcedure decls procedures name ps ls) [] [] k)
+local_shape decls procedures name ps ls k = statement_shape (InProcedure decls procedures name ps ls) (Among [] [] Ready) k
 
 names_shape : (decls : List Decl) (procedures : List Procedure) (name : List ℕ) (phase : HeadPhase) (k : TokenKind)
     → Shape ParserState k (head_depth phase) (λ most. names_next most decls procedures name phase k)
@@ -163,11 +114,13 @@ names_shape decls procedures name (LocalTitled ps ls label x) _ = constant Wrong
 
 plain_shape : (state : ParserState) (k : TokenKind)
     → Shape ParserState k (open_braces state) (λ most. advanced most state k)
-plain_shape (Between decls) k = constant _ (between_not decls k)
+plain_shape (Between decls) k = between_shape decls k
 plain_shape (Declaring decls heading) k =
     mapped_shape (with_heading decls) (constant (heading_advanced heading k) (heading_not heading k))
 plain_shape (Naming decls procedures name phase) k = names_shape decls procedures name phase k
-plain_shape (Doing front outer here mode) k = does_shape front outer here mode k
+plain_shape (Doing front blocks) k = statement_shape front blocks k
+plain_shape (Calling front outer here name call) k =
+    mapped_shape (with_call front outer here name) (call_shape call k (depth_in (front_depth front) outer))
 
 shown_shape : (b : Bool) (state : ParserState) (k : TokenKind)
     → Shape ParserState k (open_braces state) (λ most. if b then Wrong else advanced most state k)

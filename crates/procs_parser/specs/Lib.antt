@@ -1,4 +1,5 @@
 pub mod FileGrammar
 pub mod FileRefusals
+pub mod Calls
 pub mod FileAdvances
 pub mod StatesSeen

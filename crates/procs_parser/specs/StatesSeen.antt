@@ -1,65 +1,42 @@
 -- For private clauses only: the parser's own types as the proofs see them.
-use Rattle.std.specs.Prelude.{List, map, reverse, Option, Some, None}
-use Rattle.src_tree.specs.Trees.{test_of}
-use Rattle.src_procs.specs.declared.trees.PStmt.{PStmt}
-use Rattle.procs_parser.specs.declared.states.Outer as outers
-use Rattle.procs_parser.specs.declared.states.Outer.TheVariants as outer
-use Rattle.procs_parser.specs.declared.states.Pause as pauses
-use Rattle.procs_parser.specs.declared.states.Pause.TheVariants as pause
-use Rattle.procs_parser.specs.declared.states.Phase as modes
-use Rattle.procs_parser.specs.declared.states.Phase.TheVariants as mode
+use Rattle.std.specs.Prelude.{map, Option, Some, None}
+use Rattle.procs_parser.specs.declared.states.CallPhase as call_phases
+use Rattle.procs_parser.specs.declared.states.CallPhase.TheVariants as call_phase
+use Rattle.procs_parser.specs.declared.states.CallAdvance as call_advances
+use Rattle.procs_parser.specs.declared.states.CallAdvance.TheVariants as call_advance
+use Rattle.procs_parser.specs.declared.states.Mode as modes
+use Rattle.procs_parser.specs.declared.states.Mode.TheVariants as mode
 use Rattle.procs_parser.specs.declared.states.HeadPhase as head_phases
 use Rattle.procs_parser.specs.declared.states.HeadPhase.TheVariants as head
-use Rattle.procs_parser.specs.declared.states.Beginning as beginnings
-use Rattle.procs_parser.specs.declared.states.Beginning.TheVariants as beginning
 use Rattle.procs_parser.specs.declared.states.Front as fronts
 use Rattle.procs_parser.specs.declared.states.Front.TheVariants as front
 use Rattle.procs_parser.specs.declared.states.Start as starts
 use Rattle.procs_parser.specs.declared.states.Start.TheVariants as start
 use Rattle.procs_parser.specs.declared.states.ParserState as states
 use Rattle.procs_parser.specs.declared.states.ParserState.TheVariants as state
-use Rattle.procs_parser.specs.declared.states.Advance as advances
-use Rattle.procs_parser.specs.declared.states.Advance.TheVariants as advance
-use Rattle.procs_parser.specs.declared.states.Blocks as blocks
+use Rattle.procs_parser.specs.declared.states.FileAdvance as advances
+use Rattle.procs_parser.specs.declared.states.FileAdvance.TheVariants as advance
 use Rattle.procs_parser.specs.declared.states.Head as heads
-use Rattle.src_parser.specs.Seen.{form_of, heading_of, part_of, reading_of}
+use Rattle.src_parser.specs.declared.states.Blocks as blocks
+use Rattle.src_parser.specs.Seen.{among, heading_of, outers_of, phase_of, reading_of}
 use Rattle.src_parser.specs.Tokenwise as tokenwise
-use Rattle.src_procs.specs.Trees.{Statement}
+use Rattle.src_parser.specs.Tokenwise.{Advance}
+use Rattle.src_procs.specs.declared.trees.PStmt.{PStmt}
 use Rattle.src_procs.specs.Seen.{statement_of, trees_of, parameter_of, procedure_of}
-use Rattle.procs_parser.specs.FileAdvances.{Beginning, BeginsName, BeginsGuard, EndsBlock, BeginsNothing, Outer, InFirst, InSecond, InLoop, Phase, Ready, MayElse, Named, Calling, Argument, Called, InPart, Guarded, Otherwise, HeadPhase, Opening, NoneYet, OneMore, ScalarLabelled, ScalarTyped, ArrayTyped, ArrayTitled, ArrayClosing, Behind, AllRead, LocalFresh, LocalLabelled, LocalTyped, LocalTitled, Front, Outside, InProcedure, ParserState, Between, Declaring, Naming, Doing}
+use Rattle.procs_parser.specs.Calls.{CallPhase, Opened, Argument, Called, CallState, InCall, CallStep, Still, Done}
+use Rattle.procs_parser.specs.FileAdvances.{HeadPhase, Opening, NoneYet, OneMore, ScalarLabelled, ScalarTyped, ArrayTyped, ArrayTitled, ArrayClosing, Behind, AllRead, LocalFresh, LocalLabelled, LocalTyped, LocalTitled, Front, Outside, InProcedure, ParserState, Between, Declaring, Naming, Doing, Calling}
 
-abbrev pub calls_seen : List PStmt → List Statement
-calls_seen statements = map statement_of statements
+abbrev pub call_phase_of : call_phases.CallPhase → CallPhase
+call_phase_of call_phase.Opened = Opened
+call_phase_of (call_phase.Argument reading) = Argument (reading_of reading)
+call_phase_of call_phase.Called = Called
 
-abbrev pub outer_of : outers.Outer → Outer
-outer_of (outer.InFirst guard before) = InFirst (test_of guard) (calls_seen before.items)
-outer_of (outer.InSecond guard first before) =
-    InSecond (test_of guard) (calls_seen first.items) (calls_seen before.items)
-outer_of (outer.InLoop guard before) = InLoop (test_of guard) (calls_seen before.items)
-
--- the last first
-abbrev pub outers_of : List outers.Outer → List Outer
-outers_of outer = reverse (map outer_of outer)
-
-abbrev pub pause_of : pauses.Pause → Phase
-pause_of pause.Ready = Ready
-pause_of (pause.MayElse guard first) = MayElse (test_of guard) (calls_seen first.items)
-pause_of (pause.Named name) = Named name
-pause_of (pause.Calling name) = Calling name
-pause_of (pause.Argument name before reading) = Argument name (trees_of before.items) (reading_of reading)
-pause_of (pause.Called name arguments) = Called name (trees_of arguments.items)
-pause_of (pause.Guarded f guard) = Guarded (form_of f) (test_of guard)
-pause_of (pause.Otherwise guard first) = Otherwise (test_of guard) (calls_seen first.items)
-
-abbrev pub mode_of : modes.Phase → Phase
-mode_of (mode.Between p) = pause_of p
-mode_of (mode.InPart p) = InPart (part_of p)
-
-abbrev pub beginning_of : beginnings.Beginning → Beginning
-beginning_of (beginning.Name name) = BeginsName name
-beginning_of (beginning.Guard f) = BeginsGuard (form_of f)
-beginning_of beginning.Closing = EndsBlock
-beginning_of beginning.Nothing = BeginsNothing
+-- by the call that is left
+abbrev pub call_advance_of : call_advances.CallAdvance → CallState → Advance CallStep
+call_advance_of call_advance.Goes call = tokenwise.Goes (Still call)
+call_advance_of call_advance.Ends (InCall es phase) = tokenwise.Goes (Done es)
+call_advance_of call_advance.Wrong call = tokenwise.Wrong
+call_advance_of call_advance.TooMuch call = tokenwise.TooMuch
 
 abbrev pub head_phase_of : head_phases.HeadPhase → HeadPhase
 head_phase_of head.Opening = Opening
@@ -82,8 +59,12 @@ front_of (front.Outside decls procs) = Outside decls.items (map procedure_of pro
 front_of (front.InProcedure h ps ls) =
     InProcedure h.decls.items (map procedure_of h.procs.items) h.name (map parameter_of ps.items) ls.items
 
-abbrev pub doing : blocks.Blocks → Phase → ParserState
-doing b mode = Doing (front_of b.front) (outers_of b.outer.items) (calls_seen b.here.items) mode
+-- among statements, or in a call
+abbrev pub doing : fronts.Front → blocks.Blocks PStmt → modes.Mode → ParserState
+doing f b (mode.Reading p) = Doing (front_of f) (among statement_of b (phase_of statement_of p))
+doing f b (mode.Calling name arguments p) =
+    Calling (front_of f) (outers_of statement_of b.outer.items) (map statement_of b.here.items) name
+    (InCall (trees_of arguments.items) (call_phase_of p))
 
 abbrev pub named : heads.Head → HeadPhase → ParserState
 named h phase = Naming h.decls.items (map procedure_of h.procs.items) h.name phase
@@ -95,15 +76,15 @@ start_of (start.Naming h phase) = named h (head_phase_of phase)
 
 abbrev pub state_of : states.ParserState → ParserState
 state_of (state.Before s) = start_of s
-state_of (state.Doing b mode) = doing b (mode_of mode)
+state_of (state.Doing f b m) = doing f b m
 
 -- a procedure begins, or none
-abbrev pub opened : Option heads.Head → tokenwise.Advance ParserState
+abbrev pub opened : Option heads.Head → Advance ParserState
 opened (Some h) = tokenwise.Goes (named h Opening)
 opened None = tokenwise.Wrong
 
 -- by the state that is left
-abbrev pub advance_of : advances.Advance → ParserState → tokenwise.Advance ParserState
+abbrev pub advance_of : advances.FileAdvance → ParserState → Advance ParserState
 advance_of advance.Goes s = tokenwise.Goes s
 advance_of (advance.Opens h) s = tokenwise.Goes (named h Opening)
 advance_of advance.Wrong s = tokenwise.Wrong

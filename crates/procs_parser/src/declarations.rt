@@ -1,16 +1,17 @@
-ghost use Rattle.std.specs.Prelude.{◌≡◌, [], IfOk};
+ghost use Rattle.std.specs.Prelude.{◌≡◌, IfOk};
 ghost use Rattle.src_parser.specs.Grammar.{limits};
 ghost use Rattle.src_parser.specs.Seen.{heading_of};
-ghost use Rattle.procs_parser.specs.FileAdvances.{between, between_statements, advanced, Declaring};
+ghost use Rattle.procs_parser.specs.FileAdvances.{between, starts, advanced, Declaring};
 ghost use Rattle.procs_parser.specs.StatesSeen.{advance_of, state_of, front_of};
 
-use crate::statements::begin;
-use crate::states::{Advance, Blocks, Front, ParserState, Pause, Phase, Start};
+use crate::statements::read_statement;
+use crate::states::{FileAdvance, Front, Mode, ParserState, Start};
 use gr_base::Memory;
 use gr_word::Label;
 use src_lexer::TokenKind;
 use src_parser::headings::{Heading, HeadingAdvance, read_heading};
 use src_parser::putting::put;
+use src_parser::states::{Blocks, Pause, Phase};
 use src_tree::Decl;
 use std::alloc::Global;
 
@@ -18,19 +19,18 @@ use std::alloc::Global;
 pub(crate) fn start_statements(
     alloc: Global,
     state: &mut ParserState,
-    front: Front,
+    mut front: Front,
     kind: &TokenKind,
-) -> Result<Advance, Memory>
-    ensures { IfOk result (λ t. advance_of t (state_of state.new) ≡ between_statements (front_of front) [] [] kind.now) }
+) -> Result<FileAdvance, Memory>
+    ensures { IfOk result (λ t. advance_of t (state_of state.new) ≡ starts limits (front_of front) kind.now) }
 {
     let mut blocks = Blocks {
-        front,
         outer: Vec::new(alloc),
         here: Vec::new(alloc),
     };
-    let mut mode = Phase::Between(Pause::Ready);
-    let advance = begin(alloc, &mut blocks, &mut mode, kind);
-    put(state, ParserState::Doing(blocks, mode));
+    let mut mode = Mode::Reading(Phase::Between(Pause::Ready));
+    let advance = read_statement(alloc, &mut front, &mut blocks, &mut mode, kind);
+    put(state, ParserState::Doing(front, blocks, mode));
     advance
 }
 
@@ -40,8 +40,8 @@ pub(crate) fn begin_declaration(
     state: &mut ParserState,
     decls: Vec<Decl>,
     kind: &TokenKind,
-) -> Result<Advance, Memory>
-    ensures { IfOk result (λ t. advance_of t (state_of state.new) ≡ between decls.items kind.now) }
+) -> Result<FileAdvance, Memory>
+    ensures { IfOk result (λ t. advance_of t (state_of state.new) ≡ between limits decls.items kind.now) }
 {
     match kind {
         TokenKind::Public => {
@@ -49,14 +49,14 @@ pub(crate) fn begin_declaration(
                 state,
                 ParserState::Before(Start::Declaring(decls, Heading::Labelled(Label::Public))),
             );
-            Ok(Advance::Goes)
+            Ok(FileAdvance::Goes)
         }
         TokenKind::Secret => {
             put(
                 state,
                 ParserState::Before(Start::Declaring(decls, Heading::Labelled(Label::Secret))),
             );
-            Ok(Advance::Goes)
+            Ok(FileAdvance::Goes)
         }
         _ => start_statements(alloc, state, Front::Outside(decls, Vec::new(alloc)), kind),
     }
@@ -69,20 +69,20 @@ pub(crate) fn declare(
     mut decls: Vec<Decl>,
     heading: Heading,
     kind: &TokenKind,
-) -> Result<Advance, Memory>
+) -> Result<FileAdvance, Memory>
     ensures { IfOk result (λ t. advance_of t (state_of state.new)
         ≡ advanced limits (Declaring decls.items (heading_of heading)) kind.now) }
 {
     match read_heading(alloc, heading, kind)? {
         HeadingAdvance::Goes(next) => {
             put(state, ParserState::Before(Start::Declaring(decls, next)));
-            Ok(Advance::Goes)
+            Ok(FileAdvance::Goes)
         }
         HeadingAdvance::Ends(decl) => {
             decls.push(decl)?;
             put(state, ParserState::Before(Start::Between(decls)));
-            Ok(Advance::Goes)
+            Ok(FileAdvance::Goes)
         }
-        HeadingAdvance::Wrong => Ok(Advance::Wrong),
+        HeadingAdvance::Wrong => Ok(FileAdvance::Wrong),
     }
 }

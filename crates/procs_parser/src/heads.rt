@@ -7,7 +7,7 @@ ghost use Rattle.src_parser.specs.Headings.{declared};
 ghost use Rattle.procs_parser.specs.StatesSeen.{advance_of, state_of, named, head_phase_of};
 
 use crate::declarations::start_statements;
-use crate::states::{Advance, Front, Head, HeadPhase, ParserState, Start};
+use crate::states::{FileAdvance, Front, Head, HeadPhase, ParserState, Start};
 use gr_base::Memory;
 use gr_word::{Label, Name};
 use src_lexer::TokenKind;
@@ -17,21 +17,26 @@ use src_tree::Decl;
 use std::alloc::Global;
 
 // The token has no place in a head, which is dropped by this call: what is dropped in line is proved at each exit.
-fn wrong(_head: Head) -> Advance
-    ensures { result ≡ Advance.Wrong }
+fn wrong(_head: Head) -> FileAdvance
+    ensures { result ≡ FileAdvance.Wrong }
 {
-    Advance::Wrong
+    FileAdvance::Wrong
 }
 
-fn goes(state: &mut ParserState, head: Head, phase: HeadPhase) -> Advance
+fn goes(state: &mut ParserState, head: Head, phase: HeadPhase) -> FileAdvance
     ensures { advance_of result (state_of state.new) ≡ Goes (named head (head_phase_of phase)) }
 {
     put(state, ParserState::Before(Start::Naming(head, phase)));
-    Advance::Goes
+    FileAdvance::Goes
 }
 
 // The first token of a parameter.
-fn parameter(state: &mut ParserState, head: Head, params: Vec<Param>, kind: &TokenKind) -> Advance
+fn parameter(
+    state: &mut ParserState,
+    head: Head,
+    params: Vec<Param>,
+    kind: &TokenKind,
+) -> FileAdvance
     ensures { advance_of result (state_of state.new)
         ≡ parameter_begins head.decls.items (map procedure_of head.procs.items) head.name
         (map parameter_of params.items) kind.now }
@@ -53,7 +58,7 @@ fn parameter(state: &mut ParserState, head: Head, params: Vec<Param>, kind: &Tok
 }
 
 // The first token after the bracket of a head.
-fn first(alloc: Global, state: &mut ParserState, head: Head, kind: &TokenKind) -> Advance
+fn first(alloc: Global, state: &mut ParserState, head: Head, kind: &TokenKind) -> FileAdvance
     ensures { advance_of result (state_of state.new)
         ≡ names_next limits head.decls.items (map procedure_of head.procs.items) head.name NoneYet
         kind.now }
@@ -70,7 +75,7 @@ fn add(
     head: Head,
     mut params: Vec<Param>,
     param: Param,
-) -> Result<Advance, Memory>
+) -> Result<FileAdvance, Memory>
     ensures { IfOk result (λ t. advance_of t (state_of state.new)
         ≡ Goes (named head (Behind (map parameter_of params.items ++ parameter_of param ∷ [])))) }
 {
@@ -86,7 +91,7 @@ fn scalar_name(
     params: Vec<Param>,
     label: Label,
     kind: &TokenKind,
-) -> Result<Advance, Memory>
+) -> Result<FileAdvance, Memory>
     ensures { IfOk result (λ t. advance_of t (state_of state.new)
         ≡ names_next limits head.decls.items (map procedure_of head.procs.items)
         head.name (ScalarTyped (map parameter_of params.items) label) kind.now) }
@@ -107,7 +112,7 @@ fn array_name(
     head: Head,
     params: Vec<Param>,
     kind: &TokenKind,
-) -> Result<Advance, Memory>
+) -> Result<FileAdvance, Memory>
     ensures { IfOk result (λ t. advance_of t (state_of state.new)
         ≡ names_next limits head.decls.items (map procedure_of head.procs.items)
         head.name (ArrayTyped (map parameter_of params.items)) kind.now) }
@@ -129,7 +134,7 @@ fn start(
     params: Vec<Param>,
     locals: Vec<Decl>,
     kind: &TokenKind,
-) -> Result<Advance, Memory>
+) -> Result<FileAdvance, Memory>
     ensures { IfOk result (λ t. advance_of t (state_of state.new)
         ≡ names_next limits head.decls.items (map procedure_of head.procs.items)
         head.name (LocalFresh (map parameter_of params.items) locals.items) kind.now) }
@@ -158,7 +163,7 @@ fn local_name(
     locals: Vec<Decl>,
     label: Label,
     kind: &TokenKind,
-) -> Result<Advance, Memory>
+) -> Result<FileAdvance, Memory>
     ensures { IfOk result (λ t. advance_of t (state_of state.new)
         ≡ names_next limits head.decls.items (map procedure_of head.procs.items)
         head.name (LocalTyped (map parameter_of params.items) locals.items label) kind.now) }
@@ -184,7 +189,7 @@ fn add_local(
     mut locals: Vec<Decl>,
     label: Label,
     name: Name,
-) -> Result<Advance, Memory>
+) -> Result<FileAdvance, Memory>
     ensures { IfOk result (λ t. advance_of t (state_of state.new)
         ≡ Goes (named head (LocalFresh (map parameter_of params.items)
         (locals.items ++ declared label name None ∷ [])))) }
@@ -204,7 +209,7 @@ pub(crate) fn name_next(
     head: Head,
     phase: HeadPhase,
     kind: &TokenKind,
-) -> Result<Advance, Memory>
+) -> Result<FileAdvance, Memory>
     ensures { IfOk result (λ t. advance_of t (state_of state.new)
         ≡ names_next limits head.decls.items (map procedure_of head.procs.items)
         head.name (head_phase_of phase) kind.now) }

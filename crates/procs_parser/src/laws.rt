@@ -1,11 +1,26 @@
 ghost use Rattle.std.specs.Prelude.{◌≡◌, ◌≢◌, List};
 ghost use Rattle.src_lexer.specs.declared.tokens.Token.{Token};
+ghost use Rattle.src_lexer.specs.declared.tokens.TokenKind.{TokenKind};
+ghost use Rattle.src_parser.specs.Grammar.{limits};
+ghost use Rattle.src_parser.specs.Refusals.{token_kinds};
 ghost use Rattle.src_parser.specs.declared.errors.ParseError.{ParseError};
 ghost use Rattle.src_parser.specs.declared.errors.ParseError.TheVariants.{Memory};
+ghost use Rattle.src_procs.specs.Trees.{File};
+ghost use Rattle.procs_parser.specs.FileGrammar.{SpellsFile};
 ghost use Rattle.procs_parser.specs.FileRefusals.{ExplainsFile};
 
-/// A law: of tokens one refusal as a file with procedures is true at most, with its reason and its place. `Memory` says
-/// nothing of them.
+/// A law: tokens are at most one file.
+pub fn one_file()
+    ensures { (tokens : List TokenKind) (f g : File) → SpellsFile limits tokens f → SpellsFile limits tokens g → f ≡ g }
+{}
+
+/// A law: no error is true of tokens that are a file. `Memory` says nothing about them.
+pub fn no_refusal()
+    ensures { (tokens : List Token) (f : File) (e : ParseError) → SpellsFile limits (token_kinds tokens) f
+        → ExplainsFile e tokens → e ≢ Memory → ⊥ }
+{}
+
+/// A law: at most one error is true of tokens, with its reason and its place. `Memory` says nothing about them.
 pub fn one_refusal()
     ensures { (tokens : List Token) (a b : ParseError) → ExplainsFile a tokens → ExplainsFile b tokens
         → a ≢ Memory → b ≢ Memory → a ≡ b }

@@ -1,23 +1,27 @@
-ghost use Rattle.std.specs.Prelude.{◌≡◌, None, ◌^◌, ◌<◌, IfErr, IfOk, if◌then◌else◌, length, option_map};
+ghost use Rattle.std.specs.Prelude.{◌≡◌, None, ◌^◌, ◌<◌, IfErr, IfOk, Some, if◌then◌else◌, length, map, option_map};
 ghost use Rattle.src_parser.specs.Grammar.{limits};
 ghost use Rattle.src_parser.specs.Refusals.{token_kinds};
 ghost use Rattle.src_parser.specs.Tokenwise.{Wrong};
 ghost use Rattle.procs_parser.specs.FileGrammar.{SpellsFile};
 ghost use Rattle.procs_parser.specs.FileRefusals.{ExplainsFile};
-ghost use Rattle.procs_parser.specs.FileAdvances.{advanced, taken, is_hidden_token, program_of, file_at, Ready};
+ghost use Rattle.procs_parser.specs.FileAdvances.{advanced, taken, is_hidden_token, file_at, program_of, Doing};
+ghost use Rattle.src_parser.specs.Seen.{among, phase_of};
 ghost use Rattle.src_procs.specs.Promise.{ArePlain};
-ghost use Rattle.src_procs.specs.Seen.{file_of};
-ghost use Rattle.procs_parser.specs.StatesSeen.{advance_of, start_of, state_of, doing, pause_of, mode_of};
+ghost use Rattle.src_procs.specs.Seen.{file_of, statement_of};
+ghost use Rattle.procs_parser.specs.StatesSeen.{advance_of, front_of, start_of, state_of};
 
 use crate::declarations::{begin_declaration, declare};
 use crate::heads::name_next;
-use crate::statements::{choose, perform};
-use crate::states::{Advance, Blocks, Front, HeadPhase, ParserState, Pause, Phase, Start};
+use crate::languages::ProcFiles;
+use crate::statements::read_statement;
+use crate::states::{CallPhase, FileAdvance, Front, HeadPhase, Mode, ParserState, Start};
 use gr_base::Memory;
 use src_lexer::{Token, TokenKind};
 use src_parser::ParseError;
 use src_parser::putting::put;
-use src_procs::{ProcFile, is_hidden};
+use src_parser::statements::complete;
+use src_parser::states::{Blocks, Phase};
+use src_procs::{PStmt, ProcFile, is_hidden};
 use std::alloc::Global;
 use std::mem;
 
@@ -37,7 +41,7 @@ fn start(
     state: &mut ParserState,
     start: Start,
     kind: &TokenKind,
-) -> Result<Advance, Memory>
+) -> Result<FileAdvance, Memory>
     ensures { IfOk result (λ t. advance_of t (state_of state.new) ≡ advanced limits (start_of start) kind.now) }
 {
     match start {
@@ -48,11 +52,13 @@ fn start(
 }
 
 // The next token of a file, for any name.
-fn advance(alloc: Global, state: &mut ParserState, kind: &TokenKind) -> Result<Advance, Memory>
+fn advance(alloc: Global, state: &mut ParserState, kind: &TokenKind) -> Result<FileAdvance, Memory>
     ensures { IfOk result (λ t. advance_of t (state_of state.new) ≡ advanced limits (state_of state.old) kind.now) }
 {
     match state {
-        ParserState::Doing(blocks, mode) => perform(alloc, blocks, mode, kind),
+        ParserState::Doing(front, blocks, mode) => {
+            read_statement(alloc, front, blocks, mode, kind)
+        }
         ParserState::Before(before) => {
             let before = mem::replace(before, Start::Between(Vec::new(alloc)));
             start(alloc, state, before, kind)
@@ -61,82 +67,52 @@ fn advance(alloc: Global, state: &mut ParserState, kind: &TokenKind) -> Result<A
 }
 
 // The next token of a file.
-fn take(alloc: Global, state: &mut ParserState, kind: &TokenKind) -> Result<Advance, Memory>
+fn take(alloc: Global, state: &mut ParserState, kind: &TokenKind) -> Result<FileAdvance, Memory>
     ensures { IfOk result (λ t. advance_of t (state_of state.new) ≡ taken limits (state_of state.old) kind.now) }
 {
     if is_hidden_token(kind) {
-        return Ok(Advance::Wrong);
+        return Ok(FileAdvance::Wrong);
     }
     advance(alloc, state, kind)
 }
 
-fn whole(blocks: Blocks) -> Option<ProcFile>
-    ensures { option_map file_of result ≡ program_of (doing blocks Ready) }
+// The file with these statements, if they are in no procedure.
+fn file_with(front: Front, body: Vec<PStmt>) -> Option<ProcFile>
+    ensures { option_map file_of result ≡ file_at (front_of front) (Some (map statement_of body.items)) }
 {
-    let Blocks { front, outer, here } = blocks;
-    if !outer.is_empty() {
-        return None;
-    }
     match front {
-        Front::Outside(decls, procs) => Some(ProcFile {
-            decls,
-            procs,
-            body: here,
-        }),
+        Front::Outside(decls, procs) => Some(ProcFile { decls, procs, body }),
         Front::InProcedure(_head, _params, _locals) => None,
     }
 }
 
-// No file, where its statements aren't whole. They are dropped by this call: what is dropped in line is proved at each
+// No file, where a call isn't complete. What was read is dropped by this call: what is dropped in line is proved at each
 // exit.
-fn unfinished(_blocks: Blocks) -> Option<ProcFile>
+fn unfinished(_front: Front, _blocks: Blocks<PStmt>, _phase: CallPhase) -> Option<ProcFile>
     ensures { result ≡ None }
 {
     None
 }
 
-// The file, if its statements are between two parts and complete.
-fn paused(alloc: Global, mut blocks: Blocks, pause: Pause) -> Result<Option<ProcFile>, Memory>
-    ensures { IfOk result (λ p. option_map file_of p ≡ program_of (doing blocks (pause_of pause))) }
-{
-    match pause {
-        Pause::Ready => Ok(whole(blocks)),
-        Pause::MayElse(guard, first) => {
-            match choose(alloc, &mut blocks, guard, first) {
-                Ok(()) => Ok(whole(blocks)),
-                Err(error) => {
-                    drop(blocks);
-                    Err(error)
-                }
-            }
-        }
-        Pause::Named(_name) => Ok(unfinished(blocks)),
-        Pause::Calling(_name) => Ok(unfinished(blocks)),
-        Pause::Argument(_name, _before, reading) => {
-            drop(reading);
-            Ok(unfinished(blocks))
-        }
-        Pause::Called(_name, _arguments) => Ok(unfinished(blocks)),
-        Pause::Guarded(_form, guard) => {
-            drop(guard);
-            Ok(unfinished(blocks))
-        }
-        Pause::Otherwise(guard, _first) => {
-            drop(guard);
-            Ok(unfinished(blocks))
-        }
-    }
-}
-
 // The file, where its statements are whole.
-fn settle(alloc: Global, blocks: Blocks, mode: Phase) -> Result<Option<ProcFile>, Memory>
-    ensures { IfOk result (λ p. option_map file_of p ≡ program_of (doing blocks (mode_of mode))) }
+fn settle(
+    alloc: Global,
+    front: Front,
+    blocks: Blocks<PStmt>,
+    phase: Phase<PStmt>,
+) -> Result<Option<ProcFile>, Memory>
+    ensures { IfOk result (λ p. option_map file_of p
+        ≡ program_of (Doing (front_of front) (among statement_of blocks (phase_of statement_of phase)))) }
 {
-    match mode {
-        Phase::Between(pause) => paused(alloc, blocks, pause),
-        Phase::InPart(part) => {
-            drop(part);
-            Ok(unfinished(blocks))
+    match complete::<ProcFiles>(alloc, blocks, phase) {
+        Ok(Some(body)) => Ok(file_with(front, body)),
+        Ok(None) => {
+            drop(front);
+            Ok(None)
+        }
+        Err(error) => {
+            drop(front);
+            Err(error)
         }
     }
 }
@@ -168,7 +144,10 @@ fn conclude(alloc: Global, state: ParserState) -> Result<Option<ProcFile>, Memor
     ensures { IfOk result (λ p. option_map file_of p ≡ program_of (state_of state)) }
 {
     match state {
-        ParserState::Doing(blocks, mode) => settle(alloc, blocks, mode),
+        ParserState::Doing(front, blocks, mode) => match mode {
+            Mode::Reading(phase) => settle(alloc, front, blocks, phase),
+            Mode::Calling(_name, _arguments, phase) => Ok(unfinished(front, blocks, phase)),
+        },
         ParserState::Before(start) => Ok(unbegun(alloc, start)),
     }
 }
@@ -194,16 +173,16 @@ pub fn parse_procs(alloc: Global, tokens: &[Token]) -> Result<ProcFile, ParseErr
             return Err(ParseError::Memory);
         };
         match advance {
-            Advance::Goes => {}
-            Advance::Opens(head) => {
+            FileAdvance::Goes => {}
+            FileAdvance::Opens(head) => {
                 let start = Start::Naming(head, HeadPhase::Opening);
                 put(&mut state, ParserState::Before(start));
             }
-            Advance::Wrong => {
+            FileAdvance::Wrong => {
                 drop(state);
                 return Err(ParseError::Unexpected(token.start));
             }
-            Advance::TooMuch => {
+            FileAdvance::TooMuch => {
                 drop(state);
                 return Err(ParseError::TooDeep(token.start));
             }

@@ -1,50 +1,32 @@
 use gr_word::{Label, Name};
 use src_parser::headings::Heading;
-use src_parser::parts::{Form, Part};
 use src_parser::readings::Reading;
+use src_parser::states::{Blocks, Phase};
 use src_procs::{PStmt, Param, Proc};
-use src_tree::{Decl, Expr, Guard};
+use src_tree::{Decl, Expr};
 
-// The most braces that are open.
-pub(crate) const MAX_BRACES: usize = 32;
-
-// A block that is open, with its guard, the first block of its choice, and the statements before its statement.
+// How far a call was read: up to its `(`, in an argument, or up to its `)`.
 #[derive(Drop)]
-pub(crate) enum Outer {
-    InFirst(Guard, Vec<PStmt>),
-    InSecond(Guard, Vec<PStmt>, Vec<PStmt>),
-    InLoop(Guard, Vec<PStmt>),
+pub(crate) enum CallPhase {
+    Opened,
+    Argument(Reading),
+    Called,
 }
 
-// What was read between two parts of statements: nothing; the first block of a choice; a name, of an assignment, of a
-// call or `proc`; a call up to its arguments, in one with those before it, and after them; the guard of a block; an
-// `else`.
+// The effect of a token on a call: it is read; it ends the call; no call can continue with it; it exceeds a limit.
 #[derive(Drop)]
-pub(crate) enum Pause {
-    Ready,
-    MayElse(Guard, Vec<PStmt>),
-    Named(Name),
-    Calling(Name),
-    Argument(Name, Vec<Expr>, Reading),
-    Called(Name, Vec<Expr>),
-    Guarded(Form, Guard),
-    Otherwise(Guard, Vec<PStmt>),
+pub(crate) enum CallAdvance {
+    Goes,
+    Ends,
+    Wrong,
+    TooMuch,
 }
 
-// The phase in which statements are read.
+// What is read of a statement: a call, with its name and the arguments that are complete, or another statement.
 #[derive(Drop)]
-pub(crate) enum Phase {
-    Between(Pause),
-    InPart(Part),
-}
-
-// What a token begins, or ends, between statements.
-#[derive(Drop)]
-pub(crate) enum Beginning {
-    Name(Name),
-    Guard(Form),
-    Closing,
-    Nothing,
+pub(crate) enum Mode {
+    Reading(Phase<PStmt>),
+    Calling(Name, Vec<Expr>, CallPhase),
 }
 
 // The phase in which a procedure's head and its locals are read, by the parameters, and the locals, read so far.
@@ -82,15 +64,6 @@ pub(crate) enum Front {
     InProcedure(Head, Vec<Param>, Vec<Decl>),
 }
 
-// What was read of the statements: what comes before them, the open blocks, the innermost last, and the statements of
-// the innermost.
-#[derive(Drop)]
-pub(crate) struct Blocks {
-    pub front: Front,
-    pub outer: Vec<Outer>,
-    pub here: Vec<PStmt>,
-}
-
 // The phase before statements: between declarations, in one, or in a procedure's head or locals.
 #[derive(Drop)]
 pub(crate) enum Start {
@@ -103,13 +76,13 @@ pub(crate) enum Start {
 #[derive(Drop)]
 pub(crate) enum ParserState {
     Before(Start),
-    Doing(Blocks, Phase),
+    Doing(Front, Blocks<PStmt>, Mode),
 }
 
 // What a token does to a file: it is read; it is the name of a procedure that begins; no file continues with it; it
 // exceeds a limit.
 #[derive(Drop)]
-pub(crate) enum Advance {
+pub(crate) enum FileAdvance {
     Goes,
     Opens(Head),
     Wrong,

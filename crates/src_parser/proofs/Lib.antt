@@ -2,6 +2,13 @@ pub mod Levels
 pub mod Complete
 pub mod Held
 pub mod Reached
+pub mod Spelled
+pub mod StatementsStanding
+pub mod StatementSteps
+pub mod StatementsRead
+pub mod StatementRooms
+pub mod StatementBraces
+pub mod Written
 pub mod Parsed
 pub mod Standing
 pub mod Steps

@@ -3,6 +3,7 @@ pub mod Refusals
 pub mod Operands
 pub mod Headings
 pub mod Parts
+pub mod Statements
 pub mod Advances
 pub mod Seen
 pub mod Explained

@@ -1,7 +1,7 @@
 -- How the proofs see the parser's own types, and how parsers of larger languages see the reading of expressions, of
--- parts of statements and of declarations.
+-- statements and their parts, and of declarations.
 use Rattle.std.specs.Prelude.{List, map, reverse}
-use Rattle.src_tree.specs.Trees.{expr_tree, test_of, statement_of, Statement}
+use Rattle.src_tree.specs.Trees.{expr_tree, test_of, statement_of}
 use Rattle.src_tree.specs.declared.trees.Stmt.{Stmt}
 use Rattle.src_parser.specs.declared.readings.Waiting.TheVariants as frame
 use Rattle.src_parser.specs.declared.readings.OperandState.TheVariants as operand
@@ -31,8 +31,8 @@ use Rattle.src_parser.specs.declared.states.Outer as outers
 use Rattle.src_parser.specs.declared.states.Outer.TheVariants as outer
 use Rattle.src_parser.specs.declared.states.Pause as pauses
 use Rattle.src_parser.specs.declared.states.Pause.TheVariants as pause
-use Rattle.src_parser.specs.declared.states.Phase as modes
-use Rattle.src_parser.specs.declared.states.Phase.TheVariants as mode
+use Rattle.src_parser.specs.declared.states.Phase as phases
+use Rattle.src_parser.specs.declared.states.Phase.TheVariants as phase
 use Rattle.src_parser.specs.declared.states.ParserState as states
 use Rattle.src_parser.specs.declared.states.ParserState.TheVariants as state
 use Rattle.src_parser.specs.declared.states.Advance as advances
@@ -40,7 +40,8 @@ use Rattle.src_parser.specs.declared.states.Advance.TheVariants as advance
 use Rattle.src_parser.specs.declared.states.Blocks as blocks
 use Rattle.src_parser.specs.Headings.{Heading, Labelled, Typed, Titled, Sizing, Sized, Closing, HeadingState, Begun, Declared}
 use Rattle.src_parser.specs.Parts.{Form, ForChoice, ForLoop, Asked, Value, Place, Stored, Left, Right, Part, Target, Placed, Guarding, Inside, Made, VariableSet, ElementSet, GuardRead, PartState, Still, Done}
-use Rattle.src_parser.specs.Advances.{Outer, InFirst, InSecond, InLoop, Phase, Ready, MayElse, InPart, Guarded, Otherwise, ParserState, Between, Declaring, Doing}
+use Rattle.src_parser.specs.Statements.{Outer, InFirst, InSecond, InLoop, Phase, Ready, MayElse, InPart, Guarded, Otherwise, Blocks, Among}
+use Rattle.src_parser.specs.Advances.{ParserState, Between, Declaring, Doing}
 use Rattle.src_parser.specs.Tokenwise.{Advance, Goes, Wrong, TooMuch}
 use Rattle.src_parser.specs.Operands.{Waiting, Open, Index, Sign, Pending, OperandState, Wanted, Named, Given, Reading, At, TokenStep, Moves, Stops, Deep, Joint, Joins}
 
@@ -116,39 +117,37 @@ heading_advance_of (heading_advance.Goes h) = Goes (Begun (heading_of h))
 heading_advance_of (heading_advance.Ends decl) = Goes (Declared decl)
 heading_advance_of heading_advance.Wrong = Wrong
 
-abbrev pub statements_seen : List Stmt → List Statement
-statements_seen statements = map statement_of statements
+-- the open blocks and the phase of a language's statements, by how a statement is seen
+abbrev pub outer_of : {A S : Type 0} → (A → S) → outers.Outer A → Outer S
+outer_of seen (outer.InFirst guard before) = InFirst (test_of guard) (map seen before.items)
+outer_of seen (outer.InSecond guard first before) =
+    InSecond (test_of guard) (map seen first.items) (map seen before.items)
+outer_of seen (outer.InLoop guard before) = InLoop (test_of guard) (map seen before.items)
 
-abbrev pub outer_of : outers.Outer → Outer
-outer_of (outer.InFirst guard before) = InFirst (test_of guard) (statements_seen before.items)
-outer_of (outer.InSecond guard first before) =
-    InSecond (test_of guard) (statements_seen first.items) (statements_seen before.items)
-outer_of (outer.InLoop guard before) = InLoop (test_of guard) (statements_seen before.items)
+-- the innermost first
+abbrev pub outers_of : {A S : Type 0} → (A → S) → List (outers.Outer A) → List (Outer S)
+outers_of seen outer = reverse (map (outer_of seen) outer)
 
--- the open blocks, the innermost first
-abbrev pub outers_of : List outers.Outer → List Outer
-outers_of outer = reverse (map outer_of outer)
+abbrev pub pause_of : {A S : Type 0} → (A → S) → pauses.Pause A → Phase S
+pause_of seen pause.Ready = Ready
+pause_of seen (pause.MayElse guard first) = MayElse (test_of guard) (map seen first.items)
+pause_of seen (pause.Guarded f guard) = Guarded (form_of f) (test_of guard)
+pause_of seen (pause.Otherwise guard first) = Otherwise (test_of guard) (map seen first.items)
 
-abbrev pub pause_of : pauses.Pause → Phase
-pause_of pause.Ready = Ready
-pause_of (pause.MayElse guard first) = MayElse (test_of guard) (statements_seen first.items)
-pause_of (pause.Guarded f guard) = Guarded (form_of f) (test_of guard)
-pause_of (pause.Otherwise guard first) = Otherwise (test_of guard) (statements_seen first.items)
+abbrev pub phase_of : {A S : Type 0} → (A → S) → phases.Phase A → Phase S
+phase_of seen (phase.Between p) = pause_of seen p
+phase_of seen (phase.InPart p) = InPart (part_of p)
 
-abbrev pub mode_of : modes.Phase → Phase
-mode_of (mode.Between p) = pause_of p
-mode_of (mode.InPart p) = InPart (part_of p)
+abbrev pub among : {A S : Type 0} → (A → S) → blocks.Blocks A → Phase S → Blocks S
+among seen b phase = Among (outers_of seen b.outer.items) (map seen b.here.items) phase
 
-abbrev pub doing : blocks.Blocks → Phase → ParserState
-doing b mode = Doing b.decls.items (outers_of b.outer.items) (statements_seen b.here.items) mode
+-- the effect of a token on a state, with the state that is left
+abbrev pub advance_of : {S : Type 0} → advances.Advance → S → Advance S
+advance_of advance.Goes s = Goes s
+advance_of advance.Wrong s = Wrong
+advance_of advance.TooMuch s = TooMuch
 
 abbrev pub state_of : states.ParserState → ParserState
 state_of (state.Between decls) = Between decls.items
 state_of (state.Declaring decls h) = Declaring decls.items (heading_of h)
-state_of (state.Doing b mode) = doing b (mode_of mode)
-
--- the effect of a token on a program, with the state that is left
-abbrev pub advance_of : advances.Advance → ParserState → Advance ParserState
-advance_of advance.Goes s = Goes s
-advance_of advance.Wrong s = Wrong
-advance_of advance.TooMuch s = TooMuch
+state_of (state.Doing decls b p) = Doing decls.items (among statement_of b (phase_of statement_of p))

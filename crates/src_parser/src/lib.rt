@@ -5,22 +5,23 @@
 //! most one program, and the canonical text of a printable program is read as that program again (`laws`).
 //!
 //! [`expr_at`] reads one expression among tokens, as far as it extends (`specs/Expressions`). A parser of a larger
-//! language can read expressions, parts of statements and declarations token by token ([`expressions`], [`parts`],
-//! [`headings`]). It has to prove the laws of single tokens of `proofs/Tokenwise`, which then show where its tokens
+//! language can read expressions, statements and declarations token by token ([`expressions`], [`statements`],
+//! [`headings`]); it says how its statements are made ([`languages`]). It has to prove the laws of single tokens of `proofs/Tokenwise`, which then show where its tokens
 //! cease to begin what it reads (`specs/Tokenwise`). [`parse`] is the first such parser.
 #![tactic(auto)]
 
 pub mod errors;
 pub mod expressions;
 pub mod headings;
+pub mod languages;
 pub mod laws;
 pub mod lone_expressions;
 pub mod parsing;
 pub mod parts;
 pub mod putting;
 pub mod readings;
-mod statements;
-mod states;
+pub mod statements;
+pub mod states;
 
 pub use errors::ParseError;
 pub use lone_expressions::expr_at;

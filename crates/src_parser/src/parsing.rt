@@ -1,20 +1,23 @@
 ghost use Rattle.std.specs.Prelude.{◌≡◌, [], IfOk, IfErr, option_map};
-ghost use Rattle.src_tree.specs.Trees.{source_of};
+ghost use Rattle.src_tree.specs.Trees.{source_of, statement_of};
 ghost use Rattle.src_parser.specs.Explained.{ExplainsTokens};
 ghost use Rattle.src_parser.specs.Grammar.{limits, Sentence};
 ghost use Rattle.src_parser.specs.Refusals.{token_kinds};
-ghost use Rattle.src_parser.specs.Seen.{advance_of, state_of, doing, heading_of, pause_of, mode_of};
-ghost use Rattle.src_parser.specs.Advances.{between, between_statements, advanced, program_of, Declaring, Ready};
+ghost use Rattle.src_parser.specs.Seen.{advance_of, among, state_of, heading_of, phase_of};
+ghost use Rattle.src_parser.specs.Advances.{between, advanced, programs, program_of, Declaring, Doing};
+ghost use Rattle.src_parser.specs.Statements.{between_statements};
+ghost use Rattle.src_parser.specs.Tokenwise.{mapped};
 
 use crate::errors::ParseError;
 use crate::headings::{Heading, HeadingAdvance, read_heading};
+use crate::languages::Programs;
 use crate::putting::put;
-use crate::statements::{begin, choose, perform};
+use crate::statements::{begin, complete, perform};
 use crate::states::{Advance, Blocks, ParserState, Pause, Phase};
 use gr_base::Memory;
 use gr_word::Label;
 use src_lexer::{Token, TokenKind};
-use src_tree::{Decl, Program};
+use src_tree::{Decl, Program, Stmt};
 use std::alloc::Global;
 use std::mem;
 
@@ -25,16 +28,16 @@ fn start(
     decls: Vec<Decl>,
     kind: &TokenKind,
 ) -> Result<Advance, Memory>
-    ensures { IfOk result (λ t. advance_of t (state_of state.new) ≡ between_statements decls.items [] [] kind.now) }
+    ensures { IfOk result (λ t. advance_of t (state_of state.new)
+        ≡ mapped (Doing decls.items) (between_statements programs [] [] kind.now)) }
 {
     let mut blocks = Blocks {
-        decls,
         outer: Vec::new(alloc),
         here: Vec::new(alloc),
     };
-    let mut mode = Phase::Between(Pause::Ready);
-    let advance = begin(alloc, &mut blocks, &mut mode, kind);
-    put(state, ParserState::Doing(blocks, mode));
+    let mut phase = Phase::Between(Pause::Ready);
+    let advance = begin::<Programs>(alloc, &mut blocks, &mut phase, kind);
+    put(state, ParserState::Doing(decls, blocks, phase));
     advance
 }
 
@@ -96,7 +99,9 @@ fn take(alloc: Global, state: &mut ParserState, kind: &TokenKind) -> Result<Adva
     ensures { IfOk result (λ t. advance_of t (state_of state.new) ≡ advanced limits (state_of state.old) kind.now) }
 {
     match state {
-        ParserState::Doing(blocks, mode) => perform(alloc, blocks, mode, kind),
+        ParserState::Doing(_decls, blocks, phase) => {
+            perform::<Programs>(alloc, 0, blocks, phase, kind)
+        }
         ParserState::Between(decls) => {
             let decls = mem::replace(decls, Vec::new(alloc));
             begin_declaration(alloc, state, decls, kind)
@@ -109,47 +114,19 @@ fn take(alloc: Global, state: &mut ParserState, kind: &TokenKind) -> Result<Adva
     }
 }
 
-fn whole(blocks: Blocks) -> Option<Program>
-    ensures { option_map source_of result ≡ program_of (doing blocks Ready) }
-{
-    let Blocks { decls, outer, here } = blocks;
-    if !outer.is_empty() {
-        return None;
-    }
-    Some(Program { decls, body: here })
-}
-
-// The program, if its statements are complete between two parts.
-fn paused(alloc: Global, mut blocks: Blocks, pause: Pause) -> Result<Option<Program>, Memory>
-    ensures { IfOk result (λ p. option_map source_of p ≡ program_of (doing blocks (pause_of pause))) }
-{
-    match pause {
-        Pause::Ready => Ok(whole(blocks)),
-        Pause::MayElse(guard, first) => {
-            choose(alloc, &mut blocks, guard, first)?;
-            Ok(whole(blocks))
-        }
-        Pause::Guarded(_form, guard) => {
-            drop(guard);
-            Ok(None)
-        }
-        Pause::Otherwise(guard, _first) => {
-            drop(guard);
-            Ok(None)
-        }
-    }
-}
-
 // The program, if its statements are complete.
-fn settle(alloc: Global, blocks: Blocks, mode: Phase) -> Result<Option<Program>, Memory>
-    ensures { IfOk result (λ p. option_map source_of p ≡ program_of (doing blocks (mode_of mode))) }
+fn settle(
+    alloc: Global,
+    decls: Vec<Decl>,
+    blocks: Blocks<Stmt>,
+    phase: Phase<Stmt>,
+) -> Result<Option<Program>, Memory>
+    ensures { IfOk result (λ p. option_map source_of p
+        ≡ program_of (Doing decls.items (among statement_of blocks (phase_of statement_of phase)))) }
 {
-    match mode {
-        Phase::Between(pause) => paused(alloc, blocks, pause),
-        Phase::InPart(part) => {
-            drop(part);
-            Ok(None)
-        }
+    match complete::<Programs>(alloc, blocks, phase)? {
+        Some(body) => Ok(Some(Program { decls, body })),
+        None => Ok(None),
     }
 }
 
@@ -158,7 +135,7 @@ fn conclude(alloc: Global, state: ParserState) -> Result<Option<Program>, Memory
     ensures { IfOk result (λ p. option_map source_of p ≡ program_of (state_of state)) }
 {
     match state {
-        ParserState::Doing(blocks, mode) => settle(alloc, blocks, mode),
+        ParserState::Doing(decls, blocks, phase) => settle(alloc, decls, blocks, phase),
         ParserState::Between(decls) => Ok(Some(Program {
             decls,
             body: Vec::new(alloc),

@@ -5,38 +5,37 @@ use src_tree::{Decl, Guard, Stmt};
 // The most braces that may be open.
 pub(crate) const MAX_BRACES: usize = 32;
 
-// An open block, with its guard, the first block of its choice, and the statements before its statement.
+/// An open block, with its guard, the first block of its choice, and the statements before its statement.
 #[derive(Drop)]
-pub(crate) enum Outer {
-    InFirst(Guard, Vec<Stmt>),
-    InSecond(Guard, Vec<Stmt>, Vec<Stmt>),
-    InLoop(Guard, Vec<Stmt>),
+pub enum Outer<S> {
+    InFirst(Guard, Vec<S>),
+    InSecond(Guard, Vec<S>, Vec<S>),
+    InLoop(Guard, Vec<S>),
 }
 
-// What comes before the next part of a statement: nothing; the first block of a choice; the guard of a block; an
-// `else`.
+/// What comes before the next part of a statement: nothing; the first block of a choice; the guard of a block; an
+/// `else`.
 #[derive(Drop)]
-pub(crate) enum Pause {
+pub enum Pause<S> {
     Ready,
-    MayElse(Guard, Vec<Stmt>),
+    MayElse(Guard, Vec<S>),
     Guarded(Form, Guard),
-    Otherwise(Guard, Vec<Stmt>),
+    Otherwise(Guard, Vec<S>),
 }
 
-// How far statements were read.
+/// How far statements were read.
 #[derive(Drop)]
-pub(crate) enum Phase {
-    Between(Pause),
+pub enum Phase<S> {
+    Between(Pause<S>),
     InPart(Part),
 }
 
-// What was read of the statements: the declarations, the open blocks, with the innermost at the end, and the statements
-// of the innermost block.
+/// What was read of the statements: the open blocks, with the innermost at the end, and the statements of the innermost
+/// block.
 #[derive(Drop)]
-pub(crate) struct Blocks {
-    pub decls: Vec<Decl>,
-    pub outer: Vec<Outer>,
-    pub here: Vec<Stmt>,
+pub struct Blocks<S> {
+    pub outer: Vec<Outer<S>>,
+    pub here: Vec<S>,
 }
 
 // What was read of a program, and how far: between declarations, in a declaration, or among statements.
@@ -44,12 +43,12 @@ pub(crate) struct Blocks {
 pub(crate) enum ParserState {
     Between(Vec<Decl>),
     Declaring(Vec<Decl>, Heading),
-    Doing(Blocks, Phase),
+    Doing(Vec<Decl>, Blocks<Stmt>, Phase<Stmt>),
 }
 
-// The effect of a token on a program: it is read; no program can continue with it; it exceeds a limit.
+/// The effect of a token on what was read: it is read; nothing can continue with it; it exceeds a limit.
 #[derive(Drop)]
-pub(crate) enum Advance {
+pub enum Advance {
     Goes,
     Wrong,
     TooMuch,

@@ -1,0 +1,23 @@
+use Rattle.std.proofs.Common.{◌≢◌, List, refl}
+use Rattle.src_lexer.specs.declared.tokens.Token.{Token}
+use Rattle.src_parser.specs.Grammar.{limits}
+use Rattle.src_parser.specs.Refusals.{token_kinds}
+use Rattle.src_parser.specs.declared.errors.ParseError.{ParseError}
+use Rattle.src_parser.specs.declared.errors.ParseError.TheVariants as error
+use Rattle.src_parser.proofs.Tokenwise.{next_begins}
+use Rattle.src_procs.specs.Trees.{File}
+use Rattle.procs_parser.specs.FileGrammar.{SpellsFile}
+use Rattle.procs_parser.specs.FileRefusals.{ExplainsFile}
+use Rattle.procs_parser.proofs.FileLaws.{file_laws}
+use Rattle.procs_parser.proofs.laws.no_refusal.Goals as goal
+
+none : (tokens : List Token) (f : File) (e : ParseError) → SpellsFile limits (token_kinds tokens) f
+    → ExplainsFile e tokens → e ≢ error.Memory → ⊥
+none tokens f (error.Unexpected at) s h told =
+    h.none limits (next_begins file_laws tokens h.before h.after h.token f h.split s)
+none tokens f error.EndOfText s h told = h.none f s
+none tokens f (error.TooDeep at) s h told = h.none (next_begins file_laws tokens h.before h.after h.token f h.split s)
+none tokens f error.Memory s h told = told refl
+
+pub returns : goal.returns
+returns c = none
