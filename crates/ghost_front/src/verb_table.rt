@@ -10,7 +10,7 @@ pub struct VerbHelp {
 }
 
 /// The verbs, in the order in which `help` lists them.
-pub(crate) const VERBS: [VerbHelp; 16] = [
+pub(crate) const VERBS: [VerbHelp; 17] = [
     VerbHelp {
         usage: "check OBJ",
         text: "    Checks an object file and prints whether it is accepted.\n",

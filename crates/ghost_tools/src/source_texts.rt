@@ -41,12 +41,13 @@ pub(crate) struct Spot {
 }
 
 impl SourceText {
-    /// The text of a file.
+    /// The text of a file, of which no names are known.
     pub(crate) fn of_file(alloc: Global, text: Vec<u8>) -> Result<SourceText, Memory> {
         let tokens = tokens_of(alloc, &text)?;
         Ok(SourceText {
             text,
             tokens,
+            names: Vec::new(alloc),
             expanded: false,
         })
     }
