@@ -21,10 +21,10 @@ use std::io::Read;
 /// All that the program does, and its exit status. The words are those that follow the program's name.
 ///
 /// The front handles `help`, `--version`, `--which` and `--help` itself, and does the verbs `diff`, `count`, `layout`,
-/// `listing`, `profile` and `test` by `ghost_tools`, and `expand`. For all other words it calls `ghost_cli::ghostrider`, with `-` as
-/// the name of a standard stream. A file `-` that is read is standard input; if OUT is `-`, the file goes to `out` and
-/// the verb's text to `errors`. Two files can't both be standard input, and OUT can't be a file that is read: both are
-/// usage errors, status 2.
+/// `listing`, `profile`, `test` and `expand` by `ghost_tools`. For all other words it calls `ghost_cli::ghostrider`,
+/// with `-` as the name of a standard stream. A file `-` that is read is standard input; if OUT is `-`, the file goes to
+/// `out` and the verb's text to `errors`. Two files can't both be standard input, and OUT can't be a file that is read:
+/// both are usage errors, status 2.
 ///
 /// If the status isn't 0, `errors` gets an explanation, made from the bytes that the call read; if it is 0, warnings of
 /// what a source and inputs may not mean. No file is opened for them. `--json` as the first word prints them as lines of

@@ -19,7 +19,7 @@ struct Row<'a> {
 }
 
 // The statements of a file: the line of each, the bodies of its procedures with their names, and how many statements of
-// the program without calls each call stands for.
+// the program without calls are made of each call.
 #[derive(Drop)]
 struct Bodies<'a> {
     lines: &'a [u32],
