@@ -36,7 +36,8 @@ const Editor = (() => {
     return outside > 0 ? null : line + 1;
   }
 
-  // `edited` is called after an edit; `pointed` and `moved` with the line at which the pointer or the cursor is
+  // `edited` is called after an edit; `pointed` with the line at which the pointer is, and `moved` with that of
+  // the cursor, once it has changed or was clicked
   function make(parent, { edited, pointed, moved }) {
     code = CodeMirror(parent, {
       mode: 'ghost-source', lineNumbers: true, lineSeparator: '\n', tabSize: 4, indentUnit: 4, undoDepth: 1000,
@@ -46,8 +47,14 @@ const Editor = (() => {
       clear();
       edited();
     });
-    code.on('cursorActivity', () => moved(code.getCursor().line + 1));
+    const lineOfCursor = () => code.getCursor().line + 1;
+    let last = null;
+    code.on('cursorActivity', () => {
+      if (lineOfCursor() !== last) moved(lineOfCursor());
+      last = lineOfCursor();
+    });
     const frame = code.getScrollerElement();
+    frame.onclick = () => moved(lineOfCursor());
     frame.onpointermove = (event) => { if (event.pointerType !== 'touch') pointed(lineUnder(event)); };
     frame.onpointerleave = () => pointed(null);
     const field = code.getInputField();

@@ -61,7 +61,7 @@ const Links = (() => {
 
   // the cursor went to a line of the source
   function cursorAt(line) {
-    if (!view || line === chosen) return;
+    if (!view) return;
     choose(line);
     const found = index.get(line);
     if (found) view.reveal(found.row);

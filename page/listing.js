@@ -81,16 +81,21 @@ const Listing = (() => {
       line.dataset.row = row;
       if (this.owners && words[0] === ';') line.className = 'of-source';
       else if (owner !== NO_OWNER && words.endsWith(' pads')) line.className = 'pads';
-      if (owner !== NO_OWNER && owner === this.lit) line.classList.add('lit');
-      if (row === this.here) line.classList.add('here');
+      this.mark(line, row);
       return line;
     }
 
-    // lights up the lines of an owner
+    // marks a line that is drawn, if it is lit or the one at which the keys are
+    mark(line, row) {
+      const owner = this.ownerAt(row);
+      line.classList.toggle('lit', owner !== NO_OWNER && owner === this.lit);
+      line.classList.toggle('here', row === this.here);
+    }
+
+    // Lights up the lines of an owner. The lines aren't drawn anew, since one that is under a pointer has to stay.
     light(owner) {
-      if (owner === this.lit) return;
       this.lit = owner;
-      this.draw();
+      for (const line of this.lines.children) this.mark(line, Number(line.dataset.row));
     }
 
     // scrolls to a line if it isn't in view
@@ -112,7 +117,7 @@ const Listing = (() => {
     goTo(row) {
       this.here = Math.min(this.starts.length - 1, Math.max(0, row));
       this.reveal(this.here);
-      this.draw();
+      this.light(this.lit);
     }
 
     // goes where a key leads; whether it leads anywhere

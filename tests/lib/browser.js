@@ -154,8 +154,9 @@ class Browser {
     return this.ask('Browser.setDownloadBehavior', { behavior: 'allow', downloadPath: folder });
   }
 
-  async picture(file) {
-    const { data } = await this.ask('Page.captureScreenshot', { format: 'png', captureBeyondViewport: true });
+  // a picture of the whole page, or of what is in view: a picture of the whole page scrolls what is within it back
+  async picture(file, whole = true) {
+    const { data } = await this.ask('Page.captureScreenshot', { format: 'png', captureBeyondViewport: whole });
     fs.writeFileSync(file, Buffer.from(data, 'base64'));
   }
 

@@ -143,11 +143,11 @@ const LOOKS = [[1280, 'light'], [1280, 'dark'], [390, 'light'], [390, 'dark']];
 async function looks(user) {
   await user.chooses('findmax.gr');
   for (const [width, scheme] of LOOKS) {
-    await user.browser.show({ width, height: 900, media: [{ name: 'prefers-color-scheme', value: scheme }], touch: width < 500 });
+    await user.browser.show({ width, height: width < 500 ? 1900 : 900, media: [{ name: 'prefers-color-scheme', value: scheme }], touch: width < 500 });
     await user.presses('compile');
     await user.browser.clickAt(...await lineAt(user, 13));
     await user.waits(200);
-    await user.keeps(`links-${width}-${scheme}`);
+    await user.keeps(`links-${width}-${scheme}`, false);
   }
   await user.browser.show({});
 }

@@ -163,9 +163,9 @@ class User {
     return this.value('document.activeElement.id || document.activeElement.tagName');
   }
 
-  async keeps(name) {
+  async keeps(name, whole) {
     fs.mkdirSync(this.out, { recursive: true });
-    await this.browser.picture(path.join(this.out, `${name}.png`));
+    await this.browser.picture(path.join(this.out, `${name}.png`), whole);
   }
 
   leaves() {
