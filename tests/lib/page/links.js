@@ -101,7 +101,7 @@ async function touch(user) {
   await user.browser.show({});
 }
 
-// the assembly is that of the object, whatever the options
+// the assembly is that of the object, with each of the options
 async function assembles(user) {
   const program = await engine();
   await user.value(`${element('options')}.open = true`);
