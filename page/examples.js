@@ -166,6 +166,7 @@ const USAGES = {
  "diff": "diff OBJ INPUT INPUT [--cycles N] [--seed S] [--paths] [--recursive]",
  "count": "count OBJ INPUT [--cycles N] [--seed S] [--paths] [--recursive]",
  "layout": "layout SRC [--fast] [--block-log W] [--window P:O:C] [--procs]",
+ "listing": "listing SRC [--fast] [--block-log W] [--window P:O:C] [--procs]",
  "profile": "profile SRC INPUT [--fast] [--block-log W] [--window P:O:C] [--procs] [--cycles N]",
  "test": "test SRC CASES [--fast] [--block-log W] [--window P:O:C] [--procs] [--cycles N]",
  "expand": "expand SRC"
