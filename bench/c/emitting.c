@@ -2,7 +2,7 @@
  * Making the code of programs in one pass over their trees. See emitting.h.
  *
  * An expression leaves its value in a register, and uses those above. A resident variable is in the block that its slot holds
- * for the whole run, and needs no load and no store of a block. In public code a load of another block of plain or encrypted
+ * for the whole run, or in those of several slots, and needs no load and no store of a block. In public code a load of another block of plain or encrypted
  * memory is skipped where the slot holds the block, and a note stands behind it. A branch on a secret becomes two arms that
  * show the same: each does its own statements, and those of the other without effect, by storing the old words; statements
  * of the two that show the same stand side by side instead. Arms have no notes.
@@ -13,6 +13,7 @@
 #include "holding.h"
 #include "layout.h"
 #include "reducing.h"
+#include "selecting.h"
 
 #include <stdlib.h>
 
@@ -239,6 +240,49 @@ static void put_access(struct emitter *emitter, const struct variable *array, co
         put_note(emitter, without(without(without(mask, to), to + 1), to + 2));
 }
 
+static void put_steps(struct emitter *emitter, struct steps steps)
+{
+    for (unsigned i = 0; i < steps.count; i++)
+        put(emitter, steps.items[i]);
+}
+
+/* The slot that has the word of a fixed index, or of any index of an array of one block. */
+static unsigned slot_at(const struct emitter *emitter, const struct variable *array, const struct expr *index)
+{
+    if (!is_spread(array))
+        return array->slot;
+    return array->spread[((uint64_t)index->number % array->symbol.length) >> emitter->object->profile.block_log];
+}
+
+/* Puts the steps that read the word of an array whose number a register has, into that register. */
+static void put_read(struct emitter *emitter, const struct variable *array, const struct expr *index, unsigned to)
+{
+    if (is_spread(array) && !is_fixed(array, index))
+        put_steps(emitter, steps_to_read(array, block_words(emitter->object), to));
+    else
+        put_plain(emitter, LDW, to, slot_at(emitter, array, index), to);
+}
+
+/* The word of a slot whose number register 1 has becomes the value in a register. Without effect it stays. */
+static void put_stored(struct emitter *emitter, unsigned slot, unsigned value, enum mode mode)
+{
+    if (mode != IN_PUBLIC)
+        put_plain(emitter, LDW, 2, slot, 1);
+    put_plain(emitter, STW, mode == WITHOUT_EFFECT ? 2 : value, slot, 1);
+}
+
+/* The same of an element. */
+static void put_write(struct emitter *emitter, const struct variable *array, const struct expr *index, unsigned value,
+                      enum mode mode)
+{
+    if (is_spread(array) && !is_fixed(array, index))
+        put_steps(emitter, steps_to_write(array, block_words(emitter->object), value, mode != WITHOUT_EFFECT));
+    else
+        put_stored(emitter, slot_at(emitter, array, index), value, mode);
+    if (!array->is_resident)
+        put_plain(emitter, STB, array->slot, 0, 0);
+}
+
 /* Puts the steps of an operation by a number. Answers whether there are any. */
 static bool put_by_number(struct emitter *emitter, const struct expr *expr, unsigned to, enum mode mode, uint32_t mask)
 {
@@ -274,7 +318,7 @@ static void put_expr(struct emitter *emitter, const struct expr *expr, unsigned 
     case ELEMENT:
         variable = variable_of(emitter, expr->variable);
         put_access(emitter, variable, expr->left, to, mode, mask);
-        put_plain(emitter, LDW, to, variable->slot, to);
+        put_read(emitter, variable, expr->left, to);
         break;
     case OPERATION:
         if (put_by_number(emitter, expr, to, mode, mask))
@@ -305,15 +349,13 @@ static void put_assignment(struct emitter *emitter, const struct statement *made
         put_copy(emitter, held, mode == WITHOUT_EFFECT ? held : value, target->symbol.is_secret);
         return;
     }
-    if (made->kind == PUT)
+    if (made->kind == PUT) {
         put_access(emitter, target, made->index, 1, mode, mask_with(made->value, mask, value, 0));
-    else
+        put_write(emitter, target, made->index, value, mode);
+    } else {
         put_constant(emitter, 1, target->symbol.word);
-    if (mode != IN_PUBLIC)
-        put_plain(emitter, LDW, 2, target->slot, 1);
-    put_plain(emitter, STW, mode == WITHOUT_EFFECT ? 2 : value, target->slot, 1);
-    if (made->kind == PUT && !target->is_resident)
-        put_plain(emitter, STB, target->slot, 0, 0);
+        put_stored(emitter, target->slot, value, mode);
+    }
 }
 
 /* ---- statements that show the same */
@@ -356,8 +398,8 @@ static bool is_number_alike(const struct emitter *emitter, int64_t one, int64_t 
 }
 
 /* Whether accesses of two arrays show the same for any indexes that do: of one oblivious bank, or of resident arrays whose
- * indexes are reduced by the same operation and that are both at the beginning of a block, or neither. Registers hold the
- * numbers of their code alike. */
+ * indexes are reduced by the same operation, that are both at the beginning of a block, or neither, and that as many slots
+ * hold. Registers hold the numbers of their code alike. */
 static bool is_like(const struct emitter *emitter, const struct variable *one, const struct variable *other)
 {
     if (!is_number_alike(emitter, reducer_of(one), reducer_of(other)))
@@ -366,7 +408,7 @@ static bool is_like(const struct emitter *emitter, const struct variable *one, c
         return one->symbol.bank == other->symbol.bank && is_number_alike(emitter, one->symbol.block, other->symbol.block);
     return one->is_resident && other->is_resident && is_masked(one) == is_masked(other)
            && (one->symbol.word == 0) == (other->symbol.word == 0)
-           && is_number_alike(emitter, one->symbol.word, other->symbol.word);
+           && is_number_alike(emitter, one->symbol.word, other->symbol.word) && one->spread_count == other->spread_count;
 }
 
 /* Whether accesses of two arrays show the same. */
@@ -549,6 +591,28 @@ static const struct variable *first_served(const struct source *source, unsigned
     return NULL;
 }
 
+/* The spread array one of whose further blocks a slot holds, and the number of the block in it; NULL if it holds none. */
+static const struct variable *spread_in(const struct source *source, unsigned slot, unsigned *block)
+{
+    for (size_t i = 0; i < source->count; i++)
+        for (unsigned at = 1; at < source->variables[i].spread_count; at++)
+            if (source->variables[i].spread[at] == slot) {
+                *block = at;
+                return &source->variables[i];
+            }
+    return NULL;
+}
+
+/* The variable whose block a slot holds when the code begins, and the number of the block in it; NULL if it holds none. */
+static const struct variable *first_held(const struct source *source, unsigned slot, unsigned *block)
+{
+    *block = 0;
+    if (slot == OBLIVIOUS_SLOT)
+        return NULL;
+    const struct variable *first = first_served(source, slot);
+    return first != NULL ? first : spread_in(source, slot, block);
+}
+
 static void put_load(struct emitter *emitter, unsigned slot, unsigned bank, uint32_t block)
 {
     put_constant(emitter, 0, block);
@@ -596,10 +660,11 @@ static void put_beginning(struct emitter *emitter)
     put_load(emitter, PUBLIC_SLOT, 0, 0);
     put_load(emitter, SECRET_SLOT, 1, 0);
     for (unsigned slot = PLAIN_SLOT; slot < SLOTS; slot++) {
-        const struct variable *first = slot == OBLIVIOUS_SLOT ? NULL : first_served(emitter->source, slot);
+        unsigned block;
+        const struct variable *first = first_held(emitter->source, slot, &block);
         if (first == NULL)
             continue;
-        put_load(emitter, slot, first->symbol.bank, first->symbol.block);
+        put_load(emitter, slot, first->symbol.bank, first->symbol.block + block);
         emitter->claims[slot] = first->symbol.bank;
     }
     if (emitter->is_fast)
@@ -613,7 +678,8 @@ static void put_end(struct emitter *emitter)
     put_plain(emitter, STB, PUBLIC_SLOT, 0, 0);
     put_plain(emitter, STB, SECRET_SLOT, 0, 0);
     for (unsigned slot = PLAIN_SLOT; slot < SLOTS; slot++) {
-        const struct variable *first = first_served(emitter->source, slot);
+        unsigned block;
+        const struct variable *first = first_held(emitter->source, slot, &block);
         if (first != NULL && first->is_resident)
             put_plain(emitter, STB, slot, 0, 0);
     }

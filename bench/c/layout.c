@@ -110,6 +110,11 @@ bool is_oblivious(const struct variable *variable)
     return variable->symbol.bank >= FIRST_OBLIVIOUS;
 }
 
+bool is_spread(const struct variable *array)
+{
+    return array->spread_count > 0;
+}
+
 bool is_masked(const struct variable *array)
 {
     const uint32_t length = array->symbol.length;

@@ -31,6 +31,9 @@ uint32_t blocks_for(const struct symbol *array, const struct object *object);
 /* Gives an array the next free blocks of a bank. */
 void place_on_blocks(struct variable *array, unsigned bank, struct object *object);
 
+/* Whether several slots hold an array for the whole run. */
+bool is_spread(const struct variable *array);
+
 /* The scalars of a label. */
 uint32_t scalars_of(const struct source *source, bool is_secret);
 

@@ -2,11 +2,13 @@
  * The layout of `compile --fast`. See residents.h.
  *
  * The scalars of a label are the last words of their block, and its first words are for arrays of that label. Of the arrays
- * that find no room there some have a slot of their own; the others use slots alternately, as without `--fast`.
+ * that find no room there some have a slot of their own; the others use slots alternately, as without `--fast`. At last
+ * secret arrays of several blocks are spread over slots that are still free.
  */
 #include "residents.h"
 
 #include "layout.h"
+#include "spreading.h"
 
 enum kind { PLAIN, OBLIVIOUS, ENCRYPTED };
 
@@ -109,4 +111,5 @@ void place_residents(struct source *source, struct object *object)
     place_alternately(&plain, 0, PLAIN_SLOT, object);
     place_spare(&oblivious, object);
     place_alternately(&encrypted, 1, ENCRYPTED_SLOT, object);
+    spread_arrays(source, object);
 }

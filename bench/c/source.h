@@ -7,15 +7,16 @@
 
 #include "object.h"
 
-enum { SOURCE_BYTES = 1048576, UNDECLARED = -1 };
+enum { SOURCE_BYTES = 1048576, UNDECLARED = -1, MOST_SPREAD = 5 };
 
 /* A variable: its symbol, whose place is that of its layout once there is one; its words; whether an array has a secret
- * index somewhere in the program; the slot of its layout, and whether that holds the variable for the whole run. */
+ * index somewhere in the program; the slot of its layout, and whether that holds the variable for the whole run. A spread
+ * array is held by several slots, the first of which is its slot: one for each of its blocks, in order. */
 struct variable {
     struct symbol symbol;
     uint64_t words;
     bool has_secret_index, is_resident;
-    uint8_t slot;
+    uint8_t slot, spread_count, spread[MOST_SPREAD];
 };
 
 /* The first fault of the names in an expression. */

@@ -1,5 +1,5 @@
 -- Alike expressions, and assignments that pair, show the same in secret code and leave the same in the slots.
-use Rattle.std.proofs.Common.{◌≡◌, ℕ, ◌≤◌, ◌==◌, Bool, true, false, ◌&&◌, ℤ, pos, List, [], ◌∷◌, ◌++◌, Option, Some, None, refl, sym, ap, ◌∙◌, arith}
+use Rattle.std.proofs.Common.{length, suc, ◌≡◌, ℕ, ◌≤◌, ◌==◌, Bool, true, false, ◌&&◌, ℤ, pos, List, [], ◌∷◌, ◌++◌, Option, Some, None, refl, sym, ap, ◌∙◌, arith}
 use Rattle.std.specs.Prelude.{if◌then◌else◌, is_some}
 use Rattle.std.proofs.lemmas.Bool.{le-ltb, ne_eqb}
 use Rattle.gr_word.specs.declared.operations.Op.{Op}
@@ -16,12 +16,13 @@ use Rattle.src_tree.specs.Typing.{UsedAs, TypedTree, TypedStatement}
 use Rattle.trace_patterns.specs.Events.{Oram}
 use Rattle.stretches.specs.Shows.{Show, Gap, Seen, pattern_of}
 use Rattle.trace_patterns.specs.SymStates.{SymSlot, OramSlot}
-use Rattle.block_cache_gen.specs.Homes.{Home, Setting, home_of, register_for, HasHomes}
+use Rattle.block_cache_gen.specs.Homes.{further_slots, Home, Setting, home_of, register_for, HasHomes}
 use Rattle.block_cache_gen.specs.Codes.{is_cached, is_masked, is_power, literal, fixed_index, held_number, reducing, reducer, operand, operand_part, operand_unless, left_operand, steps_at}
 use Rattle.strength_reduction.specs.Steps.{Step}
 use Rattle.block_cache_gen.proofs.StepsAt.{not-stepped}
-use Rattle.block_cache_gen.specs.PatternsOf.{applied_shows, operand_tree, scalar_shows, write_shows, operation_gap, word_gap, block_tree, found_shows, plain_loaded, encrypted_loaded, block_loaded, load_shows, placed_shows, shows_by, loads_by, stored_by, Loads, then_loads, one_load, index_loads, no_loads, operation_shows, operation_loads, element_slot, access_shows, access_loads, tree_of_expr, shows_of_expr, slots_of_expr, shows_of_set, slots_of_set, pattern_of_expr, pattern_of_set}
+use Rattle.block_cache_gen.specs.PatternsOf.{store_shows, shows_among, read_shows_by, read_shows, stored_shows_by, stored_shows, applied_shows, operand_tree, scalar_shows, write_shows, operation_gap, word_gap, block_tree, found_shows, plain_loaded, encrypted_loaded, block_loaded, load_shows, placed_shows, shows_by, loads_by, Loads, then_loads, one_load, index_loads, no_loads, operation_shows, operation_loads, element_slot, access_shows, access_loads, tree_of_expr, shows_of_expr, slots_of_expr, shows_of_set, slots_of_set, pattern_of_expr, pattern_of_set}
 use Rattle.block_cache_gen.specs.Alike.{is_product, AreNumbersAlike, InOneBank, AreReducedAlike, Residents, ToResidents, Alike, Numbers, Scalars, Oblivious, Same, Operations, ByNumber, Pair, ToScalars, ToOblivious, ToSame}
+use Rattle.word_selection.specs.Selection as selection
 use Rattle.bank_alloc.proofs.Apart.{scalar_bank-lt}
 use Rattle.block_cache_gen.proofs.HomeFacts.{serves-oblivious}
 
@@ -52,7 +53,7 @@ module _ (f : Setting) (h : Home) (oblivious : 2 ≤ h.bank) where
   not_cached : is_cached h ≡ false
   not_cached = le-ltb h.bank 2 oblivious
 
-  oblivious-fixed : (i : Tree) → fixed_index h i ≡ None
+  pub oblivious-fixed : (i : Tree) → fixed_index h i ≡ None
   oblivious-fixed i = ap (λ (b : Bool). if b then literal i else None) not_cached
 
   oblivious-reducing : reducing h ≡ Remu
@@ -101,7 +102,7 @@ module _ (f : Setting) (h : Home) (oblivious : 2 ≤ h.bank) where
       λ j. then_loads (index_loads (fixed j) loads) (one_load h.slot (slot j))
 
 -- only numbers are alike to a number
-alike-literal : (f : Setting) (i j : Tree) → Alike f i j → is_some (literal i) ≡ is_some (literal j)
+pub alike-literal : (f : Setting) (i j : Tree) → Alike f i j → is_some (literal i) ≡ is_some (literal j)
 alike-literal f i j (Numbers y z one) = refl
 alike-literal f i j (Scalars x y one) = refl
 alike-literal f i j (Oblivious x y k l one alike) = refl
@@ -110,7 +111,7 @@ alike-literal f i j (Same x k cached) = refl
 alike-literal f i j (Operations op oq a b c d plain other kind left right) = refl
 alike-literal f i j (ByNumber op a c z left) = refl
 
-alike-fixed : (f : Setting) (h g : Home) (i j : Tree) → is_cached h ≡ is_cached g → Alike f i j
+pub alike-fixed : (f : Setting) (h g : Home) (i j : Tree) → is_cached h ≡ is_cached g → Alike f i j
     → is_some (fixed_index h i) ≡ is_some (fixed_index g j)
 alike-fixed f h g i j low alike =
     by (is_cached h) ∙ ap (λ (b : Bool). is_some (if b then literal j else None)) low
@@ -147,6 +148,21 @@ placed-alike f h g (Some y) None shows more masked first reduced word fixed same
     absurd (let e : true ≡ false = fixed in cc)
 placed-alike f h g None (Some z) shows more masked first reduced word fixed same =
     absurd (let e : false ≡ true = fixed in cc)
+
+-- their words are read and stored alike
+read-alike : (f : Setting) (g h : Home) (one other : Option ℤ) → is_some one ≡ is_some other
+    → length (further_slots g) ≡ length (further_slots h) → read_shows_by true f g one ≡ read_shows_by true f h other
+read-alike f g h (Some y) (Some z) fixed same = refl
+read-alike f g h None None fixed same = ap (λ (n : ℕ). selection.read_shows f.profile (suc n)) same
+read-alike f g h (Some y) None fixed same = absurd (let e : true ≡ false = fixed in cc)
+read-alike f g h None (Some z) fixed same = absurd (let e : false ≡ true = fixed in cc)
+
+stored-alike : (f : Setting) (g h : Home) (one other : Option ℤ) (bound found : SymSlot) → is_some one ≡ is_some other
+    → length (further_slots g) ≡ length (further_slots h) → stored_shows_by true f g one bound ≡ stored_shows_by true f h other found
+stored-alike f g h (Some y) (Some z) bound found fixed same = refl
+stored-alike f g h None None bound found fixed same = ap (shows_among f) same
+stored-alike f g h (Some y) None bound found fixed same = absurd (let e : true ≡ false = fixed in cc)
+stored-alike f g h None (Some z) bound found fixed same = absurd (let e : false ≡ true = fixed in cc)
 
 -- so are two scalars, and the writes to them, if registers hold both or neither
 scalar-alike : (f : Setting) (one other : Option ℕ) → is_some one ≡ is_some other
@@ -273,19 +289,51 @@ module _ (o : Parts) (f : Setting) (homes : HasHomes o f) where
       (alike-fixed f g h i j one.low alike) same
       ∙ sym (ap (λ (b : Bool). loads_by b f h (fixed_index h j) other (slots_of_expr f j)) one.second)
 
+  -- reads and stores of words of two resident arrays, and of two that aren't
+  resident-reads : (x y : List ℕ) (i j : Tree) → AreReducedAlike f x y → Alike f i j
+      → read_shows f (home_of f x) (fixed_index (home_of f x) i) ≡ read_shows f (home_of f y) (fixed_index (home_of f y) j)
+  resident-reads x y i j one alike =
+      let g = home_of f x in
+      let h = home_of f y in
+      ap (λ (b : Bool). read_shows_by b f g (fixed_index g i)) one.first
+      ∙ read-alike f g h (fixed_index g i) (fixed_index h j) (alike-fixed f g h i j one.low alike) one.blocks
+      ∙ sym (ap (λ (b : Bool). read_shows_by b f h (fixed_index h j)) one.second)
+
+  resident-stores : (x y : List ℕ) (i j : Tree) (bound other : SymSlot) → AreReducedAlike f x y → Alike f i j
+      → stored_shows f (home_of f x) (fixed_index (home_of f x) i) bound
+      ≡ stored_shows f (home_of f y) (fixed_index (home_of f y) j) other
+  resident-stores x y i j bound other one alike =
+      let g = home_of f x in
+      let h = home_of f y in
+      ap (λ (b : Bool). stored_shows_by b f g (fixed_index g i) bound) one.first
+      ∙ stored-alike f g h (fixed_index g i) (fixed_index h j) bound other (alike-fixed f g h i j one.low alike) one.blocks
+      ∙ sym (ap (λ (b : Bool). stored_shows_by b f h (fixed_index h j) other) one.second)
+
+  both-reads : (x y : List ℕ) (i j : Tree) → InOneBank f x y → UsedAs (context_of f.decls) x Array
+      → UsedAs (context_of f.decls) y Array
+      → read_shows f (home_of f x) (fixed_index (home_of f x) i) ≡ read_shows f (home_of f y) (fixed_index (home_of f y) j)
+  both-reads x y i j one left right =
+      let g = home_of f x in
+      let h = home_of f y in
+      let high : 2 ≤ h.bank = omega (arith, one.oblivious, one.same) in
+      ap (λ (b : Bool). read_shows_by b f g (fixed_index g i)) (oblivious-turn x left one.oblivious)
+      ∙ sym (ap (λ (b : Bool). read_shows_by b f h (fixed_index h j)) (oblivious-turn y right high))
+
   -- alike expressions
   pub alike-shows : (a b : Tree) → Alike f a b → TypedTree (context_of f.decls) a → TypedTree (context_of f.decls) b
       → shows_of_expr f a ≡ shows_of_expr f b
   alike-shows a b (Numbers y z one) left right = refl
   alike-shows a b (Scalars x y one) left right = scalar-alike f (register_for f x) (register_for f y) one
   alike-shows a b (Oblivious x y i j one alike) left right =
-      ap (λ (shows : List Show). shows ++ word_gap f ∷ [])
-      (both-shows x y i j (index_tree f i) (index_tree f j) (index_shows f i) (index_shows f j) one left.0 right.0
-      (operand-alike f i j alike (alike-shows i j alike left.1.0 right.1.0)))
+      let found = both-shows x y i j (index_tree f i) (index_tree f j) (index_shows f i) (index_shows f j) one left.0
+      right.0 (operand-alike f i j alike (alike-shows i j alike left.1.0 right.1.0)) in
+      let reads = both-reads x y i j one left.0 right.0 in
+      λ k. found k ++ reads k
   alike-shows a b (Residents x y i j one alike) left right =
-      ap (λ (shows : List Show). shows ++ word_gap f ∷ [])
-      (resident-shows x y i j (index_tree f i) (index_tree f j) (index_shows f i) (index_shows f j) one alike
-      (operand-alike f i j alike (alike-shows i j alike left.1.0 right.1.0)))
+      let found = resident-shows x y i j (index_tree f i) (index_tree f j) (index_shows f i) (index_shows f j) one alike
+      (operand-alike f i j alike (alike-shows i j alike left.1.0 right.1.0)) in
+      let reads = resident-reads x y i j one alike in
+      λ k. found k ++ reads k
   alike-shows a b (Same x i cached) left right = refl
   alike-shows a b (Operations op oq l r m s plain other kind one two) left right =
       let first = operand-alike f l m one (alike-shows l m one left.0 right.0) in
@@ -345,32 +393,35 @@ module _ (o : Parts) (f : Setting) (homes : HasHomes o f) where
       let first = operand-alike f e g value (alike-shows e g value left.1.0 right.1.0) in
       let second = resident-shows x y i j (index_tree f i) (index_tree f j) (index_shows f i) (index_shows f j) one index
       (operand-alike f i j index (alike-shows i j index left.0.1.0 right.0.1.0)) in
-      let none : (h : Home) (bound : SymSlot) → h.resident ≡ true → stored_by h.resident bound ≡ [] =
-      λ h bound is. ap (λ (b : Bool). stored_by b bound) is in
-      let last = none (home_of f x) (element_slot f (home_of f x) (fixed_index (home_of f x) i) (index_tree f i))
-      one.first
-      ∙ sym (none (home_of f y) (element_slot f (home_of f y) (fixed_index (home_of f y) j) (index_tree f j))
-      one.second) in
-      λ k. first k ++ (second k ++ (word_gap f ∷ word_gap f ∷ last k))
+      let last = resident-stores x y i j
+      (element_slot f (home_of f x) (fixed_index (home_of f x) i) (index_tree f i))
+      (element_slot f (home_of f y) (fixed_index (home_of f y) j) (index_tree f j)) one index in
+      λ k. first k ++ (second k ++ last k)
   pair-shows s t (ToOblivious x y i j e g one index value) left right =
       let first = operand-alike f e g value (alike-shows e g value left.1.0 right.1.0) in
       let second = both-shows x y i j (index_tree f i) (index_tree f j) (index_shows f i) (index_shows f j) one left.0.0
       right.0.0 (operand-alike f i j index (alike-shows i j index left.0.1.0 right.0.1.0)) in
       let turn = oblivious-turn x left.0.0 one.oblivious in
       let turn' = oblivious-turn y right.0.0 (omega (arith, one.oblivious, one.same)) in
-      let flag = turn ∙ sym turn' in
       let other : 2 ≤ (home_of f y).bank = omega (arith, one.oblivious, one.same) in
       let slot = oblivious-slot f (home_of f x) one.oblivious i (index_tree f i) ∙ ap OramSlot one.same
       ∙ sym (oblivious-slot f (home_of f y) other j (index_tree f j)) in
-      λ k. first k ++ (second k ++ (word_gap f ∷ word_gap f ∷ stored_by (flag k) (slot k)))
+      let last : stored_shows f (home_of f x) (fixed_index (home_of f x) i)
+      (element_slot f (home_of f x) (fixed_index (home_of f x) i) (index_tree f i))
+      ≡ stored_shows f (home_of f y) (fixed_index (home_of f y) j)
+      (element_slot f (home_of f y) (fixed_index (home_of f y) j) (index_tree f j)) =
+      ap (λ (b : Bool). stored_shows_by b f (home_of f x) (fixed_index (home_of f x) i)
+      (element_slot f (home_of f x) (fixed_index (home_of f x) i) (index_tree f i))) turn
+      ∙ ap (λ (bound : SymSlot). word_gap f ∷ word_gap f ∷ store_shows bound) slot
+      ∙ sym (ap (λ (b : Bool). stored_shows_by b f (home_of f y) (fixed_index (home_of f y) j)
+      (element_slot f (home_of f y) (fixed_index (home_of f y) j) (index_tree f j))) turn') in
+      λ k. first k ++ (second k ++ last k)
   pair-shows s t (ToSame x i e g encrypted value) left right =
       ap (λ (shows : List Show).
       shows
       ++ (access_shows f (home_of f x) (fixed_index (home_of f x) i) (index_tree f i) (index_shows f i)
-      ++ (word_gap f
-      ∷ word_gap f
-      ∷ stored_by (home_of f x).resident
-      (element_slot f (home_of f x) (fixed_index (home_of f x) i) (index_tree f i)))))
+      ++ stored_shows f (home_of f x) (fixed_index (home_of f x) i)
+      (element_slot f (home_of f x) (fixed_index (home_of f x) i) (index_tree f i))))
       (operand-alike f e g value (alike-shows e g value left.1.0 right.1.0))
 
   -- two statements that pair leave the slots alike

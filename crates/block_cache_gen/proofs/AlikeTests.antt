@@ -1,6 +1,6 @@
 -- The tests of alike expressions and of assignments that pair say what the relations say, and the count is that of the
 -- most statements that pair.
-use Rattle.std.proofs.Common.{◌≡◌, ℕ, ◌+◌, ◌≤◌, ◌==◌, Bool, true, false, not, ◌&&◌, ◌||◌, nat_lt, nat_le, ℤ, pos, List, refl, sym, ap, ◌∙◌, subst, ◌⊎◌, ⊎_elim, arith}
+use Rattle.std.proofs.Common.{length, ◌≡◌, ℕ, ◌+◌, ◌≤◌, ◌==◌, Bool, true, false, not, ◌&&◌, ◌||◌, nat_lt, nat_le, ℤ, pos, List, refl, sym, ap, ◌∙◌, subst, ◌⊎◌, ⊎_elim, arith}
 use Rattle.std.specs.Prelude.{◌↔◌, if◌then◌else◌, is_some, bytes_eq}
 use Rattle.std.proofs.lemmas.Bool.{and_parts, and_from, or_cases, eqb-true, eq-eqb, ltb-true, lt-ltb, leb-true, le-leb, or_left, or_right}
 use Rattle.std.proofs.lemmas.Bool.Decides.{Decides-int_eq}
@@ -8,7 +8,7 @@ use Rattle.std.proofs.lemmas.Slice.Eq.{bytes_eq-Decides}
 use Rattle.symbolic_values.specs.Sameness.{same_op}
 use Rattle.symbolic_values.proofs.TreeEquality.{same_op-true, same_op-own}
 use Rattle.src_tree.specs.Trees.{Tree, Number, Variable, Element, Operation, Statement, SetVariable, SetElement, Block, Nothing, Then}
-use Rattle.block_cache_gen.specs.Homes.{Setting, home_of}
+use Rattle.block_cache_gen.specs.Homes.{further_slots, Setting, home_of}
 use Rattle.block_cache_gen.specs.Codes.{is_cached, is_masked, may_step, operand, held_number, reducer}
 use Rattle.gr_word.specs.declared.operations.Op.{Op}
 use Rattle.block_cache_gen.specs.Alike.{is_product, AreNumbersAlike, numbers_alike, AreHeldAlike, held_alike, InOneBank, AreReducedAlike, Residents, ToResidents, same_flag, reduced_alike, Alike, Numbers, Scalars, Oblivious, Same, Operations, ByNumber, Pair, ToScalars, ToOblivious, ToSame, StartsPaired, NonePaired, OnePaired, IsPairCount, is_same, in_one_bank, both_products, are_plain, is_same_number, by_same_number, is_alike, is_pair, pair_count}
@@ -96,13 +96,15 @@ module _ (f : Setting) where
       let offset = same_flag (g.word == 0) (h.word == 0) in
       let reduced = numbers_alike f (reducer g) (reducer h) in
       let words = numbers_alike f (pos g.word) (pos h.word) in
-      let numbers = reduced && words in
+      let blocks = length (further_slots g) == length (further_slots h) in
+      let numbers = reduced && (words && blocks) in
       let one = and_parts g.resident (h.resident && (low && (masked && (offset && numbers)))) e in
       let two = and_parts h.resident (low && (masked && (offset && numbers))) one.1 in
       let three = and_parts low (masked && (offset && numbers)) two.1 in
       let four = and_parts masked (offset && numbers) three.1 in
       let five = and_parts offset numbers four.1 in
-      let six = and_parts reduced words five.1 in
+      let six = and_parts reduced (words && blocks) five.1 in
+      let seven = and_parts words blocks six.1 in
       record {
         first = one.0;
         second = two.0;
@@ -110,7 +112,8 @@ module _ (f : Setting) where
         masked = kinds-true (is_masked g) (is_masked h) four.0;
         offset = kinds-true (g.word == 0) (h.word == 0) five.0;
         reduced = numbers-true (reducer g) (reducer h) six.0;
-        words = numbers-true (pos g.word) (pos h.word) six.1;
+        words = numbers-true (pos g.word) (pos h.word) seven.0;
+        blocks = eqb-true (length (further_slots g)) (length (further_slots h)) seven.1;
       }
 
   reduced-own : (x y : List ℕ) → AreReducedAlike f x y → reduced_alike f x y ≡ true
@@ -122,14 +125,16 @@ module _ (f : Setting) where
       let offset = same_flag (g.word == 0) (h.word == 0) in
       let reduced = numbers_alike f (reducer g) (reducer h) in
       let words = numbers_alike f (pos g.word) (pos h.word) in
-      let numbers = reduced && words in
+      let blocks = length (further_slots g) == length (further_slots h) in
+      let numbers = reduced && (words && blocks) in
       and_from g.resident (h.resident && (low && (masked && (offset && numbers)))) one.first
       (and_from h.resident (low && (masked && (offset && numbers))) one.second
       (and_from low (masked && (offset && numbers)) (kinds-own (is_cached g) (is_cached h) one.low)
       (and_from masked (offset && numbers) (kinds-own (is_masked g) (is_masked h) one.masked)
       (and_from offset numbers (kinds-own (g.word == 0) (h.word == 0) one.offset)
-      (and_from reduced words (numbers-own (reducer g) (reducer h) one.reduced)
-      (numbers-own (pos g.word) (pos h.word) one.words))))))
+      (and_from reduced (words && blocks) (numbers-own (reducer g) (reducer h) one.reduced)
+      (and_from words blocks (numbers-own (pos g.word) (pos h.word) one.words)
+      (eq-eqb (length (further_slots g)) (length (further_slots h)) one.blocks)))))))
 
   -- two numbers or scalars that registers hold, or neither
   held-true : (a b : Tree) → held_alike f a b ≡ true → AreHeldAlike f a b

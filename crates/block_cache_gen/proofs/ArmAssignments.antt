@@ -1,7 +1,8 @@
 -- The code of assignments in secret code: walked in an arm, it shows what depends only on the assignment, whether it
 -- has its effect or only looks as if it had.
-use Rattle.std.proofs.Common.{◌≡◌, ℕ, ◌+◌, ◌≤◌, pos, Bool, true, false, List, [], ◌∷◌, ◌++◌, get_or, Option, Some, None, refl, sym, ap, ◌∙◌, subst, arith, append-nil}
+use Rattle.std.proofs.Common.{◌≡◌, ℕ, ◌+◌, ◌≤◌, ℤ, pos, Bool, true, false, List, [], ◌∷◌, ◌++◌, length, get_or, Option, Some, None, refl, sym, ap, ◌∙◌, subst, arith, append-nil}
 use Rattle.std.specs.Option.{unwrap_or}
+use Rattle.std.specs.List.{slice_get}
 use Rattle.gr_word.specs.declared.variables.Label.{Label}
 use Rattle.gr_word.specs.declared.variables.Label.TheVariants.{Public, Secret}
 use Rattle.gr_word.specs.declared.variables.Shape.{Shape}
@@ -22,12 +23,19 @@ use Rattle.trace_patterns.specs.SymStates.{SymSlot, AnySlot, RamSlot, EramSlot, 
 use Rattle.stretches.proofs.ArmCode.{Walked, walked-none, walked-then}
 use Rattle.block_cache_gen.specs.declared.frames.Mode.{Mode}
 use Rattle.block_cache_gen.specs.declared.frames.Mode.TheVariants as modes
-use Rattle.block_cache_gen.specs.Homes.{Setting, home_of, pin_of, HasHomes, register_for}
-use Rattle.block_cache_gen.specs.Codes.{may_skip_loads, fixed_index, expr_code, access_by, placed_code, store_code, stored_code, set_code, compares, operand, operand_part, operand_register, indexed_code, write_code, copied_from}
+use Rattle.block_cache_gen.specs.Homes.{further_slots, Setting, home_of, pin_of, slot_of_word, words_a_block, HasHomes, register_for}
+use Rattle.block_cache_gen.specs.Codes.{effect_of, fixed_word, stored_among, stored_by, may_skip_loads, fixed_index, expr_code, access_by, placed_code, store_code, stored_code, set_code, compares, operand, operand_part, operand_register, indexed_code, write_code, copied_from}
 use Rattle.block_cache_gen.specs.Carries.{CarriesInArm}
 use Rattle.block_cache_gen.specs.PublicIndexes.{IndexIsPublic, HasPublicIndexes, SetHasPublicIndexes}
-use Rattle.block_cache_gen.specs.PatternsOf.{write_shows, operand_tree, word_gap, block_tree, number_tree, store_shows, Loads, no_loads, then_loads, element_slot, placed_shows, placed_tree, index_loads, shows_by, loads_by, stored_by, tree_of_expr, shows_of_expr, slots_of_expr, shows_of_set, slots_of_set}
+use Rattle.block_cache_gen.specs.PatternsOf.{write_shows, operand_tree, word_gap, block_tree, number_tree, store_shows, shows_among, stored_shows_by, stored_shows, Loads, no_loads, then_loads, element_slot, placed_shows, placed_tree, index_loads, shows_by, loads_by, tree_of_expr, shows_of_expr, slots_of_expr, shows_of_set, slots_of_set}
 use Rattle.lt_checker.proofs.Singles.{IsKnown, IsHidden}
+use Rattle.lt_isa.specs.declared.profiles.Profile.{Profile}
+use Rattle.word_selection.specs.Selection as selection
+use Rattle.word_selection.specs.Selection.{selected_write}
+use Rattle.word_selection.specs.SlotSteps.{IsOutside}
+use Rattle.word_selection.proofs.WriteLaws.{walks-write}
+use Rattle.block_cache_gen.proofs.HeldOperands.{operand-outside}
+use Rattle.block_cache_gen.proofs.SpreadArms.{secret-bank, each-bank, word-bank, fixed-within}
 use Rattle.block_cache_gen.proofs.SomeCode.{compares-secret}
 use Rattle.block_cache_gen.proofs.ArmInstructions.{loaded-bank, sets-ldw, walked-stw, walked-stb, sets-alu}
 use Rattle.block_cache_gen.proofs.ArmStates.{LeavesIn, then_loads-held, carries-same, carries-copied}
@@ -191,7 +199,7 @@ module _ (o : Parts) (f : Setting) (homes : HasHomes o f) (depth : ℕ) where
 
     -- an operand, which its code leaves in a register or which is in one
     value-leaves : (e : Tree) (s : SymState) (to : ℕ) → TypedTree (context_of f.decls) e → HasPublicIndexes f e
-        → to + height_of e ≤ 18 → CarriesInArm f s
+        → to + height_of e ≤ 17 → CarriesInArm f s
         → LeavesIn o f depth s (operand_part (operand f e) (expr_code f mode to e))
         (operand_part (operand f e) (shows_of_expr f e)) to (operand_register (operand f e) to)
         (operand_tree f (operand f e) (tree_of_expr f e)) (slots_of_expr f e)
@@ -224,23 +232,63 @@ module _ (o : Parts) (f : Setting) (homes : HasHomes o f) (depth : ℕ) where
         goes-then o f depth s first shown (slots_of_expr f e) one
         (write_code found (label_at (context_of f.decls) x) mode (home_of f x) from) (write_shows f found) no_loads two
 
+    -- a word is stored of a secret array that slots hold for the whole run
+    stored_by-goes : (s : SymState) (x : List ℕ) (fixed : Option ℤ) (value : ℕ) (bound : SymSlot)
+        → context_of f.decls x ≡ Some (Secret, Array) → (home_of f x).resident ≡ true → IsOutside 1 4 value
+        → CarriesInArm f s
+        → Goes o f depth s (stored_by true f mode (home_of f x) fixed value)
+        (stored_shows_by true f (home_of f x) fixed bound) no_loads
+    stored_by-goes s x (Some z) value bound declared is apart carries =
+        let h = home_of f x in
+        let n = h.word + fixed_word h z in
+        let within = fixed-within o f homes x Secret Array declared is z in
+        let bank = word-bank o f homes x Secret Array declared is s carries n within
+        ∙ ap Some (secret-bank o f homes x Secret Array declared is refl) in
+        store-goes s (slot_of_word f h n) value carries
+        (stored-of_bank (slot_held s (slot_of_word f h n)) 1 bank (λ e. omega arith))
+    stored_by-goes s x None value bound declared is apart carries = by (further_slots (home_of f x)) refl
+      where
+        by : (more : List ℕ) → (further_slots (home_of f x)) ≡ more
+            → Goes o f depth s (stored_among f mode (home_of f x).slot more value) (shows_among f (length more)) no_loads
+        by [] same =
+            store-goes s (home_of f x).slot value carries (resident-hidden o f homes s x Array carries declared is)
+        by (next ∷ rest) same =
+            let h = home_of f x in
+            let slots = h.slot ∷ next ∷ rest in
+            let walks = walks-write o (effect_of mode) depth 1 value (words_a_block f) 1 slots s (omega arith) apart
+            (omega arith) carries.registers
+            (λ i k got. each-bank o f homes x Secret Array declared is s carries i k
+            (ap (λ (more : List ℕ). slice_get (h.slot ∷ more) i) same ∙ got)
+            ∙ ap Some (secret-bank o f homes x Secret Array declared is refl)) in
+            let count : length slots ≡ length rest + 2 = omega arith in
+            let shown : selection.write_shows o.profile (length slots) ≡ selection.write_shows f.profile (length rest + 2) =
+            ap (λ (p : Profile). selection.write_shows p (length slots)) homes.profile
+            ∙ ap (selection.write_shows f.profile) count in
+            record {
+              state = walks.state;
+              walked
+                  = subst (λ (xs : List Show). Walked o depth s
+                  (selected_write (effect_of mode) (words_a_block f) value slots 1) xs walks.state) shown walks.walked;
+              carries = carries-same f s walks.state carries walks.slots (λ r high. walks.above r (omega (arith, high)))
+                  walks.registers;
+              slots = λ k. ap (λ (slots : List SymSlot). get_or slots k AnySlot) walks.slots;
+            }
+
     -- an assignment to an element, after the code of its value
     element_by-goes : (b : Bool) (s : SymState) (x : List ℕ) (i : Tree) (value : ℕ) → (home_of f x).resident ≡ b
         → context_of f.decls x ≡ Some (Secret, Array) → TypedTree (context_of f.decls) i
-        → IndexIsPublic f x i → HasPublicIndexes f i → 1 + height_of i ≤ 18 → CarriesInArm f s
+        → IndexIsPublic f x i → HasPublicIndexes f i → 1 + height_of i ≤ 17 → IsOutside 1 4 value → CarriesInArm f s
         → Goes o f depth s
         (access_by b false f mode (home_of f x) 1 (operand_register (operand f i) 1)
         (fixed_index (home_of f x) i) (operand_part (operand f i) (expr_code f mode 1 i))
-        ++ (store_code mode (home_of f x).slot value ++ stored_code b (home_of f x).slot))
+        ++ stored_by b f mode (home_of f x) (fixed_index (home_of f x) i) value)
         (shows_by b f (home_of f x) (fixed_index (home_of f x) i) (operand_tree f (operand f i) (tree_of_expr f i))
         (operand_part (operand f i) (shows_of_expr f i))
-        ++ (word_gap f
-        ∷ word_gap f
-        ∷ stored_by b
-        (element_slot f (home_of f x) (fixed_index (home_of f x) i) (operand_tree f (operand f i) (tree_of_expr f i)))))
+        ++ stored_shows_by b f (home_of f x) (fixed_index (home_of f x) i)
+        (element_slot f (home_of f x) (fixed_index (home_of f x) i) (operand_tree f (operand f i) (tree_of_expr f i))))
         (loads_by b f (home_of f x) (fixed_index (home_of f x) i) (operand_tree f (operand f i) (tree_of_expr f i))
         (slots_of_expr f i))
-    element_by-goes true s x i value is declared typed shows public low carries =
+    element_by-goes true s x i value is declared typed shows public low outer carries =
         let h = home_of f x in
         let fixed = fixed_index h i in
         let q = operand f i in
@@ -250,16 +298,15 @@ module _ (o : Parts) (f : Setting) (homes : HasHomes o f) (depth : ℕ) where
         let number = value-leaves i s 1 typed public low carries in
         let place = placed-leaves o f homes depth s 1 from h fixed index part (operand_part q (shows_of_expr f i))
         (slots_of_expr f i) carries number (omega arith) (index-apart o f homes depth mode secret i 1 (omega arith)) in
-        let stored = resident-hidden o f homes place.state x Array place.carries declared is in
         let code = placed_code false f h 1 from fixed part in
         let shown = placed_shows f h fixed (operand_part q (shows_of_expr f i)) in
         let loads = index_loads fixed (slots_of_expr f i) in
         let one = goes-leaves o f depth s code shown 1 (placed_tree f h fixed index) loads place in
-        let two = subst (λ (c : List Instr). Goes o f depth place.state c (word_gap f ∷ word_gap f ∷ []) no_loads)
-        (sym (append-nil (store_code mode h.slot value))) (store-goes place.state h.slot value place.carries stored) in
-        goes-then o f depth s code shown loads one (store_code mode h.slot value ++ [])
-        (word_gap f ∷ word_gap f ∷ []) no_loads two
-    element_by-goes false s x i value is declared typed shows public low carries =
+        let bound = element_slot f h fixed index in
+        let two = stored_by-goes place.state x fixed value bound declared is outer place.carries in
+        goes-then o f depth s code shown loads one (stored_by true f mode h fixed value)
+        (stored_shows_by true f h fixed bound) no_loads two
+    element_by-goes false s x i value is declared typed shows public low outer carries =
         let h = home_of f x in
         let fixed = fixed_index h i in
         let q = operand f i in
@@ -304,17 +351,17 @@ module _ (o : Parts) (f : Setting) (homes : HasHomes o f) (depth : ℕ) where
         value in
         let index = operand_tree f (operand f i) (tree_of_expr f i) in
         let more = shows_by h.resident f h (fixed_index h i) index (operand_part (operand f i) (shows_of_expr f i))
-        ++ (word_gap f ∷ word_gap f ∷ stored_by h.resident (element_slot f h (fixed_index h i) index)) in
+        ++ stored_shows f h (fixed_index h i) (element_slot f h (fixed_index h i) index) in
         let loads = loads_by h.resident f h (fixed_index h i) index (slots_of_expr f i) in
         let two = subst (λ (near : Bool). Goes o f depth value.state
         (indexed_code f near mode h 1 i (expr_code f mode 1 i)
-        ++ (store_code mode h.slot from ++ stored_code h.resident h.slot)) more loads)
+        ++ stored_code f mode h (fixed_index h i) from) more loads)
         (sym (compares-secret f mode h i secret))
         (element_by-goes h.resident value.state x i from refl declared typed.0.1.0 public.0.0 public.0.1 (omega arith)
-        value.carries) in
+        (operand-outside f e q (is-operand f e)) value.carries) in
         goes-then o f depth s first shown (slots_of_expr f e) one
         (indexed_code f (compares f mode h i) mode h 1 i (expr_code f mode 1 i)
-        ++ (store_code mode h.slot from ++ stored_code h.resident h.slot)) more loads two
+        ++ stored_code f mode h (fixed_index h i) from) more loads two
 
     -- the code of an assignment, and no code
     pub set-goes : (a : Statement) (s : SymState) → TypedStatement (context_of f.decls) Secret a

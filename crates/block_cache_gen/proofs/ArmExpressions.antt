@@ -21,7 +21,7 @@ use Rattle.trace_patterns.specs.Single.{applied_trees}
 use Rattle.stretches.proofs.ArmCode.{Walked, walked-none, walked-then}
 use Rattle.block_cache_gen.specs.declared.frames.Mode.{Mode}
 use Rattle.block_cache_gen.specs.Homes.{Home, Setting, home_of, words_a_block, blocks_set, HasHomes, held_label, label_by, register_for}
-use Rattle.block_cache_gen.specs.Codes.{may_skip_loads, is_cached, held_number, applied_code, reducing, reducer, fixed_index, fixed_word, scalar_code, reduced_code, shift_code, offset_code, placed_code, fixed_code, located_code, load_code, skips, access_by, operand, operand_part, operand_register, operand_unless, indexed_code, operation_code, steps_at, expr_code, guard_code}
+use Rattle.block_cache_gen.specs.Codes.{read_by, read_code, may_skip_loads, is_cached, held_number, applied_code, reducing, reducer, fixed_index, fixed_word, scalar_code, reduced_code, shift_code, offset_code, placed_code, fixed_code, located_code, load_code, skips, access_by, operand, operand_part, operand_register, operand_unless, indexed_code, operation_code, steps_at, expr_code, guard_code}
 use Rattle.lt_isa.specs.declared.profiles.Profile.{Profile}
 use Rattle.strength_reduction.specs.Steps.{Step, Constant, Compute, StepFits, reads_known, numbered, code_of}
 use Rattle.strength_reduction.proofs.Replacing.{result-alike}
@@ -31,8 +31,9 @@ use Rattle.block_cache_gen.proofs.SomeCode.{compares-secret}
 use Rattle.block_cache_gen.proofs.StepsAt.{steps-of}
 use Rattle.block_cache_gen.specs.Carries.{CarriesInArm}
 use Rattle.block_cache_gen.specs.PublicIndexes.{shows_index, HasPublicIndexes, TestHasPublicIndexes}
-use Rattle.block_cache_gen.specs.PatternsOf.{number_in, applied_shows, reduced_shows, shifted_shows, operation_gap, word_gap, word_read, tree_by, scalar_shows, offset_shows, scalar_tree, operand_tree, reduced_tree, number_tree, shifted_tree, block_tree, placed_shows, placed_tree, shows_by, loads_by, element_by, found_shows, load_shows, Loads, no_loads, then_loads, one_load, index_loads, element_slot, step_gap, steps_tree, operation_tree, operation_shows, operation_loads, tree_of_expr, shows_of_expr, slots_of_expr, shows_of_test, slots_of_test}
+use Rattle.block_cache_gen.specs.PatternsOf.{read_shows_by, pinned_slot, number_in, applied_shows, reduced_shows, shifted_shows, operation_gap, word_gap, word_read, tree_by, scalar_shows, offset_shows, scalar_tree, operand_tree, reduced_tree, number_tree, shifted_tree, block_tree, placed_shows, placed_tree, shows_by, loads_by, element_by, found_shows, load_shows, Loads, no_loads, then_loads, one_load, index_loads, element_slot, step_gap, steps_tree, operation_tree, operation_shows, operation_loads, tree_of_expr, shows_of_expr, slots_of_expr, shows_of_test, slots_of_test}
 use Rattle.block_cache_gen.proofs.ArmInstructions.{IsSeen, Sets, loaded-bank, sets-li, sets-alu, sets-ldw, walked-ldb}
+use Rattle.block_cache_gen.proofs.SpreadArms.{read-leaves}
 use Rattle.block_cache_gen.proofs.ArmStates.{LeavesIn, LeavesTree, bound-of_bank, then_loads-held, one_load-held, serves-within, carries-same, carries-load, resident-read}
 use Rattle.held_registers.specs.Held.{public_zero}
 use Rattle.held_registers.proofs.Found.{number-held}
@@ -420,34 +421,27 @@ module _ (o : Parts) (f : Setting) (homes : HasHomes o f) (depth : ℕ) where
     -- the word of an element, by the code of its index
     element_by-leaves : (b : Bool) (s : SymState) (to from : ℕ) (x : List ℕ) (fixed : Option ℤ) (index : Option Value)
         (code : List Instr) (shows : List Show) (loads : Loads) → (home_of f x).resident ≡ b → CarriesInArm f s
-        → LeavesIn o f depth s code shows to from index loads → to + 2 < 19 → from ≢ to + 1
+        → LeavesIn o f depth s code shows to from index loads → to + 3 < 19 → from ≢ to + 1
         → UsedAs (context_of f.decls) x Array → (shows_index (home_of f x) ≡ true → IsKnown index)
         → LeavesTree o f depth s
-        (access_by b false f mode (home_of f x) to from fixed code ++ Ldw to (home_of f x).slot to ∷ [])
-        (shows_by b f (home_of f x) fixed index shows ++ word_gap f ∷ []) to
+        (access_by b false f mode (home_of f x) to from fixed code ++ read_by b f (home_of f x) fixed to)
+        (shows_by b f (home_of f x) fixed index shows ++ read_shows_by b f (home_of f x) fixed) to
         (element_by b f (home_of f x) fixed index) (loads_by b f (home_of f x) fixed index loads)
     element_by-leaves true s to from x fixed index code shows loads is carries first inside apart used known =
         let h = home_of f x in
         let place = placed_tree f h fixed index in
-        let placed = placed_code false f h to from fixed code in
-        let shown = placed_shows f h fixed shows in
-        let there = placed-leaves s to from h fixed index code shows loads carries first inside apart in
-        let read = resident-read o f homes there.state x used.0 Array there.carries used.1 is in
-        let word = sets-ldw o depth f homes.profile there.state to h.slot to (slot_held there.state h.slot) place
-        there.carries.registers (omega arith) refl read.bound there.held in
-        subst (λ (v : Option Value).
-        LeavesTree o f depth s (placed ++ Ldw to h.slot to ∷ []) (shown ++ word_gap f ∷ []) to v
-        (index_loads fixed loads))
-        (read.word place)
-        (leaves-then_sets s placed shown to place (index_loads fixed loads) there (Ldw to h.slot to ∷ [])
-        (word_gap f ∷ []) to
-        (word_read f (slot_held there.state h.slot) place) (omega arith) (omega arith) word)
+        let there = placed-leaves s to from h fixed index code shows loads carries first (omega (arith, inside)) apart in
+        leaves-then s (placed_code false f h to from fixed code) (placed_shows f h fixed shows) to place
+        (index_loads fixed loads) there (read_by true f h fixed to) (read_shows_by true f h fixed) to
+        (word_read f (pinned_slot h) place) no_loads (omega arith)
+        (read-leaves o f homes x used.0 Array used.1 is depth there.state there.carries to inside place there.held fixed)
     element_by-leaves false s to from x fixed index code shows loads is carries first inside apart used known =
         let h = home_of f x in
         let bound = element_slot f h fixed index in
         let number = number_tree f h fixed index in
         let seen = block-seen f h fixed index (λ low. known (shows-cached h is low)) in
-        let access = access-leaves s to from x fixed index code shows loads carries first inside apart used is seen in
+        let access = access-leaves s to from x fixed index code shows loads carries first (omega (arith, inside)) apart used
+        is seen in
         let there = access.leaves in
         let is_bound = bound-of_bank bound h.bank (loaded-bank f h.bank (block_tree f h fixed index) seen) in
         let word = sets-ldw o depth f homes.profile there.state to h.slot to bound number there.carries.registers
@@ -465,7 +459,7 @@ module _ (o : Parts) (f : Setting) (homes : HasHomes o f) (depth : ℕ) where
     element-leaves : (s : SymState) (to : ℕ) (x : List ℕ) (i : Tree) → TypedTree (context_of f.decls) i
         → CarriesInArm f s
         → LeavesTree o f depth s (expr_code f mode to i) (shows_of_expr f i) to (tree_of_expr f i) (slots_of_expr f i)
-        → to + 2 < 19 → UsedAs (context_of f.decls) x Array
+        → to + 3 < 19 → UsedAs (context_of f.decls) x Array
         → (shows_index (home_of f x) ≡ true → IsKnown (operand_tree f (operand f i) (tree_of_expr f i)))
         → LeavesTree o f depth s (expr_code f mode to (Element x i)) (shows_of_expr f (Element x i)) to
         (tree_of_expr f (Element x i)) (slots_of_expr f (Element x i))
@@ -474,13 +468,13 @@ module _ (o : Parts) (f : Setting) (homes : HasHomes o f) (depth : ℕ) where
         let q = operand f i in
         let first = operand-leaves mode i typed q (is-operand f i) s to carries value in
         subst (λ (near : Bool). LeavesTree o f depth s
-        (indexed_code f near mode h to i (expr_code f mode to i) ++ Ldw to h.slot to ∷ [])
+        (indexed_code f near mode h to i (expr_code f mode to i) ++ read_code f h (fixed_index h i) to)
         (shows_of_expr f (Element x i)) to (tree_of_expr f (Element x i)) (slots_of_expr f (Element x i)))
         (sym (compares-secret f mode h i secret))
         (element_by-leaves h.resident s to (operand_register q to) x (fixed_index h i)
         (operand_tree f q (tree_of_expr f i)) (operand_part q (expr_code f mode to i))
-        (operand_part q (shows_of_expr f i)) (slots_of_expr f i) refl carries first inside (index-apart i to inside)
-        used known)
+        (operand_part q (shows_of_expr f i)) (slots_of_expr f i) refl carries first inside
+        (index-apart i to (omega (arith, inside))) used known)
 
     -- an operation on two operands
     operation-leaves : (op : Op) (a b : Tree) → TypedTree (context_of f.decls) a → TypedTree (context_of f.decls) b
@@ -550,7 +544,7 @@ module _ (o : Parts) (f : Setting) (homes : HasHomes o f) (depth : ℕ) where
 
     -- the code of an expression
     pub expr-leaves : (e : Tree) (s : SymState) (to : ℕ) → TypedTree (context_of f.decls) e → HasPublicIndexes f e
-        → to + height_of e ≤ 18 → CarriesInArm f s
+        → to + height_of e ≤ 17 → CarriesInArm f s
         → LeavesTree o f depth s (expr_code f mode to e) (shows_of_expr f e) to (tree_of_expr f e) (slots_of_expr f e)
     expr-leaves (Number z) s to typed public low carries = number-leaves s to z carries (omega arith)
     expr-leaves (Variable x) s to typed public low carries =
@@ -566,7 +560,7 @@ module _ (o : Parts) (f : Setting) (homes : HasHomes o f) (depth : ℕ) where
 
     -- the code of a guard
     pub guard-leaves : (t : Test) (s : SymState) (to : ℕ) → TypedTest (context_of f.decls) t
-        → TestHasPublicIndexes f t → to + height_of t.left ≤ 18 → to + 1 + height_of t.right ≤ 18 → CarriesInArm f s
+        → TestHasPublicIndexes f t → to + height_of t.left ≤ 17 → to + 1 + height_of t.right ≤ 17 → CarriesInArm f s
         → LeavesTwo o f depth s (guard_code f mode to t) (shows_of_test f t) to (tree_of_expr f t.left)
         (tree_of_expr f t.right) (slots_of_test f t)
     guard-leaves t s to typed public low next carries =

@@ -171,14 +171,14 @@ module _ (o : Parts) (f : Setting) (homes : HasHomes o f) where
     pub bound : IsKnown (slot_held s h.slot)
     pub word : (place : Option Value) → word_read f (slot_held s h.slot) place ≡ word_read f (pinned_slot h) place
 
-  encrypted_read : (bound : SymSlot) (place : Option Value) → slot_bank bound ≡ Some 1 → word_read f bound place ≡ None
+  pub encrypted_read : (bound : SymSlot) (place : Option Value) → slot_bank bound ≡ Some 1 → word_read f bound place ≡ None
   encrypted_read (RamSlot block origin) place e =
       absurd (let g : ◌≡◌ {A = Option ℕ} (Some 0) (Some 1) = e in grind arith)
   encrypted_read AnySlot place e = refl
   encrypted_read (EramSlot block) place e = refl
   encrypted_read (OramSlot bank) place e = refl
 
-  hidden_read : (h : Home) (place : Option Value) → h.bank ≡ 1 → word_read f (pinned_slot h) place ≡ None
+  pub hidden_read : (h : Home) (place : Option Value) → h.bank ≡ 1 → word_read f (pinned_slot h) place ≡ None
   hidden_read h place is =
       ap (λ (b : ℕ). word_read f (if is_ram b then RamSlot (SlotAt h.slot) (Entry h.slot) else AnySlot) place) is
 

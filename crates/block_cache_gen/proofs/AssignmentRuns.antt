@@ -1,5 +1,5 @@
 -- The code of an assignment, run, leaves the store that it means, or the same store in a mirrored arm.
-use Rattle.std.proofs.Common.{◌≡◌, ◌≢◌, ℕ, ◌+◌, ◌%◌, ◌<◌, ◌≤◌, Bool, true, false, ℤ, pos, List, [], ◌∷◌, ◌++◌, length, get_or, set, append_assoc, append-nil, Option, Some, None, refl, sym, ap, ◌∙◌, subst, arith, mod-eq_of_lt}
+use Rattle.std.proofs.Common.{◌≡◌, ◌≢◌, ℕ, ◌+◌, ◌/◌, ◌%◌, ◌<◌, ◌≤◌, Bool, true, false, ℤ, pos, List, [], ◌∷◌, ◌++◌, length, get_or, set, append_assoc, append-nil, Option, Some, None, refl, sym, ap, ◌∙◌, subst, arith, mod-eq_of_lt}
 use Rattle.std.proofs.lemmas.List.{get_or-set_same}
 use Rattle.gr_word.specs.Words.{IsWord}
 use Rattle.gr_word.specs.declared.variables.Label.{Label}
@@ -27,8 +27,8 @@ use Rattle.src_tree.specs.Typing.{TypedTree}
 use Rattle.scratch_alloc.proofs.Serving.{serves-within}
 use Rattle.block_cache_gen.specs.declared.frames.Mode.{Mode}
 use Rattle.block_cache_gen.specs.declared.frames.Mode.TheVariants.{Public, Real, Mirrored}
-use Rattle.block_cache_gen.specs.Homes.{Setting, HasHomes, home_of, words_a_block, register_for}
-use Rattle.block_cache_gen.specs.Codes.{fixed_index, access_by, placed_code, index_operand, operand, operand_part, operand_register, operand_unless, expr_code, store_code, stored_code, set_code, compares, zero_of, copy_code, copied_from, write_code}
+use Rattle.block_cache_gen.specs.Homes.{Setting, HasHomes, home_of, words_a_block, register_for, further_slots}
+use Rattle.block_cache_gen.specs.Codes.{fixed_index, access_by, placed_code, index_operand, operand, operand_part, operand_register, operand_unless, expr_code, store_code, stored_by, set_code, compares, zero_of, copy_code, copied_from, write_code}
 use Rattle.block_cache_gen.specs.StandsFor.{StandsFor, FitsHomes}
 use Rattle.block_cache_gen.specs.Accesses.{access_of, accessed_by, accesses, word_number, block_in, slots_after, seen_of_all}
 use Rattle.block_cache_gen.specs.Assignments.{Assigns, assigned, by_mode, words_written, write_by, seen_of_set}
@@ -37,127 +37,21 @@ use Rattle.block_cache_gen.proofs.AccessLaws.{seen_of_all-append}
 use Rattle.block_cache_gen.proofs.HomeFacts.{block_words-is}
 use Rattle.held_registers.proofs.Copies.{runs-copy}
 use Rattle.block_cache_gen.proofs.HeldScalars.{array-free}
-use Rattle.block_cache_gen.proofs.HeldOperands.{IsApart, operand-apart, operand-stays, operand-unless}
+use Rattle.block_cache_gen.proofs.HeldOperands.{IsApart, operand-apart, operand-outside, operand-stays, operand-unless}
 use Rattle.block_cache_gen.proofs.OperandRuns.{LeavesAt, RunsValue, runs-operand}
 use Rattle.block_cache_gen.proofs.RegisterWrites.{register-inside, register-word, zero-word, stands-scalar_set}
 use Rattle.block_cache_gen.proofs.Stands.{stands-like, stands-set}
 use Rattle.block_cache_gen.proofs.Stores.{fits-with_word, with_word-by_mode}
-use Rattle.block_cache_gen.proofs.ResidentStores.{stands-resident_set}
-use Rattle.block_cache_gen.proofs.ResidentRuns.{resident-held, resident-within, runs-placed}
+use Rattle.block_cache_gen.proofs.ResidentRuns.{fixed-number, resident-within, runs-placed}
+use Rattle.block_cache_gen.proofs.ResidentWrites.{Binds, by_mode-fits, runs-store, runs-put}
+use Rattle.block_cache_gen.proofs.SpreadRuns.{runs-stored_by}
+use Rattle.block_cache_gen.proofs.WordSlots.{single-slot}
 use Rattle.block_cache_gen.proofs.ElementStores.{stands-element_set}
 use Rattle.block_cache_gen.proofs.AccessRuns.{Accesses, runs-access, word-within}
 use Rattle.block_cache_gen.proofs.ExpressionRuns.{runs-expression, element-word}
 
--- a slot was bound anew, and the banks and the registers from 19 on are as before
-record Binds (k : ℕ) (found : Slot) (s t : State) : Type 0 where
-  pub above : (r : ℕ) → 19 ≤ r → register t r ≡ register s r
-  pub slots : t.slots ≡ set s.slots k found
-  pub banks : t.banks ≡ s.banks
-
-by_mode-fits : (mode : Mode) (f : Setting) (effect none : Store) → FitsHomes f effect → FitsHomes f none
-    → FitsHomes f (by_mode mode effect none)
-by_mode-fits Public f effect none first second = first
-by_mode-fits Real f effect none first second = first
-by_mode-fits Mirrored f effect none first second = second
-
-module _ (o : Parts) (fits : IsInRange o) where
-  -- a word is stored in a slot
-  runs-stw : (rs k b a n : ℕ) (words : List ℤ) (value : ℤ) (s : State) → IsShaped o s → slot s k ≡ Bound b a words
-      → register s rs ≡ value → register s 1 ≡ pos n → StandsAt o s.place (Stw rs k 1 ∷ [])
-      → RunsThrough o s (Stw rs k 1 ∷ []) [] (Binds k (Bound b a (set words (n % block_words o) value)) s)
-  runs-stw rs k b a n words value s shaped held has place at =
-      let named : word_named o (register s 1) ≡ n % block_words o = ap (λ word. word_named o word) place in
-      runs-one s (Stw rs k 1) [] (Binds k (Bound b a (set words (n % block_words o) value)) s) at
-      (λ stands.
-      comes-stw o fits s shaped rs k 1 b a words
-      (Binds k (Bound b a (set words (n % block_words o) value)) s) stands held
-      (record {
-        above = λ r over. refl;
-        slots =
-            ap (λ i. set s.slots k (Bound b a (set words i (register s rs)))) named
-            ∙ ap (λ word. set s.slots k (Bound b a (set words (n % block_words o) word))) has;
-        banks = refl;
-      }))
-
-  -- the old word is read first, into register 2
-  runs-rewrite : (rs k b a n : ℕ) (words : List ℤ) (value : ℤ) (s : State) → IsShaped o s → slot s k ≡ Bound b a words
-      → ((t : State) → Sets s 2 (word_in words (n % block_words o)) t → register t rs ≡ value)
-      → register s 1 ≡ pos n → StandsAt o s.place (Ldw 2 k 1 ∷ Stw rs k 1 ∷ [])
-      → RunsThrough o s (Ldw 2 k 1 ∷ Stw rs k 1 ∷ []) [] (Binds k (Bound b a (set words (n % block_words o) value)) s)
-  runs-rewrite rs k b a n words value s shaped held has place at =
-      let old = word_in words (n % block_words o) in
-      let found = Bound b a (set words (n % block_words o) value) in
-      runs-cons s (Ldw 2 k 1) (Stw rs k 1 ∷ []) [] [] (Sets s 2 old) (Binds k found s) at
-      (sets-ldw o fits s shaped 2 k 1 b a words old (omega arith) held
-      (ap (λ word. word_in words (word_named o word)) place))
-      (λ t shape sets at'.
-      runs-weaker t (Stw rs k 1 ∷ []) [] [] (Binds k found t) (Binds k found s)
-      (runs-stw rs k b a n words value t shape (ap (λ l. get_or l k Unbound) sets.slots ∙ held) (has t sets)
-      (sets.others 1 (λ same. absurd (omega arith)) ∙ place) at')
-      refl
-      (λ u shape' binds. record {
-        above = λ r over. binds.above r over ∙ sets.others r (λ same. absurd (omega (arith, over, same)));
-        slots = binds.slots ∙ ap (λ l. set l k found) sets.slots;
-        banks = binds.banks ∙ sets.banks;
-      }))
-
-  runs-store : (mode : Mode) (k v b a n : ℕ) (words : List ℤ) (value : ℤ) (s : State)
-      → IsShaped o s → slot s k ≡ Bound b a words
-      → register s v ≡ value → v ≢ 2 → register s 1 ≡ pos n → StandsAt o s.place (store_code mode k v) → RunsThrough o s
-      (store_code mode k v) [] (Binds k (Bound b a (words_written mode words (n % block_words o) value)) s)
-  runs-store Public k v b a n words value s shaped held has other place at =
-      runs-stw v k b a n words value s shaped held has place at
-  runs-store Real k v b a n words value s shaped held has other place at =
-      runs-rewrite v k b a n words value s shaped held (λ t sets. sets.others v other ∙ has) place at
-  runs-store Mirrored k v b a n words value s shaped held has other place at =
-      runs-rewrite 2 k b a n words (word_in words (n % block_words o)) s shaped held (λ t sets. sets.value) place at
-
 module _ (o : Parts) (fits : IsInRange o) (f : Setting) (homes : HasHomes o f) (store : Store)
     (store_fits : FitsHomes f store) where
-  -- a word of a resident variable is written
-  runs-put : (mode : Mode) (x : List ℕ) (label : Label) (shape : Shape) → context_of f.decls x ≡ Some (label, shape)
-      → (home_of f x).resident ≡ true → register_for f x ≡ None → (n : ℕ) → n < (home_of f x).length → (v : ℕ)
-      → v ≢ 2 → (value : ℤ) → IsWord value → (u : State) → IsShaped o u → StandsFor f u store → register u v ≡ value
-      → register u 1 ≡ pos ((home_of f x).word + n)
-      → StandsAt o u.place (store_code mode (home_of f x).slot v)
-      → RunsThrough o u (store_code mode (home_of f x).slot v) []
-      (Assigns f (by_mode mode (with_word store (variable_number f.decls x) n value) store))
-  runs-put mode x label shape known resident free n within v other value is u shaped stands has place at =
-      let h = home_of f x in
-      let home = homes.residents x label shape known resident in
-      let k = variable_number f.decls x in
-      let old = get_or (words_of_number store k) n (pos 0) in
-      let held = resident-held o fits f homes store store_fits x label shape known resident u stands in
-      let words = held.words in
-      let at_word = h.word + n in
-      let size : length words ≡ block_words o =
-      (bound-fits o u shaped h.slot h.bank h.block words held.holds).holds_block.size in
-      let reads : word_in words at_word ≡ old =
-      ap (λ b. word_in (slot_words b) at_word) (sym held.holds)
-      ∙ stands.residents x label shape n known resident free within in
-      let found = Bound h.bank h.block (words_written mode words (at_word % block_words o) value) in
-      let word = by_mode mode value old in
-      let same_words : words_written mode words (at_word % block_words o) value ≡ set words at_word word =
-      ap (λ m. words_written mode words m value) (mod-eq_of_lt (omega (arith, home.inside, within)))
-      ∙ ap (λ z. set words at_word (by_mode mode value z)) reads in
-      runs-weaker u (store_code mode h.slot v) [] [] (Binds h.slot found u)
-      (Assigns f (by_mode mode (with_word store k n value) store))
-      (runs-store o fits mode h.slot v h.bank h.block at_word words value u shaped held.holds has other place at)
-      refl
-      (λ after shape'' binds.
-      let slots : after.slots ≡ set u.slots h.slot (Bound h.bank h.block (set words at_word word)) =
-      binds.slots ∙ ap (λ l. set u.slots h.slot (Bound h.bank h.block l)) same_words in
-      record {
-        stands =
-            subst (StandsFor f after) (with_word-by_mode mode store k n value)
-            (stands-like f (set_slot u h.slot (Bound h.bank h.block (set words at_word word))) after
-            (with_word store k n word) slots binds.banks binds.above
-            (stands-resident_set o f homes u shaped.slot_count store store_fits stands x label shape known resident free n
-            within words held.holds size word));
-        fits = by_mode-fits mode f (with_word store k n value) store
-            (fits-with_word f store k n value is store_fits) store_fits;
-      })
-
   -- a register that holds a scalar is written
   runs-copied : (mode : Mode) (x : List ℕ) (label : Label) → context_of f.decls x ≡ Some (label, Scalar) → (r : ℕ)
       → register_for f x ≡ Some r → (l : Label) (v : ℕ) (value : ℤ) (u : State) → IsShaped o u → StandsFor f u store
@@ -210,14 +104,19 @@ module _ (o : Parts) (fits : IsInRange o) (f : Setting) (homes : HasHomes o f) (
       (Assigns f (by_mode mode (with_word store (variable_number f.decls x) 0 value) store)) at
       (sets-li o fits t shaped 1 (pos h.word) (omega arith))
       (λ u shape sets at'.
-      runs-put mode x label Scalar known home.resident free 0 (omega (arith, home.length)) v
+      subst
+      (λ k. StandsAt o u.place (store_code mode k v) → RunsThrough o u (store_code mode k v) []
+      (Assigns f (by_mode mode (with_word store (variable_number f.decls x) 0 value) store)))
+      (single-slot h.slot (further_slots h) ((h.word + 0) / words_a_block f) home.single)
+      (runs-put o fits f homes store store_fits mode x label Scalar known home.resident free 0 (omega (arith, home.length)) v
       (apart.apart 2 (omega arith) (omega arith)) value is u shape
       (stands-set sets (omega arith) stands) (sets.others v (apart.apart 1 (omega arith) (omega arith)) ∙ first)
-      (sets.value ∙ ap pos (omega arith)) at')
+      (sets.value ∙ ap pos (omega arith)))
+      at')
 
   -- an assignment to a scalar
   pub runs-set_variable : (mode : Mode) (x : List ℕ) (label : Label) → context_of f.decls x ≡ Some (label, Scalar)
-      → (e : Tree) → TypedTree (context_of f.decls) e → height_of e ≤ 18 → (s : State) → IsShaped o s
+      → (e : Tree) → TypedTree (context_of f.decls) e → height_of e ≤ 17 → (s : State) → IsShaped o s
       → StandsFor f s store → StandsAt o s.place (set_code f mode (SetVariable x e))
       → RunsThrough o s (set_code f mode (SetVariable x e)) (seen_of_set f mode s.banks s.slots store (SetVariable x e))
       (Assigns f (by_mode mode (assigned f.decls (SetVariable x e) store) store))
@@ -241,21 +140,19 @@ module _ (o : Parts) (fits : IsInRange o) (f : Setting) (homes : HasHomes o f) (
 
   -- the same where the array is resident or isn't
   runs-set_by : (mode : Mode) (x : List ℕ) (label : Label) → context_of f.decls x ≡ Some (label, Array)
-      → (i e : Tree) → TypedTree (context_of f.decls) i → TypedTree (context_of f.decls) e → 1 + height_of i ≤ 18
-      → height_of e ≤ 18 → (s : State) → IsShaped o s → StandsFor f s store
+      → (i e : Tree) → TypedTree (context_of f.decls) i → TypedTree (context_of f.decls) e → 1 + height_of i ≤ 17
+      → height_of e ≤ 17 → (s : State) → IsShaped o s → StandsFor f s store
       → (near resident : Bool) (from : ℕ) (index : List Instr) → from ≢ 2 → (near ≡ true → from ≡ 1)
       → ((t : State) → IsShaped o t → StandsFor f t store → RunsValue o f store mode 1 from i index t)
       → (home_of f x).resident ≡ resident
       → StandsAt o s.place
       (operand_part (operand f e) (expr_code f mode 0 e)
       ++ (access_by resident near f mode (home_of f x) 1 from (fixed_index (home_of f x) i) index
-      ++ (store_code mode (home_of f x).slot (operand_register (operand f e) 0)
-      ++ stored_code resident (home_of f x).slot)))
+      ++ stored_by resident f mode (home_of f x) (fixed_index (home_of f x) i) (operand_register (operand f e) 0)))
       → RunsThrough o s
       (operand_part (operand f e) (expr_code f mode 0 e)
       ++ (access_by resident near f mode (home_of f x) 1 from (fixed_index (home_of f x) i) index
-      ++ (store_code mode (home_of f x).slot (operand_register (operand f e) 0)
-      ++ stored_code resident (home_of f x).slot)))
+      ++ stored_by resident f mode (home_of f x) (fixed_index (home_of f x) i) (operand_register (operand f e) 0)))
       (seen_of_all mode s.banks s.slots
       (accesses f store e
       ++ (accesses f store i ++ accessed_by resident (access_of f store x (evaluated f.decls store i))))
@@ -280,7 +177,7 @@ module _ (o : Parts) (fits : IsInRange o) (f : Setting) (homes : HasHomes o f) (
       let apart = operand-apart f e q (λ r held. held) 0 in
       let first = operand_part q (expr_code f mode 0 e) in
       let access = placed_code near f h 1 from (fixed_index h i) index_code in
-      let store_word = store_code mode h.slot v in
+      let store_word = stored_by true f mode h (fixed_index h i) v in
       let seen_first = seen_of_all mode s.banks s.slots before in
       let seen_then = seen_of_all mode s.banks (slots_after s.banks s.slots before) then in
       let Done : State → Type 0 = Assigns f (by_mode mode (with_word store k n value) store) in
@@ -291,15 +188,15 @@ module _ (o : Parts) (fits : IsInRange o) (f : Setting) (homes : HasHomes o f) (
       ∙ sym (seen_of_all-append mode s.banks s.slots before then)
       ∙ ap (λ l. seen_of_all mode s.banks s.slots (before ++ l)) (sym (append-nil then))
       ∙ sym (append-nil (seen_of_all mode s.banks s.slots (before ++ (then ++ [])))) in
-      runs-weaker s (first ++ (access ++ (store_word ++ []))) (seen_first ++ (seen_then ++ []))
+      runs-weaker s (first ++ (access ++ store_word)) (seen_first ++ (seen_then ++ []))
       (seen_of_all mode s.banks s.slots (before ++ (then ++ [])) ++ []) Done Done
-      (runs-append s first (access ++ (store_word ++ [])) seen_first (seen_then ++ [])
+      (runs-append s first (access ++ store_word) seen_first (seen_then ++ [])
       (LeavesAt f store before 0 v value s) Done at
       (runs-operand o f store mode e q (λ r held. held) 0 s shaped stands
       (runs-expression o fits f homes store store_fits mode e typed 0 (omega arith) s shaped stands))
       (λ t shape leaves at'.
       let is : IsWord value = subst IsWord leaves.value (IsWord-register o t shape v) in
-      runs-append t access (store_word ++ []) seen_then [] (Placed t) Done at'
+      runs-append t access store_word seen_then [] (Placed t) Done at'
       (λ at''.
       runs-weaker t access (seen_of_all mode t.banks t.slots then) seen_then (Placed t) (Placed t)
       (runs-placed o fits f homes store store_fits x label Array known resident mode 1 from i index_code t shape
@@ -307,12 +204,11 @@ module _ (o : Parts) (fits : IsInRange o) (f : Setting) (homes : HasHomes o f) (
       (ap (λ l. seen_of_all mode l t.slots then) leaves.banks ∙ ap (λ l. seen_of_all mode s.banks l then) leaves.slots)
       (λ u shape' done. done))
       (λ u shape' placed at''.
-      subst (λ code. StandsAt o u.place code → RunsThrough o u code [] Done) (sym (append-nil store_word))
-      (runs-put mode x label Array known resident (array-free f homes.held x label known) n within v
-      (apart.apart 2 (omega arith) (omega arith)) value is u shape' placed.stands
+      runs-stored_by o fits f homes store store_fits x label Array known resident (array-free f homes.held x label known) n
+      within u shape' placed.stands mode v (operand-outside f e q (λ r held. held)) value is
       (operand-stays f store e q (λ r held. held) 0 t u leaves.stands placed.stands
-      (λ r under. placed.below r (omega arith)) ∙ leaves.value) placed.value)
-      at'')))
+      (λ r under. placed.below r (omega arith)) ∙ leaves.value) placed.value (fixed_index h i)
+      (λ z found. fixed-number o fits f homes store store_fits x label Array known resident i z found) at'')))
       shown
       (λ t shape done. done)
   runs-set_by mode x label known i e typed_index typed room_index room s shaped stands near false from index_code other
@@ -411,8 +307,8 @@ module _ (o : Parts) (fits : IsInRange o) (f : Setting) (homes : HasHomes o f) (
 
   -- an assignment to an element
   pub runs-set_element : (mode : Mode) (x : List ℕ) (label : Label) → context_of f.decls x ≡ Some (label, Array)
-      → (i e : Tree) → TypedTree (context_of f.decls) i → TypedTree (context_of f.decls) e → 1 + height_of i ≤ 18
-      → height_of e ≤ 18
+      → (i e : Tree) → TypedTree (context_of f.decls) i → TypedTree (context_of f.decls) e → 1 + height_of i ≤ 17
+      → height_of e ≤ 17
       → (s : State) → IsShaped o s → StandsFor f s store → StandsAt o s.place (set_code f mode (SetElement x i e))
       → RunsThrough o s (set_code f mode (SetElement x i e))
       (seen_of_set f mode s.banks s.slots store (SetElement x i e))

@@ -10,7 +10,7 @@ use Rattle.block_cache_gen.specs.declared.frames.CodeBuf.{CodeBuf}
 use Rattle.block_cache_gen.specs.declared.frames.Mode.{Mode}
 use Rattle.block_cache_gen.specs.declared.frames.Mode.TheVariants.{Public}
 use Rattle.block_cache_gen.specs.Homes.{Home, Setting, home_of, register_for}
-use Rattle.block_cache_gen.specs.Codes.{indexed_code, compares, operand, operand_part, operand_register, expr_code, store_code, stored_code, write_code}
+use Rattle.block_cache_gen.specs.Codes.{indexed_code, compares, operand, operand_part, operand_register, expr_code, fixed_index, store_code, stored_code, write_code}
 use Rattle.block_cache_gen.specs.Notes.{expr_notes, operand_mask, base_mask}
 use Rattle.block_cache_gen.specs.Emitted.{Appended, no_notes, notes_in, access_notes, EmitsOperand, EmitsAccess, EmitsSet}
 use Rattle.block_cache_gen.proofs.Emitting.{silent_behind}
@@ -44,20 +44,18 @@ variable_set f mode x y e h held q label value a b d same home register is_label
 
 -- the pieces of an assignment to an element are its code
 pub element_set : (f : Setting) (mode : Mode) (x y : List ℕ) (i e : Tree) (h : Home) (label : Label) (q : Option ℕ)
-    (value other : ℕ) (a b c d last : CodeBuf)
+    (value other : ℕ) (a b c last : CodeBuf)
     → y ≡ x → h ≡ home_of f y → label ≡ label_of (context_of f.decls) e
     → q ≡ operand f e → value ≡ operand_register q 0 → other ≡ operand_mask q label (base_mask f) 0
     → EmitsOperand f mode (base_mask f) 0 q e a b → EmitsAccess f mode h other 1 i b c
-    → Appended c d (store_code mode h.slot value) no_notes → Appended d last (stored_code h.resident h.slot) no_notes
+    → Appended c last (stored_code f mode h (fixed_index h i) value) no_notes
     → EmitsSet f mode (SetElement x i e) a last
-element_set f mode x y i e h label q value other a b c d last same home is_label is_q is_value is_other emits access store
-    block =
+element_set f mode x y i e h label q value other a b c last same home is_label is_q is_value is_other emits access store =
     let index = expr_code f mode 1 i in
     let own = label_of (context_of f.decls) e in
     let P : Home → Option ℕ → ℕ → ℕ → Type 0 = λ k p v m. Appended a last
     (operand_part p (expr_code f mode 0 e)
-    ++ (indexed_code f (compares f mode k i) mode k 1 i index
-    ++ (store_code mode k.slot v ++ stored_code k.resident k.slot)))
+    ++ (indexed_code f (compares f mode k i) mode k 1 i index ++ stored_code f mode k (fixed_index k i) v))
     (λ place. notes_in mode
     (operand_part p (expr_notes f (base_mask f) 0 place e)
     ++ access_notes f k m 1 i (place + length (operand_part p (expr_code f Public 0 e))))) in
@@ -66,13 +64,11 @@ element_set f mode x y i e h label q value other a b c d last same home is_label
     (subst (P (home_of f x) q value) (is_other ∙ ap (λ k. operand_mask q k (base_mask f) 0) is_label)
     (subst (λ k. P k q value other) (home ∙ ap (home_of f) same)
     (operand_then f mode (base_mask f) 0 q e
-    (indexed_code f (compares f mode h i) mode h 1 i index
-    ++ (store_code mode h.slot value ++ stored_code h.resident h.slot))
+    (indexed_code f (compares f mode h i) mode h 1 i index ++ stored_code f mode h (fixed_index h i) value)
     (λ place. access_notes f h other 1 i place) a b last emits
     (silent_behind b c last (indexed_code f (compares f mode h i) mode h 1 i index)
-    (store_code mode h.slot value ++ stored_code h.resident h.slot)
-    (λ place. notes_in mode (access_notes f h other 1 i place)) access
-    (silent_behind c d last (store_code mode h.slot value) (stored_code h.resident h.slot) no_notes store block))))))
+    (stored_code f mode h (fixed_index h i) value)
+    (λ place. notes_in mode (access_notes f h other 1 i place)) access store)))))
 
 -- after the value there is room for the access
 pub room_for_access : (f : Setting) (mode : Mode) (q : Option ℕ) (i e : Tree) (a b : CodeBuf)

@@ -20,7 +20,7 @@ use Rattle.block_cache_gen.specs.declared.frames.CodeBuf.{CodeBuf}
 use Rattle.block_cache_gen.specs.declared.frames.Mode.{Mode}
 use Rattle.block_cache_gen.specs.declared.frames.Mode.TheVariants.{Public, Real, Mirrored}
 use Rattle.block_cache_gen.specs.Homes.{Home, Setting, home_of}
-use Rattle.block_cache_gen.specs.Codes.{access_by, applied_code, found_by, is_cached, compares, compared_code, least_word, numbered_code, offset_code, shift_code, fixed_code, load_code, skips, access_code, indexed_code, index_operand, fixed_index, operand, operand_part, operand_register, left_operand, operation_code, steps_at, expr_code}
+use Rattle.block_cache_gen.specs.Codes.{access_by, applied_code, found_by, is_cached, compares, compared_code, least_word, numbered_code, offset_code, shift_code, fixed_code, load_code, skips, access_code, indexed_code, index_operand, fixed_index, operand, operand_part, operand_register, left_operand, operation_code, steps_at, expr_code, read_code}
 use Rattle.strength_reduction.specs.Steps.{Step, code_of}
 use Rattle.block_cache_gen.specs.Notes.{expr_notes, operand_mask, operation_notes, index_notes, compared_notes, loaded_notes, load_notes, access_mask, unmarked, note_of}
 use Rattle.block_cache_gen.specs.Emitted.{Appended, no_notes, notes_in, access_notes, OperationBy, EmitsOperation, EmitsOperand, EmitsExpr, EmitsAccess, EmitsFound}
@@ -325,15 +325,15 @@ found_loaded f mode h mask to from i b c d same turn x y =
         omega (arith, length-append (xs ++ ys) zs, length-append xs ys, length-append ys zs)
 
 pub element_emitted : (f : Setting) (mode : Mode) (mask to : ℕ) (x : List ℕ) (i : Tree) (h : Home) (a b c : CodeBuf)
-    → h ≡ home_of f x → EmitsAccess f mode h mask to i a b → Appended b c (Ldw to h.slot to ∷ []) no_notes
+    → h ≡ home_of f x → EmitsAccess f mode h mask to i a b → Appended b c (read_code f h (fixed_index h i) to) no_notes
     → EmitsExpr f mode mask to (Element x i) a c
 element_emitted f mode mask to x i h a b c is y z =
     let P : Home → Type 0 = λ k. Appended a c
-    (indexed_code f (compares f mode k i) mode k to i (expr_code f mode to i) ++ Ldw to k.slot to ∷ [])
+    (indexed_code f (compares f mode k i) mode k to i (expr_code f mode to i) ++ read_code f k (fixed_index k i) to)
     (λ place. notes_in mode (access_notes f k mask to i place)) in
     subst P is
     (silent_behind a b c (indexed_code f (compares f mode h i) mode h to i (expr_code f mode to i))
-    (Ldw to h.slot to ∷ []) (λ place. notes_in mode (access_notes f h mask to i place)) y z)
+    (read_code f h (fixed_index h i) to) (λ place. notes_in mode (access_notes f h mask to i place)) y z)
 
 -- the steps, or the right side and the operation
 pub steps_emitted : (f : Setting) (mode : Mode) (mask to left : ℕ) (op : Op) (r : Tree) (steps : List Step) (code : List Instr)
@@ -425,17 +425,19 @@ room_for_found f mode mask to q i a b room x =
     let rest = room_for_right f mode mask to q i 1 a b (omega arith) x in omega arith
 
 -- the same of an expression that is such a tree
-pub element_appended : (f : Setting) (mode : Mode) (mask to : ℕ) (e : Tree) (x y : List ℕ) (i j : Tree) (h : Home)
-    (a b c : CodeBuf) → e ≡ Element x i → y ≡ x → j ≡ i → h ≡ home_of f y → EmitsAccess f mode h mask to j a b
-    → Appended b c (Ldw to h.slot to ∷ []) no_notes → EmitsExpr f mode mask to e a c
-element_appended f mode mask to e x y i j h a b c is same_name same_index home access read =
+pub element_appended : (f : Setting) (mode : Mode) (mask to : ℕ) (e : Tree) (x y : List ℕ) (i j k : Tree) (h : Home)
+    (a b c : CodeBuf) → e ≡ Element x i → y ≡ x → j ≡ i → k ≡ i → h ≡ home_of f y → EmitsAccess f mode h mask to j a b
+    → Appended b c (read_code f h (fixed_index h k) to) no_notes → EmitsExpr f mode mask to e a c
+element_appended f mode mask to e x y i j k h a b c is same_name same_index same_again home access read =
     let P : Tree → Type 0 = λ t. EmitsExpr f mode mask to t a c in
     let Q : Tree → Type 0 = λ t. EmitsAccess f mode h mask to t a b in
+    let R : Tree → Type 0 = λ t. Appended b c (read_code f h (fixed_index h t) to) no_notes in
     subst P (sym is)
-    (element_emitted f mode mask to x i h a b c (home ∙ ap (home_of f) same_name) (subst Q same_index access) read)
+    (element_emitted f mode mask to x i h a b c (home ∙ ap (home_of f) same_name) (subst Q same_index access)
+    (subst R same_again read))
 
 -- steps have the registers that they use
-pub steps-low : (to : ℕ) (e : Tree) (op : Op) (l r : Tree) → e ≡ Operation op l r → to + height_of e ≤ 18 → to + 2 < 19
+pub steps-low : (to : ℕ) (e : Tree) (op : Op) (l r : Tree) → e ≡ Operation op l r → to + height_of e ≤ 17 → to + 2 < 19
 steps-low to e op l r is high = let h = ap height_of is in omega (arith, height-some r)
 
 -- the pieces of an operation are its code

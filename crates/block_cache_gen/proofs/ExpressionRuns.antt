@@ -23,8 +23,8 @@ use Rattle.src_tree.specs.Trees.{Tree, Number, Variable, Element, Operation}
 use Rattle.src_tree.specs.Typing.{TypedTree}
 use Rattle.src_tree.proofs.TreeHeights.{height-some}
 use Rattle.block_cache_gen.specs.declared.frames.Mode.{Mode}
-use Rattle.block_cache_gen.specs.Homes.{Setting, HasHomes, home_of, words_a_block, start_of_home, register_for}
-use Rattle.block_cache_gen.specs.Codes.{fixed_index, scalar_code, access_by, placed_code, index_operand, operand, operand_part, operand_register, operand_unless, left_operand, operation_code, steps_at, expr_code, compares, copy_code}
+use Rattle.block_cache_gen.specs.Homes.{Setting, HasHomes, home_of, words_a_block, start_of_home, register_for, further_slots}
+use Rattle.block_cache_gen.specs.Codes.{fixed_index, scalar_code, access_by, placed_code, read_by, index_operand, operand, operand_part, operand_register, operand_unless, left_operand, operation_code, steps_at, expr_code, compares, copy_code}
 use Rattle.gr_word.specs.declared.operations.Op.{Op}
 use Rattle.strength_reduction.specs.Steps.{Step, numbered, words_after, code_of}
 use Rattle.step_code.proofs.StepRuns.{Leaves, runs-steps}
@@ -41,7 +41,9 @@ use Rattle.block_cache_gen.proofs.RegisterWrites.{register-word, zero-word}
 use Rattle.block_cache_gen.proofs.HeldOperands.{IsOperandOf, operand-apart, operand-stays, operand-unless}
 use Rattle.block_cache_gen.proofs.OperandRuns.{LeavesAt, RunsExpr, RunsValue, runs-operand}
 use Rattle.block_cache_gen.proofs.Stands.{stands-like, stands-set}
-use Rattle.block_cache_gen.proofs.ResidentRuns.{runs-placed, runs-read, resident-within}
+use Rattle.block_cache_gen.proofs.ResidentRuns.{fixed-number, runs-placed, runs-read, resident-within}
+use Rattle.block_cache_gen.proofs.SpreadRuns.{Reads, runs-read_by}
+use Rattle.block_cache_gen.proofs.WordSlots.{single-slot}
 use Rattle.block_cache_gen.proofs.AccessRuns.{Accesses, runs-access, word-within}
 
 -- where one register was set, a word is left and nothing was accessed
@@ -81,14 +83,17 @@ module _ (o : Parts) (fits : IsInRange o) (f : Setting) (homes : HasHomes o f) (
       let home = homes.scalars x label known in
       let value = scalar store (variable_number f.decls x) in
       let load = Ldw to h.slot to in
+      let one = single-slot h.slot (further_slots h) ((h.word + 0) / words_a_block f) home.single in
       runs-cons s (Li to (pos h.word)) (load ∷ []) [] [] (Sets s to (pos h.word)) (LeavesWord f store [] to value s) at
       (sets-li o fits s shaped to (pos h.word) (omega arith))
       (λ t shape sets at'.
       let stands' = stands-set sets small stands in
       let place : register t to ≡ pos (h.word + 0) = sets.value ∙ ap pos (omega arith) in
       runs-weaker t (load ∷ []) [] [] (Sets t to value) (LeavesWord f store [] to value s)
+      (subst
+      (λ k. StandsAt o t.place (Ldw to k to ∷ []) → RunsThrough o t (Ldw to k to ∷ []) [] (Sets t to value)) one
       (runs-read o fits f homes store store_fits x label Scalar known home.resident to 0 t shape stands'
-      (omega (arith, home.length)) free small place at')
+      (omega (arith, home.length)) free small place) at')
       refl
       (λ u shape' sets'. record {
         value = sets'.value;
@@ -128,15 +133,15 @@ module _ (o : Parts) (fits : IsInRange o) (f : Setting) (homes : HasHomes o f) (
 
   -- an element, where what the code of its index does is known
   runs-element : (mode : Mode) (x : List ℕ) (i : Tree) (label : Label) → context_of f.decls x ≡ Some (label, Array)
-      → (to from : ℕ) (index : List Instr) → to + 2 < 19 → from ≢ to + 1 → (s : State) → IsShaped o s
+      → (to from : ℕ) (index : List Instr) → to + 3 < 19 → from ≢ to + 1 → (s : State) → IsShaped o s
       → StandsFor f s store → RunsValue o f store mode to from i index s
       → (near resident : Bool) → (near ≡ true → from ≡ to) → (home_of f x).resident ≡ resident
       → StandsAt o s.place
       (access_by resident near f mode (home_of f x) to from (fixed_index (home_of f x) i) index
-      ++ Ldw to (home_of f x).slot to ∷ [])
+      ++ read_by resident f (home_of f x) (fixed_index (home_of f x) i) to)
       → RunsThrough o s
       (access_by resident near f mode (home_of f x) to from (fixed_index (home_of f x) i) index
-      ++ Ldw to (home_of f x).slot to ∷ [])
+      ++ read_by resident f (home_of f x) (fixed_index (home_of f x) i) to)
       (seen_of_all mode s.banks s.slots
       (accesses f store i ++ accessed_by resident (access_of f store x (evaluated f.decls store i))))
       (LeavesWord f store
@@ -149,29 +154,30 @@ module _ (o : Parts) (fits : IsInRange o) (f : Setting) (homes : HasHomes o f) (
       let value = element store (variable_number f.decls x) index in
       let before = accesses f store i in
       let code = placed_code near f h to from (fixed_index h i) found in
-      let load = Ldw to h.slot to in
+      let load = read_by true f h (fixed_index h i) to in
       let seen = seen_of_all mode s.banks s.slots before in
       let same : before ≡ before ++ [] = sym (append-nil before) in
       let Done : State → Type 0 = LeavesWord f store before to value s in
-      subst (λ l. RunsThrough o s (code ++ load ∷ []) (seen_of_all mode s.banks s.slots l)
+      subst (λ l. RunsThrough o s (code ++ load) (seen_of_all mode s.banks s.slots l)
       (LeavesWord f store l to value s))
       same
-      (runs-weaker s (code ++ load ∷ []) (seen ++ []) seen Done Done
-      (runs-append s code (load ∷ []) seen [] (LeavesWord f store before to (pos (h.word + n)) s) Done at
+      (runs-weaker s (code ++ load) (seen ++ []) seen Done Done
+      (runs-append s code load seen [] (LeavesWord f store before to (pos (h.word + n)) s) Done at
       (runs-placed o fits f homes store store_fits x label Array known resident mode to from i found s shaped stands
-      small other run near own (fixed_index h i) refl)
+      (omega (arith, small)) other run near own (fixed_index h i) refl)
       (λ t shape placed at'.
-      runs-weaker t (load ∷ []) [] [] (Sets t to value) Done
-      (runs-read o fits f homes store store_fits x label Array known resident to n t shape placed.stands
-      (resident-within o fits f homes store store_fits x label Array known resident index)
-      (array-free f homes.held x label known) (omega arith) placed.value at')
+      runs-weaker t load [] [] (Reads to value t) Done
+      (runs-read_by o fits f homes store store_fits x label Array known resident (array-free f homes.held x label known) n
+      (resident-within o fits f homes store store_fits x label Array known resident index) t shape placed.stands to small
+      placed.value (fixed_index h i)
+      (λ z fixed. fixed-number o fits f homes store store_fits x label Array known resident i z fixed) at')
       refl
-      (λ u shape' sets. record {
-        value = sets.value;
-        below = λ r under. sets.others r (λ same. absurd (omega arith)) ∙ placed.below r under;
-        banks = sets.banks ∙ placed.banks;
-        slots = sets.slots ∙ placed.slots;
-        stands = stands-set sets (omega arith) placed.stands;
+      (λ u shape' reads. record {
+        value = reads.value;
+        below = λ r under. reads.below r under ∙ placed.below r under;
+        banks = reads.banks ∙ placed.banks;
+        slots = reads.slots ∙ placed.slots;
+        stands = stands-like f t u store reads.slots reads.banks reads.above placed.stands;
       })))
       (append-nil seen)
       (λ t shape done. done))
@@ -188,8 +194,8 @@ module _ (o : Parts) (fits : IsInRange o) (f : Setting) (homes : HasHomes o f) (
       let Done : State → Type 0 = LeavesWord f store (before ++ a ∷ []) to value s in
       runs-weaker s (code ++ load ∷ []) (seen ++ []) seen Done Done
       (runs-append s code (load ∷ []) seen [] (Accesses f store before a to n s) Done at
-      (runs-access o fits f homes store store_fits x label known turn near mode to from i found s shaped stands small
-      other own run)
+      (runs-access o fits f homes store store_fits x label known turn near mode to from i found s shaped stands
+      (omega (arith, small)) other own run)
       (λ t shape accessed at'.
       let named : word_named o (register t to) ≡ n % words_a_block f =
       ap (λ word. word_named o word) accessed.leaves.value ∙ ap (λ w. n % w) (block_words-is homes) in
@@ -354,7 +360,7 @@ module _ (o : Parts) (fits : IsInRange o) (f : Setting) (homes : HasHomes o f) (
       at
 
   -- an expression
-  pub runs-expression : (mode : Mode) (e : Tree) → TypedTree (context_of f.decls) e → (to : ℕ) → to + height_of e ≤ 18
+  pub runs-expression : (mode : Mode) (e : Tree) → TypedTree (context_of f.decls) e → (to : ℕ) → to + height_of e ≤ 17
       → (s : State) → IsShaped o s → StandsFor f s store → StandsAt o s.place (expr_code f mode to e)
       → RunsThrough o s (expr_code f mode to e) (seen_of_all mode s.banks s.slots (accesses f store e))
       (LeavesWord f store (accesses f store e) to (evaluated f.decls store e) s)
@@ -368,7 +374,7 @@ module _ (o : Parts) (fits : IsInRange o) (f : Setting) (homes : HasHomes o f) (
   runs-expression mode (Element x i) typed to room s shaped stands at =
       let near = compares f mode (home_of f x) i in
       let q = index_operand f near i in
-      let low : to + 2 < 19 = omega (arith, height-some i) in
+      let low : to + 3 < 19 = omega (arith, height-some i) in
       let apart = operand-apart f i q (operand-unless f i near) to in
       runs-element mode x i typed.0.0 typed.0.1 to (operand_register q to) (operand_part q (expr_code f mode to i)) low
       (apart.apart (to + 1) (omega arith) (omega arith)) s shaped stands

@@ -85,7 +85,7 @@ extends f banks mode weight code noted a b some pins x few few_notes fits rise r
 
 -- so does the code of an expression
 pub expr_extends : (f : Setting) (banks : ℕ) (mode : Mode) (to : ℕ) (e : Tree) (a b : CodeBuf)
-    → 2 ≤ banks → HomesFit banks f → TypedTree (context_of f.decls) e → to + height_of e ≤ 18 → HasWords e
+    → 2 ≤ banks → HomesFit banks f → TypedTree (context_of f.decls) e → to + height_of e ≤ 17 → HasWords e
     → length a.code.items + 120 * tree_weight e ≤ most_instructions → EmitsExpr f mode (base_mask f) to e a b
     → Extends banks mode (tree_weight e) a b
 expr_extends f banks mode to e a b some homes typed low words room x =
@@ -99,7 +99,7 @@ expr_extends f banks mode to e a b some homes typed low words room x =
 -- that of a guard
 pub guard_extends : (f : Setting) (banks : ℕ) (mode : Mode) (to : ℕ) (t : Test) (a b : CodeBuf)
     → 2 ≤ banks → HomesFit banks f
-    → TypedTest (context_of f.decls) t → to + height_of t.left ≤ 18 → to + 1 + height_of t.right ≤ 18 → TestHasWords t
+    → TypedTest (context_of f.decls) t → to + height_of t.left ≤ 17 → to + 1 + height_of t.right ≤ 17 → TestHasWords t
     → length a.code.items + 120 * test_weight t ≤ most_instructions → EmitsGuard f mode to t a b
     → Extends banks mode (test_weight t) a b
 guard_extends f banks mode to t a b some homes typed low lower words room x =

@@ -28,7 +28,7 @@ use Rattle.block_cache_gen.specs.PublicIndexes.{HasPublicIndexes, TestHasPublicI
 use Rattle.block_cache_gen.specs.RunsOf.{Evaluates, EvaluatesTest, Performs}
 use Rattle.block_cache_gen.specs.SecretCode.{IsWalkedAsExpr, IsWalkedAsTest, IsWalkedAsSet}
 use Rattle.block_cache_gen.specs.Settings.{IsFrame, setting_of}
-use Rattle.block_cache_gen.specs.StoredWords.{stored_words, written_words, set_stores, registers_aside}
+use Rattle.block_cache_gen.specs.StoredWords.{stored_words, written_words, set_stores, registers_aside, set_writes}
 use Rattle.block_cache_gen.specs.Twins.{HasTwin, other_mode}
 use Rattle.block_cache_gen.proofs.WrittenWords.{set-writes}
 use Rattle.block_cache_gen.proofs.FrameIndexes.{frame_public, set_of_statement}
@@ -65,7 +65,7 @@ other_secret Mirrored secret = refl
 
 -- an expression
 module _ (f : Setting) (once : DeclaredOnce f.decls) (to : ℕ) (e : Tree) (typed : TypedTree (context_of f.decls) e)
-    (public : HasPublicIndexes f e) (low : to + height_of e ≤ 18) where
+    (public : HasPublicIndexes f e) (low : to + height_of e ≤ 17) where
   expr-passed : (place : ℕ)
       → IsPassedAsExpr f to e place (expr_code f Public to e) (expr_notes f (base_mask f) to place e)
   expr-passed place o comes holds homes stands here carries =
@@ -84,7 +84,7 @@ pub record ExprPromises (f : Setting) (mode : Mode) (to : ℕ) (e : Tree) (place
 -- what was appended for an expression does what is promised
 pub frame-expr_promises : (f : Frame) (s : Setting) (mode : Mode) (to : ℕ) (e : Tree) (a b : CodeBuf) → IsFrame f
     → s ≡ setting_of f → TypedTree (context_of f.program.now.decls.items) e → HasPublicIndexes (setting_of f) e
-    → to + height_of e ≤ 18 → EmitsExpr s mode (base_mask s) to e a b
+    → to + height_of e ≤ 17 → EmitsExpr s mode (base_mask s) to e a b
     → ExprPromises (setting_of f) mode to e (length a.code.items) (code_behind a b) (notes_behind a b)
 frame-expr_promises f s mode to e a b is same typed public low x =
     let g = setting_of f in
@@ -114,7 +114,7 @@ pub record TestPromises (f : Setting) (mode : Mode) (to : ℕ) (t : Test) (place
 -- and what was appended for a guard
 pub frame-test_promises : (f : Frame) (s : Setting) (mode : Mode) (to : ℕ) (t : Test) (a b : CodeBuf) → IsFrame f
     → s ≡ setting_of f → TypedTest (context_of f.program.now.decls.items) t → TestHasPublicIndexes (setting_of f) t
-    → to + height_of t.left ≤ 18 → to + 1 + height_of t.right ≤ 18 → EmitsGuard s mode to t a b
+    → to + height_of t.left ≤ 17 → to + 1 + height_of t.right ≤ 17 → EmitsGuard s mode to t a b
     → TestPromises (setting_of f) mode to t (length a.code.items) (code_behind a b) (notes_behind a b)
 frame-test_promises f s mode to t a b is same typed public low lower x =
     let g = setting_of f in
@@ -142,7 +142,7 @@ pub record SetPromises (f : Setting) (mode : Mode) (t : Statement) (place : ℕ)
   pub passes : mode ≡ Public → IsPassedAsSet f place code notes
   pub walked : ¬ (mode ≡ Public) → IsWalkedAsSet f t code
   pub stores : stored_words code ≡ set_stores f t
-  pub writes : written_words code ≡ 1
+  pub writes : written_words code ≡ set_writes f t
   pub instructions : ¬ (mode ≡ Public) → registers_aside code ≡ instructions_of_set f t
   pub twin : ¬ (mode ≡ Public) → HasTwin f mode t code
 

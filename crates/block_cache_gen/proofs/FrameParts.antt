@@ -20,7 +20,7 @@ use Rattle.block_cache_gen.specs.Homes.{register_for, Setting, home_of, pin_at}
 use Rattle.block_cache_gen.specs.Notes.{claim_by, claimed_where_used, slot_claims}
 use Rattle.block_cache_gen.specs.Settings.{IsFrame, setting_of}
 use Rattle.block_cache_gen.specs.Variables.{claim_in, claims_in, home_in, variable_of}
-use Rattle.block_cache_gen.proofs.KnownNames.{found_held, found_home, found_label, found_length, declared_found, lost_label, slots_used}
+use Rattle.block_cache_gen.proofs.KnownNames.{found_few, found_held, found_home, found_label, found_length, declared_found, lost_label, slots_used}
 
 some_word : (n : Option ℕ) → LengthFits n → 1 ≤ words_of_length n
 some_word None fits = omega arith
@@ -53,21 +53,21 @@ frame_words f is =
 -- What a frame's map says of a name, seen from what the frame's code is made for.
 abbrev pub frame_variable : Frame → List ℕ → Option Variable
 frame_variable f x =
-    variable_of f.slots.now.pins f.held.now 0 f.program.now.decls.items f.places.now.of_var.items f.slots.now.of_var.items x
+    variable_of f.slots.now.pins f.profile.now.block_log f.held.now 0 f.program.now.decls.items f.places.now.of_var.items f.slots.now.of_var.items x
 
 -- a name's variable is where its home is
 pub frame_home : (f : Frame) (s : Setting) (x : List ℕ) (v : Variable) → setting_of f ≡ s → frame_variable f x ≡ Some v
     → home_in v ≡ home_of s x
 frame_home f s x v e is =
     let P : Setting → Type 0 = λ t. home_in v ≡ home_of t x in
-    subst P e (found_home f.slots.now.pins f.held.now 0 f.program.now.decls.items f.places.now.of_var.items f.slots.now.of_var.items x v is)
+    subst P e (found_home f.slots.now.pins f.profile.now.block_log f.held.now 0 f.program.now.decls.items f.places.now.of_var.items f.slots.now.of_var.items x v is)
 
 -- a name's variable has its label
 pub frame_label : (f : Frame) (s : Setting) (x : List ℕ) (v : Variable) → setting_of f ≡ s → frame_variable f x ≡ Some v
     → v.label ≡ label_at (context_of s.decls) x
 frame_label f s x v e is =
     let P : Setting → Type 0 = λ t. v.label ≡ label_at (context_of t.decls) x in
-    subst P e (found_label f.slots.now.pins f.held.now 0 f.program.now.decls.items f.places.now.of_var.items f.slots.now.of_var.items x v is)
+    subst P e (found_label f.slots.now.pins f.profile.now.block_log f.held.now 0 f.program.now.decls.items f.places.now.of_var.items f.slots.now.of_var.items x v is)
 
 -- and its register, if one holds it for the whole run
 pub frame_held : (f : Frame) (s : Setting) (x : List ℕ) (v : Variable) → setting_of f ≡ s → frame_variable f x ≡ Some v
@@ -77,7 +77,7 @@ frame_held f s x v e is =
     let number : 0 + variable_number f.program.now.decls.items x ≡ variable_number f.program.now.decls.items x =
     omega arith in
     subst P e
-    (found_held f.slots.now.pins f.held.now 0 f.program.now.decls.items f.places.now.of_var.items
+    (found_held f.slots.now.pins f.profile.now.block_log f.held.now 0 f.program.now.decls.items f.places.now.of_var.items
     f.slots.now.of_var.items x v is
     ∙ ap (register_of_scalar f.held.now) number)
 
@@ -87,22 +87,27 @@ pub frame_no_label : (f : Frame) (s : Setting) (x : List ℕ) → IsFrame f → 
 frame_no_label f s x fits e is =
     let P : Setting → Type 0 = λ t. Public ≡ label_at (context_of t.decls) x in
     subst P e
-    (lost_label f.slots.now.pins f.held.now 0 f.program.now.decls.items f.places.now.of_var.items f.slots.now.of_var.items x (frame_places f fits)
+    (lost_label f.slots.now.pins f.profile.now.block_log f.held.now 0 f.program.now.decls.items f.places.now.of_var.items f.slots.now.of_var.items x (frame_places f fits)
     (frame_slots f fits) is)
 
 -- a variable has a word at least
 pub frame_length : (f : Frame) (x : List ℕ) (v : Variable) → IsFrame f → frame_variable f x ≡ Some v
     → 1 ≤ v.place.length
 frame_length f x v fits is =
-    found_length f.slots.now.pins f.held.now 0 f.program.now.decls.items f.places.now.of_var.items f.slots.now.of_var.items x v
+    found_length f.slots.now.pins f.profile.now.block_log f.held.now 0 f.program.now.decls.items f.places.now.of_var.items f.slots.now.of_var.items x v
     (frame_words f fits) is
+
+-- and at most four further slots
+pub frame_few : (f : Frame) (x : List ℕ) (v : Variable) → frame_variable f x ≡ Some v → v.further ≤ 4
+frame_few f x v is =
+    found_few f.slots.now.pins f.profile.now.block_log f.held.now 0 f.program.now.decls.items f.places.now.of_var.items f.slots.now.of_var.items x v is
 
 -- a name that is declared has a variable
 pub frame_declared : (f : Frame) (s : Setting) (x : List ℕ) → IsFrame f → setting_of f ≡ s
     → is_some (context_of s.decls x) ≡ true → frame_variable f x ≡ None → ⊥
 frame_declared f s x fits e declared is =
     let P : Setting → Type 0 = λ t. is_some (context_of t.decls x) ≡ true in
-    declared_found f.slots.now.pins f.held.now 0 f.program.now.decls.items f.places.now.of_var.items f.slots.now.of_var.items x (frame_places f fits)
+    declared_found f.slots.now.pins f.profile.now.block_log f.held.now 0 f.program.now.decls.items f.places.now.of_var.items f.slots.now.of_var.items x (frame_places f fits)
     (frame_slots f fits) (subst P (sym e) declared) is
 
 -- what is claimed of a slot that the frame's variables may use
@@ -110,7 +115,7 @@ frame_claim : (f : Frame) (slot bank : ℕ) → IsFrame f
     → claim_in f.slots.now.of_var.items slot bank ≡ claimed_where_used (setting_of f) slot bank
 frame_claim f slot bank fits =
     ap (λ b. if b then bank else 255)
-    (slots_used f.slots.now.pins f.places.now.of_var.items f.slots.now.of_var.items slot
+    (slots_used f.slots.now.pins f.profile.now.block_log f.places.now.of_var.items f.slots.now.of_var.items slot
     (frame_places f fits ∙ sym (frame_slots f fits)))
 
 -- the eight claims for the slots
@@ -139,9 +144,9 @@ frame_claims f slots fits are =
 -- the names that were gathered are the frame's
 pub frame_names : (f : Frame) (known : List ℕ → Option Variable) (ds : List Decl) (places : List Place) (slots : List ℕ)
     → ds ≡ f.program.now.decls.items → places ≡ f.places.now.of_var.items → slots ≡ f.slots.now.of_var.items
-    → ((x : List ℕ) → known x ≡ variable_of f.slots.now.pins f.held.now 0 ds places slots x) → (x : List ℕ) → known x ≡ frame_variable f x
+    → ((x : List ℕ) → known x ≡ variable_of f.slots.now.pins f.profile.now.block_log f.held.now 0 ds places slots x) → (x : List ℕ) → known x ≡ frame_variable f x
 frame_names f known ds places slots is_ds is_places is_slots h x =
     h x
-    ∙ ap (λ y. variable_of f.slots.now.pins f.held.now 0 y places slots x) is_ds
-    ∙ ap (λ y. variable_of f.slots.now.pins f.held.now 0 f.program.now.decls.items y slots x) is_places
-    ∙ ap (λ y. variable_of f.slots.now.pins f.held.now 0 f.program.now.decls.items f.places.now.of_var.items y x) is_slots
+    ∙ ap (λ y. variable_of f.slots.now.pins f.profile.now.block_log f.held.now 0 y places slots x) is_ds
+    ∙ ap (λ y. variable_of f.slots.now.pins f.profile.now.block_log f.held.now 0 f.program.now.decls.items y slots x) is_places
+    ∙ ap (λ y. variable_of f.slots.now.pins f.profile.now.block_log f.held.now 0 f.program.now.decls.items f.places.now.of_var.items y x) is_slots

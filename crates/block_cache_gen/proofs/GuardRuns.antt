@@ -32,8 +32,8 @@ use Rattle.block_cache_gen.proofs.ExpressionRuns.{runs-expression}
 module _ (o : Parts) (fits : IsInRange o) (f : Setting) (homes : HasHomes o f) (store : Store)
     (store_fits : FitsHomes f store) where
   -- the code of a guard leaves its two sides in two registers
-  pub runs-guard : (mode : Mode) (t : Test) → TypedTest (context_of f.decls) t → (to : ℕ) → to + height_of t.left ≤ 18
-      → (to + 1) + height_of t.right ≤ 18 → (s : State) → IsShaped o s → StandsFor f s store
+  pub runs-guard : (mode : Mode) (t : Test) → TypedTest (context_of f.decls) t → (to : ℕ) → to + height_of t.left ≤ 17
+      → (to + 1) + height_of t.right ≤ 17 → (s : State) → IsShaped o s → StandsFor f s store
       → StandsAt o s.place (guard_code f mode to t)
       → RunsThrough o s (guard_code f mode to t) (seen_of_all mode s.banks s.slots (test_accesses f store t))
       (LeavesBoth f store (test_accesses f store t) to (evaluated f.decls store t.left)

@@ -1,6 +1,6 @@
 -- Runs of the code that loads the words that registers hold for the whole run: afterwards the machine represents the store
 -- that it represented with each scalar in its slot.
-use Rattle.std.proofs.Common.{◌≡◌, ◌≢◌, ℕ, suc, ◌+◌, ◌-◌, ◌<◌, Bool, false, ℤ, pos, List, [], ◌∷◌, length, get_or, Option, Some, None, refl, sym, ap, ◌∙◌, subst, ⊎_elim, arith, mod-eq_of_lt}
+use Rattle.std.proofs.Common.{◌≡◌, ◌≢◌, ℕ, suc, ◌+◌, ◌-◌, ◌/◌, ◌%◌, ◌<◌, Bool, false, ℤ, pos, List, [], ◌∷◌, length, get_or, Option, Some, None, refl, sym, ap, ◌∙◌, subst, ⊎_elim, arith, mod-eq_of_lt, pow_pos}
 use Rattle.std.specs.Prelude.{nat_lt, if◌then◌else◌}
 use Rattle.std.specs.List.{slice_get}
 use Rattle.std.proofs.lemmas.Bool.{cases_eq, le-ltb}
@@ -9,7 +9,7 @@ use Rattle.gr_word.specs.declared.operations.Op.TheVariants.{Sub}
 use Rattle.gr_word.specs.declared.variables.Label.{Label}
 use Rattle.gr_word.specs.declared.variables.Shape.TheVariants.{Scalar}
 use Rattle.lt_isa.specs.declared.instructions.Instr.TheVariants.{Li, Alu, Ldw}
-use Rattle.lt_isa.specs.Object.{Parts}
+use Rattle.lt_isa.specs.Object.{Parts, block_words}
 use Rattle.lt_isa.specs.Ranges.{IsInRange}
 use Rattle.lt_isa.specs.Machine.{State, register, slot, word_in, slot_words}
 use Rattle.lt_isa.specs.Shape.{IsShaped}
@@ -28,8 +28,10 @@ use Rattle.held_registers.specs.Held.{held_at, word_held, IsSoundHeld}
 use Rattle.held_registers.proofs.Copies.{sub-itself}
 use Rattle.held_registers.proofs.Found.{held-high}
 use Rattle.block_cache_gen.specs.HeldCodes.{home_numbered, begin_code, each_held, held_beginning, HasSecretSlot}
-use Rattle.block_cache_gen.specs.Homes.{Held, Home, Setting, HasHomes, home_of, no_home, pin_of}
+use Rattle.block_cache_gen.specs.Homes.{Held, Home, Setting, HasHomes, home_of, no_home, pin_of, slot_of_word, words_a_block, further_slots}
 use Rattle.block_cache_gen.specs.StandsFor.{StandsFor}
+use Rattle.block_cache_gen.proofs.HomeFacts.{block_words-is}
+use Rattle.block_cache_gen.proofs.WordSlots.{one-block, single-slot}
 use Rattle.block_cache_gen.proofs.HeldScalars.{held-listed, held-inside}
 
 -- a setting in which no register holds anything
@@ -179,12 +181,19 @@ module _ (o : Parts) (fits : IsInRange o) (f : Setting) (homes : HasHomes o f) (
       (λ u shape sets there.
       let before = fills-low r t u (pos g.word) so_far sets in
       let holds = before.stands.pinned h.slot (pin_of h) home.pinned in
+      let inside = one-block f (block_words o) named.label h home (block_words-is homes) (pow_pos o.profile.block_log)
+      one.single in
+      let slot_one = single-slot h.slot (further_slots h) ((h.word + 0) / words_a_block f) one.single in
+      let word_low : (h.word + 0) % words_a_block f ≡ h.word + 0 =
+      mod-eq_of_lt (omega (arith, inside, one.length, block_words-is homes)) in
       let place : word_named o (register u 0) ≡ h.word + 0 =
       ap (λ word. word_named o word) sets.value
-      ∙ mod-eq_of_lt (omega (arith, home.inside, one.length, word_same)) ∙ omega (arith, word_same) in
+      ∙ mod-eq_of_lt (omega (arith, inside, one.length, word_same)) ∙ omega (arith, word_same) in
       let reads : word_in holds.words (word_named o (register u 0)) ≡ value =
       ap (λ k. word_in holds.words k) place
       ∙ ap (λ b. word_in (slot_words b) (h.word + 0)) (sym holds.holds)
+      ∙ ap (λ j. word_in (slot_words (slot u j)) (h.word + 0)) (sym slot_one)
+      ∙ ap (λ i. word_in (slot_words (slot u (slot_of_word f h (h.word + 0)))) i) (sym word_low)
       ∙ before.stands.residents x named.label Scalar 0 named.known one.resident refl (omega (arith, one.length))
       ∙ ap (scalar store) named.number in
       runs-weaker u (load ∷ []) [] [] (Sets u r value) (Fills (r + 1))

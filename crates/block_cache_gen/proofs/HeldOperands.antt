@@ -1,12 +1,13 @@
 -- An operand in a register that holds its value for the whole run: what the register holds, that it stays, and that the
 -- operand makes no access.
-use Rattle.std.proofs.Common.{◌≡◌, ℕ, ◌+◌, ◌<◌, ◌≤◌, Bool, true, false, List, [], length, Option, Some, None, refl, sym, ◌∙◌, arith}
+use Rattle.std.proofs.Common.{◌≡◌, ℕ, ◌+◌, ◌<◌, ◌≤◌, Bool, true, false, List, [], length, Option, Some, None, refl, sym, ◌∙◌, arith, inl, inr}
 use Rattle.lt_isa.specs.Machine.{State, register}
 use Rattle.src_tree.specs.Meaning.{Store, variable_number, evaluated}
 use Rattle.src_tree.specs.Trees.{Tree, Number, Variable, Element, Operation}
 use Rattle.held_registers.specs.declared.registers.Held.TheVariants as thing
 use Rattle.held_registers.specs.Held.{held_at, word_held, IsSoundHeld}
 use Rattle.held_registers.proofs.Found.{held-high, scalar-held, number-held}
+use Rattle.word_selection.specs.SlotSteps.{IsOutside}
 use Rattle.block_cache_gen.specs.Homes.{Held, Setting}
 use Rattle.block_cache_gen.specs.Codes.{operand, operand_part, operand_register, operand_unless}
 use Rattle.block_cache_gen.specs.StandsFor.{StandsFor}
@@ -48,6 +49,15 @@ operand-apart f e (Some q) is to =
     let held = operand-held f e q (is q refl) in
     let high = held-high f.held q held.thing held.at in
     record { apart = λ r above low same. absurd (omega (arith, low, same, high)) }
+
+-- a value that no register holds is in register 0, and one that a register holds in a high one
+pub operand-outside : (f : Setting) (e : Tree) (q : Option ℕ) → IsOperandOf f e q
+    → IsOutside 1 4 (operand_register q 0)
+operand-outside f e None is = inl (omega arith)
+operand-outside f e (Some q) is =
+    let held = operand-held f e q (is q refl) in
+    let high = held-high f.held q held.thing held.at in
+    inr (omega (arith, high))
 
 -- it is one of the machine's
 pub operand-low : (f : Setting) → IsSoundHeld f.decls f.held → (e : Tree) (r : ℕ) → operand f e ≡ Some r → r < 32

@@ -128,7 +128,7 @@ name-at_number (d ∷ ds) x kind default e =
     name_if d ds x kind default (bytes_eq x d.name) refl e (name-at_number ds x kind default)
 
 module _ (p : Source) (w : ℕ) (plan : Plan) (sound : IsSoundPlan p w plan) (f : Setting) (decls : f.decls ≡ p.decls)
-    (homes : f.homes ≡ homes_at plan.pins plan.places plan.slots) where
+    (homes : f.homes ≡ homes_at plan.pins f.profile.block_log plan.places plan.slots) where
   -- a declared name's number, what is declared there, and its home
   number-inside : (x : List ℕ) (kind : Label × Shape) → context_of f.decls x ≡ Some kind
       → variable_number f.decls x < length p.decls
@@ -141,10 +141,10 @@ module _ (p : Source) (w : ℕ) (plan : Plan) (sound : IsSoundPlan p w plan) (f 
       ∙ kind-of_number f.decls x no_decl kind known
 
   number-home : (k : ℕ) → k < length p.decls → get_or f.homes k no_home
-      ≡ home_at plan.pins (get_or plan.places k no_place) (get_or plan.slots k 0)
+      ≡ home_at plan.pins f.profile.block_log (get_or plan.places k no_place) (get_or plan.slots k 0)
   number-home k within =
       ap (λ hs. get_or hs k no_home) homes
-      ∙ get_or-homes_at plan.pins plan.places plan.slots k (sound.slots ∙ sym sound.places)
+      ∙ get_or-homes_at plan.pins f.profile.block_log plan.places plan.slots k (sound.slots ∙ sym sound.places)
       (omega (arith, within, sound.places))
 
   -- a secret array with a secret index doesn't show it: it is resident, or in an oblivious bank
@@ -167,7 +167,7 @@ module _ (p : Source) (w : ℕ) (plan : Plan) (sound : IsSoundPlan p w plan) (f 
           → (pin_of_slot plan (get_or plan.slots k 0) ≡ None → 2 ≤ (get_or plan.places k no_place).bank)
           → (pin : Option Pin) → pin_of_slot plan (get_or plan.slots k 0) ≡ pin
           → IsSoundByPin w plan (get_or p.decls k no_decl) (get_or plan.places k no_place) (get_or plan.slots k 0) pin
-          → shows_index (home_at plan.pins (get_or plan.places k no_place) (get_or plan.slots k 0)) ≡ false
+          → shows_index (home_at plan.pins f.profile.block_log (get_or plan.places k no_place) (get_or plan.slots k 0)) ≡ false
       by k secret hidden None is served =
           let q = get_or plan.places k no_place in
           ap (λ (b : Option Pin). nat_lt q.bank (if is_some b then 1 else 2)) is ∙ le-ltb q.bank 2 (hidden is)

@@ -52,6 +52,18 @@ pub mod ArmAssignments
 pub mod AlikeShows
 pub mod AlikeTests
 pub mod RunsOf
+pub mod WordSlots
+pub mod SlotSearch
+pub mod ElementSlots
+pub mod FurtherSlots
+pub mod ResidentWrites
+pub mod SpreadRuns
+pub mod ElementCodes
+pub mod SpreadArms
+pub mod SpreadPasses
+pub mod SpreadWrites
+pub mod SingleHomes
+mod BlockCounts
 pub mod SecretWalks
 pub mod SecretCodes
 pub mod WrittenWords

@@ -3,14 +3,14 @@ use Rattle.std.proofs.Common.{◌≡◌, ℕ, ◌+◌, ◌-◌, ◌<◌, ◌≤�
 use Rattle.std.specs.Prelude.{if◌then◌else◌, is_some}
 use Rattle.lt_isa.specs.declared.symbols.Note.{Note}
 use Rattle.lt_isa.specs.declared.instructions.Instr.{Instr}
-use Rattle.lt_isa.specs.declared.instructions.Instr.TheVariants.{Li, Alu, Ldw}
+use Rattle.lt_isa.specs.declared.instructions.Instr.TheVariants.{Li, Alu}
 use Rattle.src_tree.specs.Contexts.{context_of}
 use Rattle.src_tree.specs.Labels.{label_of}
 use Rattle.src_tree.specs.Trees.{Tree, Number, Variable, Element, Operation}
 use Rattle.stretches.proofs.Passed.{LieBetween, lie_wider, lie_both}
 use Rattle.block_cache_gen.specs.declared.frames.Mode.TheVariants.{Public, Real, Mirrored}
-use Rattle.block_cache_gen.specs.Homes.{Home, Setting, home_of, register_for}
-use Rattle.block_cache_gen.specs.Codes.{is_cached, compares, compared_code, numbered_code, fixed_index, shift_code, offset_code, located_code, load_code, skips, access_by, access_code, operand, operand_part, operand_register, operand_unless, left_operand, index_operand, indexed_code, operation_code, steps_at, expr_code, is_masked, scalar_code, write_code}
+use Rattle.block_cache_gen.specs.Homes.{further_slots, Home, Setting, home_of, register_for}
+use Rattle.block_cache_gen.specs.Codes.{read_by, read_code, stored_among, stored_by, stored_code, is_cached, compares, compared_code, numbered_code, fixed_index, shift_code, offset_code, located_code, load_code, skips, access_by, access_code, operand, operand_part, operand_register, operand_unless, left_operand, index_operand, indexed_code, operation_code, steps_at, expr_code, is_masked, scalar_code, write_code}
 use Rattle.gr_word.specs.declared.variables.Label.{Label}
 use Rattle.block_cache_gen.specs.declared.frames.Mode.{Mode}
 use Rattle.gr_word.specs.declared.operations.Op.{Op}
@@ -18,6 +18,7 @@ use Rattle.gr_word.specs.declared.operations.Op.TheVariants.{And, Remu}
 use Rattle.strength_reduction.specs.Steps.{Step, code_of}
 use Rattle.block_cache_gen.specs.Notes.{operand_mask, access_mask, note_of, compared_notes, loading_code, loaded_notes, load_notes, index_notes, operation_notes, expr_notes}
 use Rattle.block_cache_gen.proofs.Sizes.{numbered_some, shift_some}
+use Rattle.block_cache_gen.proofs.ElementCodes.{read-short}
 
 -- a located word takes two instructions at least, and more than its index
 abbrev pub index_length : Option ℤ → List Instr → ℕ
@@ -171,6 +172,28 @@ scalar_longer : (r : Option ℕ) (h : Home) (to : ℕ) → 1 ≤ length (scalar_
 scalar_longer None h to = omega arith
 scalar_longer (Some r) h to = omega arith
 
+-- what reads a word has some code, and so has what stores one
+pub read-longer : (f : Setting) (h : Home) (fixed : Option ℤ) (to : ℕ) → 1 ≤ length (read_code f h fixed to)
+read-longer f h fixed to = by h.resident fixed
+  where
+    by : (b : Bool) (fixed : Option ℤ) → 1 ≤ length (read_by b f h fixed to)
+    by false fixed = omega arith
+    by true (Some z) = omega arith
+    by true None = omega arith
+
+pub store-longer : (f : Setting) (h : Home) (fixed : Option ℤ) (value : ℕ)
+    → 1 ≤ length (stored_code f Public h fixed value)
+store-longer f h fixed value = by h.resident fixed
+  where
+    among : (more : List ℕ) → 1 ≤ length (stored_among f Public h.slot more value)
+    among [] = omega arith
+    among (next ∷ rest) = omega arith
+
+    by : (b : Bool) (fixed : Option ℤ) → 1 ≤ length (stored_by b f Public h fixed value)
+    by false fixed = omega arith
+    by true (Some z) = omega arith
+    by true None = among (further_slots h)
+
 -- An expression has some code. Of an operation whose operands have none the operation is left, and steps follow the
 -- code of the left side.
 pub expression-longer : (f : Setting) (e : Tree) (to : ℕ) → 1 ≤ length (expr_code f Public to e)
@@ -178,10 +201,11 @@ expression-longer f (Number z) to = omega arith
 expression-longer f (Variable x) to = scalar_longer (register_for f x) (home_of f x) to
 expression-longer f (Element x i) to =
     let h = home_of f x in
+    let read = read_code f h (fixed_index h i) to in
     omega (
       arith,
-      length-append (indexed_code f (compares f Public h i) Public h to i (expr_code f Public to i))
-          (Ldw to h.slot to ∷ []),
+      length-append (indexed_code f (compares f Public h i) Public h to i (expr_code f Public to i)) read,
+      read-longer f h (fixed_index h i) to,
     )
 expression-longer f (Operation op a b) to =
     by (operand f a) (operand_register (operand f b) (to + 1)) (operand_part (operand f b) (expr_code f Public (to + 1) b))
@@ -228,6 +252,20 @@ operation-lie f op to left right p first before second later (Some steps) one tw
     (lie_wider p (p + length first) p (p + length (first ++ code_of to steps)) before (omega arith) (omega arith) one)
     tt
 
+-- the notes of an access to an array, by those of its index
+pub array-lie : (f : Setting) (x : List ℕ) (i : Tree) (mask to p : ℕ)
+    → LieBetween p (p + length (expr_code f Public to i)) (expr_notes f mask to p i)
+    → LieBetween p
+    (p + length (indexed_code f (compares f Public (home_of f x) i) Public (home_of f x) to i (expr_code f Public to i)) + 1)
+    (expr_notes f mask to p (Element x i))
+array-lie f x i mask to p lie =
+    let h = home_of f x in
+    let near = compares f Public h i in
+    let q = index_operand f near i in
+    access-lie f near h mask to (operand_register q to) p (fixed_index h i) (operand_part q (expr_code f Public to i))
+    (operand_part q (expr_notes f mask to p i))
+    (operand-lie q p (expr_code f Public to i) (expr_notes f mask to p i) lie)
+
 -- the notes of an expression
 pub expression-lies : (f : Setting) (e : Tree) (mask to p : ℕ)
     → LieBetween p (p + length (expr_code f Public to e)) (expr_notes f mask to p e)
@@ -235,15 +273,13 @@ expression-lies f (Number z) mask to p = tt
 expression-lies f (Variable x) mask to p = tt
 expression-lies f (Element x i) mask to p =
     let h = home_of f x in
-    let near = compares f Public h i in
-    let q = index_operand f near i in
-    let code = indexed_code f near Public h to i (expr_code f Public to i) in
+    let code = indexed_code f (compares f Public h i) Public h to i (expr_code f Public to i) in
+    let read = read_code f h (fixed_index h i) to in
+    let some = read-longer f h (fixed_index h i) to in
     let notes = expr_notes f mask to p (Element x i) in
-    let size : length (code ++ Ldw to h.slot to ∷ []) ≡ length code + 1 = length-append code (Ldw to h.slot to ∷ []) in
-    lie_wider p (p + length code + 1) p (p + length (code ++ Ldw to h.slot to ∷ [])) notes (omega arith) (omega arith)
-    (access-lie f near h mask to (operand_register q to) p (fixed_index h i) (operand_part q (expr_code f Public to i))
-    (operand_part q (expr_notes f mask to p i))
-    (operand-lie q p (expr_code f Public to i) (expr_notes f mask to p i) (expression-lies f i mask to p)))
+    let size : length (code ++ read) ≡ length code + length read = length-append code read in
+    lie_wider p (p + length code + 1) p (p + length (code ++ read)) notes (omega arith) (omega arith)
+    (array-lie f x i mask to p (expression-lies f i mask to p))
 expression-lies f (Operation op a b) mask to p =
     let q = left_operand f op a b in
     let first = operand_part q (expr_code f Public to a) in

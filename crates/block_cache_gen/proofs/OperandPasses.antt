@@ -33,7 +33,7 @@ use Rattle.block_cache_gen.proofs.OperandLabels.{operand-label}
 -- what passing the code of an expression means, at any place
 abbrev pub ExprPasses : Parts → Setting → Tree → Type 0
 ExprPasses o f e =
-    (mask to p : ℕ) (k holds : Known) → to + height_of e ≤ 18
+    (mask to p : ℕ) (k holds : Known) → to + height_of e ≤ 17
     → StandsNoted o p (expr_code f Public to e) (expr_notes f mask to p e) → HoldsAt o p k holds → Carries f holds
     → LeavesPublic f mask to holds → PassedBelow o f mask to p e k holds
 
@@ -121,7 +121,7 @@ module _ (o : Parts) (f : Setting) (homes : HasHomes o f) (e : Tree) (typed : Ty
           let carries = kept.carries in carries.held r _ (operand-label f homes.held e typed r (is r refl))
 
   -- the code of an operand is passed, and other notes may follow its own
-  pub operand-passes : ExprPasses o f e → (mask to p : ℕ) (k holds : Known) → to + height_of e ≤ 18 → to < 19
+  pub operand-passes : ExprPasses o f e → (mask to p : ℕ) (k holds : Known) → to + height_of e ≤ 17 → to < 19
       → (whole : ℕ) (later : List Note) → StandsAt o p (operand_part q (expr_code f Public to e))
       → NotesBetween o p whole (operand_part q (expr_notes f mask to p e) ++ later)
       → LieBetween (p + length (operand_part q (expr_code f Public to e))) whole later

@@ -205,7 +205,7 @@ module _ (o : Parts) (f : Setting) (homes : HasHomes o f) (once : DeclaredOnce f
         (p + length (located_code near f h to (operand_register q to) fixed (index_code q))
         - length (shift_code f h to)))
         → p + length (located_code near f h to (operand_register q to) fixed (index_code q)) < length o.code
-        → to + height_of i ≤ 18 → ExprPasses o f i → (h.bank < 2 → label_of (context_of f.decls) i ≡ label.Public)
+        → to + height_of i ≤ 17 → ExprPasses o f i → (h.bank < 2 → label_of (context_of f.decls) i ≡ label.Public)
         → LocatedAt o f h mask to p k holds
         (p + length (located_code near f h to (operand_register q to) fixed (index_code q)))
     located_by q is near own open_index (Some z) stands between inside high index public =
@@ -419,7 +419,7 @@ module _ (o : Parts) (f : Setting) (homes : HasHomes o f) (once : DeclaredOnce f
         ++ compared_notes near fixed f mask to
         (p + length (placed_code near f h to (operand_register q to) fixed (index_code q)) - length (offset_code f h to)))
         → p + length (placed_code near f h to (operand_register q to) fixed (index_code q)) < length o.code
-        → to + height_of i ≤ 18 → ExprPasses o f i
+        → to + height_of i ≤ 17 → ExprPasses o f i
         → (shows_index h ≡ true → label_of (context_of f.decls) i ≡ label.Public)
         → PlacedAt o f h mask to p k holds (p + length (placed_code near f h to (operand_register q to) fixed (index_code q)))
     placed_by q is near own open_index (Some z) stands between inside high index public =
@@ -501,7 +501,7 @@ module _ (o : Parts) (f : Setting) (homes : HasHomes o f) (once : DeclaredOnce f
       → context_of f.decls x ≡ Some (l, Array) → (b near : Bool) → (home_of f x).resident ≡ b
       → (near ≡ true → label_of (context_of f.decls) i ≡ label.Public)
       → (shows_index (home_of f x) ≡ true → label_of (context_of f.decls) i ≡ label.Public)
-      → ExprPasses o f i → to + height_of i ≤ 18 → to + 2 < 19
+      → ExprPasses o f i → to + height_of i ≤ 17 → to + 2 < 19
       → StandsAt o p (code_by b near to x i)
       → NotesBetween o p (p + length (code_by b near to x i) + 1)
       (index_notes (fixed_index (home_of f x) i) (operand_part (index_operand f near i) (expr_notes f mask to p i))
@@ -594,7 +594,7 @@ module _ (o : Parts) (f : Setting) (homes : HasHomes o f) (once : DeclaredOnce f
 
   pub access-passes : (x : List ℕ) (l : Label) (i : Tree) → TypedTree (context_of f.decls) i → (mask to p : ℕ)
       (k holds : Known) → context_of f.decls x ≡ Some (l, Array) → IndexIsPublic f x i
-      → ExprPasses o f i → to + height_of i ≤ 18 → to + 2 < 19
+      → ExprPasses o f i → to + height_of i ≤ 17 → to + 2 < 19
       → StandsAt o p (array_code f to x i)
       → NotesBetween o p (p + length (array_code f to x i) + 1) (array_notes f mask to p x i)
       → p + length (array_code f to x i) < length o.code → HoldsAt o p k holds → Carries f holds

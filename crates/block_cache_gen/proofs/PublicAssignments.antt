@@ -23,13 +23,14 @@ use Rattle.stretches.proofs.Standing.{standing-first, standing-rest}
 use Rattle.stretches.proofs.Passed.{passes-then, passes-to, passes-noted, GoesOn, NoMore, One, rules-li, rules-alu, rules-stw, rules-stb, secret-same, secret-other, notes-behind, notes-within, no_note-behind, LieBetween, lie_wider, lie_both}
 use Rattle.block_cache_gen.specs.declared.frames.Mode.TheVariants.{Public}
 use Rattle.block_cache_gen.specs.Homes.{Setting, HasHomes, home_of, register_for}
-use Rattle.block_cache_gen.specs.Codes.{compares, operand, operand_part, operand_register, index_operand, stored_code, expr_code, set_code, zero_of, write_code}
+use Rattle.block_cache_gen.specs.Codes.{fixed_index, compares, operand, operand_part, operand_register, index_operand, stored_code, expr_code, set_code, zero_of, write_code}
 use Rattle.block_cache_gen.specs.Notes.{operand_mask, expr_notes, set_notes, base_mask}
 use Rattle.block_cache_gen.specs.Carries.{Carries}
 use Rattle.block_cache_gen.specs.PublicIndexes.{SetHasPublicIndexes}
 use Rattle.block_cache_gen.specs.PublicCode.{HasLabel, StandsNoted, PassedSet}
-use Rattle.block_cache_gen.proofs.NotesOfCode.{write-longer, operand-lie, expression-lies, access-lie}
-use Rattle.block_cache_gen.proofs.HeldOperands.{operand-apart}
+use Rattle.block_cache_gen.proofs.NotesOfCode.{store-longer, write-longer, operand-lie, expression-lies, access-lie}
+use Rattle.block_cache_gen.proofs.HeldOperands.{operand-apart, operand-outside}
+use Rattle.block_cache_gen.proofs.SpreadPasses.{stored, store-passes}
 use Rattle.block_cache_gen.proofs.OperandLabels.{is-operand}
 use Rattle.block_cache_gen.proofs.OperandPasses.{passes-here, leaves-operand, operand-later, operand-passes}
 use Rattle.block_cache_gen.proofs.KeptRegisters.{same-itself, same-set, carries-same, carries-copied}
@@ -45,23 +46,6 @@ flows_public : (code l : Label) → Flows (higher code l) label.Public → secre
 flows_public label.Public label.Public flows = refl
 flows_public label.Public label.Secret flows = absurd flows
 flows_public label.Secret l flows = absurd flows
-
--- nothing secret is stored into plain memory
-stored : (bank : ℕ) (value place : Bool) → (bank ≡ 0 → value ≡ false) → (bank ≡ 0 → place ≡ false)
-    → (is_ram bank && (value || place)) ≡ false
-stored bank value place first second = by (is_ram bank) refl
-  where
-    by : (ram : Bool) → is_ram bank ≡ ram → (ram && (value || place)) ≡ false
-    by false is = refl
-    by true is =
-        let zero : bank ≡ 0 = eqb-true bank 0 is in
-        ap (λ (b : Bool). b || place) (first zero) ∙ second zero
-
--- the block is stored, or nothing is
-stored_goes : (o : Parts) (resident : Bool) (p slot bank : ℕ) (k : Known) → bank_known k slot ≡ Some bank
-    → GoesOn o p (stored_code resident slot) k k
-stored_goes o true p slot bank k bound = NoMore p k
-stored_goes o false p slot bank k bound = One p _ _ k k k (rules-stb o p k slot bank bound) (NoMore (p + 1) k)
 
 low_label : (l : Label) → scalar_bank l ≡ 0 → l ≡ label.Public
 low_label label.Public e = refl
@@ -148,7 +132,7 @@ module _ (o : Parts) (f : Setting) (homes : HasHomes o f) (once : DeclaredOnce f
   -- an assignment to a variable is passed in public code
   pub set_variable-passes : (code : Label) (x : List ℕ) (e : Tree)
       → TypedStatement (context_of f.decls) code (SetVariable x e)
-      → SetHasPublicIndexes f (SetVariable x e) → height_of e ≤ 17 → (p : ℕ) (k holds : Known)
+      → SetHasPublicIndexes f (SetVariable x e) → height_of e ≤ 16 → (p : ℕ) (k holds : Known)
       → StandsNoted o p (set_code f Public (SetVariable x e)) (set_notes f p (SetVariable x e)) → HoldsAt o p k holds
       → Carries f holds → PassedSet o f p (set_code f Public (SetVariable x e)) k
   set_variable-passes code x e typed public low p k holds stands here carries =
@@ -188,7 +172,7 @@ module _ (o : Parts) (f : Setting) (homes : HasHomes o f) (once : DeclaredOnce f
   -- an assignment to an element is passed in public code
   pub set_element-passes : (code : Label) (x : List ℕ) (i e : Tree)
       → TypedStatement (context_of f.decls) code (SetElement x i e) → SetHasPublicIndexes f (SetElement x i e)
-      → height_of i ≤ 17 → height_of e ≤ 17 → (p : ℕ) (k holds : Known)
+      → height_of i ≤ 16 → height_of e ≤ 16 → (p : ℕ) (k holds : Known)
       → StandsNoted o p (set_code f Public (SetElement x i e)) (set_notes f p (SetElement x i e)) → HoldsAt o p k holds
       → Carries f holds → PassedSet o f p (set_code f Public (SetElement x i e)) k
   set_element-passes code x i e typed public low_index low p k holds stands here carries =
@@ -202,7 +186,9 @@ module _ (o : Parts) (f : Setting) (homes : HasHomes o f) (once : DeclaredOnce f
       let from = operand_register q 0 in
       let first = operand_part q (expr_code f Public 0 e) in
       let access = array_code f 1 x i in
-      let store = Stw from h.slot 1 ∷ stored_code h.resident h.slot in
+      let fixed = fixed_index h i in
+      let store = stored_code f Public h fixed from in
+      let some = store-longer f h fixed from in
       let mask = operand_mask q (label_of known e) (base_mask f) 0 in
       let size : length (first ++ (access ++ store)) ≡ length first + (length access + length store) =
       length-append first (access ++ store) ∙ ap (λ (n : ℕ). length first + n) (length-append access store) in
@@ -240,22 +226,20 @@ module _ (o : Parts) (f : Setting) (homes : HasHomes o f) (once : DeclaredOnce f
       v.labelled a.kept
       ∙ flows_public code (label_of known e) (subst (Flows (higher code (label_of known e))) (label_is
       ∙ public_l) typed.1.1)) in
-      let goes : GoesOn o r store a.held a.held = One r _ _ a.held a.held a.held
-      (rules-stw o r a.held from h.slot 1 h.bank a.bound
-      (stored h.bank (is_secret a.held from) (is_secret a.held 1) value (λ zero. a.word (shows-plain h zero))))
-      (stored_goes o h.resident (r + 1) h.slot h.bank a.held a.bound) in
+      let w = store-passes o f homes x l declared a.held a.kept.carries a.bound from r
+      (operand-outside f e q (is-operand f e)) value (λ zero. a.word (shows-plain h zero)) fixed in
       let quiet : (s : ℕ) → r < s → s < r + length store → claimed_at o s ≡ None = (λ s above below.
       stands.noted s (omega arith) (omega arith)
       ∙ ap (option_map note_known) (no_note-behind p (r + 1) s (before ++ later)
       (lie_both p (r + 1) before later (lie_wider p mid p (r + 1) before (omega arith) (omega arith) lie_before)
       (lie_wider mid (r + 1) p (r + 1) later (omega arith) (omega arith) lie_access)) (omega arith))) in
-      let behind : Passes o r a.last (r + length store) a.held = passes-noted o r _ _ a.last a.held a.held a.here goes
-      (standing-rest access store rest) quiet (omega arith) in
+      let behind : Passes o r a.last (r + length store) w.last = passes-here o r store a.last a.held w.last a.here w.goes
+      (standing-rest access store rest) some quiet (omega arith) in
       record {
-        last = a.held;
+        last = w.last;
         passes
-            = passes-to o p k (r + length store) whole a.held (omega arith)
-            (passes-then o p k mid v.last v.passes (r + length store) a.held
-            (passes-then o mid v.last r a.last a.passes (r + length store) a.held behind));
-        carries = a.kept.carries;
+            = passes-to o p k (r + length store) whole w.last (omega arith)
+            (passes-then o p k mid v.last v.passes (r + length store) w.last
+            (passes-then o mid v.last r a.last a.passes (r + length store) w.last behind));
+        carries = carries-same f 1 a.held w.last a.kept.carries w.same;
       }

@@ -26,7 +26,7 @@ use Rattle.stretches.proofs.Standing.{standing-first, standing-rest, standing-he
 use Rattle.stretches.proofs.Passed.{passes-then, passes-to, passes-one, passes-goes, passes-noted, NoMore, One, rules-li, rules-alu, rules-ldw, secret-same, notes-before, notes-behind, notes-within, no_note-behind, LieBetween, lie_wider, lie_both}
 use Rattle.block_cache_gen.specs.declared.frames.Mode.TheVariants.{Public}
 use Rattle.block_cache_gen.specs.Homes.{Setting, HasHomes, home_of, pin_of, register_for}
-use Rattle.block_cache_gen.specs.Codes.{scalar_code, operand, operand_part, operand_register, operand_unless, operation_code, steps_at, expr_code}
+use Rattle.block_cache_gen.specs.Codes.{fixed_index, read_code, scalar_code, operand, operand_part, operand_register, operand_unless, operation_code, steps_at, expr_code}
 use Rattle.strength_reduction.specs.Steps.{Step, numbered, code_of}
 use Rattle.step_code.proofs.StepPasses.{passes-steps}
 use Rattle.block_cache_gen.proofs.StepsAt.{StepsOf, steps-of}
@@ -40,11 +40,12 @@ use Rattle.held_registers.specs.Held.{public_zero}
 use Rattle.block_cache_gen.proofs.OperandLabels.{is-operand}
 use Rattle.block_cache_gen.proofs.HeldLabels.{register-label, zero-label}
 use Rattle.block_cache_gen.proofs.KeptBelow.{LeavesPublic, KeptBelow}
-use Rattle.block_cache_gen.proofs.OperandPasses.{ExprPasses, kept-here, leaves-operand, kept-then, operand-later, operand-passes}
+use Rattle.block_cache_gen.proofs.OperandPasses.{ExprPasses, passes-here, kept-here, leaves-operand, kept-then, operand-later, operand-passes}
 use Rattle.block_cache_gen.proofs.NoteClaims.{leaves-later}
-use Rattle.block_cache_gen.proofs.NotesOfCode.{expression-longer, expression-lies, operand-lie}
+use Rattle.block_cache_gen.proofs.NotesOfCode.{read-longer, expression-longer, array-lie, expression-lies, operand-lie}
 use Rattle.block_cache_gen.proofs.KeptRegisters.{SameBelow, same-itself, same-set, kept-same, or_false}
 use Rattle.block_cache_gen.proofs.HomeFacts.{shows-plain, plain-array}
+use Rattle.block_cache_gen.proofs.SpreadPasses.{read-passes}
 use Rattle.block_cache_gen.proofs.PublicAccesses.{array_code, array_notes, access-passes}
 
 -- the bank of a resident variable
@@ -185,8 +186,10 @@ module _ (o : Parts) (f : Setting) (homes : HasHomes o f) (once : DeclaredOnce f
   element_passes x l i typed declared public index mask to p k holds high stands here carries leaves =
       let h = home_of f x in
       let code = array_code f to x i in
-      let read = Ldw to h.slot to ∷ [] in
-      let size : length (code ++ read) ≡ length code + 1 = length-append code read in
+      let fixed = fixed_index h i in
+      let read = read_code f h fixed to in
+      let some = read-longer f h fixed to in
+      let size : length (code ++ read) ≡ length code + length read = length-append code read in
       let behind = stands.behind in
       let r = p + length code in
       let a = access-passes o f homes once x l i typed mask to p k holds declared public index (omega arith)
@@ -196,20 +199,23 @@ module _ (o : Parts) (f : Setting) (homes : HasHomes o f) (once : DeclaredOnce f
       (omega arith) stands.noted)
       (omega arith) here carries leaves in
       let sized = a.kept.carries.registers in
-      let last = set_secret a.held to (not (is_ram h.bank) || is_secret a.held to) in
       let plain = plain-array o f homes x l declared in
-      let step : Passes o r a.last (r + 1) last = passes-one o r a.last a.held last (Ldw to h.slot to) a.here
-      (standing-head (Ldw to h.slot to) [] (standing-rest code read stands.code_stands))
-      (rules-ldw o r a.held to h.slot to h.bank a.bound) (omega arith) in
+      let word = read-passes o f homes x l declared a.held a.kept.carries a.bound to r fixed
+      (omega (arith, height-some i)) in
+      let quiet : (s : ℕ) → r < s → s < r + length read → claimed_at o s ≡ None = (λ s above below.
+      stands.noted s (omega arith) (omega arith)
+      ∙ ap (option_map note_known) (no_note-behind p (r + 1) s (array_notes f mask to p x i)
+      (array-lie f x i mask to p (expression-lies f i mask to p)) (omega arith))) in
+      let step : Passes o r a.last (r + length read) word.last = passes-here o r read a.last a.held word.last a.here
+      word.goes (standing-rest code read stands.code_stands) some quiet (omega arith) in
       record {
-        last = last;
+        last = word.last;
         passes
-            = passes-to o p k (r + 1) (p + length (code ++ read)) last (omega arith)
-            (passes-then o p k r a.last a.passes (r + 1) last step);
-        kept = kept-same f mask to holds a.held last a.kept (same-set to a.held a.held to _ (omega arith) (omega arith)
-            (same-itself to a.held));
+            = passes-to o p k (r + length read) (p + length (code ++ read)) word.last (omega arith)
+            (passes-then o p k r a.last a.passes (r + length read) word.last step);
+        kept = kept-same f mask to holds a.held word.last a.kept word.same;
         labelled
-            = secret-same a.held to (not (is_ram h.bank) || is_secret a.held to) (omega arith)
+            = word.value
             ∙ element_label l (label_of (context_of f.decls) i) h.bank (is_secret a.held to)
             (λ e. plain.0 e) (λ e. plain.1 e) (λ zero. public (shows-plain h zero))
             (λ zero. a.word (shows-plain h zero))
@@ -235,7 +241,7 @@ module _ (o : Parts) (f : Setting) (homes : HasHomes o f) (once : DeclaredOnce f
 
   abbrev OperationPasses : Op → Tree → Tree → Option (List Step) → Type 0
   OperationPasses op a b found =
-      (mask to p : ℕ) (k holds : Known) → to + (max (height_of a) (height_of b) + 1) ≤ 18
+      (mask to p : ℕ) (k holds : Known) → to + (max (height_of a) (height_of b) + 1) ≤ 17
       → StandsNoted o p (operation_by op a b found to) (notes_by op a b found mask to p)
       → HoldsAt o p k holds → Carries f holds → LeavesPublic f mask to holds
       → PassedCode o f mask to p (operation_by op a b found to)

@@ -41,7 +41,7 @@ guard-lie f to p t =
 -- the code of a guard is passed in public code
 pub guard-passes : (o : Parts) (f : Setting) → HasHomes o f → DeclaredOnce f.decls → (t : Test)
     → TypedTest (context_of f.decls) t → TestHasPublicIndexes f t → (to p : ℕ) (k holds : Known)
-    → to + height_of t.left ≤ 18 → to + 1 + height_of t.right ≤ 18
+    → to + height_of t.left ≤ 17 → to + 1 + height_of t.right ≤ 17
     → StandsNoted o p (guard_code f Public to t) (guard_notes f to p t) → HoldsAt o p k holds → Carries f holds
     → PassedTest o f to p (guard_code f Public to t) t k
 guard-passes o f homes once t typed public to p k holds high higher stands here carries =

@@ -1,10 +1,14 @@
 -- The code of expressions, guards and assignments is in its ranges, in all modes.
-use Rattle.std.proofs.Common.{◌≡◌, ℕ, ◌+◌, ◌-◌, ◌/◌, ◌^◌, ◌<◌, ◌≤◌, Bool, true, false, ℤ, pos, negsuc, ◌+ℤ◌, List, [], ◌∷◌, ◌++◌, Option, Some, None, refl, sym, subst, arith, ◌==◌}
+use Rattle.std.proofs.Common.{◌≡◌, ℕ, zero, suc, ◌+◌, ◌-◌, ◌*◌, ◌/◌, ◌^◌, ◌<◌, ◌≤◌, Bool, true, false, ℤ, pos, negsuc, ◌+ℤ◌, List, [], ◌∷◌, ◌++◌, length, get_or, Option, Some, None, refl, sym, ap, ◌∙◌, subst, ⊎_elim, arith, ◌==◌}
 use Rattle.std.specs.Prelude.{All, if◌then◌else◌, is_some, FitsSigned}
 use Rattle.std.specs.Int.{w32, w64}
+use Rattle.std.specs.List.{slice_get}
+use Rattle.std.proofs.lemmas.Bool.{cases_lt}
+use Rattle.std.proofs.lemmas.List.{get_or_default, get_or_past}
 use Rattle.std.proofs.lemmas.Int.{ints, fits_signed_from_abs}
 use Rattle.std.proofs.lemmas.List.Elements.{All-nil, All-cons, All-head, All-tail}
-use Rattle.std.proofs.Math.Nat.{mod-lt, div-le_self}
+use Rattle.std.proofs.Math.Nat.{mod-lt, div-le_self, mul-le-mul_right}
+use Rattle.std.proofs.Math.Pow.{pow_mono}
 use Rattle.gr_base.specs.Lists.{Within}
 use Rattle.gr_word.specs.Words.{IsWord, unsigned_of}
 use Rattle.gr_word.specs.declared.variables.Label.{Label}
@@ -24,24 +28,29 @@ use Rattle.src_tree.specs.Trees.{Tree, Number, Variable, Element, Operation, Tes
 use Rattle.src_tree.specs.Typing.{TypedTree, TypedTest}
 use Rattle.block_cache_gen.specs.declared.frames.Mode.{Mode}
 use Rattle.block_cache_gen.specs.declared.frames.Mode.TheVariants.{Public, Real, Mirrored}
-use Rattle.block_cache_gen.specs.Homes.{Pin, pin_at, Home, Setting, home_of, register_for}
+use Rattle.block_cache_gen.specs.Homes.{Pin, pin_at, Home, Setting, home_of, register_for, words_a_block, further_slots, slots_of_home, slot_of_word}
 use Rattle.held_registers.specs.Held.{secret_zero, public_zero, IsSoundHeld}
 use Rattle.block_cache_gen.specs.TreeWords.{HasWords}
-use Rattle.block_cache_gen.specs.Codes.{is_masked, held_number, applied_code, reducing, reducer, compares, least_word, numbered_code, fixed_index, fixed_word, shift_code, fixed_code, located_code, load_code, skips, access_by, placed_code, offset_code, stored_code, access_code, index_operand, indexed_code, operand, operand_part, operand_register, left_operand, expr_code, guard_code, store_code, set_code, operation_code, steps_at, copy_code, scalar_code, copied_from, write_code}
+use Rattle.block_cache_gen.specs.Codes.{is_masked, held_number, applied_code, reducing, reducer, compares, least_word, numbered_code, fixed_index, fixed_word, shift_code, fixed_code, located_code, load_code, skips, access_by, placed_code, offset_code, stored_code, access_code, index_operand, indexed_code, operand, operand_part, operand_register, left_operand, expr_code, guard_code, store_code, set_code, operation_code, steps_at, copy_code, scalar_code, copied_from, write_code, read_by, read_code, stored_among, stored_by, effect_of}
 use Rattle.strength_reduction.specs.Steps.{Step, Constant, Compute, StepFits, numbered, code_of}
 use Rattle.step_code.proofs.Registers.{numbered-low}
+use Rattle.word_selection.specs.SlotSteps.{IsOutside}
+use Rattle.word_selection.specs.Selection.{selected_read, selected_write}
+use Rattle.word_selection.proofs.StepRanges.{read-in_range, write-in_range}
 use Rattle.src_tree.proofs.TreeHeights.{height-some}
 use Rattle.held_registers.specs.declared.registers.Held.TheVariants as thing
 use Rattle.held_registers.proofs.Found.{number-held}
 use Rattle.block_cache_gen.proofs.HeldScalars.{held-inside}
-use Rattle.block_cache_gen.proofs.HeldOperands.{operand-inside, operand-low, operand-unless}
+use Rattle.block_cache_gen.proofs.HeldOperands.{operand-inside, operand-low, operand-outside, operand-unless}
 use Rattle.block_cache_gen.proofs.StepsAt.{steps-of}
+use Rattle.block_cache_gen.proofs.WordSlots.{few-further, got}
 
 -- a home in its ranges, if there are this many banks
 pub record HomeFits (banks : ℕ) (h : Home) : Type 0 where
   pub bank : h.bank < banks
   pub block : h.block ≤ 65536
   pub word : h.word < 512
+  pub more : (j : ℕ) → j < length (further_slots h) → get_or (further_slots h) j 0 < 8
   pub length : Within 1 max_length h.length
   pub slot : h.slot < 8
 
@@ -68,6 +77,37 @@ pub code-both : (banks : ℕ) (xs ys : List Instr) → CodeFits banks xs → Cod
 code-both banks [] ys NoCode second = second
 code-both banks (i ∷ xs) ys (Before j more fit rest) second =
     Before i (xs ++ ys) fit (code-both banks xs ys rest second)
+
+-- instructions each of which is in its range
+all-code : (banks : ℕ) (code : List Instr) → All (InstrFits banks) code → CodeFits banks code
+all-code banks [] each = NoCode
+all-code banks (i ∷ code) each =
+    Before i code (All-head (InstrFits banks) i code each)
+    (all-code banks code (All-tail (InstrFits banks) i code each))
+
+-- the slots of a home's words
+slot-low : (slot : ℕ) (more : List ℕ) (m : ℕ) → slot < 8 → ((j : ℕ) → j < length more → get_or more j 0 < 8)
+    → get_or (slot ∷ more) m slot < 8
+slot-low slot more zero low each = low
+slot-low slot more (suc m) low each =
+    ⊎_elim (λ within. subst (λ k. k < 8) (sym (get_or_default more m slot 0 within)) (each m within))
+    (λ past. subst (λ k. k < 8) (sym (get_or_past more m slot past)) low)
+    (cases_lt m (length more))
+
+word-slot : (banks : ℕ) (f : Setting) (h : Home) → HomeFits banks h → (n : ℕ) → slot_of_word f h n < 8
+word-slot banks f h home n = slot-low h.slot (further_slots h) (n / words_a_block f) home.slot home.more
+
+slots-low : (banks : ℕ) (h : Home) → HomeFits banks h → (i k : ℕ) → slice_get (slots_of_home h) i ≡ Some k → k < 8
+slots-low banks h home i k is =
+    let at = got (slots_of_home h) i k h.slot is in
+    subst (λ m. m < 8) at.1 (slot-low h.slot (further_slots h) i home.slot home.more)
+
+-- the words of a few blocks
+few-words : (f : Setting) (n : ℕ) → f.profile.block_log ≤ 9 → n ≤ 5 → n * words_a_block f < 2 ^ 63
+few-words f n low few =
+    let most : n * words_a_block f ≤ 5 * words_a_block f = mul-le-mul_right {m = n} {n = 5} (words_a_block f) few in
+    let size : words_a_block f ≤ 512 = pow_mono {i = f.profile.block_log} {j = 9} low in
+    omega (arith, most, size)
 
 -- a small number is a word
 pub small-word : (n : ℕ) → n < 2 ^ 63 → IsWord (pos n)
@@ -255,6 +295,22 @@ module _ (banks : ℕ) where
       let small = home.word in
       li to (pos h.word) _ low (small-word h.word (omega arith)) (ldw to h.slot to [] low home.slot low none)
 
+  -- the read of an element's word
+  read-fits : (f : Setting) (h : Home) → HomeFits banks h → f.profile.block_log ≤ 9 → (to : ℕ) → to + 3 < 32
+      → (fixed : Option ℤ) → CodeFits banks (read_code f h fixed to)
+  read-fits f h home log to room fixed = by h.resident fixed
+    where
+      by : (b : Bool) (fixed : Option ℤ) → CodeFits banks (read_by b f h fixed to)
+      by false fixed = ldw to h.slot to [] (omega arith) home.slot (omega arith) none
+      by true (Some z) =
+          let n = h.word + fixed_word h z in
+          ldw to (slot_of_word f h n) to [] (omega arith) (word-slot banks f h home n) (omega arith) none
+      by true None =
+          all-code banks (selected_read (words_a_block f) (slots_of_home h) to)
+          (read-in_range banks (words_a_block f) (slots_of_home h) to room
+          (few-words f (length (slots_of_home h)) log (omega (arith, few-further h)))
+          (slots-low banks h home))
+
   -- an operand
   operand-fits : (q : Option ℕ) (code : List Instr) → CodeFits banks code → CodeFits banks (operand_part q code)
   operand-fits None code fit = fit
@@ -262,7 +318,7 @@ module _ (banks : ℕ) where
 
   -- an expression
   pub expression-fits : (f : Setting) (mode : Mode) → HomesFit banks f → (to : ℕ) (e : Tree)
-      → TypedTree (context_of f.decls) e → HasWords e → to + height_of e ≤ 18 → CodeFits banks (expr_code f mode to e)
+      → TypedTree (context_of f.decls) e → HasWords e → to + height_of e ≤ 17 → CodeFits banks (expr_code f mode to e)
   expression-fits f mode homes to (Number z) typed words high = li to z [] (omega arith) words none
   expression-fits f mode homes to (Variable x) typed words high =
       scalar-fits (home_of f x) (homes.homes x typed.0 _ typed.1) to (omega arith) (register_for f x)
@@ -276,7 +332,7 @@ module _ (banks : ℕ) where
       (operand_register q to) (fixed_index (home_of f x) i) (operand_part q (expr_code f mode to i))
       (operand-inside f homes.held i q (operand-unless f i near) to (omega arith))
       (operand-fits q (expr_code f mode to i) (expression-fits f mode homes to i typed.1.0 words (omega arith))))
-      (ldw to (home_of f x).slot to [] (omega arith) home.slot (omega arith) none)
+      (read-fits f (home_of f x) home homes.block_log to (omega (arith, height-some i)) (fixed_index (home_of f x) i))
   expression-fits f mode homes to (Operation op a b) typed words high =
       let q = left_operand f op a b in
       let p = operand f b in
@@ -291,8 +347,8 @@ module _ (banks : ℕ) where
 
   -- a guard
   pub guard-fits : (f : Setting) (mode : Mode) → HomesFit banks f → (to : ℕ) (t : Test)
-      → TypedTest (context_of f.decls) t → HasWords t.left → HasWords t.right → to + height_of t.left ≤ 18
-      → to + 1 + height_of t.right ≤ 18 → CodeFits banks (guard_code f mode to t)
+      → TypedTest (context_of f.decls) t → HasWords t.left → HasWords t.right → to + height_of t.left ≤ 17
+      → to + 1 + height_of t.right ≤ 17 → CodeFits banks (guard_code f mode to t)
   guard-fits f mode homes to t typed left right high higher =
       both (expr_code f mode to t.left) (expr_code f mode (to + 1) t.right)
       (expression-fits f mode homes to t.left typed.0 left high)
@@ -305,9 +361,27 @@ module _ (banks : ℕ) where
   store_by Mirrored slot value low inside =
       ldw 2 slot 1 _ (omega arith) low (omega arith) (stw 2 slot 1 [] (omega arith) low (omega arith) none)
 
-  stored_fits : (b : Bool) (slot : ℕ) → slot < 8 → CodeFits banks (stored_code b slot)
-  stored_fits true slot low = none
-  stored_fits false slot low = stb slot [] low none
+  element-fits : (f : Setting) (mode : Mode) (h : Home) → HomeFits banks h → f.profile.block_log ≤ 9 → (value : ℕ)
+      → value < 32 → IsOutside 1 4 value → (fixed : Option ℤ) → CodeFits banks (stored_code f mode h fixed value)
+  element-fits f mode h home log value inside apart fixed = by h.resident fixed
+    where
+      among : (more : List ℕ) → further_slots h ≡ more → CodeFits banks (stored_among f mode h.slot more value)
+      among [] is = store_by mode h.slot value home.slot inside
+      among (next ∷ rest) is =
+          let count : length (next ∷ rest) ≡ length (further_slots h) = ap length (sym is) in
+          all-code banks (selected_write (effect_of mode) (words_a_block f) value (h.slot ∷ next ∷ rest) 1)
+          (write-in_range banks (words_a_block f) value (effect_of mode) (h.slot ∷ next ∷ rest) 1 (omega arith) inside apart
+          (few-words f (length (h.slot ∷ next ∷ rest)) log (omega (arith, count, few-further h)))
+          (λ i k at. slots-low banks h home i k (ap (λ more. slice_get (h.slot ∷ more) i) is ∙ at)))
+
+      by : (b : Bool) (fixed : Option ℤ) → CodeFits banks (stored_by b f mode h fixed value)
+      by false fixed =
+          both (store_code mode h.slot value) (Stb h.slot ∷ []) (store_by mode h.slot value home.slot inside)
+          (stb h.slot [] home.slot none)
+      by true (Some z) =
+          let n = h.word + fixed_word h z in
+          store_by mode (slot_of_word f h n) value (word-slot banks f h home n) inside
+      by true None = among (further_slots h) refl
 
   write-fits : (h : Home) → HomeFits banks h → (l : Label) (mode : Mode) (found : Option ℕ)
       → ((r : ℕ) → found ≡ Some r → r < 32) → (value : ℕ) → value < 32
@@ -326,7 +400,7 @@ module _ (banks : ℕ) where
   -- assignments
   pub set_variable-fits : (f : Setting) (mode : Mode) → HomesFit banks f → (x : List ℕ) (label : Label) (shape : Shape)
       (e : Tree)
-      → context_of f.decls x ≡ Some (label, shape) → TypedTree (context_of f.decls) e → HasWords e → height_of e ≤ 18
+      → context_of f.decls x ≡ Some (label, shape) → TypedTree (context_of f.decls) e → HasWords e → height_of e ≤ 17
       → CodeFits banks (set_code f mode (SetVariable x e))
   set_variable-fits f mode homes x label shape e declared typed words low =
       let q = operand f e in
@@ -339,7 +413,7 @@ module _ (banks : ℕ) where
   -- the code of an assignment to an element is in its ranges
   pub set_element-fits : (f : Setting) (mode : Mode) → HomesFit banks f → (x : List ℕ) (i e : Tree)
       → TypedTree (context_of f.decls) (Element x i) → TypedTree (context_of f.decls) e → HasWords i → HasWords e
-      → height_of i ≤ 17 → height_of e ≤ 18 → CodeFits banks (set_code f mode (SetElement x i e))
+      → height_of i ≤ 16 → height_of e ≤ 17 → CodeFits banks (set_code f mode (SetElement x i e))
   set_element-fits f mode homes x i e typed value index words low_index low =
       let home = homes.homes x typed.0.0 _ typed.0.1 in
       let near = compares f mode (home_of f x) i in
@@ -352,7 +426,6 @@ module _ (banks : ℕ) where
       (fixed_index (home_of f x) i) (operand_part p (expr_code f mode 1 i))
       (operand-inside f homes.held i p (operand-unless f i near) 1 (omega arith))
       (operand-fits p (expr_code f mode 1 i) (expression-fits f mode homes 1 i typed.1.0 index (omega arith))))
-      (both (store_code mode (home_of f x).slot (operand_register q 0)) _
-      (store_by mode (home_of f x).slot (operand_register q 0) home.slot
-      (operand-inside f homes.held e q (λ r held. held) 0 (omega arith)))
-      (stored_fits (home_of f x).resident (home_of f x).slot home.slot)))
+      (element-fits f mode (home_of f x) home homes.block_log (operand_register q 0)
+      (operand-inside f homes.held e q (λ r held. held) 0 (omega arith)) (operand-outside f e q (λ r held. held))
+      (fixed_index (home_of f x) i)))

@@ -22,10 +22,11 @@ use Rattle.src_tree.specs.Limits.{tree_weight, test_weight}
 use Rattle.src_tree.specs.Trees.{Tree, Number, Variable, Element, Operation, Test, Statement, SetVariable, SetElement, Choice, Loop}
 use Rattle.block_cache_gen.specs.declared.frames.Mode.TheVariants.{Public}
 use Rattle.block_cache_gen.specs.Homes.{Pin, pin_at, Home, Setting, home_of, Held, label_by, register_for}
-use Rattle.block_cache_gen.specs.Codes.{is_cached, compares, compared_code, shift_code, load_code, offset_code, access_by, fixed_index, stored_code, access_code, operand, operand_part, operand_register, left_operand, index_operand, operation_code, steps_at, expr_code, guard_code, set_code, write_code}
+use Rattle.block_cache_gen.specs.Codes.{is_cached, compares, compared_code, shift_code, load_code, offset_code, access_by, fixed_index, stored_code, access_code, operand, operand_part, operand_register, left_operand, index_operand, operation_code, steps_at, expr_code, guard_code, set_code, write_code, read_code}
 use Rattle.gr_word.specs.declared.operations.Op.{Op}
 use Rattle.strength_reduction.specs.Steps.{Step, code_of}
 use Rattle.block_cache_gen.specs.Notes.{unmarked, marked_by, operand_mask, is_used, claimed_where_used, claim_by, slot_claims, note_of, access_mask, compared_notes, loading_code, loaded_notes, load_notes, index_notes, operation_notes, expr_notes, guard_notes, set_notes, is_public, mask_to, base_mask}
+use Rattle.block_cache_gen.proofs.ElementCodes.{read-short, stored-short}
 use Rattle.block_cache_gen.proofs.NotesOfCode.{index_length, located-longer, access-longer, access-more, loading-behind, expression-longer}
 use Rattle.block_cache_gen.proofs.HeldOperands.{operand-short}
 use Rattle.block_cache_gen.proofs.Sizes.{shift_some}
@@ -188,8 +189,10 @@ expression-rises f (Element x i) mask to p small =
     let q = index_operand f near i in
     let code = array_code f to x i in
     let notes = expr_notes f mask to p (Element x i) in
-    let size : length (code ++ Ldw to h.slot to ∷ []) ≡ length code + 1 = length-append code (Ldw to h.slot to ∷ []) in
-    rise-wider f (p + 1) (p + length code + 1) (p + 1) (p + length (code ++ Ldw to h.slot to ∷ [])) notes (omega arith)
+    let read = read_code f h (fixed_index h i) to in
+    let size = length-append code read in
+    let some = (read-short f h (fixed_index h i) to).0 in
+    rise-wider f (p + 1) (p + length code + 1) (p + 1) (p + length (code ++ read)) notes (omega arith)
     (omega arith)
     (access-rises f near h mask to (operand_register q to) p (fixed_index h i)
     (operand_part q (expr_code f Public to i)) (operand_part q (expr_notes f mask to p i)) small
@@ -262,7 +265,8 @@ set-rises f p (SetElement x i e) =
     let first = operand_part q (expr_code f Public 0 e) in
     let before = operand_part q (expr_notes f (base_mask f) 0 p e) in
     let access = array_code f 1 x i in
-    let store = Stw (operand_register q 0) h.slot 1 ∷ stored_code h.resident h.slot in
+    let store = stored_code f Public h (fixed_index h i) (operand_register q 0) in
+    let some = (stored-short f Public h (fixed_index h i) (operand_register q 0)).0 in
     let l = label_of (context_of f.decls) e in
     let mask = operand_mask q l (base_mask f) 0 in
     let small = operand_mask-below q l (base_mask f) 0 (base_mask-below f) in

@@ -1,5 +1,5 @@
 -- Runs of the code that finds the place of a resident variable's word in its block, and that reads it there.
-use Rattle.std.proofs.Common.{◌≡◌, ◌≢◌, ℕ, ◌+◌, ◌%◌, ◌^◌, ◌<◌, Bool, true, ℤ, pos, List, [], ◌∷◌, ◌++◌, get_or, append-nil, Option, Some, None, refl, sym, ap, ◌∙◌, subst, arith, mod-lt, mod-eq_of_lt, ◌==◌, eqb-true}
+use Rattle.std.proofs.Common.{◌≡◌, ◌≢◌, ℕ, ◌+◌, ◌/◌, ◌%◌, ◌^◌, ◌<◌, Bool, true, ℤ, pos, List, [], ◌∷◌, ◌++◌, get_or, append-nil, Option, Some, None, refl, sym, ap, ◌∙◌, subst, arith, mod-lt, pow_pos, ◌==◌, eqb-true}
 use Rattle.std.proofs.lemmas.Bool.{cond_both}
 use Rattle.std.proofs.lemmas.Nat.{pow_below}
 use Rattle.gr_word.specs.Words.{applied, unsigned_of}
@@ -9,7 +9,7 @@ use Rattle.gr_word.specs.declared.variables.Label.{Label}
 use Rattle.gr_word.specs.declared.variables.Shape.{Shape}
 use Rattle.lt_isa.specs.declared.instructions.Instr.{Instr}
 use Rattle.lt_isa.specs.declared.instructions.Instr.TheVariants.{Li, Alu, Ldw}
-use Rattle.lt_isa.specs.Object.{Parts}
+use Rattle.lt_isa.specs.Object.{Parts, block_words}
 use Rattle.lt_isa.specs.Ranges.{IsInRange}
 use Rattle.lt_isa.specs.Machine.{State, register, slot, word_in, slot_words}
 use Rattle.lt_isa.specs.Shape.{IsShaped}
@@ -21,11 +21,14 @@ use Rattle.src_tree.specs.Contexts.{context_of}
 use Rattle.src_tree.specs.Meaning.{Store, variable_number, words_of_number, evaluated}
 use Rattle.src_tree.specs.Trees.{Tree}
 use Rattle.block_cache_gen.specs.declared.frames.Mode.{Mode}
-use Rattle.block_cache_gen.specs.Homes.{Home, Setting, HasHomes, home_of, pin_of, register_for}
+use Rattle.block_cache_gen.specs.Homes.{pin_at, slot_of_word, words_a_block, Home, Setting, HasHomes, home_of, pin_of, register_for}
 use Rattle.block_cache_gen.specs.Codes.{applied_code, fixed_index, fixed_word, numbered_code, offset_code, placed_code}
+use Rattle.scratch_alloc.specs.Plans.{pin_to}
 use Rattle.block_cache_gen.specs.StandsFor.{StandsFor, FitsHomes, HoldsBlock}
 use Rattle.block_cache_gen.specs.Accesses.{accesses, word_number, seen_of_all}
 use Rattle.block_cache_gen.specs.LeavesWord.{LeavesWord}
+use Rattle.block_cache_gen.proofs.HomeFacts.{block_words-is}
+use Rattle.block_cache_gen.proofs.WordSlots.{word-pinned, words-few}
 use Rattle.block_cache_gen.proofs.Stands.{stands-like, stands-set}
 use Rattle.block_cache_gen.proofs.IndexRuns.{Reduces, Computes, runs-applied, runs-numbered}
 use Rattle.block_cache_gen.proofs.Kept.{keeps-set, keeps-on}
@@ -64,37 +67,57 @@ module _ (o : Parts) (fits : IsInRange o) (f : Setting) (homes : HasHomes o f) (
   pub resident_number-is : (z : ℤ) → unsigned_of z % (home_of f x).length ≡ word_number f store x z
   resident_number-is z = ap (λ m. unsigned_of z % m) (sym (store_fits.lengths x label shape known))
 
+  -- an index that is a number names that word
+  pub fixed-number : (i : Tree) (z : ℤ) → fixed_index (home_of f x) i ≡ Some z
+      → fixed_word (home_of f x) z ≡ word_number f store x (evaluated f.decls store i)
+  fixed-number i z is =
+      subst (λ e. fixed_word (home_of f x) z ≡ word_number f store x (evaluated f.decls store e))
+      (sym (fixed-is (home_of f x) i z is)) (resident_number-is z)
+
   pub resident-within : (z : ℤ) → word_number f store x z < (home_of f x).length
   resident-within z =
       subst (λ n. n < (home_of f x).length) (resident_number-is z)
       (mod-lt (unsigned_of z) (homes.residents x label shape known resident).length.0)
 
-  -- the block is in its slot, and has as many words as a block
-  pub resident-held : (s : State) → StandsFor f s store
-      → HoldsBlock (slot s (home_of f x).slot) (home_of f x).bank (home_of f x).block
-  resident-held s stands =
+  -- the slot of a word, counted from the first word of the first block on, is pinned to the word's block
+  pub pinned-word : (n : ℕ) → n < (home_of f x).length
+      → pin_at f (slot_of_word f (home_of f x) ((home_of f x).word + n))
+      ≡ Some (pin_to (home_of f x).bank ((home_of f x).block + ((home_of f x).word + n) / words_a_block f))
+  pinned-word n within =
+      word-pinned f (block_words o) label (home_of f x) (homes.residents x label shape known resident)
+      (block_words-is homes) (pow_pos o.profile.block_log) ((home_of f x).word + n) (omega (arith, within))
+
+  -- the block is in its slot
+  pub resident-held : (n : ℕ) → n < (home_of f x).length → (s : State) → StandsFor f s store
+      → HoldsBlock (slot s (slot_of_word f (home_of f x) ((home_of f x).word + n))) (home_of f x).bank
+      ((home_of f x).block + ((home_of f x).word + n) / words_a_block f)
+  resident-held n within s stands =
       let h = home_of f x in
-      let home = homes.residents x label shape known resident in
-      stands.pinned h.slot (pin_of h) home.pinned
+      let number = h.word + n in
+      stands.pinned (slot_of_word f h number) (pin_to h.bank (h.block + number / words_a_block f))
+      (pinned-word n within)
 
   -- the word that a register names is read
   pub runs-read : (to n : ℕ) (s : State) → IsShaped o s → StandsFor f s store → n < (home_of f x).length → register_for f x ≡ None
-      → to < 19 → register s to ≡ pos ((home_of f x).word + n) → StandsAt o s.place (Ldw to (home_of f x).slot to ∷ [])
-      → RunsThrough o s (Ldw to (home_of f x).slot to ∷ []) []
+      → to < 19 → register s to ≡ pos ((home_of f x).word + n)
+      → StandsAt o s.place (Ldw to (slot_of_word f (home_of f x) ((home_of f x).word + n)) to ∷ [])
+      → RunsThrough o s (Ldw to (slot_of_word f (home_of f x) ((home_of f x).word + n)) to ∷ []) []
       (Sets s to (get_or (words_of_number store (variable_number f.decls x)) n (pos 0)))
   runs-read to n s shaped stands within free small has at =
       let h = home_of f x in
-      let home = homes.residents x label shape known resident in
-      let held = resident-held s stands in
+      let number = h.word + n in
+      let k = slot_of_word f h number in
+      let held = resident-held n within s stands in
       let value = get_or (words_of_number store (variable_number f.decls x)) n (pos 0) in
-      let named : word_named o (register s to) ≡ h.word + n =
-      ap (λ word. word_named o word) has ∙ mod-eq_of_lt (omega (arith, home.inside, within)) in
+      let named : word_named o (register s to) ≡ number % words_a_block f =
+      ap (λ word. word_named o word) has ∙ ap (λ w. number % w) (block_words-is homes) in
       let reads : word_in held.words (word_named o (register s to)) ≡ value =
-      ap (λ k. word_in held.words k) named
-      ∙ ap (λ b. word_in (slot_words b) (h.word + n)) (sym held.holds)
+      ap (λ i. word_in held.words i) named
+      ∙ ap (λ b. word_in (slot_words b) (number % words_a_block f)) (sym held.holds)
       ∙ stands.residents x label shape n known resident free within in
-      runs-one s (Ldw to h.slot to) [] (Sets s to value) at
-      (sets-ldw o fits s shaped to h.slot to h.bank h.block held.words value (omega arith) held.holds reads)
+      runs-one s (Ldw to k to) [] (Sets s to value) at
+      (sets-ldw o fits s shaped to k to h.bank (h.block + number / words_a_block f) held.words value (omega arith)
+      held.holds reads)
 
   -- the place of the word is found, after the code of the index
   pub runs-placed : (mode : Mode) (to from : ℕ) (i : Tree) (code : List Instr) (s : State) → IsShaped o s
@@ -136,7 +159,8 @@ module _ (o : Parts) (fits : IsInRange o) (f : Setting) (homes : HasHomes o f) (
       let Done : State → Type 0 = LeavesWord f store before to (pos (h.word + n)) s in
       let small_place : h.word + n < 2 ^ 63 =
       let most = pow_below o.profile.block_log 10 (omega (arith, fits.profile.block_log)) in
-      omega (arith, home.inside, resident-within index, most) in
+      let few = words-few f (block_words o) label h home in
+      omega (arith, few, resident-within index, most) in
       runs-weaker s (code ++ (number ++ offset_code f h to)) (seen ++ []) seen Done Done
       (runs-append s code (number ++ offset_code f h to) seen [] (LeavesAt f store before to from index s) Done at
       run

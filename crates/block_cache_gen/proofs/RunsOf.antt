@@ -17,7 +17,7 @@ use Rattle.block_cache_gen.proofs.AssignmentRuns.{runs-set_variable, runs-set_el
 
 -- the code of an expression leaves its value in a register
 pub expression-evaluates : (f : Setting) (mode : Mode) (to : ℕ) (e : Tree) → TypedTree (context_of f.decls) e
-    → to + height_of e ≤ 18 → Evaluates f mode to e (expr_code f mode to e)
+    → to + height_of e ≤ 17 → Evaluates f mode to e (expr_code f mode to e)
 expression-evaluates f mode to e typed room = record {
   runs = λ o store s b.
       runs-expression o b.in_range f b.homes store b.fits mode e typed to room s b.shaped b.stands b.code_stands;
@@ -25,7 +25,7 @@ expression-evaluates f mode to e typed room = record {
 
 -- the code of a guard leaves its two sides in two registers
 pub guard-evaluates : (f : Setting) (mode : Mode) (to : ℕ) (t : Test) → TypedTest (context_of f.decls) t
-    → to + height_of t.left ≤ 18 → (to + 1) + height_of t.right ≤ 18
+    → to + height_of t.left ≤ 17 → (to + 1) + height_of t.right ≤ 17
     → EvaluatesTest f mode to t (guard_code f mode to t)
 guard-evaluates f mode to t typed room room' = record {
   runs = λ o store s b.

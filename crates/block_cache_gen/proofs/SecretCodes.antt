@@ -7,7 +7,7 @@ use Rattle.std.proofs.lemmas.List.{map-append}
 use Rattle.std.proofs.lemmas.List.Sums.{sum_by-append}
 use Rattle.gr_word.specs.declared.operations.Op.TheVariants.{Add, Shr}
 use Rattle.lt_isa.specs.declared.instructions.Instr.{Instr}
-use Rattle.lt_isa.specs.declared.instructions.Instr.TheVariants.{Li, Alu, Ldw}
+use Rattle.lt_isa.specs.declared.instructions.Instr.TheVariants.{Li, Alu}
 use Rattle.src_tree.specs.Contexts.{context_of}
 use Rattle.src_tree.specs.Labels.{label_of, secret_label}
 use Rattle.gr_word.specs.declared.variables.Label.{Label}
@@ -17,9 +17,10 @@ use Rattle.src_tree.specs.Trees.{Tree, Number, Variable, Element, Operation, Tes
 use Rattle.block_cache_gen.specs.declared.frames.Mode.{Mode}
 use Rattle.block_cache_gen.specs.declared.frames.Mode.TheVariants.{Public, Real, Mirrored}
 use Rattle.block_cache_gen.specs.Homes.{Home, Setting, home_of, register_for}
-use Rattle.block_cache_gen.specs.Codes.{may_skip_loads, is_cached, is_masked, fixed_index, held_number, applied_code, reducing, reducer, shift_code, located_code, offset_code, placed_code, stored_code, access_by, load_code, skips, access_code, operand, operand_part, operand_register, left_operand, index_operand, indexed_code, expr_code, guard_code, store_code, set_code, operation_code, steps_at, compares, numbered_code, zero_of, scalar_code, write_code}
+use Rattle.block_cache_gen.specs.Codes.{read_code, may_skip_loads, is_cached, is_masked, fixed_index, held_number, applied_code, reducing, reducer, shift_code, located_code, offset_code, placed_code, stored_code, access_by, load_code, skips, access_code, operand, operand_part, operand_register, left_operand, index_operand, indexed_code, expr_code, guard_code, store_code, set_code, operation_code, steps_at, compares, numbered_code, zero_of, scalar_code, write_code}
 use Rattle.gr_word.specs.declared.operations.Op.{Op}
 use Rattle.strength_reduction.specs.Steps.{Step}
+use Rattle.block_cache_gen.proofs.SpreadWrites.{read-stores, stored-stores, stored-aside}
 use Rattle.block_cache_gen.proofs.StepsAt.{steps-stores}
 use Rattle.block_cache_gen.specs.StoredWords.{is_held_register, set_stores, is_stw, stored_words, register_aside, registers_aside}
 
@@ -53,7 +54,7 @@ pub expr_code-mode : (f : Setting) (m n : Mode) (to : ℕ) (e : Tree) → may_sk
 expr_code-mode f m n to (Number z) same = refl
 expr_code-mode f m n to (Variable x) same = refl
 expr_code-mode f m n to (Element x i) same =
-    ap (λ (code : List Instr). code ++ Ldw to (home_of f x).slot to ∷ [])
+    ap (λ (code : List Instr). code ++ read_code f (home_of f x) (fixed_index (home_of f x) i) to)
     (indexed_code-mode f m n (compares f m (home_of f x) i) (compares f n (home_of f x) i) (home_of f x) to i
     (expr_code f m to i) (expr_code f n to i) same
     (compares-mode f m n (home_of f x) i same) (expr_code-mode f m n to i same))
@@ -67,20 +68,17 @@ expr_code-mode f m n to (Operation op a b) same =
     (operand_part (operand f b) (right i))
 
 -- so the codes of an assignment in the two secret modes are the same but for the register of its store
-element_aside : (first second last : List Instr) (one other : List Instr)
+element_aside : (first second : List Instr) (one other : List Instr)
     → registers_aside one ≡ registers_aside other
-    → registers_aside (first ++ (second ++ (one ++ last))) ≡ registers_aside (first ++ (second ++ (other ++ last)))
-element_aside first second last one other same =
-    let ends : registers_aside (one ++ last) ≡ registers_aside (other ++ last) =
-    map-append register_aside one last ∙ ap (λ (code : List Instr). code ++ registers_aside last) same
-    ∙ sym (map-append register_aside other last) in
-    let mids : registers_aside (second ++ (one ++ last)) ≡ registers_aside (second ++ (other ++ last)) =
-    map-append register_aside second (one ++ last)
-    ∙ ap (λ (code : List Instr). registers_aside second ++ code) ends
-    ∙ sym (map-append register_aside second (other ++ last)) in
-    map-append register_aside first (second ++ (one ++ last))
+    → registers_aside (first ++ (second ++ one)) ≡ registers_aside (first ++ (second ++ other))
+element_aside first second one other same =
+    let mids : registers_aside (second ++ one) ≡ registers_aside (second ++ other) =
+    map-append register_aside second one
+    ∙ ap (λ (code : List Instr). registers_aside second ++ code) same
+    ∙ sym (map-append register_aside second other) in
+    map-append register_aside first (second ++ one)
     ∙ ap (λ (code : List Instr). registers_aside first ++ code) mids
-    ∙ sym (map-append register_aside first (second ++ (other ++ last)))
+    ∙ sym (map-append register_aside first (second ++ other))
 
 -- what writes a scalar is the same but for the register that it stores or copies
 copy-aside : (held : Bool) (r z one other : ℕ) → held ≡ true
@@ -118,8 +116,9 @@ set_code-aside f sound (SetElement x i e) =
     (expr_code f Mirrored 1 i) refl refl
     (expr_code-mode f Real Mirrored 1 i refl) in
     element_aside (operand_part q (expr_code f Real 0 e)) (indexed_code f false Real h 1 i (expr_code f Real 1 i))
-    (stored_code h.resident h.slot) (store_code Real h.slot from) (store_code Mirrored h.slot from) refl
-    ∙ λ k. registers_aside (value k ++ (access k ++ (store_code Mirrored h.slot from ++ stored_code h.resident h.slot)))
+    (stored_code f Real h (fixed_index h i) from) (stored_code f Mirrored h (fixed_index h i) from)
+    (stored-aside f h (fixed_index h i) from)
+    ∙ λ k. registers_aside (value k ++ (access k ++ stored_code f Mirrored h (fixed_index h i) from))
 set_code-aside f sound (Choice t a b) = refl
 set_code-aside f sound (Loop t a) = refl
 
@@ -227,10 +226,13 @@ expr-stores f mode to (Element x i) =
     let near = compares f mode h i in
     let q = index_operand f near i in
     let index = operand_part q (expr_code f mode to i) in
-    stored-append (indexed_code f near mode h to i (expr_code f mode to i)) (Ldw to h.slot to ∷ [])
-    ∙ ap (λ (n : ℕ). n + 0)
-    (access-stores f mode near h to (operand_register q to) (fixed_index h i) index
-    (operand-stores q (expr_code f mode to i) (expr-stores f mode to i)))
+    stored-append (indexed_code f near mode h to i (expr_code f mode to i)) (read_code f h (fixed_index h i) to)
+    ∙ omega (
+      arith,
+      access-stores f mode near h to (operand_register q to) (fixed_index h i) index
+          (operand-stores q (expr_code f mode to i) (expr-stores f mode to i)),
+      read-stores f h (fixed_index h i) to,
+    )
 expr-stores f mode to (Operation op a b) =
     let q = left_operand f op a b in
     let left = operand_part q (expr_code f mode to a) in
@@ -248,12 +250,6 @@ pub guard-stores : (f : Setting) (mode : Mode) (to : ℕ) (t : Test) → stored_
 guard-stores f mode to t =
     stored-append (expr_code f mode to t.left) (expr_code f mode (to + 1) t.right)
     ∙ λ k. expr-stores f mode to t.left k + expr-stores f mode (to + 1) t.right k
-
--- an assignment stores one
-store-stores : (mode : Mode) (slot value : ℕ) → stored_words (store_code mode slot value) ≡ 1
-store-stores Public slot value = refl
-store-stores Real slot value = refl
-store-stores Mirrored slot value = refl
 
 write-stores : (mode : Mode) (found : Option ℕ) (l : Label) (h : Home) (value : ℕ)
     → stored_words (write_code found l mode h value) ≡ (if is_some found then 0 else 1)
@@ -274,13 +270,9 @@ variable-stores f mode x e =
     stored-append (operand_part q (expr_code f mode 0 e)) (write_code found l mode (home_of f x) from)
     ∙ omega (arith, operand-stores q (expr_code f mode 0 e) (expr-stores f mode 0 e), written)
 
--- an assignment to an element stores one word
-last-stores : (b : Bool) (slot : ℕ) → stored_words (stored_code b slot) ≡ 0
-last-stores true slot = refl
-last-stores false slot = refl
-
+-- an assignment to an element stores one word, or one of each slot of its array
 pub element-stores : (f : Setting) (mode : Mode) (x : List ℕ) (i e : Tree)
-    → stored_words (set_code f mode (SetElement x i e)) ≡ 1
+    → stored_words (set_code f mode (SetElement x i e)) ≡ set_stores f (SetElement x i e)
 element-stores f mode x i e =
     let h = home_of f x in
     let near = compares f mode h i in
@@ -289,16 +281,13 @@ element-stores f mode x i e =
     let q_of_index = index_operand f near i in
     let index = operand_part q_of_index (expr_code f mode 1 i) in
     let access = indexed_code f near mode h 1 i (expr_code f mode 1 i) in
-    let store = store_code mode h.slot (operand_register q 0) in
-    let last = stored_code h.resident h.slot in
-    stored-append value (access ++ (store ++ last))
+    let store = stored_code f mode h (fixed_index h i) (operand_register q 0) in
+    stored-append value (access ++ store)
     ∙ omega (
       arith,
       operand-stores q (expr_code f mode 0 e) (expr-stores f mode 0 e),
-      stored-append access (store ++ last),
+      stored-append access store,
       access-stores f mode near h 1 (operand_register q_of_index 1) (fixed_index h i) index
           (operand-stores q_of_index (expr_code f mode 1 i) (expr-stores f mode 1 i)),
-      stored-append store last,
-      store-stores mode h.slot (operand_register q 0),
-      last-stores h.resident h.slot,
+      stored-stores f mode h (fixed_index h i) (operand_register q 0),
     )

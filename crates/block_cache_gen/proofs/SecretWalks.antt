@@ -35,7 +35,7 @@ walk-goes o f depth p s code shows loads stands goes = record {
 module _ (f : Setting) (mode : Mode) (secret : may_skip_loads mode ≡ false) where
   -- the code of an expression is walked in an arm
   pub expr-walked : (to : ℕ) (e : Tree) → TypedTree (context_of f.decls) e → HasPublicIndexes f e
-      → to + height_of e ≤ 18 → IsWalkedAsExpr f to e (expr_code f mode to e)
+      → to + height_of e ≤ 17 → IsWalkedAsExpr f to e (expr_code f mode to e)
   expr-walked to e typed public low = λ o depth p s homes stands carries.
       let code = expr_code f mode to e in
       let leaves = expr-leaves o f homes depth mode secret e s to typed public low carries in
@@ -48,7 +48,7 @@ module _ (f : Setting) (mode : Mode) (secret : may_skip_loads mode ≡ false) wh
 
   -- the code of a guard is walked in an arm
   pub guard-walked : (to : ℕ) (t : Test) → TypedTest (context_of f.decls) t → TestHasPublicIndexes f t
-      → to + height_of t.left ≤ 18 → to + 1 + height_of t.right ≤ 18
+      → to + height_of t.left ≤ 17 → to + 1 + height_of t.right ≤ 17
       → IsWalkedAsTest f to t (guard_code f mode to t)
   guard-walked to t typed public low next = λ o depth p s homes stands carries.
       let code = guard_code f mode to t in

@@ -42,51 +42,51 @@ lost-past slots slot is = by (nat_lt (end_of_search slots slot) (length slots)) 
     by false within e = ltb-false (end_of_search slots slot) (length slots) within
 
 -- homes are searched as their slots are
-block-inside : (pins : List (Option Pin)) (places : List Place) (slots : List ℕ) (slot : ℕ) (d : Place) → length places ≡ length slots
+block-inside : (pins : List (Option Pin)) (w : ℕ) (places : List Place) (slots : List ℕ) (slot : ℕ) (d : Place) → length places ≡ length slots
     → end_of_search slots slot < length slots
-    → Some (slice_index_or places (end_of_search slots slot) d).block ≡ found (homes_at pins places slots) slot
-block-inside pins [] [] slot d same within = absurd (omega arith)
-block-inside pins [] (s ∷ slots) slot d same within = absurd (omega arith)
-block-inside pins (q ∷ places) [] slot d same within = absurd (omega arith)
-block-inside pins (q ∷ places) (s ∷ slots) slot d same within =
-    by (s == slot) within (block-inside pins places slots slot d (omega arith))
+    → Some (slice_index_or places (end_of_search slots slot) d).block ≡ found (homes_at pins w places slots) slot
+block-inside pins w [] [] slot d same within = absurd (omega arith)
+block-inside pins w [] (s ∷ slots) slot d same within = absurd (omega arith)
+block-inside pins w (q ∷ places) [] slot d same within = absurd (omega arith)
+block-inside pins w (q ∷ places) (s ∷ slots) slot d same within =
+    by (s == slot) within (block-inside pins w places slots slot d (omega arith))
   where
     by : (b : Bool) → cond (not b) (1 + end_of_search slots slot) 0 < length (s ∷ slots)
         → (end_of_search slots slot < length slots
-        → Some (slice_index_or places (end_of_search slots slot) d).block ≡ found (homes_at pins places slots) slot)
+        → Some (slice_index_or places (end_of_search slots slot) d).block ≡ found (homes_at pins w places slots) slot)
         → Some (slice_index_or (q ∷ places) (cond (not b) (1 + end_of_search slots slot) 0) d).block
-        ≡ option_map (λ h. h.block) (cond b (Some (home_at pins q s)) (find (λ h. h.slot == slot) (homes_at pins places slots)))
+        ≡ option_map (λ h. h.block) (cond b (Some (home_at pins w q s)) (find (λ h. h.slot == slot) (homes_at pins w places slots)))
     by true low rest = refl
     by false low rest =
         let next : 1 + end_of_search slots slot ≡ suc (end_of_search slots slot) = omega arith in
         ap (λ k. Some (slice_index_or (q ∷ places) k d).block) next ∙ rest (omega arith)
 
-none-inside : (pins : List (Option Pin)) (places : List Place) (slots : List ℕ) (slot : ℕ) → length slots ≤ end_of_search slots slot
-    → None ≡ found (homes_at pins places slots) slot
-none-inside pins [] slots slot past = refl
-none-inside pins (q ∷ places) [] slot past = refl
-none-inside pins (q ∷ places) (s ∷ slots) slot past = by (s == slot) past (none-inside pins places slots slot)
+none-inside : (pins : List (Option Pin)) (w : ℕ) (places : List Place) (slots : List ℕ) (slot : ℕ) → length slots ≤ end_of_search slots slot
+    → None ≡ found (homes_at pins w places slots) slot
+none-inside pins w [] slots slot past = refl
+none-inside pins w (q ∷ places) [] slot past = refl
+none-inside pins w (q ∷ places) (s ∷ slots) slot past = by (s == slot) past (none-inside pins w places slots slot)
   where
     by : (b : Bool) → length (s ∷ slots) ≤ cond (not b) (1 + end_of_search slots slot) 0
-        → (length slots ≤ end_of_search slots slot → None ≡ found (homes_at pins places slots) slot)
+        → (length slots ≤ end_of_search slots slot → None ≡ found (homes_at pins w places slots) slot)
         → None
-        ≡ option_map (λ h. h.block) (cond b (Some (home_at pins q s)) (find (λ h. h.slot == slot) (homes_at pins places slots)))
+        ≡ option_map (λ h. h.block) (cond b (Some (home_at pins w q s)) (find (λ h. h.slot == slot) (homes_at pins w places slots)))
     by true high rest = absurd (omega arith)
     by false high rest = rest (omega arith)
 
 -- the block is that of the variable of the number that is found
-pub served-at : (pins : List (Option Pin)) (places : List Place) (slots : List ℕ) (slot n : ℕ) (d : Place) → length places ≡ length slots
+pub served-at : (pins : List (Option Pin)) (w : ℕ) (places : List Place) (slots : List ℕ) (slot n : ℕ) (d : Place) → length places ≡ length slots
     → position (λ s. s == slot) slots ≡ Some n
-    → Some (slice_index_or places n d).block ≡ found (homes_at pins places slots) slot
-served-at pins places slots slot n d same is =
+    → Some (slice_index_or places n d).block ≡ found (homes_at pins w places slots) slot
+served-at pins w places slots slot n d same is =
     let h = found-at slots slot n is in
     ap (λ k. Some (slice_index_or places k d).block) (sym h.0)
-    ∙ block-inside pins places slots slot d same (omega (arith, h.0, h.1))
+    ∙ block-inside pins w places slots slot d same (omega (arith, h.0, h.1))
 
 -- there is none where no variable has the slot
-pub served-none : (pins : List (Option Pin)) (places : List Place) (slots : List ℕ) (slot : ℕ) → position (λ s. s == slot) slots ≡ None
-    → None ≡ found (homes_at pins places slots) slot
-served-none pins places slots slot is = none-inside pins places slots slot (lost-past slots slot is)
+pub served-none : (pins : List (Option Pin)) (w : ℕ) (places : List Place) (slots : List ℕ) (slot : ℕ) → position (λ s. s == slot) slots ≡ None
+    → None ≡ found (homes_at pins w places slots) slot
+served-none pins w places slots slot is = none-inside pins w places slots slot (lost-past slots slot is)
 
 -- a slot that is used has one
 any-found : (homes : List Home) (slot : ℕ) → list_any (λ h. h.slot == slot) homes ≡ true

@@ -1,5 +1,5 @@
 -- An object whose variables are at the places of a sound plan has the homes of its code's setting.
-use Rattle.std.proofs.Common.{◌≡◌, ◌↔◌, ℕ, zero, suc, ◌+◌, ◌*◌, ◌^◌, ◌<◌, ◌≤◌, true, false, List, [], ◌∷◌, length, get_or, Option, Some, None, inl, inr, refl, sym, ap, ◌∙◌, subst, ⊎_elim, arith}
+use Rattle.std.proofs.Common.{◌≡◌, ◌↔◌, ℕ, zero, suc, ◌+◌, ◌*◌, ◌^◌, ◌<◌, ◌≤◌, true, false, pow_pos, List, [], ◌∷◌, length, get_or, Option, Some, None, inl, inr, refl, sym, ap, ◌∙◌, subst, ⊎_elim, arith}
 use Rattle.std.specs.Prelude.{is_some}
 use Rattle.std.proofs.lemmas.Bool.{cases_lt, false≢true}
 use Rattle.std.proofs.lemmas.List.{get_or-map, length-map}
@@ -9,6 +9,7 @@ use Rattle.gr_word.specs.declared.variables.Label.TheVariants.{Public, Secret}
 use Rattle.gr_word.specs.declared.variables.Shape.{Shape}
 use Rattle.gr_word.specs.declared.variables.Shape.TheVariants.{Scalar, Array}
 use Rattle.lt_isa.specs.declared.profiles.BankSpec.{BankSpec}
+use Rattle.lt_isa.specs.declared.profiles.Profile.{Profile}
 use Rattle.lt_isa.specs.Object.{Parts, no_bank, block_words, blocks_of}
 use Rattle.src_tree.specs.declared.trees.Decl.{Decl}
 use Rattle.src_tree.specs.Trees.{Source, source_of}
@@ -20,37 +21,38 @@ use Rattle.bank_alloc.specs.declared.places.Place.{Place}
 use Rattle.bank_alloc.specs.Apart.{IsBankOf, scalar_bank}
 use Rattle.bank_alloc.specs.Layout.{IsLaidOut}
 use Rattle.bank_alloc.proofs.Apart.{length_at}
-use Rattle.scratch_alloc.specs.Plans.{Plan, IsSoundPlan, IsSoundByPin, pin_of_slot, no_decl, no_place}
+use Rattle.scratch_alloc.specs.Plans.{Plan, IsSoundPlan, IsSoundByPin, IsSpread, pin_of_slot, no_decl, no_place}
 use Rattle.held_registers.specs.Held.{IsSoundHeld}
-use Rattle.block_cache_gen.specs.Homes.{Home, Pin, Setting, HasHomes, IsScalarHome, IsResidentHome, IsArrayHome, pin_at, HomesApart, no_home}
+use Rattle.block_cache_gen.specs.Homes.{Home, Pin, Setting, HasHomes, further_slots, IsScalarHome, IsInOneBlock, IsSpreadHome, IsResidentHome, IsArrayHome, pin_at, HomesApart, no_home}
+use Rattle.block_cache_gen.proofs.FurtherSlots.{further_blocks-is, single_place, unpinned_place}
 use Rattle.block_cache_gen.specs.declared.frames.Frame.{Frame}
 use Rattle.block_cache_gen.specs.Settings.{home_at, homes_at, setting_of, plan_of, IsFrame}
 
 -- a setting is made of a program and a plan, for an object, with registers that hold what is sound
 pub record IsSettingOf (p : Source) (plan : Plan) (o : Parts) (f : Setting) : Type 0 where
   pub decls : f.decls ≡ p.decls
-  pub homes : f.homes ≡ homes_at plan.pins plan.places plan.slots
+  pub homes : f.homes ≡ homes_at plan.pins f.profile.block_log plan.places plan.slots
   pub blocks : f.blocks ≡ plan.blocks
   pub pins : f.pins ≡ plan.pins
   pub held : IsSoundHeld f.decls f.held
   pub profile : o.profile ≡ f.profile
 
 -- as many homes as variables
-pub length-homes_at : (pins : List (Option Pin)) (places : List Place) (slots : List ℕ)
-    → length slots ≡ length places → length (homes_at pins places slots) ≡ length places
-length-homes_at pins [] slots same = refl
-length-homes_at pins (q ∷ places) [] same = absurd (omega arith)
-length-homes_at pins (q ∷ places) (slot ∷ slots) same = ap suc (length-homes_at pins places slots (omega arith))
+pub length-homes_at : (pins : List (Option Pin)) (w : ℕ) (places : List Place) (slots : List ℕ)
+    → length slots ≡ length places → length (homes_at pins w places slots) ≡ length places
+length-homes_at pins w [] slots same = refl
+length-homes_at pins w (q ∷ places) [] same = absurd (omega arith)
+length-homes_at pins w (q ∷ places) (slot ∷ slots) same = ap suc (length-homes_at pins w places slots (omega arith))
 
 -- the home of variable number k
-pub get_or-homes_at : (pins : List (Option Pin)) (places : List Place) (slots : List ℕ) (k : ℕ)
+pub get_or-homes_at : (pins : List (Option Pin)) (w : ℕ) (places : List Place) (slots : List ℕ) (k : ℕ)
     → length slots ≡ length places → k < length places
-    → get_or (homes_at pins places slots) k no_home ≡ home_at pins (get_or places k no_place) (get_or slots k 0)
-get_or-homes_at pins [] slots k same within = absurd (omega arith)
-get_or-homes_at pins (q ∷ places) [] k same within = absurd (omega arith)
-get_or-homes_at pins (q ∷ places) (slot ∷ slots) zero same within = refl
-get_or-homes_at pins (q ∷ places) (slot ∷ slots) (suc k) same within =
-    get_or-homes_at pins places slots k (omega arith) (omega arith)
+    → get_or (homes_at pins w places slots) k no_home ≡ home_at pins w (get_or places k no_place) (get_or slots k 0)
+get_or-homes_at pins w [] slots k same within = absurd (omega arith)
+get_or-homes_at pins w (q ∷ places) [] k same within = absurd (omega arith)
+get_or-homes_at pins w (q ∷ places) (slot ∷ slots) zero same within = refl
+get_or-homes_at pins w (q ∷ places) (slot ∷ slots) (suc k) same within =
+    get_or-homes_at pins w places slots k (omega arith) (omega arith)
 
 -- a shape by a length
 pub scalar-length : (length : Option ℕ) → shape_of length ≡ Scalar → length ≡ None
@@ -91,7 +93,11 @@ module _ (p : Source) (w : ℕ) (plan : Plan) (limits : IsWithinLimits p) (sound
   slot k = get_or plan.slots k 0
 
   abbrev home : ℕ → Home
-  home k = home_at plan.pins (place k) (slot k)
+  home k = home_at plan.pins f.profile.block_log (place k) (slot k)
+
+  -- the setting's blocks have as many words
+  logs : f.profile.block_log ≡ w
+  logs = ap (λ (x : Profile). x.block_log) (sym setting.profile) ∙ layout.block_size
 
   -- a block of the object has the words of the setting's
   pub width : block_words o ≡ 2 ^ w
@@ -110,13 +116,13 @@ module _ (p : Source) (w : ℕ) (plan : Plan) (limits : IsWithinLimits p) (sound
   pub home-at : (k : ℕ) → k < length p.decls → get_or f.homes k no_home ≡ home k
   home-at k within =
       ap (λ homes. get_or homes k no_home) setting.homes
-      ∙ get_or-homes_at plan.pins plan.places plan.slots k (sound.slots ∙ sym sound.places)
+      ∙ get_or-homes_at plan.pins f.profile.block_log plan.places plan.slots k (sound.slots ∙ sym sound.places)
       (omega (arith, within, sound.places))
 
   pub home-count : length f.homes ≡ length p.decls
   home-count =
       ap length setting.homes
-      ∙ length-homes_at plan.pins plan.places plan.slots (sound.slots ∙ sym sound.places)
+      ∙ length-homes_at plan.pins f.profile.block_log plan.places plan.slots (sound.slots ∙ sym sound.places)
       ∙ sound.places
 
   -- a declared name's number and what is declared there
@@ -145,7 +151,45 @@ module _ (p : Source) (w : ℕ) (plan : Plan) (limits : IsWithinLimits p) (sound
           (let e : ◌≡◌ {A = Option ℕ} None (Some served.array.0) = sym none ∙ served.array.1 in cc)
       by (Some q) is served = record {
         resident = ap is_some is;
+        single =
+            single_place plan.pins f.profile.block_log (place k) (slot k)
+            (let one = (sound.place k within).words ∙ ap words_of_length none in
+            omega (arith, one, pow_pos f.profile.block_log));
         length = (sound.place k within).words ∙ ap words_of_length none;
+      }
+
+  -- a resident variable in one block
+  in_one_block : (k : ℕ) → (place k).word + (place k).length ≤ 2 ^ w → IsInOneBlock (block_words o) (home k)
+  in_one_block k inside = record {
+    single =
+        single_place plan.pins f.profile.block_log (place k) (slot k)
+        (omega (arith, inside, ap (λ n. 2 ^ n) logs));
+    inside = omega (arith, inside, width);
+  }
+
+  -- and one in several
+  spread_home : (k : ℕ) (label : Label) → (decl k).label ≡ label → {q : Pin} → pin_of_slot plan (slot k) ≡ Some q
+      → q.bank ≡ (place k).bank → q.block ≡ (place k).block → IsSpread w plan (decl k) (place k)
+      → IsSpreadHome f (block_words o) label (home k)
+  spread_home k label labelled {q} is bank block spread =
+      let log = f.profile.block_log in
+      let size : 2 ^ log ≡ 2 ^ w = ap (λ n. 2 ^ n) logs in
+      let further = further_blocks-is plan.pins log (place k) (slot k) q is
+      (let few = spread.few in omega (arith, few, ap (λ n. 5 * n) size)) in
+      record {
+        secret = sym labelled ∙ spread.secret;
+        word = spread.word;
+        inside =
+            let inside = further.inside in
+            let wide = ap (λ n. (1 + length (further_slots (home k))) * n) (sym (width ∙ sym size)) in
+            omega (arith, inside, wide);
+        pinned = λ j within.
+            let less : (1 + j) * 2 ^ w < (place k).length =
+            let h = further.needs j within in
+            let same = ap (λ n. (1 + j) * n) size in omega (arith, h, same) in
+            let at = spread.pinned (1 + j) less in
+            pinned-at (get_or (further_slots (home k)) j 0)
+            ∙ further.found j within at.0 at.1;
       }
 
   -- a resident variable is in the block of its slot
@@ -163,7 +207,9 @@ module _ (p : Source) (w : ℕ) (plan : Plan) (limits : IsWithinLimits p) (sound
             ∙ is
             ∙ (λ i. Some (record { bank = served.pinned_bank i; block = served.pinned_block i }));
         length = place-length p w plan k limits sound within;
-        inside = subst (λ n. (place k).word + (place k).length ≤ n) (sym width) served.inside;
+        blocks =
+            ⊎_elim (λ one. inl (in_one_block k one)) (λ spread. inr (spread_home k label labelled is served.pinned_bank served.pinned_block spread))
+            served.inside;
       }
 
   -- any other array has whole blocks
@@ -186,6 +232,7 @@ module _ (p : Source) (w : ℕ) (plan : Plan) (limits : IsWithinLimits p) (sound
             plain = plain-public label q.bank (subst (λ l. IsBankOf l q.bank) labelled here.label);
             slot = served.served;
             unpinned = pinned-at (slot k) ∙ is;
+            single = unpinned_place plan.pins f.profile.block_log (place k) (slot k) is;
             apart = λ j r pinned same.
                 ⊎_elim (λ before. inl before)
                 (λ after. inr

@@ -14,8 +14,9 @@ use Rattle.block_cache_gen.specs.declared.frames.Mode.{Mode}
 use Rattle.block_cache_gen.specs.declared.frames.Mode.TheVariants.{Public, Real, Mirrored}
 use Rattle.block_cache_gen.specs.Assignments.{IsAssignment}
 use Rattle.block_cache_gen.specs.Homes.{Home, Setting, home_of, register_for}
-use Rattle.block_cache_gen.specs.Codes.{held_number, applied_code, reducing, reducer, compares, numbered_code, shift_code, offset_code, placed_code, stored_code, located_code, load_code, skips, access_by, access_code, index_operand, indexed_code, fixed_index, operand, operand_part, operand_register, left_operand, operation_code, steps_at, expr_code, guard_code, store_code, set_code, scalar_code, write_code}
+use Rattle.block_cache_gen.specs.Codes.{read_code, held_number, applied_code, reducing, reducer, compares, numbered_code, shift_code, offset_code, placed_code, stored_code, located_code, load_code, skips, access_by, access_code, index_operand, indexed_code, fixed_index, operand, operand_part, operand_register, left_operand, operation_code, steps_at, expr_code, guard_code, store_code, set_code, scalar_code, write_code}
 use Rattle.block_cache_gen.proofs.HeldOperands.{operand-short}
+use Rattle.block_cache_gen.proofs.ElementCodes.{read-short, store_short, stored-short}
 use Rattle.block_cache_gen.proofs.StepsAt.{operation-short}
 
 -- an operation on a number takes two instructions at most, and one at least
@@ -126,16 +127,17 @@ indexed_short f near mode h to i index =
     let l = operand-short q index in
     omega arith
 
--- at most 16 instructions a node
+-- at most 48 instructions a node
 pub expr_code_short : (f : Setting) (mode : Mode) (to : ℕ) (e : Tree)
-    → length (expr_code f mode to e) ≤ 16 * tree_weight e
+    → length (expr_code f mode to e) ≤ 48 * tree_weight e
 expr_code_short f mode to (Number z) = omega arith
 expr_code_short f mode to (Variable x) = omega (arith, scalar_short (register_for f x) (home_of f x) to)
 expr_code_short f mode to (Element x i) =
     let h = home_of f x in
     let near = compares f mode h i in
     let code = indexed_code f near mode h to i (expr_code f mode to i) in
-    let e = length-append code (Ldw to h.slot to ∷ []) in
+    let e = length-append code (read_code f h (fixed_index h i) to) in
+    let r = (read-short f h (fixed_index h i) to).1 in
     let s = indexed_short f near mode h to i (expr_code f mode to i) in
     let k = expr_code_short f mode to i in
     omega arith
@@ -153,34 +155,23 @@ expr_code_short f mode to (Operation op a b) =
     let k = operation-short f op to ra rb b right (omega arith) in
     omega arith
 
--- at most 16 instructions a unit of a guard's weight
+-- at most 48 instructions a unit of a guard's weight
 pub guard_code_short : (f : Setting) (mode : Mode) (to : ℕ) (t : Test)
-    → length (guard_code f mode to t) ≤ 16 * test_weight t
+    → length (guard_code f mode to t) ≤ 48 * test_weight t
 guard_code_short f mode to t =
     let e = length-append (expr_code f mode to t.left) (expr_code f mode (to + 1) t.right) in
     let h = expr_code_short f mode to t.left in
     let k = expr_code_short f mode (to + 1) t.right in
     omega arith
 
--- a store takes two instructions at most
-pub store_short : (mode : Mode) (slot value : ℕ) → length (store_code mode slot value) ≤ 2
-store_short Public slot value = omega arith
-store_short Real slot value = omega arith
-store_short Mirrored slot value = omega arith
-
--- the store of a block is one instruction at most
-pub stored_short : (b : Bool) (slot : ℕ) → length (stored_code b slot) ≤ 1
-stored_short true slot = omega arith
-stored_short false slot = omega arith
-
 pub write_short : (r : Option ℕ) (l : Label) (mode : Mode) (h : Home) (value : ℕ)
     → length (write_code r l mode h value) ≤ 3
 write_short (Some r) l mode h value = omega arith
-write_short None l mode h value = omega (arith, store_short mode h.slot value)
+write_short None l mode h value = omega (arith, (store_short mode h.slot value).1)
 
--- at most 17 instructions a unit of an assignment's weight
+-- at most 57 instructions a unit of an assignment's weight
 pub set_code_short : (f : Setting) (mode : Mode) (known : Context) (code : Label) (s : Statement) → IsAssignment s
-    → length (set_code f mode s) ≤ 17 * statement_weight known code s
+    → length (set_code f mode s) ≤ 57 * statement_weight known code s
 set_code_short f mode known code (SetVariable x e) is =
     let h = home_of f x in
     let label = label_of (context_of f.decls) (Variable x) in
@@ -196,16 +187,14 @@ set_code_short f mode known code (SetElement x i e) is =
     let index = expr_code f mode 1 i in
     let access = indexed_code f (compares f mode h i) mode h 1 i index in
     let value = operand_register (operand f e) 0 in
-    let last = store_code mode h.slot value ++ stored_code h.resident h.slot in
+    let last = stored_code f mode h (fixed_index h i) value in
     let l = length-append (operand_part (operand f e) (expr_code f mode 0 e)) (access ++ last) in
     let m = length-append access last in
-    let n = length-append (store_code mode h.slot value) (stored_code h.resident h.slot) in
-    let t = stored_short h.resident h.slot in
     let a = indexed_short f (compares f mode h i) mode h 1 i index in
     let k = expr_code_short f mode 0 e in
     let p = operand-short (operand f e) (expr_code f mode 0 e) in
     let j = expr_code_short f mode 1 i in
-    let s = store_short mode h.slot value in
+    let s = (stored-short f mode h (fixed_index h i) value).1 in
     omega arith
 set_code_short f mode known code (Choice t a b) is = absurd is
 set_code_short f mode known code (Loop t a) is = absurd is

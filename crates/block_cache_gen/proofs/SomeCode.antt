@@ -14,7 +14,8 @@ use Rattle.block_cache_gen.specs.declared.frames.Mode.{Mode}
 use Rattle.block_cache_gen.specs.declared.frames.Mode.TheVariants.{Public, Real, Mirrored}
 use Rattle.block_cache_gen.specs.Assignments.{IsAssignment}
 use Rattle.block_cache_gen.specs.Homes.{Home, Setting, home_of, register_for}
-use Rattle.block_cache_gen.specs.Codes.{may_skip_loads, is_masked, compares, scalar_code, expr_code, guard_code, set_code, store_code, stored_code, write_code, indexed_code, operand, operand_part, operand_register, operand_unless, left_operand, operation_code, steps_at}
+use Rattle.block_cache_gen.proofs.ElementCodes.{read-short, stored-short}
+use Rattle.block_cache_gen.specs.Codes.{may_skip_loads, is_masked, compares, scalar_code, expr_code, fixed_index, guard_code, read_code, set_code, stored_code, write_code, indexed_code, operand, operand_part, operand_register, operand_unless, left_operand, operation_code, steps_at}
 
 scalar_code-some : (r : Option ℕ) (h : Home) (to : ℕ) → 1 ≤ length (scalar_code r h to)
 scalar_code-some (Some r) h to = omega arith
@@ -40,7 +41,8 @@ expr_code-some f m to (Element x i) =
     omega (
       arith,
       length-append (indexed_code f (compares f m (home_of f x) i) m (home_of f x) to i (expr_code f m to i))
-          (Ldw to (home_of f x).slot to ∷ []),
+          (read_code f (home_of f x) (fixed_index (home_of f x) i) to),
+      (read-short f (home_of f x) (fixed_index (home_of f x) i) to).0,
     )
 expr_code-some f m to (Operation op a b) =
     let q = left_operand f op a b in
@@ -58,11 +60,6 @@ write_code-some : (r : Option ℕ) (l : Label) (m : Mode) (h : Home) (value : �
 write_code-some (Some r) l m h value = omega arith
 write_code-some None l m h value = omega arith
 
-store_code-some : (m : Mode) (slot value : ℕ) → 1 ≤ length (store_code m slot value)
-store_code-some Public slot value = omega arith
-store_code-some Real slot value = omega arith
-store_code-some Mirrored slot value = omega arith
-
 -- no assignment is made into no code
 pub set_code-some : (f : Setting) (m : Mode) (s : Statement) → IsAssignment s → 1 ≤ length (set_code f m s)
 set_code-some f m (SetVariable x e) is =
@@ -76,15 +73,13 @@ set_code-some f m (SetVariable x e) is =
     )
 set_code-some f m (SetElement x i e) is =
     let h = home_of f x in
-    let store = store_code m h.slot (operand_register (operand f e) 0) in
+    let store = stored_code f m h (fixed_index h i) (operand_register (operand f e) 0) in
     let access = indexed_code f (compares f m h i) m h 1 i (expr_code f m 1 i) in
-    let last = stored_code h.resident h.slot in
     omega (
       arith,
-      store_code-some m h.slot (operand_register (operand f e) 0),
-      length-append (operand_part (operand f e) (expr_code f m 0 e)) (access ++ (store ++ last)),
-      length-append access (store ++ last),
-      length-append store last,
+      (stored-short f m h (fixed_index h i) (operand_register (operand f e) 0)).0,
+      length-append (operand_part (operand f e) (expr_code f m 0 e)) (access ++ store),
+      length-append access store,
     )
 set_code-some f m (Choice t a b) is = absurd is
 set_code-some f m (Loop t a) is = absurd is

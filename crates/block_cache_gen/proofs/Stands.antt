@@ -1,24 +1,26 @@
 -- Whether a state represents a store depends only on its slots, its banks and the registers from 19 on, and it still
 -- does if a block of an array is loaded.
-use Rattle.std.proofs.Common.{◌≡◌, ◌≢◌, ℕ, ◌+◌, ◌<◌, ◌≤◌, true, false, ℤ, pos, List, length, get_or, Some, refl, sym, ap, ◌∙◌, subst, ⊎_elim, arith}
+use Rattle.std.proofs.Common.{◌≡◌, ◌≢◌, ℕ, ◌+◌, ◌/◌, ◌%◌, ◌<◌, ◌≤◌, true, false, ℤ, pos, List, length, get_or, Some, refl, sym, ap, ◌∙◌, subst, ⊎_elim, arith, pow_pos}
 use Rattle.std.proofs.lemmas.Bool.{cases_eq}
 use Rattle.std.proofs.lemmas.List.{get_or-set_same, get_or-set_other}
 use Rattle.gr_base.specs.Lists.{Within}
 use Rattle.gr_word.specs.declared.variables.Label.{Label}
 use Rattle.gr_word.specs.declared.variables.Shape.{Shape}
 use Rattle.gr_word.specs.declared.variables.Shape.TheVariants.{Array}
-use Rattle.lt_isa.specs.Object.{Parts}
+use Rattle.lt_isa.specs.Object.{Parts, block_words}
 use Rattle.lt_isa.specs.Machine.{Unbound, Bound, State, register, slot, block_at, word_in, set_slot, slot_words}
 use Rattle.lt_isa.specs.Outputs.{bank_word_numbered}
 use Rattle.src_tree.specs.Contexts.{context_of}
 use Rattle.src_tree.specs.Meaning.{Store, variable_number, words_of_number}
+use Rattle.scratch_alloc.specs.Plans.{pin_to}
 use Rattle.scratch_alloc.proofs.Serving.{serves-within}
 use Rattle.stretches.specs.Coming.{Sets}
 use Rattle.held_registers.specs.Held.{held_at, word_held}
 use Rattle.held_registers.proofs.Found.{held-high}
-use Rattle.block_cache_gen.specs.Homes.{Held, Setting, HasHomes, pin_of, Serves, home_of, words_a_block, start_of_home}
+use Rattle.block_cache_gen.specs.Homes.{Held, Setting, HasHomes, Serves, home_of, slot_of_word, words_a_block, start_of_home}
 use Rattle.block_cache_gen.specs.StandsFor.{StandsFor, HoldsBlock, HoldsBank, IsBlockOf}
-use Rattle.block_cache_gen.proofs.HomeFacts.{serves-same, pinned-apart}
+use Rattle.block_cache_gen.proofs.HomeFacts.{block_words-is, serves-same, pinned-apart}
+use Rattle.block_cache_gen.proofs.WordSlots.{word-pinned}
 
 -- by these
 pub stands-like : (f : Setting) (s t : State) (store : Store) → t.slots ≡ s.slots → t.banks ≡ s.banks
@@ -89,9 +91,12 @@ module _ (o : Parts) (f : Setting) (homes : HasHomes o f) (s : State) (store : S
             (sym (unmoved k (pinned-apart f k h.slot p pinned home.unpinned))) (stands.pinned k p pinned);
         residents = λ y label' shape i known' resident free within.
             let g = home_of f y in
-            let pinned = (homes.residents y label' shape known' resident).pinned in
-            ap (λ b. word_in (slot_words b) (g.word + i))
-            (unmoved g.slot (pinned-apart f g.slot h.slot (pin_of g) pinned home.unpinned))
+            let n = g.word + i in
+            let k = slot_of_word f g n in
+            let pinned = word-pinned f (block_words o) label' g (homes.residents y label' shape known' resident)
+            (block_words-is homes) (pow_pos o.profile.block_log) n (omega (arith, within)) in
+            ap (λ b. word_in (slot_words b) (n % words_a_block f))
+            (unmoved k (pinned-apart f k h.slot (pin_to g.bank (g.block + n / words_a_block f)) pinned home.unpinned))
             ∙ stands.residents y label' shape i known' resident free within
             ∙ residents y label' shape i known' resident;
         held = λ r h at. kept r (held-high f.held r h at) ∙ stands.held r h at ∙ words_same r h at;

@@ -39,12 +39,12 @@ not-stepped f op (Operation oq a b) e = refl
 
 -- how long the code is that follows the left side
 pub operation-short : (f : Setting) (op : Op) (to ra rb : ℕ) (b : Tree) (right : List Instr)
-    → length right ≤ 16 * tree_weight b
-    → length (operation_code op to ra rb (steps_at f op b) right) ≤ 16 * tree_weight b + 16
+    → length right ≤ 48 * tree_weight b
+    → length (operation_code op to ra rb (steps_at f op b) right) ≤ 48 * tree_weight b + 16
 operation-short f op to ra rb b right short = by (steps_at f op b) refl
   where
     by : (found : Option (List Step)) → steps_at f op b ≡ found
-        → length (operation_code op to ra rb found right) ≤ 16 * tree_weight b + 16
+        → length (operation_code op to ra rb found right) ≤ 48 * tree_weight b + 16
     by None e = let l = length-append right (Alu op to ra rb ∷ []) in omega arith
     by (Some steps) e =
         let known = steps-of f op b steps e in

@@ -9,7 +9,7 @@ use Rattle.gr_word.specs.declared.operations.Op.TheVariants.{Add, Remu, Shr}
 use Rattle.gr_word.specs.declared.operations.Cmp.TheVariants.{Lt}
 use Rattle.gr_word.specs.declared.variables.Label.{Label}
 use Rattle.lt_isa.specs.declared.instructions.Instr.{Instr}
-use Rattle.lt_isa.specs.declared.instructions.Instr.TheVariants.{Li, Alu, Ldw, Br}
+use Rattle.lt_isa.specs.declared.instructions.Instr.TheVariants.{Li, Alu, Br}
 use Rattle.src_tree.specs.Contexts.{context_of}
 use Rattle.src_tree.specs.Heights.{height_of}
 use Rattle.src_tree.specs.Labels.{label_of}
@@ -23,9 +23,12 @@ use Rattle.block_cache_gen.specs.declared.frames.Mode.{Mode}
 use Rattle.block_cache_gen.specs.declared.frames.Mode.TheVariants.{Public, Real, Mirrored}
 use Rattle.block_cache_gen.specs.Assignments.{IsAssignment}
 use Rattle.block_cache_gen.specs.Homes.{Home, Setting, home_of, register_for}
-use Rattle.block_cache_gen.specs.Codes.{zero_of, copied_from, held_number, applied_code, reducing, reducer, fixed_index, scalar_code, compares, least_word, numbered_code, shift_code, offset_code, placed_code, located_code, load_code, skips, access_by, access_code, operand, operand_part, operand_register, left_operand, index_operand, indexed_code, stored_code, operation_code, steps_at, expr_code, store_code, write_code, set_code}
-use Rattle.block_cache_gen.specs.StoredWords.{is_held_register, is_write, written_words}
+use Rattle.block_cache_gen.specs.Codes.{read_code, zero_of, copied_from, held_number, applied_code, reducing, reducer, fixed_index, scalar_code, compares, least_word, numbered_code, shift_code, offset_code, placed_code, located_code, load_code, skips, access_by, access_code, operand, operand_part, operand_register, left_operand, index_operand, indexed_code, stored_code, operation_code, steps_at, expr_code, store_code, write_code, set_code}
+use Rattle.block_cache_gen.specs.StoredWords.{set_writes, is_held_register, is_write, written_words}
 use Rattle.block_cache_gen.proofs.HeldLabels.{register-own}
+use Rattle.block_cache_gen.proofs.HeldOperands.{operand-outside}
+use Rattle.block_cache_gen.proofs.OperandLabels.{is-operand}
+use Rattle.block_cache_gen.proofs.SpreadWrites.{read-writes, stored-writes}
 use Rattle.block_cache_gen.proofs.StepsAt.{steps-of}
 
 -- writes of code after other code
@@ -150,7 +153,7 @@ operand-writes (Some r) code none = refl
 operand-writes None code none = none
 
 -- an expression writes neither a scalar nor an element
-pub expr-writes : (f : Setting) (mode : Mode) (to : ℕ) (e : Tree) → to + height_of e ≤ 18
+pub expr-writes : (f : Setting) (mode : Mode) (to : ℕ) (e : Tree) → to + height_of e ≤ 17
     → written_words (expr_code f mode to e) ≡ 0
 expr-writes f mode to (Number z) low = refl
 expr-writes f mode to (Variable x) low = scalar-writes to (omega arith) (register_for f x) (home_of f x)
@@ -158,10 +161,11 @@ expr-writes f mode to (Element x i) low =
     let h = home_of f x in
     let near = compares f mode h i in
     let q = index_operand f near i in
-    none-then (indexed_code f near mode h to i (expr_code f mode to i)) (Ldw to h.slot to ∷ [])
+    none-then (indexed_code f near mode h to i (expr_code f mode to i)) (read_code f h (fixed_index h i) to)
     (access-writes to (omega (arith, height-some i)) f mode near h (operand_register q to) (fixed_index h i)
     (operand_part q (expr_code f mode to i))
-    (operand-writes q (expr_code f mode to i) (expr-writes f mode to i (omega arith)))) refl
+    (operand-writes q (expr_code f mode to i) (expr-writes f mode to i (omega arith))))
+    (read-writes f h (fixed_index h i) to (omega (arith, low, height-some i)))
 expr-writes f mode to (Operation op a b) low =
     let q = left_operand f op a b in
     let left = operand_register q to in
@@ -182,19 +186,9 @@ write-writes f sound Public x l None is value = refl
 write-writes f sound Real x l None is value = refl
 write-writes f sound Mirrored x l None is value = refl
 
--- what writes an element
-store-writes : (mode : Mode) (resident : Bool) (slot value : ℕ)
-    → written_words (store_code mode slot value ++ stored_code resident slot) ≡ 1
-store-writes Public true slot value = refl
-store-writes Public false slot value = refl
-store-writes Real true slot value = refl
-store-writes Real false slot value = refl
-store-writes Mirrored true slot value = refl
-store-writes Mirrored false slot value = refl
-
--- an assignment writes one scalar or element
+-- an assignment writes one scalar, or as many words as it stores of an element's array
 pub set-writes : (f : Setting) → IsSoundHeld f.decls f.held → (mode : Mode) (t : Statement) → IsAssignment t
-    → LowStatement t → written_words (set_code f mode t) ≡ 1
+    → LowStatement t → written_words (set_code f mode t) ≡ set_writes f t
 set-writes f sound mode (SetVariable x e) is low =
     let l = label_of (context_of f.decls) (Variable x) in
     let found = register_for f x in
@@ -213,7 +207,7 @@ set-writes f sound mode (SetElement x i e) is low =
     let q_of_index = index_operand f near i in
     let value = operand_part q (expr_code f mode 0 e) in
     let access = indexed_code f near mode h 1 i (expr_code f mode 1 i) in
-    let store = store_code mode h.slot (operand_register q 0) ++ stored_code h.resident h.slot in
+    let store = stored_code f mode h (fixed_index h i) (operand_register q 0) in
     let none = access-writes 1 (omega arith) f mode near h (operand_register q_of_index 1) (fixed_index h i)
     (operand_part q_of_index (expr_code f mode 1 i))
     (operand-writes q_of_index (expr_code f mode 1 i) (expr-writes f mode 1 i (omega (arith, low.0)))) in
@@ -223,7 +217,7 @@ set-writes f sound mode (SetElement x i e) is low =
       operand-writes q (expr_code f mode 0 e) (expr-writes f mode 0 e (omega (arith, low.1))),
       written-append access store,
       none,
-      store-writes mode h.resident h.slot (operand_register q 0),
+      stored-writes f mode h (fixed_index h i) (operand_register q 0) (operand-outside f e q (is-operand f e)),
     )
 set-writes f sound mode (Choice t a b) is low = absurd is
 set-writes f sound mode (Loop t a) is low = absurd is

@@ -1,11 +1,11 @@
 -- Which expressions and statements show the same in secret code, so that two of them may stand at one place of the two
 -- arms of a branch on a secret, and how many statements of two parts pair. (This project's own padding.)
-use Rattle.std.specs.Prelude.{◌≡◌, ℕ, ◌+◌, ◌<◌, ◌≤◌, ℤ, Bool, true, false, not, ◌&&◌, ◌||◌, ◌==◌, nat_le, nat_lt, is_some, if◌then◌else◌, pos, List, bytes_eq}
+use Rattle.std.specs.Prelude.{length, ◌≡◌, ℕ, ◌+◌, ◌<◌, ◌≤◌, ℤ, Bool, true, false, not, ◌&&◌, ◌||◌, ◌==◌, nat_le, nat_lt, is_some, if◌then◌else◌, pos, List, bytes_eq}
 use Rattle.std.specs.Ordering.{int_eq}
 use Rattle.gr_word.specs.declared.operations.Op.{Op}
 use Rattle.symbolic_values.specs.Sameness.{same_op}
 use Rattle.src_tree.specs.Trees.{Tree, Number, Variable, Element, Operation, Statement, SetVariable, SetElement, Block, Then}
-use Rattle.block_cache_gen.specs.Homes.{Setting, home_of}
+use Rattle.block_cache_gen.specs.Homes.{further_slots, Setting, home_of}
 use Rattle.block_cache_gen.specs.Codes.{is_cached, is_masked, may_step, operand, held_number, reducer}
 pub use Rattle.block_cache_gen.specs.Codes.{is_product}
 
@@ -24,7 +24,7 @@ pub record InOneBank (f : Setting) (x y : List ℕ) : Type 0 where
 abbrev pub AreHeldAlike : Setting → Tree → Tree → Type 0
 AreHeldAlike f a b = is_some (operand f a) ≡ is_some (operand f b)
 
--- two resident arrays whose indexes are reduced alike, and whose first words both are 0, or neither is
+-- two resident arrays of as many blocks, whose indexes are reduced alike, and whose first words both are 0, or neither is
 pub record AreReducedAlike (f : Setting) (x y : List ℕ) : Type 0 where
   pub first : (home_of f x).resident ≡ true
   pub second : (home_of f y).resident ≡ true
@@ -33,6 +33,7 @@ pub record AreReducedAlike (f : Setting) (x y : List ℕ) : Type 0 where
   pub offset : ((home_of f x).word == 0) ≡ ((home_of f y).word == 0)
   pub reduced : AreNumbersAlike f (reducer (home_of f x)) (reducer (home_of f y))
   pub words : AreNumbersAlike f (pos (home_of f x).word) (pos (home_of f y).word)
+  pub blocks : length (further_slots (home_of f x)) ≡ length (further_slots (home_of f y))
 
 -- Two expressions are alike if both are numbers, or both scalars, and registers hold both or neither; or elements with
 -- alike indexes, of one oblivious bank or of resident arrays whose indexes are reduced alike; or elements of one array of
@@ -109,7 +110,8 @@ reduced_alike f x y =
     && (same_flag (is_masked (home_of f x)) (is_masked (home_of f y))
     && (same_flag ((home_of f x).word == 0) ((home_of f y).word == 0)
     && (numbers_alike f (reducer (home_of f x)) (reducer (home_of f y))
-    && numbers_alike f (pos (home_of f x).word) (pos (home_of f y).word))))))
+    && (numbers_alike f (pos (home_of f x).word) (pos (home_of f y).word)
+    && (length (further_slots (home_of f x)) == length (further_slots (home_of f y)))))))))
 
 -- no steps replace either of two operations
 abbrev pub are_plain : Setting → Op → Tree → Op → Tree → Bool

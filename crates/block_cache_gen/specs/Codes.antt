@@ -21,7 +21,10 @@ use Rattle.gr_word.specs.declared.variables.Label.TheVariants as label
 use Rattle.src_tree.specs.Contexts.{context_of}
 use Rattle.src_tree.specs.Labels.{label_of}
 use Rattle.held_registers.specs.Held.{secret_zero, public_zero, register_of_number}
-use Rattle.block_cache_gen.specs.Homes.{Home, Setting, home_of, register_for}
+use Rattle.word_selection.specs.declared.effects.Effect.{Effect}
+use Rattle.word_selection.specs.declared.effects.Effect.TheVariants.{Stores, Keeps}
+use Rattle.word_selection.specs.Selection.{selected_read, selected_write}
+use Rattle.block_cache_gen.specs.Homes.{Home, Setting, home_of, words_a_block, slots_of_home, slot_of_word, register_for, further_slots}
 
 -- Public code may skip the load of a block of plain or encrypted memory.
 abbrev pub may_skip_loads : Mode → Bool
@@ -192,10 +195,15 @@ indexed_code f compared mode h to i index =
     access_code compared f mode h to (operand_register (index_operand f compared i) to)
     (fixed_index h i) (operand_part (index_operand f compared i) index)
 
--- After an element is set its block is stored, unless the slot holds it for the whole run.
-abbrev pub stored_code : Bool → ℕ → List Instr
-stored_code true slot = []
-stored_code false slot = Stb slot ∷ []
+-- Register `to` has the number of an element's word, and becomes that word. If slots hold the array for the whole run, an
+-- index that is a number tells the slot; otherwise the word is selected among those of all its slots.
+abbrev pub read_by : (resident : Bool) → Setting → Home → Option ℤ → (to : ℕ) → List Instr
+read_by false f h fixed to = Ldw to h.slot to ∷ []
+read_by true f h (Some z) to = Ldw to (slot_of_word f h (h.word + fixed_word h z)) to ∷ []
+read_by true f h None to = selected_read (words_a_block f) (slots_of_home h) to
+
+abbrev pub read_code : Setting → Home → Option ℤ → (to : ℕ) → List Instr
+read_code f h fixed to = read_by h.resident f h fixed to
 
 -- a product, a quotient or a remainder, which take more cycles than other operations
 abbrev pub is_product : Op → Bool
@@ -240,7 +248,7 @@ expr_code f mode to (Number z) = Li to z ∷ []
 expr_code f mode to (Variable x) = scalar_code (register_for f x) (home_of f x) to
 expr_code f mode to (Element x i) =
     indexed_code f (compares f mode (home_of f x) i) mode (home_of f x) to i (expr_code f mode to i)
-    ++ Ldw to (home_of f x).slot to ∷ []
+    ++ read_code f (home_of f x) (fixed_index (home_of f x) i) to
 expr_code f mode to (Operation op a b) =
     operand_part (left_operand f op a b) (expr_code f mode to a)
     ++ operation_code op to (operand_register (left_operand f op a b) to) (operand_register (operand f b) (to + 1))
@@ -268,6 +276,27 @@ abbrev pub write_code : Option ℕ → Label → Mode → Home → (value : ℕ)
 write_code (Some r) l mode h value = copy_code l r (copied_from mode r value)
 write_code None l mode h value = Li 1 (pos h.word) ∷ store_code mode h.slot value
 
+-- a word is selected among those of several slots to be stored, or of one slot stored
+abbrev pub effect_of : Mode → Effect
+effect_of Public = Stores
+effect_of Real = Stores
+effect_of Mirrored = Keeps
+
+abbrev pub stored_among : Setting → Mode → (slot : ℕ) → (more : List ℕ) → (value : ℕ) → List Instr
+stored_among f mode slot [] value = store_code mode slot value
+stored_among f mode slot (next ∷ slots) value =
+    selected_write (effect_of mode) (words_a_block f) value (slot ∷ next ∷ slots) 1
+
+-- An element's word, whose number is in register 1, becomes a value. After that its block is stored, unless slots hold
+-- the array for the whole run.
+abbrev pub stored_by : (resident : Bool) → Setting → Mode → Home → Option ℤ → (value : ℕ) → List Instr
+stored_by false f mode h fixed value = store_code mode h.slot value ++ Stb h.slot ∷ []
+stored_by true f mode h (Some z) value = store_code mode (slot_of_word f h (h.word + fixed_word h z)) value
+stored_by true f mode h None value = stored_among f mode h.slot (further_slots h) value
+
+abbrev pub stored_code : Setting → Mode → Home → Option ℤ → (value : ℕ) → List Instr
+stored_code f mode h fixed value = stored_by h.resident f mode h fixed value
+
 -- an assignment: a value that no register holds in register 0, the word of an element in register 1
 abbrev pub set_code : Setting → Mode → Statement → List Instr
 set_code f mode (SetVariable x e) =
@@ -277,7 +306,6 @@ set_code f mode (SetVariable x e) =
 set_code f mode (SetElement x i e) =
     operand_part (operand f e) (expr_code f mode 0 e)
     ++ (indexed_code f (compares f mode (home_of f x) i) mode (home_of f x) 1 i (expr_code f mode 1 i)
-    ++ (store_code mode (home_of f x).slot (operand_register (operand f e) 0)
-    ++ stored_code (home_of f x).resident (home_of f x).slot))
+    ++ stored_code f mode (home_of f x) (fixed_index (home_of f x) i) (operand_register (operand f e) 0))
 set_code f mode (Choice t a b) = []
 set_code f mode (Loop t a) = []

@@ -1,9 +1,9 @@
 -- What code is made for: a program's variables with their homes, each a place in a bank and the slot of the scratchpad
 -- that serves it. (This project's layout of compiled code.)
-use Rattle.std.specs.Prelude.{◌≡◌, ◌↔◌, ℕ, ◌+◌, ◌*◌, ◌^◌, ◌<◌, ◌≤◌, ◌⊎◌, ◌≢◌, Bool, true, false, List, length, slice_index_or, Option, Some, None}
+use Rattle.std.specs.Prelude.{◌≡◌, ◌↔◌, ℕ, ◌+◌, ◌*◌, ◌/◌, ◌^◌, ◌<◌, ◌≤◌, ◌⊎◌, ◌≢◌, Bool, true, false, List, [], ◌∷◌, length, take, slice_index_or, Option, Some, None}
 use Rattle.gr_base.specs.Lists.{Within}
 use Rattle.gr_word.specs.declared.variables.Label.{Label}
-use Rattle.gr_word.specs.declared.variables.Label.TheVariants.{Public}
+use Rattle.gr_word.specs.declared.variables.Label.TheVariants.{Public, Secret}
 use Rattle.gr_word.specs.declared.variables.Shape.{Shape}
 use Rattle.gr_word.specs.declared.variables.Shape.TheVariants.{Scalar, Array}
 use Rattle.lt_isa.specs.declared.profiles.Profile.{Profile}
@@ -16,10 +16,10 @@ use Rattle.bank_alloc.specs.Apart.{scalar_bank}
 use Rattle.held_registers.specs.Held.{held_at, label_held, register_of_scalar, IsSoundHeld}
 pub use Rattle.held_registers.specs.declared.registers.Held.{Held}
 pub use Rattle.scratch_alloc.specs.declared.plans.Pin.{Pin}
-pub use Rattle.scratch_alloc.specs.Plans.{Serves, PlainSlot, EncryptedSlot, ObliviousSlot}
+pub use Rattle.scratch_alloc.specs.Plans.{pin_to, Serves, PlainSlot, EncryptedSlot, ObliviousSlot}
 
--- a bank, a block of it and a word of that block, a number of words, a slot, and whether that slot holds the block for
--- the whole run
+-- A bank, a block of it and a word of that block, a number of words, a slot, and whether that slot holds the block for
+-- the whole run. If the words need further blocks that slots hold for the whole run, these are the slots, in order.
 pub record Home : Type 0 where
   pub bank : ℕ
   pub block : ℕ
@@ -27,6 +27,7 @@ pub record Home : Type 0 where
   pub length : ℕ
   pub slot : ℕ
   pub resident : Bool
+  pub more : List ℕ
 
 -- The declarations with a home for each, in order; the number of blocks of each bank; the pin of each slot, none where
 -- it holds other blocks in turn; the machine's profile; and whether an operation by a number is replaced by steps.
@@ -41,7 +42,7 @@ pub record Setting : Type 0 where
 
 -- the default home, of a name that isn't declared
 abbrev pub no_home : Home
-no_home = record { bank = 0; block = 0; word = 0; length = 0; slot = 0; resident = false }
+no_home = record { bank = 0; block = 0; word = 0; length = 0; slot = 0; resident = false; more = [] }
 
 -- the home of the variable that a name refers to
 abbrev pub home_of : Setting → List ℕ → Home
@@ -53,6 +54,17 @@ words_a_block f = 2 ^ f.profile.block_log
 
 abbrev pub blocks_set : Setting → ℕ → ℕ
 blocks_set f b = slice_index_or f.blocks b 0
+
+-- the slots of a home's blocks after the first one, of which there are four at most, and of all its blocks
+abbrev pub further_slots : Home → List ℕ
+further_slots h = take 4 h.more
+
+abbrev pub slots_of_home : Home → List ℕ
+slots_of_home h = h.slot ∷ (further_slots h)
+
+-- the slot of the block that has word number n from the first word of the first block on
+abbrev pub slot_of_word : Setting → Home → ℕ → ℕ
+slot_of_word f h n = slice_index_or (slots_of_home h) (n / words_a_block f) h.slot
 
 -- the block that a slot is pinned to
 abbrev pub pin_at : Setting → ℕ → Option Pin
@@ -86,22 +98,36 @@ abbrev pub PinsApart : Setting → Type 0
 PinsApart f =
     (j k : ℕ) (p q : Pin) → pin_at f j ≡ Some p → pin_at f k ≡ Some q → p.bank ≡ q.bank → p.block ≡ q.block → j ≡ k
 
--- a resident variable is within the block that its slot is pinned to
+-- A resident variable is within the block that its slot is pinned to. A secret array may need up to four blocks more,
+-- from the first word of the first block on.
+pub record IsInOneBlock (w : ℕ) (h : Home) : Type 0 where
+  pub single : (further_slots h) ≡ []
+  pub inside : h.word + h.length ≤ w
+
+pub record IsSpreadHome (f : Setting) (w : ℕ) (label : Label) (h : Home) : Type 0 where
+  pub secret : label ≡ Secret
+  pub word : h.word ≡ 0
+  pub inside : h.length ≤ (1 + length (further_slots h)) * w
+  pub pinned : (j : ℕ) → j < length (further_slots h)
+      → pin_at f (slice_index_or (further_slots h) j 0) ≡ Some (pin_to h.bank (h.block + (1 + j)))
+
 pub record IsResidentHome (f : Setting) (w : ℕ) (label : Label) (h : Home) : Type 0 where
   pub bank : h.bank ≡ scalar_bank label
   pub pinned : pin_at f h.slot ≡ Some (pin_of h)
   pub length : Within 1 max_length h.length
-  pub inside : h.word + h.length ≤ w
+  pub blocks : IsInOneBlock w h ⊎ IsSpreadHome f w label h
 
 -- a scalar is a resident variable of one word
 pub record IsScalarHome (h : Home) : Type 0 where
   pub resident : h.resident ≡ true
+  pub single : (further_slots h) ≡ []
   pub length : h.length ≡ 1
 
 -- any other array has whole blocks of its own, none of which is pinned to a slot
 pub record IsArrayHome (o : Parts) (f : Setting) (label : Label) (h : Home) : Type 0 where
   pub bank : h.bank < length o.banks
   pub plain : (h.bank ≡ 0) ↔ (label ≡ Public)
+  pub single : (further_slots h) ≡ []
   pub slot : Serves h.bank h.slot
   pub unpinned : pin_at f h.slot ≡ None
   pub apart : (slot : ℕ) (p : Pin) → pin_at f slot ≡ Some p → p.bank ≡ h.bank

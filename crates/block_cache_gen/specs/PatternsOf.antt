@@ -2,7 +2,7 @@
 -- secret: what is shown, the tree that is left of a public expression, and what the loads leave in the slots. All of it
 -- is told by the setting and the part alone. (GhostRider, ASPLOS 2015: the trace patterns of the type system of L_T;
 -- which code is made is this project's own choice.)
-use Rattle.std.specs.Prelude.{ℕ, ◌+◌, ◌-◌, ◌/◌, ◌==◌, Bool, true, false, ℤ, pos, if◌then◌else◌, List, [], ◌∷◌, ◌++◌, map, Option, Some, None}
+use Rattle.std.specs.Prelude.{ℕ, zero, suc, ◌+◌, ◌-◌, ◌/◌, ◌==◌, Bool, true, false, ℤ, pos, if◌then◌else◌, List, [], ◌∷◌, ◌++◌, length, map, Option, Some, None}
 use Rattle.std.specs.Option.{option_or}
 use Rattle.gr_word.specs.declared.operations.Op.{Op}
 use Rattle.gr_word.specs.declared.operations.Op.TheVariants.{Add, Remu, And, Shr}
@@ -17,7 +17,8 @@ use Rattle.stretches.specs.Shows.{Show, Gap, Seen, pattern_of}
 use Rattle.trace_patterns.specs.SymStates.{Loaded, Entry, SymSlot, AnySlot, RamSlot, EramSlot, OramSlot}
 use Rattle.trace_patterns.specs.Single.{applied_trees, word_tree}
 use Rattle.held_registers.specs.Held.{public_zero}
-use Rattle.block_cache_gen.specs.Homes.{Home, Setting, held_label, home_of, register_for, words_a_block, blocks_set}
+use Rattle.word_selection.specs.Selection as selection
+use Rattle.block_cache_gen.specs.Homes.{Home, Setting, held_label, home_of, register_for, words_a_block, blocks_set, slots_of_home, further_slots}
 use Rattle.block_cache_gen.specs.Carries.{held_tree}
 use Rattle.block_cache_gen.specs.Codes.{fixed_index, fixed_word, held_number, reducer, reducing, operand, operand_part, left_operand, steps_at}
 use Rattle.strength_reduction.specs.Steps.{Step, Constant, Compute, left_by}
@@ -178,10 +179,27 @@ abbrev pub element_by : Bool → Setting → Home → Option ℤ → Option Valu
 element_by true f h fixed index = word_read f (pinned_slot h) (placed_tree f h fixed index)
 element_by false f h fixed index = word_read f (element_slot f h fixed index) (number_tree f h fixed index)
 
--- the store of its block, where it isn't left in its slot
-abbrev pub stored_by : Bool → SymSlot → List Show
-stored_by true bound = []
-stored_by false bound = store_shows bound
+-- the cycles of reading it
+abbrev pub read_shows_by : (resident : Bool) → Setting → Home → Option ℤ → List Show
+read_shows_by false f h fixed = word_gap f ∷ []
+read_shows_by true f h (Some z) = word_gap f ∷ []
+read_shows_by true f h None = selection.read_shows f.profile (length (slots_of_home h))
+
+abbrev pub read_shows : Setting → Home → Option ℤ → List Show
+read_shows f h fixed = read_shows_by h.resident f h fixed
+
+-- the same of a write, with the store of its block, where an array's block is stored back unless slots hold the array for the whole run
+abbrev pub shows_among : Setting → (more : ℕ) → List Show
+shows_among f zero = word_gap f ∷ word_gap f ∷ []
+shows_among f (suc more) = selection.write_shows f.profile (more + 2)
+
+abbrev pub stored_shows_by : (resident : Bool) → Setting → Home → Option ℤ → SymSlot → List Show
+stored_shows_by false f h fixed bound = word_gap f ∷ word_gap f ∷ store_shows bound
+stored_shows_by true f h (Some z) bound = word_gap f ∷ word_gap f ∷ []
+stored_shows_by true f h None bound = shows_among f (length (further_slots h))
+
+abbrev pub stored_shows : Setting → Home → Option ℤ → SymSlot → List Show
+stored_shows f h fixed bound = stored_shows_by h.resident f h fixed bound
 
 -- the cycles of a step, and the tree that steps leave of the tree in the first of their registers
 abbrev pub step_gap : Setting → Step → Show
@@ -231,7 +249,7 @@ shows_of_expr f (Variable x) = scalar_shows f (register_for f x)
 shows_of_expr f (Element x i) =
     access_shows f (home_of f x) (fixed_index (home_of f x) i) (operand_tree f (operand f i) (tree_of_expr f i))
     (operand_part (operand f i) (shows_of_expr f i))
-    ++ word_gap f ∷ []
+    ++ read_shows f (home_of f x) (fixed_index (home_of f x) i)
 shows_of_expr f (Operation op a b) =
     operand_part (left_operand f op a b) (shows_of_expr f a)
     ++ operation_shows f op (steps_at f op b) (operand_part (operand f b) (shows_of_expr f b))
@@ -261,10 +279,8 @@ shows_of_set f (SetElement x i e) =
     operand_part (operand f e) (shows_of_expr f e)
     ++ (access_shows f (home_of f x) (fixed_index (home_of f x) i) (operand_tree f (operand f i) (tree_of_expr f i))
     (operand_part (operand f i) (shows_of_expr f i))
-    ++ (word_gap f
-    ∷ word_gap f
-    ∷ stored_by (home_of f x).resident
-    (element_slot f (home_of f x) (fixed_index (home_of f x) i) (operand_tree f (operand f i) (tree_of_expr f i)))))
+    ++ stored_shows f (home_of f x) (fixed_index (home_of f x) i)
+    (element_slot f (home_of f x) (fixed_index (home_of f x) i) (operand_tree f (operand f i) (tree_of_expr f i))))
 shows_of_set f (Choice t a b) = []
 shows_of_set f (Loop t a) = []
 

@@ -1,5 +1,5 @@
 -- For the proofs and for private clauses only: what is looked up of a variable.
-use Rattle.std.specs.Prelude.{ℕ, ◌+◌, ◌==◌, List, [], ◌∷◌, Option, Some, None, bytes_eq, slice_index_or, if◌then◌else◌}
+use Rattle.std.specs.Prelude.{ℕ, ◌+◌, ◌==◌, List, [], ◌∷◌, Option, Some, None, bytes_eq, slice_index_or, take, if◌then◌else◌}
 use Rattle.std.specs.List.{list_any}
 use Rattle.lt_isa.specs.Ranges.{any_bank}
 use Rattle.src_tree.specs.declared.trees.Decl.{Decl}
@@ -8,7 +8,7 @@ use Rattle.block_cache_gen.specs.declared.variables.Variable.{Variable}
 use Rattle.held_registers.specs.Held.{register_of_scalar}
 use Rattle.block_cache_gen.specs.Homes.{Held, Home, Pin}
 use Rattle.block_cache_gen.specs.Notes.{claim_by}
-use Rattle.block_cache_gen.specs.Settings.{is_pinned}
+use Rattle.block_cache_gen.specs.Settings.{is_pinned, further_blocks, four_slots}
 
 abbrev pub home_in : Variable → Home
 home_in v = record {
@@ -18,27 +18,30 @@ home_in v = record {
   length = v.place.length;
   slot = v.slot;
   resident = v.resident;
+  more = take v.further v.more;
 }
 
 -- the variable of a declaration
-abbrev pub variable_at : List (Option Pin) → List Held → (n : ℕ) → Decl → Place → ℕ → Variable
-variable_at pins held n d q slot = record {
+abbrev pub variable_at : List (Option Pin) → ℕ → List Held → (n : ℕ) → Decl → Place → ℕ → Variable
+variable_at pins w held n d q slot = record {
   label = d.label;
   place = q;
   slot = slot;
   resident = is_pinned pins slot;
+  further = further_blocks pins w q slot;
+  more = four_slots pins q;
   held = register_of_scalar held n;
 }
 
 -- what the first declaration of a name says
-abbrev pub variable_of : List (Option Pin) → List Held → (n : ℕ) → List Decl → List Place → List ℕ → List ℕ
+abbrev pub variable_of : List (Option Pin) → ℕ → List Held → (n : ℕ) → List Decl → List Place → List ℕ → List ℕ
     → Option Variable
-variable_of pins held n [] places slots x = None
-variable_of pins held n (d ∷ ds) [] slots x = None
-variable_of pins held n (d ∷ ds) (q ∷ places) [] x = None
-variable_of pins held n (d ∷ ds) (q ∷ places) (slot ∷ slots) x =
-    if bytes_eq x d.name then Some (variable_at pins held n d q slot)
-    else variable_of pins held (n + 1) ds places slots x
+variable_of pins w held n [] places slots x = None
+variable_of pins w held n (d ∷ ds) [] slots x = None
+variable_of pins w held n (d ∷ ds) (q ∷ places) [] x = None
+variable_of pins w held n (d ∷ ds) (q ∷ places) (slot ∷ slots) x =
+    if bytes_eq x d.name then Some (variable_at pins w held n d q slot)
+    else variable_of pins w held (n + 1) ds places slots x
 
 -- the claim for a slot that serves one bank, where a variable uses it
 abbrev pub claim_in : List ℕ → (slot bank : ℕ) → ℕ

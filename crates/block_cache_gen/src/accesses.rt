@@ -145,8 +145,8 @@ pub(crate) fn fixed_index(array: Variable, index: &Expr) -> Option<i64>
     }
 }
 
-// The number of an array's word that an index names.
-fn fixed_word(array: Variable, index: i64) -> u64
+/// The number of an array's word that an index names which is a number.
+pub(crate) fn fixed_word(array: Variable, index: i64) -> u64
     requires { 1 ≤ array.place.length }
     ensures word { result ≡ fixed_word (home_in array) index }
     ensures below { result < array.place.length }

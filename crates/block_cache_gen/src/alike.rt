@@ -1,4 +1,4 @@
-ghost use Rattle.std.specs.Prelude.{◌==◌, ◌≡◌, ◌+◌, ◌&&◌, ◌||◌, pos, true, is_some, bytes_eq};
+ghost use Rattle.std.specs.Prelude.{◌==◌, ◌≡◌, ◌+◌, ◌≤◌, ◌&&◌, ◌||◌, pos, true, is_some, bytes_eq, length};
 ghost use Rattle.gr_word.specs.declared.variables.Label.{Label};
 ghost use Rattle.lt_isa.specs.Object.{bank_kind};
 ghost use Rattle.src_tree.specs.Contexts.{context_of};
@@ -9,7 +9,7 @@ ghost use Rattle.symbolic_values.specs.Sameness.{same_op};
 ghost use Rattle.block_cache_gen.specs.Alike.{held_alike, numbers_alike, are_plain, by_same_number, is_same_number, same_flag, reduced_alike, both_products, in_one_bank, is_alike, is_pair, is_product, is_same, pair_count};
 ghost use Rattle.block_cache_gen.specs.Codes.{is_cached, is_masked, reducer};
 ghost use Rattle.block_cache_gen.specs.Variables.{home_in};
-ghost use Rattle.block_cache_gen.specs.Homes.{home_of};
+ghost use Rattle.block_cache_gen.specs.Homes.{further_slots, home_of};
 
 use crate::accesses::{is_cached, is_masked, is_resident};
 use crate::emitter::Emitter;
@@ -170,15 +170,27 @@ fn in_one_bank<'a>(emitter: &Emitter<'a>, x: &'a Name, y: &'a Name) -> bool
         && (bank_of(emitter, x) == bank_of(emitter, y) && found_alike(emitter, x, y))
 }
 
-// Whether two variables are resident arrays whose indexes are reduced alike.
+// Whether slots hold as many blocks of two variables for the whole run.
+fn as_many_blocks(one: Variable, other: Variable) -> bool
+    requires first { one.further ≤ 4 }
+    requires second { other.further ≤ 4 }
+    ensures { result ≡ (length (further_slots (home_in one)) == length (further_slots (home_in other))) }
+{
+    one.further == other.further
+}
+
+// Whether two variables are resident arrays of as many blocks whose indexes are reduced alike.
 fn are_reduced_alike(emitter: &Emitter<'_>, one: Variable, other: Variable) -> bool
+    requires first { one.further ≤ 4 }
+    requires second { other.further ≤ 4 }
     ensures { result ≡ ((home_in one).resident
         && ((home_in other).resident
         && (same_flag (is_cached (home_in one)) (is_cached (home_in other))
         && (same_flag (is_masked (home_in one)) (is_masked (home_in other))
         && (same_flag ((home_in one).word == 0) ((home_in other).word == 0)
         && (numbers_alike emitter.now (reducer (home_in one)) (reducer (home_in other))
-        && numbers_alike emitter.now (pos (home_in one).word) (pos (home_in other).word))))))) }
+        && (numbers_alike emitter.now (pos (home_in one).word) (pos (home_in other).word)
+        && (length (further_slots (home_in one)) == length (further_slots (home_in other)))))))))) }
 {
     is_resident(one)
         && (is_resident(other)
@@ -186,7 +198,7 @@ fn are_reduced_alike(emitter: &Emitter<'_>, one: Variable, other: Variable) -> b
                 && (same_flag(is_masked(one), is_masked(other))
                     && (same_flag(one.place.word == 0, other.place.word == 0)
                         && (reducers_alike(emitter, one, other)
-                            && words_alike(emitter, one, other))))))
+                            && (words_alike(emitter, one, other) && as_many_blocks(one, other)))))))
 }
 
 fn reduced_alike<'a>(emitter: &Emitter<'a>, x: &'a Name, y: &'a Name) -> bool

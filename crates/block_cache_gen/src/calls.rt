@@ -17,7 +17,7 @@ ghost use Rattle.block_cache_gen.specs.PublicIndexes.{HasPublicIndexes, TestHasP
 ghost use Rattle.block_cache_gen.specs.RunsOf.{Evaluates, EvaluatesTest, Performs};
 ghost use Rattle.block_cache_gen.specs.SecretCode.{IsWalkedAsExpr, IsWalkedAsSet, IsWalkedAsTest};
 ghost use Rattle.block_cache_gen.specs.Settings.{IsFrame, setting_of};
-ghost use Rattle.block_cache_gen.specs.StoredWords.{registers_aside, set_stores, stored_words, written_words};
+ghost use Rattle.block_cache_gen.specs.StoredWords.{registers_aside, set_stores, set_writes, stored_words, written_words};
 ghost use Rattle.block_cache_gen.specs.TreeWords.{HasWords, SetHasWords, TestHasWords};
 ghost use Rattle.block_cache_gen.specs.Twins.{HasTwin};
 
@@ -43,7 +43,7 @@ pub fn emit_expr<'a>(
     requires frame { IsFrame f.now }
     requires typed { TypedTree (context_of f.now.program.now.decls.items) (expr_tree e.now) }
     requires indexes { HasPublicIndexes (setting_of f.now) (expr_tree e.now) }
-    requires registers { to + height_of (expr_tree e.now) ≤ 18 }
+    requires registers { to + height_of (expr_tree e.now) ≤ 17 }
     requires room { length out.old.code.items + 120 * tree_weight (expr_tree e.now) ≤ most_instructions }
     ensures runs { OnOk result (Evaluates (setting_of f.now) mode to (expr_tree e.now) (code_behind out.old out.new)) }
     ensures passes { OnOk result (mode ≡ modes.Public → IsPassedAsExpr (setting_of f.now) to (expr_tree e.now)
@@ -75,8 +75,8 @@ pub fn emit_guard<'a>(
     requires frame { IsFrame f.now }
     requires typed { TypedTest (context_of f.now.program.now.decls.items) (test_of g.now) }
     requires indexes { TestHasPublicIndexes (setting_of f.now) (test_of g.now) }
-    requires left { to + height_of (expr_tree g.now.left) ≤ 18 }
-    requires right { to + 1 + height_of (expr_tree g.now.right) ≤ 18 }
+    requires left { to + height_of (expr_tree g.now.left) ≤ 17 }
+    requires right { to + 1 + height_of (expr_tree g.now.right) ≤ 17 }
     requires room { length out.old.code.items + 120 * test_weight (test_of g.now) ≤ most_instructions }
     ensures runs { OnOk result
         (EvaluatesTest (setting_of f.now) mode to (test_of g.now) (code_behind out.old out.new)) }
@@ -96,9 +96,9 @@ pub fn emit_guard<'a>(
 
 /// Makes the code of an assignment of a program, and appends it and its notes. In public code, and with its effect in
 /// secret code, it leaves the store of the assignment; without effect in secret code it leaves the store as it was. The
-/// two codes of secret code differ only in the register that their last write stores or copies
-/// ([`twin_laws`](crate::twin_laws)). After want of memory what was there before is still a prefix. The clause `words`
-/// serves the proofs of callers.
+/// two codes of secret code differ only in the registers that they store or copy, of which there is one unless slots hold
+/// several blocks of an array for the whole run ([`twin_laws`](crate::twin_laws)). After want of memory what was there
+/// before is still a prefix. The clause `words` serves the proofs of callers.
 #[tactic(auto, using(crate::proofs::AssignmentsMean::assignment_means))]
 pub fn emit_set<'a>(
     alloc: Global,
@@ -122,7 +122,8 @@ pub fn emit_set<'a>(
         → IsWalkedAsSet (setting_of f.now) (statement_of s.now) (code_behind out.old out.new)) }
     ensures stores { OnOk result
         (stored_words (code_behind out.old out.new) ≡ set_stores (setting_of f.now) (statement_of s.now)) }
-    ensures writes { OnOk result (written_words (code_behind out.old out.new) ≡ 1) }
+    ensures writes { OnOk result
+        (written_words (code_behind out.old out.new) ≡ set_writes (setting_of f.now) (statement_of s.now)) }
     ensures instructions { OnOk result (¬ (mode ≡ modes.Public) → registers_aside (code_behind out.old out.new)
         ≡ instructions_of_set (setting_of f.now) (statement_of s.now)) }
     ensures twin { OnOk result

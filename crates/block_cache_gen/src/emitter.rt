@@ -1,4 +1,4 @@
-ghost use Rattle.std.specs.Prelude.{◌≡◌, ◌≤◌, ◌^◌, ◌==◌, true, List, Option, IfOk, find, is_some, length, position};
+ghost use Rattle.std.specs.Prelude.{◌≡◌, ℕ, ◌≤◌, ◌^◌, ◌==◌, true, List, Option, IfOk, find, is_some, length, position};
 ghost use Rattle.std.specs.Option.{option_map};
 ghost use Rattle.src_tree.specs.Contexts.{context_of};
 ghost use Rattle.src_tree.specs.Labels.{label_at, label_of};
@@ -47,7 +47,7 @@ impl<'a> Model for Emitter<'a> {
     ghost invariant = { λ e. IsFrame e.frame
         × ((e.claims ≡ slot_claims (setting_of e.frame)) × ((e.mask ≡ base_mask (setting_of e.frame))
         × ((x : List ℕ) → found_under e.variables x ≡ variable_of
-        e.frame.slots.now.pins e.frame.held.now 0 e.frame.program.now.decls.items e.frame.places.now.of_var.items
+        e.frame.slots.now.pins e.frame.profile.now.block_log e.frame.held.now 0 e.frame.program.now.decls.items e.frame.places.now.of_var.items
         e.frame.slots.now.of_var.items x))) };
 }
 
@@ -103,8 +103,8 @@ fn first_served(slots: &[u8], slot: u8) -> Option<usize>
 // The first block of that variable.
 fn block_of_first(places: &[Place], slots: &[u8], slot: u8) -> Option<u32>
     requires { length places.now ≡ length slots.now }
-    ensures { (pins : List (Option Pin))
-        → result ≡ option_map (λ h. h.block) (find (λ h. h.slot == slot) (homes_at pins places.now slots.now)) }
+    ensures { (pins : List (Option Pin)) (w : ℕ)
+        → result ≡ option_map (λ h. h.block) (find (λ h. h.slot == slot) (homes_at pins w places.now slots.now)) }
 {
     match first_served(slots, slot) {
         Some(number) => Some(places[number].block),
@@ -130,6 +130,7 @@ impl<'a> Emitter<'a> {
             f.places.of_var.as_slice(),
             slots,
             &f.slots.pins,
+            f.profile.block_log,
             f.held,
         )?;
         let claims = claims_in(&f.slots.pins, slots);
@@ -150,6 +151,7 @@ impl<'a> Emitter<'a> {
         ensures label { result.label ≡ label_at (context_of self.now.decls) name.now }
         ensures held { result.held ≡ register_for self.now name.now }
         ensures length { 1 ≤ result.place.length }
+        ensures few { result.further ≤ 4 }
     {
         match variable_at(&self.variables, name) {
             Some(variable) => variable,
@@ -261,6 +263,7 @@ impl<'a> Emitter<'a> {
     pub(crate) fn block_words(&self) -> u32
         ensures value { result ≡ 2 ^ self.now.profile.block_log }
         ensures some { 1 ≤ result }
+        ensures most { result ≤ 512 }
     {
         self.frame.profile.block_words()
     }

@@ -12,6 +12,7 @@ ghost use Rattle.block_cache_gen.specs.TreeWords.{HasWords};
 ghost use Rattle.block_cache_gen.specs.Variables.{home_in};
 
 use crate::accesses::{fixed_index, put_fixed_access, put_found_access, put_scalar};
+use crate::elements::put_element;
 use crate::emitter::{Emitter, label_of};
 use crate::frames::{CodeBuf, Mode};
 use crate::operands::{index_operand, left_operand, operand, operand_mask, operand_register};
@@ -34,7 +35,7 @@ pub(crate) fn put_expr<'a>(
     mask: u32,
 ) -> Result<(), Memory>
     requires typed { TypedTree (context_of emitter.now.decls) (expr_tree e.now) }
-    requires registers { to + height_of (expr_tree e.now) ≤ 18 }
+    requires registers { to + height_of (expr_tree e.now) ≤ 17 }
     requires room { length out.old.code.items + 120 * tree_weight (expr_tree e.now) ≤ most_instructions }
     ensures emitted { OnOk result (EmitsExpr emitter.now mode mask to (expr_tree e.now) out.old out.new) }
     ensures words { OnOk result (HasWords (expr_tree e.now)) }
@@ -49,11 +50,7 @@ pub(crate) fn put_expr<'a>(
         Expr::Item(name, index) => {
             let array = emitter.variable(name.bytes());
             put_access(emitter, out, array, index, to, mode, mask)?;
-            out.put(&[Instr::Ldw {
-                rd: to,
-                slot: array.slot,
-                off: to,
-            }])
+            put_element(emitter, out, array, index, to)
         }
         Expr::Bin(op, left, right) => {
             let steps = steps_code(emitter, *op, right, to)?;
@@ -80,7 +77,7 @@ pub(crate) fn put_operand<'a>(
 ) -> Result<(), Memory>
     requires typed { TypedTree (context_of emitter.now.decls) (expr_tree e.now) }
     requires known { OnSome held (HasWords (expr_tree e.now)) }
-    requires registers { to + height_of (expr_tree e.now) ≤ 18 }
+    requires registers { to + height_of (expr_tree e.now) ≤ 17 }
     requires room { length out.old.code.items + 120 * tree_weight (expr_tree e.now) ≤ most_instructions }
     ensures emitted { OnOk result (EmitsOperand emitter.now mode mask to held (expr_tree e.now) out.old out.new) }
     ensures words { OnOk result (HasWords (expr_tree e.now)) }
@@ -109,7 +106,7 @@ pub(crate) fn put_operation<'a>(
     requires typed { TypedTree (context_of emitter.now.decls) (expr_tree right.now) }
     requires steps { option_map vec_items steps ≡ option_map (code_of to) (steps_at emitter.now op (expr_tree right.now)) }
     requires known { OnSome steps (HasWords (expr_tree right.now)) }
-    requires registers { to + (height_of (expr_tree right.now) + 1) ≤ 18 }
+    requires registers { to + (height_of (expr_tree right.now) + 1) ≤ 17 }
     requires room { length out.old.code.items + 120 * (1 + tree_weight (expr_tree right.now)) ≤ most_instructions }
     ensures emitted { OnOk result
         (EmitsOperation emitter.now mode mask to left op (expr_tree right.now) out.old out.new) }
@@ -145,7 +142,8 @@ pub(crate) fn put_access<'a>(
 ) -> Result<(), Memory>
     requires length { 1 ≤ array.place.length }
     requires typed { TypedTree (context_of emitter.now.decls) (expr_tree index.now) }
-    requires registers { to + (height_of (expr_tree index.now) + 1) ≤ 18 }
+    requires registers { to ≤ 16 }
+    requires height { to + height_of (expr_tree index.now) ≤ 17 }
     requires room { length out.old.code.items + 120 * (1 + tree_weight (expr_tree index.now)) ≤ most_instructions }
     ensures emitted { OnOk result
         (EmitsAccess emitter.now mode (home_in array) mask to (expr_tree index.now) out.old out.new) }

@@ -1,4 +1,4 @@
-ghost use Rattle.std.specs.Prelude.{◌≡◌, ◌+◌, ◌^◌, ◌<◌, [], ◌∷◌, None, pos, ◌+ℤ◌, OnOk, length};
+ghost use Rattle.std.specs.Prelude.{ℕ, ◌≡◌, ◌+◌, ◌^◌, ◌<◌, [], ◌∷◌, None, pos, ◌+ℤ◌, OnOk, length};
 ghost use Rattle.block_cache_gen.specs.Codes.{applied_code, compared_code, least_word, numbered_code, reduced_code, reducer, reducing};
 ghost use Rattle.block_cache_gen.specs.Notes.{compared_notes, note_of, unmarked};
 ghost use Rattle.block_cache_gen.specs.Emitted.{Appended, CodeGrows, no_notes};
@@ -165,13 +165,15 @@ pub(crate) fn reducer(array: Variable) -> i64
 
 /// The same of an array at a place. It serves `code_gen`, which chooses the numbers that registers hold.
 pub fn reducer_at(place: Place) -> i64
-    ensures { result ≡ reducer (home_at [] place 0) }
+    ensures { (w : ℕ) → result ≡ reducer (home_at [] w place 0) }
 {
     reducer(Variable {
         label: Label::Public,
         place,
         slot: 0,
         resident: false,
+        further: 0,
+        more: [0; 4],
         held: None,
     })
 }

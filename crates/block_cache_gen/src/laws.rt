@@ -43,8 +43,8 @@ pub fn pair_laws()
 {}
 
 /// Does nothing; its clause says what it means that two codes have the instructions of one assignment of secret code, as
-/// those of two calls have. Only their last instruction that writes a scalar or an element may differ, and only in the
-/// register that it stores or copies.
+/// those of two calls have. If one of them writes once, only their last instruction that writes a scalar or an element
+/// may differ, and only in the register that it stores or copies.
 pub fn twin_laws()
     ensures differ { (f : Setting) (s : Statement) (one other : List Instr)
         → written_words one ≡ 1

@@ -12,6 +12,7 @@
 mod accesses;
 pub mod alike;
 pub mod calls;
+mod elements;
 mod emitter;
 mod expressions;
 pub mod frames;

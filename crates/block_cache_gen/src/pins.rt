@@ -2,7 +2,7 @@ ghost use Rattle.std.specs.Prelude.{◌≡◌, ◌==◌, None, slice_index_or};
 ghost use Rattle.std.specs.List.{list_any};
 ghost use Rattle.block_cache_gen.specs.Notes.{claim_by};
 ghost use Rattle.block_cache_gen.specs.ServedBlocks.{pin_in, pin_or};
-ghost use Rattle.block_cache_gen.specs.Settings.{is_pinned};
+ghost use Rattle.block_cache_gen.specs.Settings.{is_pin_to, is_pinned};
 ghost use Rattle.block_cache_gen.specs.Variables.{claim_in, claims_in};
 
 use scratch_alloc::Pin;
@@ -22,6 +22,16 @@ pub(crate) fn is_pinned(pins: &[Option<Pin>], slot: u8) -> bool
     ensures { result ≡ is_pinned pins.now slot }
 {
     pin_at(pins, usize::from(slot)).is_some()
+}
+
+/// Whether a slot is pinned to a block.
+pub(crate) fn is_pin_to(pin: Option<Pin>, bank: u8, block: u64) -> bool
+    ensures { result ≡ is_pin_to pin bank block }
+{
+    match pin {
+        None => false,
+        Some(pin) => pin.bank == bank && u64::from(pin.block) == block,
+    }
 }
 
 /// A block of a bank, if there is one.

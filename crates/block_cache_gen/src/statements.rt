@@ -12,7 +12,8 @@ ghost use Rattle.block_cache_gen.specs.Emitted.{Appended, EmitsGuard, EmitsSet, 
 ghost use Rattle.block_cache_gen.specs.Variables.{home_in};
 ghost use Rattle.block_cache_gen.specs.TreeWords.{HasWords, SetHasWords, TestHasWords};
 
-use crate::accesses::{is_resident, marked_by, put_copy};
+use crate::accesses::{marked_by, put_copy};
+use crate::elements::{put_store, put_stored};
 use crate::emitter::{Emitter, label_of};
 use crate::expressions::{put_access, put_expr, put_operand};
 use crate::frames::{CodeBuf, Mode};
@@ -33,8 +34,8 @@ pub fn put_guard<'a>(
     mode: Mode,
 ) -> Result<(), Memory>
     requires typed { TypedTest (context_of emitter.now.decls) (test_of g.now) }
-    requires left { to + height_of (expr_tree g.now.left) ≤ 18 }
-    requires right { to + 1 + height_of (expr_tree g.now.right) ≤ 18 }
+    requires left { to + height_of (expr_tree g.now.left) ≤ 17 }
+    requires right { to + 1 + height_of (expr_tree g.now.right) ≤ 17 }
     requires room { length out.old.code.items + 120 * test_weight (test_of g.now) ≤ most_instructions }
     ensures emitted { OnOk result (EmitsGuard emitter.now mode to (test_of g.now) out.old out.new) }
     ensures words { OnOk result (TestHasWords (test_of g.now)) }
@@ -44,46 +45,6 @@ pub fn put_guard<'a>(
     put_expr(emitter, out, &g.left, to, mode, base)?;
     let mask = marked_by(label_of(emitter, &g.left), base, to);
     put_expr(emitter, out, &g.right, to + 1, mode, mask)
-}
-
-// Appends the store of a word to a slot, at the place that register 1 has: the word in register `value`, or in mirrored
-// code the word that was there, so that nothing changes.
-fn put_store(out: &mut CodeBuf, slot: u8, value: u8, mode: Mode) -> Result<(), Memory>
-    ensures appended { OnOk result (Appended out.old out.new (store_code mode slot value) no_notes) }
-    ensures grows { CodeGrows out.old out.new }
-{
-    let read = Instr::Ldw {
-        rd: 2,
-        slot,
-        off: 1,
-    };
-    let write = Instr::Stw {
-        rs: value,
-        slot,
-        off: 1,
-    };
-    let write_back = Instr::Stw {
-        rs: 2,
-        slot,
-        off: 1,
-    };
-    match mode {
-        Mode::Public => out.put(&[write]),
-        Mode::Real => out.put(&[read, write]),
-        Mode::Mirrored => out.put(&[read, write_back]),
-    }
-}
-
-// Appends the store of an array's block, unless its slot holds that block for the whole run.
-fn put_block_store(out: &mut CodeBuf, array: Variable) -> Result<(), Memory>
-    ensures appended { OnOk result
-        (Appended out.old out.new (stored_code (home_in array).resident array.slot) no_notes) }
-    ensures grows { CodeGrows out.old out.new }
-{
-    if is_resident(array) {
-        return out.put(&[]);
-    }
-    out.put(&[Instr::Stb { slot: array.slot }])
 }
 
 // What a register that holds a scalar is copied from: the value's register, or in mirrored code the register itself.
@@ -165,8 +126,7 @@ pub fn put_set_element<'a>(
     put_operand(emitter, out, value, held, 0, mode, base)?;
     let mask = operand_mask(held, label_of(emitter, value), base, 0);
     put_access(emitter, out, array, index, 1, mode, mask)?;
-    put_store(out, array.slot, operand_register(held, 0), mode)?;
-    put_block_store(out, array)
+    put_stored(emitter, out, array, index, operand_register(held, 0), mode)
 }
 
 /// Appends the code of an assignment, to a variable or to an element. The only error is want of memory.

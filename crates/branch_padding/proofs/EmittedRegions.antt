@@ -377,7 +377,7 @@ taken-appended_whole f mode first second k taken one two a b c d is_one is_two x
 
 -- how far the code reaches after each part of a branch
 pub guard-behind : (f : Setting) (mode : Mode) (t : Test) (a b : CodeBuf) → EmitsGuard f mode 0 t a b
-    → length b.code.items ≤ length a.code.items + 16 * test_weight t
+    → length b.code.items ≤ length a.code.items + 48 * test_weight t
 guard-behind f mode t a b x =
     omega (
       arith,

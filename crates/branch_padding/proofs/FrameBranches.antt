@@ -54,6 +54,7 @@ use Rattle.branch_padding.proofs.PaddedRanges.{padded-fits}
 use Rattle.branch_padding.proofs.NestedRegions.{choice-nests}
 use Rattle.branch_padding.proofs.PublicRegions.{branch_offset, PassedRegion, region-passes, choice-opens}
 use Rattle.branch_padding.proofs.SecretStatementWalks.{statement-walked}
+use Rattle.block_cache_gen.proofs.SingleHomes.{ObliviousAreSingle, frame-single}
 use Rattle.branch_padding.proofs.StoredRows.{statement-stores, public_choice-stores}
 
 -- a statement of a program weighs no more than the program
@@ -236,12 +237,16 @@ choice-promises f is mode t a b branch place =
     passed Real at same = absurd (let e : ◌≡◌ {A = Mode} Real Public = same in cc)
     passed Mirrored at same = absurd (let e : ◌≡◌ {A = Mode} Mirrored Public = same in cc)
 
+    single : ObliviousAreSingle (setting_of f)
+    single = frame-single f is
+
     stored : (m : Mode) → IsBranchFor (source_of f.program.now) m (Choice t a b)
         → stored_words (padded_code (setting_of f) m (Choice t a b))
         ≡ stores_of (setting_of f) (code_for m) (Choice t a b)
-    stored Public at = public_choice-stores (setting_of f) t a b (typed f is Public t a b at) at.secret
-    stored Real at = statement-stores (setting_of f) (Choice t a b) Real (typed_secret f is Real t a b at)
-    stored Mirrored at = statement-stores (setting_of f) (Choice t a b) Mirrored (typed_secret f is Mirrored t a b at)
+    stored Public at = public_choice-stores (setting_of f) single t a b (typed f is Public t a b at) at.secret
+    stored Real at = statement-stores (setting_of f) single (Choice t a b) Real (typed_secret f is Real t a b at)
+    stored Mirrored at =
+        statement-stores (setting_of f) single (Choice t a b) Mirrored (typed_secret f is Mirrored t a b at)
 
 pub frame-branch_promises : (f : Frame) (is : IsFrame f) (mode : Mode) (t : Test) (a b : Block)
     → IsBranchFor (source_of f.program.now) mode (Choice t a b) → (c d : CodeBuf)

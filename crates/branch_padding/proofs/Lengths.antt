@@ -29,8 +29,8 @@ element-short : (f : Setting) (mode : Mode) (x : List ℕ) (i e : Tree)
 element-short f mode x i e =
     omega (arith, set_code_short f mode (context_of f.decls) label.Public (SetElement x i e) tt)
 
--- at most 16 instructions a unit of a guard's weight
-pub guard-short : (f : Setting) (mode : Mode) (t : Test) → length (guard_code f mode 0 t) ≤ 16 * test_weight t
+-- at most 48 instructions a unit of a guard's weight
+pub guard-short : (f : Setting) (mode : Mode) (t : Test) → length (guard_code f mode 0 t) ≤ 48 * test_weight t
 guard-short f mode t =
     omega (
       arith,

@@ -1,6 +1,6 @@
 -- How many stores of a word the code of statements has.
-use Rattle.std.proofs.Common.{◌≡◌, ℕ, zero, suc, ◌+◌, ◌-◌, ◌*◌, Bool, pos, List, [], ◌∷◌, ◌++◌, length, map, take, drop, refl, sym, ap, ◌∙◌, subst, arith}
-use Rattle.std.specs.Prelude.{if◌then◌else◌}
+use Rattle.std.proofs.Common.{◌≡◌, ℕ, zero, suc, ◌+◌, ◌-◌, ◌*◌, ◌≤◌, Bool, true, false, ℤ, pos, List, [], ◌∷◌, ◌++◌, length, map, take, drop, Option, Some, None, refl, sym, ap, ◌∙◌, subst, arith}
+use Rattle.std.specs.Prelude.{if◌then◌else◌, is_some}
 use Rattle.std.proofs.lemmas.List.{take-map, drop-map}
 use Rattle.std.proofs.lemmas.List.Sums.{sum_by-append}
 use Rattle.gr_word.specs.declared.operations.Cmp.{Cmp}
@@ -10,16 +10,18 @@ use Rattle.lt_isa.specs.declared.instructions.Instr.{Instr}
 use Rattle.lt_isa.specs.declared.instructions.Instr.TheVariants.{Nop, Jmp, Br}
 use Rattle.src_tree.specs.Contexts.{context_of}
 use Rattle.src_tree.specs.Labels.{label_of_test}
-use Rattle.src_tree.specs.Trees.{Test, Statement, SetVariable, SetElement, Choice, Loop, Block, Nothing, Then}
+use Rattle.src_tree.specs.Trees.{Tree, Test, Statement, SetVariable, SetElement, Choice, Loop, Block, Nothing, Then}
 use Rattle.src_tree.specs.Typing.{TypedStatement, TypedBlock}
 use Rattle.block_cache_gen.specs.declared.frames.Mode.{Mode}
 use Rattle.block_cache_gen.specs.declared.frames.Mode.TheVariants as modes
-use Rattle.block_cache_gen.specs.Homes.{Setting}
-use Rattle.block_cache_gen.specs.Codes.{guard_code}
-use Rattle.block_cache_gen.specs.Alike.{Pair, ToScalars, ToOblivious, ToResidents, ToSame, StartsPaired, NonePaired, OnePaired, pair_count}
-use Rattle.block_cache_gen.specs.StoredWords.{stored_words}
+use Rattle.block_cache_gen.specs.Homes.{further_slots, Home, Setting, home_of}
+use Rattle.block_cache_gen.specs.Codes.{fixed_index, guard_code}
+use Rattle.block_cache_gen.specs.Alike.{Alike, AreReducedAlike, InOneBank, Pair, ToScalars, ToOblivious, ToResidents, ToSame, StartsPaired, NonePaired, OnePaired, pair_count}
+use Rattle.block_cache_gen.specs.StoredWords.{stored_words, stores_by, stores_in}
+use Rattle.block_cache_gen.proofs.AlikeShows.{alike-fixed, oblivious-fixed}
 use Rattle.block_cache_gen.proofs.AlikeTests.{counts_pairs}
 use Rattle.block_cache_gen.proofs.SecretCodes.{stored-append, guard-stores, variable-stores, element-stores}
+use Rattle.block_cache_gen.proofs.SingleHomes.{ObliviousAreSingle}
 use Rattle.branch_padding.specs.Padded.{idle, in_a_row, arm_mode, untaken_arm, taken_arm, first_padded, second_padded, region_code, padded_code, padded_codes}
 use Rattle.branch_padding.specs.Stores.{added_up, choice_stores, stores_of, stores_of_each}
 
@@ -86,12 +88,45 @@ added-first n counts = sum_by-append (λ n. n) (n ∷ []) counts ∙ alone
     alone : added_up (n ∷ []) + added_up counts ≡ n + added_up counts
     alone = omega arith
 
+-- an element of an array without further slots has one store
+single-stores : (h : Home) (resident : Bool) → further_slots h ≡ [] → stores_by resident h None ≡ 1
+single-stores h true single = ap (λ (more : List ℕ). length (h.slot ∷ more)) single
+single-stores h false single = refl
+
+-- elements of two arrays of as many blocks have as many, if both indexes are numbers or neither is
+resident-stores : (g h : Home) (one other : Option ℤ) → is_some one ≡ is_some other
+    → length (further_slots g) ≡ length (further_slots h) → stores_by true h other ≡ stores_by true g one
+resident-stores g h (Some y) (Some z) fixed same = refl
+resident-stores g h None None fixed same = ap suc (sym same)
+resident-stores g h (Some y) None fixed same = absurd (let e : true ≡ false = fixed in cc)
+resident-stores g h None (Some z) fixed same = absurd (let e : false ≡ true = fixed in cc)
+
 -- two statements that pair have as many stores
-module _ (f : Setting) where
+module _ (f : Setting) (single : ObliviousAreSingle f) where
+  oblivious-stores : (x : List ℕ) (i : Tree) → 2 ≤ (home_of f x).bank
+      → stores_in (home_of f x) (fixed_index (home_of f x) i) ≡ 1
+  oblivious-stores x i oblivious =
+      let h = home_of f x in
+      ap (stores_in h) (oblivious-fixed f h oblivious i) ∙ single-stores h h.resident (single x oblivious)
+
+  one-bank-stores : (x y : List ℕ) (i j : Tree) → InOneBank f x y
+      → stores_in (home_of f y) (fixed_index (home_of f y) j) ≡ stores_in (home_of f x) (fixed_index (home_of f x) i)
+  one-bank-stores x y i j one =
+      oblivious-stores y j (omega (arith, one.oblivious, one.same)) ∙ sym (oblivious-stores x i one.oblivious)
+
+  reduced-stores : (x y : List ℕ) (i j : Tree) → AreReducedAlike f x y → Alike f i j
+      → stores_in (home_of f y) (fixed_index (home_of f y) j) ≡ stores_in (home_of f x) (fixed_index (home_of f x) i)
+  reduced-stores x y i j one alike =
+      let g = home_of f x in
+      let h = home_of f y in
+      ap (λ (b : Bool). stores_by b h (fixed_index h j)) one.second
+      ∙ resident-stores g h (fixed_index g i) (fixed_index h j) (alike-fixed f g h i j one.low alike) one.blocks
+      ∙ sym (ap (λ (b : Bool). stores_by b g (fixed_index g i)) one.first)
+
   pair-stores : (s t : Statement) → Pair f s t → stores_of f label.Secret t ≡ stores_of f label.Secret s
   pair-stores s t (ToScalars x y e g one alike) = ap (λ (b : Bool). if b then 0 else 1) (sym one)
-  pair-stores s t (ToOblivious x y i j e g one index value) = refl
-  pair-stores s t (ToResidents x y i j e g one index value) = refl
+  pair-stores s t (ToOblivious x y i j e g one index value) = one-bank-stores x y i j one
+  pair-stores s t (ToResidents x y i j e g one index value) = reduced-stores x y i j one index
   pair-stores s t (ToSame x i e g encrypted value) = refl
 
   -- so have the first statements of two parts that pair

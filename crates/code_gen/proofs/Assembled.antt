@@ -30,6 +30,7 @@ use Rattle.block_cache_gen.specs.ProgramWords.{BlockHasWords}
 use Rattle.block_cache_gen.specs.Settings.{IsFrame, plan_of, setting_for, setting_of}
 use Rattle.block_cache_gen.specs.StoredWords.{stored_words}
 use Rattle.block_cache_gen.proofs.Settled.{IsSettingOf}
+use Rattle.block_cache_gen.proofs.SingleHomes.{oblivious-single}
 use Rattle.code_gen.specs.Compiles.{IsFor, LatenciesFit, latency_for, stores_by}
 use Rattle.code_gen.specs.Emitted.{padding_of}
 use Rattle.code_gen.specs.Implements.{Implements}
@@ -168,7 +169,9 @@ module _ (p : Source) (plan : Plan) (given : Profile) (reduces : Bool) (held : L
       )
 
   made-stores : stored_words o.code ≡ stores_by p plan given reduces held
-  made-stores = ap stored_words made.code ∙ program-stored setting p.body typed.body
+  made-stores =
+      let single = oblivious-single p plan given reduces held sound in
+      ap stored_words made.code ∙ program-stored setting single p.body typed.body
 
   -- all of it holds of what was made
   pub made-promises : CompilePromises p plan given reduces held l o

@@ -174,7 +174,7 @@ module _ (p : Source) (w : ℕ) (plan : Plan) (once : DeclaredOnce p.decls) (lim
 
   -- the homes by number and by name
   abbrev home : ℕ → Home
-  home k = home_at plan.pins (place k) (get_or plan.slots k 0)
+  home k = home_at plan.pins f.profile.block_log (place k) (get_or plan.slots k 0)
 
   home-is : (k : ℕ) → k < length p.decls → get_or f.homes k no_home ≡ home k
   home-is k below = home-at p w plan limits sound o layout f setting k below

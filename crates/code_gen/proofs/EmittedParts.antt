@@ -28,8 +28,8 @@ tree_weight-some (Variable x) = omega arith
 tree_weight-some (Element x i) = omega arith
 tree_weight-some (Operation op a b) = omega arith
 
--- at most 16 instructions a unit of a guard's weight
-pub guard_code-short : (f : Setting) (t : Test) → length (guard_code f Public 0 t) ≤ 16 * test_weight t
+-- at most 48 instructions a unit of a guard's weight
+pub guard_code-short : (f : Setting) (t : Test) → length (guard_code f Public 0 t) ≤ 48 * test_weight t
 guard_code-short f t =
     omega (
       arith,

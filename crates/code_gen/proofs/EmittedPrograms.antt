@@ -77,11 +77,13 @@ held-declared f frame place d below n same =
 -- the home of a variable, by its place and its slot
 pub numbered-home : (f : Frame) → IsFrame f → (n : ℕ) → n < length f.program.now.decls.items
     → home_numbered (setting_of f) n
-    ≡ home_at f.slots.now.pins (get_or f.places.now.of_var.items n no_place) (get_or f.slots.now.of_var.items n 0)
+    ≡ home_at f.slots.now.pins f.profile.now.block_log (get_or f.places.now.of_var.items n no_place)
+    (get_or f.slots.now.of_var.items n 0)
 numbered-home f frame n below =
     let places = frame_places f frame in
     let slots = frame_slots f frame in
-    get_or-homes_at f.slots.now.pins f.places.now.of_var.items f.slots.now.of_var.items n (slots ∙ sym places)
+    get_or-homes_at f.slots.now.pins f.profile.now.block_log f.places.now.of_var.items f.slots.now.of_var.items n
+    (slots ∙ sym places)
     (omega (arith, below, places))
 
 -- the word and the slot of a variable's home, as its place and its slot have them

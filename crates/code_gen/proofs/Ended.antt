@@ -22,11 +22,12 @@ use Rattle.stretches.proofs.Standing.{standing-head}
 use Rattle.stretches.proofs.Coming.{comes-here, comes-stb, comes-weaker}
 use Rattle.stretches.proofs.RunningThrough.{runs-append, runs-weaker}
 use Rattle.scratch_alloc.specs.declared.plans.Pin.{Pin}
-use Rattle.block_cache_gen.specs.Homes.{Setting, HasHomes, pin_at, pin_of, home_of, register_for, words_a_block, start_of_home}
+use Rattle.block_cache_gen.specs.Homes.{Setting, HasHomes, pin_at, home_of, slot_of_word, register_for, words_a_block, start_of_home}
 use Rattle.block_cache_gen.specs.StandsFor.{StandsFor}
+use Rattle.scratch_alloc.specs.Plans.{pin_to}
 use Rattle.block_cache_gen.proofs.HomeFacts.{block_words-is}
 use Rattle.code_gen.specs.Programs.{pin_store, each_slot}
-use Rattle.code_gen.proofs.Started.{BanksHold, word-in_block, resident-inside}
+use Rattle.code_gen.proofs.Started.{BanksHold, word-in_block, resident-pinned}
 
 -- what the stores of pinned slots show, from slot k on
 abbrev pub pin_shown : State → ℕ → Option Pin → List Observed
@@ -168,13 +169,16 @@ module _ (o : Parts) (fits : IsInRange o) (f : Setting) (homes : HasHomes o f) (
   -- then the banks hold the words of resident variables, and still those of other arrays
   residents-held : (u : State) → StoredTo f s (length f.pins) u → (x : List ℕ) (label : Label) (shape : Shape) (i : ℕ)
       → context_of f.decls x ≡ Some (label, shape) → (home_of f x).resident ≡ true → i < (home_of f x).length
-      → word_in (block_at u (home_of f x).bank (home_of f x).block) ((home_of f x).word + i)
+      → word_in (block_at u (home_of f x).bank ((home_of f x).block + ((home_of f x).word + i) / words_a_block f))
+      (((home_of f x).word + i) % words_a_block f)
       ≡ get_or (words_of_number left (variable_number f.decls x)) i (pos 0)
   residents-held u stored x label shape i known resident below =
       let h = home_of f x in
-      let home = homes.residents x label shape known resident in
-      ap (λ words. word_in words (h.word + i))
-      (stored.stored h.slot (pin_of h) (pin-below h.slot (pin_of h) home.pinned) home.pinned)
+      let n = h.word + i in
+      let k = slot_of_word f h n in
+      let pin = pin_to h.bank (h.block + n / words_a_block f) in
+      let pinned = resident-pinned o f homes x label shape i known resident below in
+      ap (λ words. word_in words (n % words_a_block f)) (stored.stored k pin (pin-below k pin pinned) pinned)
       ∙ stands.residents x label shape i known resident (free x) below
 
   arrays-held : (u : State) → StoredTo f s (length f.pins) u → (x : List ℕ) (label : Label) (i : ℕ)
@@ -212,7 +216,7 @@ module _ (o : Parts) (fits : IsInRange o) (f : Setting) (homes : HasHomes o f) (
           (start_of_home (words_a_block f) (home_of f x) + i)
           ≡ slice_index_or (words_of_number left (variable_number f.decls x)) i (pos 0)
       by x label shape i known below true is =
-          word-in_block u (home_of f x) (words_a_block f) i (resident-inside o f homes x label shape i known is below)
+          word-in_block u (home_of f x) (words_a_block f) i (pow_pos f.profile.block_log)
           ∙ residents-held u stored x label shape i known is below
       by x label Scalar i known below false is =
           absurd (true≢false (sym (homes.scalars x label known).resident ∙ is))

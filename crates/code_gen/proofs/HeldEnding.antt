@@ -1,6 +1,6 @@
 -- Runs of the code that stores the scalars that registers hold: afterwards the machine represents the same store with
 -- each scalar in its slot.
-use Rattle.std.proofs.Common.{◌≡◌, ◌≢◌, ℕ, zero, suc, ◌+◌, ◌-◌, ◌<◌, ◌≤◌, Bool, true, false, ℤ, pos, List, [], ◌∷◌, ◌++◌, length, get_or, set, append_assoc, length-append, Option, Some, None, refl, sym, ap, ◌∙◌, subst, ⊎_elim, arith, mod-eq_of_lt}
+use Rattle.std.proofs.Common.{◌≡◌, ◌≢◌, ℕ, zero, suc, ◌+◌, ◌-◌, ◌%◌, ◌<◌, ◌≤◌, Bool, true, false, ℤ, pos, List, [], ◌∷◌, ◌++◌, length, get_or, set, append_assoc, length-append, Option, Some, None, refl, sym, ap, ◌∙◌, subst, ⊎_elim, arith, mod-eq_of_lt, pow_pos, inl, inr}
 use Rattle.std.specs.Prelude.{nat_lt, if◌then◌else◌}
 use Rattle.std.specs.List.{slice_get}
 use Rattle.std.proofs.lemmas.Bool.{cases_eq, le-ltb, ltb-false}
@@ -31,11 +31,13 @@ use Rattle.held_registers.specs.declared.registers.Held.TheVariants as thing
 use Rattle.held_registers.specs.Held.{held_at, word_held, secret_zero, public_zero, IsSoundHeld}
 use Rattle.held_registers.proofs.Found.{held-high, scalar-held}
 use Rattle.block_cache_gen.specs.HeldCodes.{home_numbered, end_code, each_held, held_ending}
-use Rattle.block_cache_gen.specs.Homes.{Held, Home, Pin, Setting, HasHomes, home_of, no_home, pin_of, register_for}
+use Rattle.block_cache_gen.specs.Homes.{Held, Home, Pin, Setting, HasHomes, home_of, no_home, pin_of, register_for, slot_of_word, words_a_block}
 use Rattle.block_cache_gen.specs.StandsFor.{StandsFor, FitsHomes}
 use Rattle.block_cache_gen.proofs.HeldBeginning.{HasName, unheld, held-name}
 use Rattle.block_cache_gen.proofs.HeldScalars.{array-free, held-listed, held-words, scalar-found}
-use Rattle.block_cache_gen.proofs.ResidentStores.{stands-resident_set}
+use Rattle.block_cache_gen.proofs.HomeFacts.{block_words-is}
+use Rattle.block_cache_gen.proofs.WordSlots.{one-block, single-word}
+use Rattle.block_cache_gen.proofs.ResidentStores.{stands-single_set}
 use Rattle.block_cache_gen.proofs.Stands.{stands-like, stands-set}
 use Rattle.block_cache_gen.proofs.Stores.{fits-with_word, with_word-itself, words-other, words-same}
 
@@ -165,12 +167,26 @@ homes-with held sound homes = record {
   scalars = homes.scalars;
   residents = λ x label shape known resident.
       let home = homes.residents x label shape known resident in
-      record { bank = home.bank; pinned = home.pinned; length = home.length; inside = home.inside };
+      record {
+        bank = home.bank;
+        pinned = home.pinned;
+        length = home.length;
+        blocks =
+            ⊎_elim (λ one. inl (record { single = one.single; inside = one.inside }))
+            (λ spread. inr (record {
+              secret = spread.secret;
+              word = spread.word;
+              inside = spread.inside;
+              pinned = spread.pinned;
+            }))
+            home.blocks;
+      };
   arrays = λ x label known turn.
       let home = homes.arrays x label known turn in
       record {
         bank = home.bank;
         plain = home.plain;
+        single = home.single;
         slot = home.slot;
         unpinned = home.unpinned;
         apart = home.apart;
@@ -284,7 +300,11 @@ module _ (o : Parts) (fits : IsInRange o) (f : Setting) (base : HasHomes o f) (o
         let x = named.name in
         let h = scalar_home in
         let k = variable_number f.decls x in
-        let one = (base.scalars x named.label named.known).length in
+        let scalar = base.scalars x named.label named.known in
+        let one = scalar.length in
+        let scalar-low = one-block f (block_words o) named.label h
+        (base.residents x named.label Scalar named.known scalar.resident) (block_words-is base)
+        (pow_pos o.profile.block_log) scalar.single in
         let word = word_in words (h.word + 0) in
         let after = with_word store k 0 word in
         record {
@@ -296,7 +316,10 @@ module _ (o : Parts) (fits : IsInRange o) (f : Setting) (base : HasHomes o f) (o
               (λ (same : m ≡ k).
               let home_same : g ≡ h = ap (λ v. get_or f.homes v no_home) same in
               let first : i ≡ 0 = omega (arith, inside, one, ap (λ (z : Home). z.length) home_same) in
-              ap (λ (z : Home). word_in (slot_words (slot t z.slot)) (z.word + i)) home_same
+              ap (λ (z : Home). word_in (slot_words (slot t (slot_of_word f z (z.word + i)))) ((z.word + i) % words_a_block f))
+              home_same
+              ∙ single-word f h (λ k. slot_words (slot t k)) (h.word + i) scalar.single
+              (omega (arith, first, one, scalar-low, block_words-is base))
               ∙ ap (λ b. word_in (slot_words b) (h.word + i)) holds
               ∙ ap (λ j. word_in words (h.word + j)) first
               ∙ sym
@@ -343,9 +366,11 @@ module _ (o : Parts) (fits : IsInRange o) (f : Setting) (base : HasHomes o f) (o
         let k = variable_number f.decls x in
         let one = base.scalars x named.label named.known in
         let home = base.residents x named.label Scalar named.known one.resident in
+        let inside = one-block f (block_words o) named.label h home (block_words-is base) (pow_pos o.profile.block_log)
+        one.single in
         let word = word_in words (h.word + 0) in
         let block = (bound-fits o t shaped h.slot h.bank h.block words holds).holds_block in
-        let is : IsWord word = block.all_words (h.word + 0) (pos 0) (omega (arith, block.size, home.inside, one.length)) in
+        let is : IsWord word = block.all_words (h.word + 0) (pos 0) (omega (arith, block.size, inside, one.length)) in
         let numbers = done ++ thing.Number value ∷ rest in
         let homes = homes-with numbers (number-sound f.decls done rest n value value-word sound) base in
         let fit = fits-with_word new store k 0 word is (fits-with numbers store_fits) in
@@ -356,8 +381,8 @@ module _ (o : Parts) (fits : IsInRange o) (f : Setting) (base : HasHomes o f) (o
         let bound = set_slot t h.slot (Bound h.bank h.block (set words (h.word + 0) value)) in
         stands-like new bound u store binds.slots binds.banks (λ r over. binds.kept r)
         (subst (StandsFor new bound) same
-        (stands-resident_set o new homes t shaped.slot_count (with_word store k 0 word) fit
-        (stale t stands words holds) x named.label Scalar named.known one.resident free-new 0
+        (stands-single_set o new homes t shaped.slot_count (with_word store k 0 word) fit
+        (stale t stands words holds) x named.label Scalar named.known one.resident free-new one.single 0
         (omega (arith, one.length)) words holds block.size value))
 
     runs-stored : (s : State) → IsShaped o s → StandsFor old s store
@@ -372,6 +397,8 @@ module _ (o : Parts) (fits : IsInRange o) (f : Setting) (base : HasHomes o f) (o
         let slot_same : g.slot ≡ h.slot = ap (λ (z : Home). z.slot) home_same in
         let one = base.scalars x named.label named.known in
         let home = base.residents x named.label Scalar named.known one.resident in
+        let inside = one-block f (block_words o) named.label h home (block_words-is base) (pow_pos o.profile.block_log)
+        one.single in
         let store_word = Stw register_here g.slot 0 in
         let P : State → Type 0 = λ u. StandsFor new u store in
         runs-cons s (Li 0 (pos g.word)) (store_word ∷ []) [] [] (Sets s 0 (pos g.word)) P at
@@ -384,7 +411,7 @@ module _ (o : Parts) (fits : IsInRange o) (f : Setting) (base : HasHomes o f) (o
         before.held register_here (thing.Scalar n) (held-here done rest (thing.Scalar n)) in
         let place : word_named o (register t 0) ≡ h.word + 0 =
         ap (λ word. word_named o word) sets.value
-        ∙ mod-eq_of_lt (omega (arith, home.inside, one.length, word_same)) ∙ omega (arith, word_same) in
+        ∙ mod-eq_of_lt (omega (arith, inside, one.length, word_same)) ∙ omega (arith, word_same) in
         runs-one t store_word [] P there
         (λ standing.
         comes-stw o fits t shape register_here g.slot 0 h.bank h.block words P standing

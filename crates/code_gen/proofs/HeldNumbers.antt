@@ -79,7 +79,7 @@ places-fit p w plan limits sound low =
     record { length = omega (arith, size.1); word = omega (arith, place.word, most) })
 
 reducer-word : (q : Place) → PlaceFits q → IsWord (reducer_at q)
-reducer-word q fits = by (is_masked (home_at [] q 0))
+reducer-word q fits = by (is_masked (home_at [] 0 q 0))
   where
     by : (masked : Bool) → IsWord (if masked then pos (q.length - 1) else pos q.length)
     by true = let long = fits.length in small-word (q.length - 1) (omega arith)

@@ -36,3 +36,4 @@ pub mod AgreeingStores
 pub mod WantedInputs
 pub mod WantsInOrder
 pub mod FoldedPlans
+pub mod FastPlans

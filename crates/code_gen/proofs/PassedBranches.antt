@@ -57,7 +57,7 @@ PassesGuards o f t =
 
 -- the code of a public guard is passed
 pub guards-pass : (o : Parts) (f : Setting) → HasHomes o f → DeclaredOnce f.decls → (t : Test)
-    → TypedTest (context_of f.decls) t → TestHasPublicIndexes f t → height_of t.left ≤ 17 → height_of t.right ≤ 17
+    → TypedTest (context_of f.decls) t → TestHasPublicIndexes f t → height_of t.left ≤ 16 → height_of t.right ≤ 16
     → label_of_test (context_of f.decls) t ≡ label.Public → PassesGuards o f t
 guards-pass o f homes once t typed indexes low high public p k stands between inside open_here carries =
     let held = held-open o f homes once p k open_here carries in

@@ -1,5 +1,5 @@
 -- After the first instructions of its code, the run of a program represents the store that the banks hold at the start.
-use Rattle.std.proofs.Common.{◌≡◌, ◌≢◌, ℕ, ◌+◌, ◌-◌, ◌*◌, ◌%◌, ◌<◌, true, false, pos, ℤ, List, [], Some, None, refl, sym, ap, ◌∙◌, ⊎_elim, arith}
+use Rattle.std.proofs.Common.{◌≡◌, ◌≢◌, ℕ, ◌+◌, ◌-◌, ◌*◌, ◌/◌, ◌%◌, ◌<◌, true, false, pos, ℤ, List, [], Some, None, refl, sym, ap, ◌∙◌, ⊎_elim, arith, add-mul, div-add-mod', mod-lt, pow_pos}
 use Rattle.std.specs.Prelude.{slice_index_or}
 use Rattle.std.proofs.lemmas.Bool.{cases_eq}
 use Rattle.std.proofs.lemmas.Option.{slice_get_within}
@@ -8,14 +8,14 @@ use Rattle.gr_base.specs.Lists.{Within}
 use Rattle.gr_word.specs.declared.variables.Label.{Label}
 use Rattle.gr_word.specs.declared.variables.Shape.{Shape}
 use Rattle.gr_word.specs.declared.variables.Shape.TheVariants.{Array}
-use Rattle.lt_isa.specs.Object.{Parts}
+use Rattle.lt_isa.specs.Object.{Parts, block_words}
 use Rattle.lt_isa.specs.Machine.{State, Unbound, Bound, slot, block_at, word_in, slot_words}
 use Rattle.lt_isa.specs.Outputs.{bank_word_numbered}
 use Rattle.src_tree.specs.Contexts.{context_of}
 use Rattle.src_tree.specs.Meaning.{Store, variable_number, words_of_number}
 use Rattle.scratch_alloc.specs.declared.plans.Pin.{Pin}
 use Rattle.held_registers.specs.Held.{held_at}
-use Rattle.block_cache_gen.specs.Homes.{Held, Home, Setting, HasHomes, Serves, PlainSlot, EncryptedSlot, ObliviousSlot, home_of, pin_at, pin_of, words_a_block, start_of_home}
+use Rattle.block_cache_gen.specs.Homes.{Held, Home, Setting, HasHomes, Serves, PlainSlot, EncryptedSlot, ObliviousSlot, home_of, slot_of_word, pin_at, words_a_block, start_of_home}
 use Rattle.block_cache_gen.specs.ServedBlocks.{first_blocks}
 use Rattle.block_cache_gen.specs.StandsFor.{StandsFor}
 use Rattle.block_cache_gen.proofs.HeldBeginning.{unheld}
@@ -23,6 +23,8 @@ use Rattle.block_cache_gen.proofs.HeldScalars.{held-listed}
 use Rattle.block_cache_gen.proofs.HomeFacts.{block_words-is}
 use Rattle.block_cache_gen.proofs.NamesOfHomes.{array-used, array-served}
 use Rattle.block_cache_gen.proofs.ServedBlocks.{first-pinned, first-served}
+use Rattle.scratch_alloc.specs.Plans.{pin_to}
+use Rattle.block_cache_gen.proofs.WordSlots.{word-pinned}
 use Rattle.block_cache_gen.proofs.Stands.{bound-block, bound-words}
 use Rattle.code_gen.proofs.Loads.{LoadedTo, bound_by, named, named-is}
 
@@ -33,15 +35,18 @@ pub record BanksHold (f : Setting) (s : State) (store : Store) : Type 0 where
       → bank_word_numbered (words_a_block f) s (home_of f x).bank (start_of_home (words_a_block f) (home_of f x) + i)
       ≡ slice_index_or (words_of_number store (variable_number f.decls x)) i (pos 0)
 
--- a word of a home within one block
-pub word-in_block : (s : State) (h : Home) (w i : ℕ) → h.word + i < w
-    → bank_word_numbered w s h.bank (start_of_home w h + i) ≡ word_in (block_at s h.bank h.block) (h.word + i)
-word-in_block s h w i inside =
-    let same : start_of_home w h + i ≡ h.block * w + (h.word + i) = omega arith in
+-- a word of a home is in one of the blocks from its first one on
+pub word-in_block : (s : State) (h : Home) (w i : ℕ) → 0 < w
+    → bank_word_numbered w s h.bank (start_of_home w h + i)
+    ≡ word_in (block_at s h.bank (h.block + (h.word + i) / w)) ((h.word + i) % w)
+word-in_block s h w i some =
+    let n = h.word + i in
+    let b = h.block + n / w in
+    let same : start_of_home w h + i ≡ b * w + n % w =
+    omega (arith, div-add-mod' n w, add-mul h.block (n / w) w) in
     ap (bank_word_numbered w s h.bank) same
-    ∙ ap (λ n. word_in (block_at s h.bank n) ((h.block * w + (h.word + i)) % w))
-    (div-mul-add h.block w (h.word + i) inside)
-    ∙ ap (word_in (block_at s h.bank h.block)) (mod-mul-add h.block w (h.word + i) inside)
+    ∙ ap (λ m. word_in (block_at s h.bank m) ((b * w + n % w) % w)) (div-mul-add b w (n % w) (mod-lt n some))
+    ∙ ap (word_in (block_at s h.bank b)) (mod-mul-add b w (n % w) (mod-lt n some))
 
 holds-nothing : (r : ℕ) (h : Held) → held_at [] r ≡ Some h → ⊥
 holds-nothing r h at =
@@ -51,12 +56,14 @@ unbound : (b a : ℕ) (words : List ℤ) → Unbound ≡ Bound b a words → ⊥
 unbound b a words e = cc
 
 module _ (o : Parts) (f : Setting) (homes : HasHomes o f) where
-  -- a word of a resident variable is one of its block
-  pub resident-inside : (x : List ℕ) (label : Label) (shape : Shape) (i : ℕ)
+  -- the slot of a word of a resident variable is pinned to the word's block
+  pub resident-pinned : (x : List ℕ) (label : Label) (shape : Shape) (i : ℕ)
       → context_of f.decls x ≡ Some (label, shape) → (home_of f x).resident ≡ true → i < (home_of f x).length
-      → (home_of f x).word + i < words_a_block f
-  resident-inside x label shape i known resident below =
-      omega (arith, below, (homes.residents x label shape known resident).inside, block_words-is homes)
+      → pin_at f (slot_of_word f (home_of f x) ((home_of f x).word + i))
+      ≡ Some (pin_to (home_of f x).bank ((home_of f x).block + ((home_of f x).word + i) / words_a_block f))
+  resident-pinned x label shape i known resident below =
+      word-pinned f (block_words o) label (home_of f x) (homes.residents x label shape known resident)
+      (block_words-is homes) (pow_pos o.profile.block_log) ((home_of f x).word + i) (omega (arith, below))
 
   module _ (s t : State) (after : LoadedTo o s (first_blocks f) 8 t) where
     -- a slot that begins with a block holds it
@@ -102,9 +109,12 @@ module _ (o : Parts) (f : Setting) (homes : HasHomes o f) where
       pinned = λ k p is. record { words = block_at s p.bank p.block; holds = pinned-held k p is };
       residents = λ x label shape i known resident free below.
           let h = home_of f x in
-          ap (λ bound. word_in (slot_words bound) (h.word + i))
-          (pinned-held h.slot (pin_of h) (homes.residents x label shape known resident).pinned)
-          ∙ sym (word-in_block s h (words_a_block f) i (resident-inside x label shape i known resident below))
+          let w = words_a_block f in
+          let n = h.word + i in
+          ap (λ bound. word_in (slot_words bound) (n % w))
+          (pinned-held (slot_of_word f h n) (pin_to h.bank (h.block + n / w))
+          (resident-pinned x label shape i known resident below))
+          ∙ sym (word-in_block s h w i (pow_pos f.profile.block_log))
           ∙ hold.words x label shape i known below;
       arrays = λ x label i known turn below.
           ap (λ banks. bank_word_numbered (words_a_block f) (record t { banks = banks }) (home_of f x).bank

@@ -21,6 +21,7 @@ use Rattle.block_cache_gen.specs.ServedBlocks.{first_blocks}
 use Rattle.block_cache_gen.specs.Alike.{pair_count}
 use Rattle.block_cache_gen.specs.StoredWords.{stored_words}
 use Rattle.block_cache_gen.proofs.SecretCodes.{stored-append, guard-stores, variable-stores, element-stores}
+use Rattle.block_cache_gen.proofs.SingleHomes.{ObliviousAreSingle}
 use Rattle.branch_padding.specs.Stores.{added_up, choice_stores, stores_of, stores_of_each}
 use Rattle.branch_padding.proofs.StoredRows.{added-first, public_choice-stores}
 use Rattle.code_gen.specs.Statements.{opposite, second_code, places_over, choice_code, loop_code, choice_by, statement_code, block_code}
@@ -67,7 +68,7 @@ loop-stored guard cmp body none =
       stored-append guard (branch ∷ []),
     )
 
-module _ (f : Setting) where
+module _ (f : Setting) (single : ObliviousAreSingle f) where
   -- a choice by the label of its guard
   choice-by : (t : Test) (a b : Block) (public : List Instr) (l : Label)
       → label_of_test (context_of f.decls) t ≡ l
@@ -97,7 +98,7 @@ module _ (f : Setting) where
         + block-stored b (subst (λ (l : Label). TypedBlock known l b) public typed.1.1) i)
         ∙ sym (ap (λ (l : Label).
         choice_stores l (pair_count f a b) (stores_of_each f l a) (stores_of_each f l b)) public))
-        (λ secret. public_choice-stores f t a b typed secret)
+        (λ secret. public_choice-stores f single t a b typed secret)
     statement-stored (Loop t a) typed =
         loop-stored (guard_code f Public 0 t) t.cmp (block_code f (padding_of f) a) (guard-stores f Public 0 t)
         ∙ block-stored a typed.1.1.1

@@ -13,10 +13,10 @@ use Rattle.bank_alloc.specs.declared.places.PlaceError.TheVariants as place
 use Rattle.scratch_alloc.specs.Plans.{Plan, standard_plan}
 use Rattle.source_folding.specs.Folded.{folded_source}
 use Rattle.resident_alloc.specs.ResidentFits.{ResidentsRefuse}
-use Rattle.resident_alloc.specs.ResidentPlan.{resident_plan}
 use Rattle.block_cache_gen.specs.Homes.{Held}
 use Rattle.block_cache_gen.specs.Settings.{setting_for}
 use Rattle.branch_padding.specs.Stores.{added_up, stores_of_each}
+use Rattle.code_gen.specs.FastLayout.{fast_plan}
 use Rattle.code_gen.specs.HeldNumbers.{held_for}
 use Rattle.code_gen.specs.Programs.{scalars_among}
 use Rattle.code_gen.specs.declared.compiling.CompileError.{CompileError}
@@ -51,8 +51,8 @@ stores_in p profile = stores_by p (standard_plan p profile.block_log) profile fa
 -- and with it, where expressions are made cheaper and registers hold the first scalars and numbers
 abbrev pub stores_with_residents : Source → Profile → ℕ
 stores_with_residents p profile =
-    stores_by (folded_source p) (resident_plan p profile.block_log) profile true
-    (held_for (folded_source p) (resident_plan p profile.block_log).places)
+    stores_by (folded_source p) (fast_plan p profile.block_log) profile true
+    (held_for (folded_source p) (fast_plan p profile.block_log).places)
 
 -- A program is refused where its variables lack room, as the first of them does. Want of memory says nothing.
 abbrev pub ExplainsRoom : CompileError → Source → ℕ → Type 0

@@ -10,7 +10,7 @@ use Rattle.held_registers.specs.declared.registers.Held.{Held}
 use Rattle.held_registers.specs.Held.{held_scalars, with_number}
 
 abbrev pub reducer_at : Place → ℤ
-reducer_at q = reducer (home_at [] q 0)
+reducer_at q = reducer (home_at [] 0 q 0)
 
 abbrev pub with_place : List Held → Place → List Held
 with_place held q =

@@ -1,3 +1,4 @@
+pub mod FastLayout
 pub mod Compiles
 pub mod Implements
 pub mod Statements

@@ -8,7 +8,6 @@ ghost use Rattle.bank_alloc.specs.Fits.{Fits};
 ghost use Rattle.bank_alloc.specs.Layout.{HasLayout};
 ghost use Rattle.bank_alloc.specs.Places.{IsPlacesOf};
 ghost use Rattle.resident_alloc.specs.ResidentFits.{ResidentsFit};
-ghost use Rattle.resident_alloc.specs.ResidentLayout.{HasResidentLayout};
 ghost use Rattle.held_registers.specs.Held.{IsSoundHeld};
 ghost use Rattle.block_cache_gen.specs.ProgramWords.{BlockHasWords};
 ghost use Rattle.scratch_alloc.specs.Plans.{IsSoundPlan, plan_from, standard_plan};
@@ -16,6 +15,7 @@ ghost use Rattle.block_cache_gen.specs.Settings.{IsFrame, plan_of, setting_of};
 ghost use Rattle.block_cache_gen.specs.StoredWords.{stored_words};
 ghost use Rattle.code_gen.specs.Compiles.{ExplainsResidents, ExplainsRoom, IsFor, LatenciesFit, stores_in, stores_with_residents};
 ghost use Rattle.code_gen.specs.Emitted.{padding_of};
+ghost use Rattle.code_gen.specs.FastLayout.{HasFastLayout};
 ghost use Rattle.code_gen.specs.Implements.{Implements};
 ghost use Rattle.code_gen.specs.HeldNumbers.{held_for};
 ghost use Rattle.code_gen.specs.Made.{IsMadeOf};
@@ -25,6 +25,7 @@ ghost use Rattle.source_folding.specs.Numbers.{BlockNumbersFit};
 
 use crate::banks::bank_specs;
 use crate::numbers::held_for;
+use crate::plans::fast_plan;
 use crate::programs::program_code;
 use bank_alloc::{PlaceError, Places, banks, symbols};
 use block_cache_gen::{CodeBuf, Emitter, Frame};
@@ -33,7 +34,6 @@ use gr_base::Memory;
 use gr_word::Label;
 use held_registers::Held;
 use lt_isa::{Latencies, Object, Profile};
-use resident_alloc::resident_plan;
 use scratch_alloc::{SlotPlan, slots};
 use source_folding::folded;
 use src_tree::Program;
@@ -192,9 +192,10 @@ pub fn compile(alloc: Global, t: &Typed, p: &Profile, l: &Latencies) -> Result<O
 
 /// Compiles a program as [`compile`] does, for `--fast`: arrays stay in the scratchpad for the whole run if there is room
 /// for them, so that an access of them shows nothing on the bus. The first scalars and numbers stay in registers, and are
-/// operands there. Expressions are made cheaper ([`source_folding::folded`]), and steps replace products, quotients and remainders by numbers
-/// (`strength_reduction`). Each variable is at the place that [`resident_alloc::resident_plan`] gives it. A program is
-/// refused exactly where its variables lack room at these places, with the first that does.
+/// operands there. Expressions are made cheaper ([`source_folding::folded`]), and steps replace products, quotients and
+/// remainders by numbers (`strength_reduction`). Each variable is at the place that [`fast_plan`] gives it. A program is
+/// rejected exactly if its variables lack room before arrays of several blocks are spread over slots, with the first
+/// cause.
 pub fn compile_fast(
     alloc: Global,
     t: &Typed,
@@ -205,7 +206,7 @@ pub fn compile_fast(
     requires latencies { LatenciesFit l.now }
     ensures accepted { IfOk result (λ o. Accepts o) }
     ensures implements { IfOk result (λ o. Implements (source_of t.now) o) }
-    ensures laid_out { IfOk result (λ o. HasResidentLayout (source_of t.now) p.now.block_log o) }
+    ensures laid_out { IfOk result (λ o. HasFastLayout (source_of t.now) p.now.block_log o) }
     ensures machine { IfOk result (λ o. IsFor p.now l.now o) }
     ensures size { IfOk result (λ o. length o.code ≤ 120 * weight_of (source_of t.now) + 116) }
     ensures stores { IfOk result (λ o. stored_words o.code ≡ stores_with_residents (source_of t.now) p.now) }
@@ -214,7 +215,7 @@ pub fn compile_fast(
     ensures refused { IfErr result (λ e. ExplainsResidents e (source_of t.now) p.now.block_log) }
 {
     let program = t.program();
-    match resident_plan(alloc, program, p.block_log) {
+    match fast_plan(alloc, program, p.block_log) {
         Err(lack) => Err(CompileError::from(lack)),
         Ok(plan) => match planned_folded(alloc, program, &plan.places, &plan.slots, p, l) {
             Ok(object) => Ok(object),

@@ -1,8 +1,9 @@
 //! The code of whole programs.
 //!
 //! [`compile`] makes an object of a typed program: accepted, with the program's meaning and layout, within a size that
-//! goes by the program's weight. It refuses a program exactly where its variables lack room. [`passing_laws`]: code that
-//! is passed piece by piece is accepted.
+//! goes by the program's weight. It rejects a program exactly if its variables lack room. [`compile_fast`] does the same
+//! for `--fast`, with the memory that [`fast_plan`] plans. [`passing_laws`]: code that is passed piece by piece is
+//! accepted.
 #![tactic(auto)]
 
 mod banks;
@@ -10,8 +11,10 @@ pub mod compiling;
 mod jumps;
 mod laws;
 mod numbers;
+pub mod plans;
 mod programs;
 mod statements;
 
 pub use compiling::{CompileError, compile, compile_fast};
 pub use laws::passing_laws;
+pub use plans::fast_plan;

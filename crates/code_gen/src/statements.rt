@@ -85,8 +85,8 @@ fn close_loop<'a>(
     noted: bool,
 ) -> Result<(), Memory>
     requires typed { TypedTest (context_of emitter.now.decls) (test_of guard.now) }
-    requires left { height_of (expr_tree guard.now.left) ≤ 17 }
-    requires right { height_of (expr_tree guard.now.right) ≤ 17 }
+    requires left { height_of (expr_tree guard.now.left) ≤ 16 }
+    requires right { height_of (expr_tree guard.now.right) ≤ 16 }
     requires before { start < length out.old.code.items }
     requires room { length out.old.code.items + 120 * test_weight (test_of guard.now) ≤ most_instructions }
     ensures closed { OnOk result (ClosesLoop emitter.now (test_of guard.now) start noted out.old out.new) }

@@ -1,5 +1,5 @@
 -- From a program and its object file to the text that is printed.
-use Rattle.std.proofs.Common.{◌≡◌, Bool, inl, inr, ℕ, List, Some, Result, Ok, Err, IfOk, refl, sym, subst, arith}
+use Rattle.std.proofs.Common.{◌≡◌, Bool, inl, inr, ℕ, ◌≤◌, List, length, Some, Result, Ok, Err, IfOk, refl, sym, subst, arith}
 use Rattle.gr_base.specs.Lists.{Within}
 use Rattle.gr_outside.specs.Shelf.{ShelfSeen}
 use Rattle.gr_outside.specs.Sink.{SinkSeen}
@@ -20,7 +20,7 @@ use Rattle.call_replies.specs.declared.replies.Done.TheVariants.{Compiled}
 use Rattle.call_replies.specs.declared.replies.Reply.{Reply}
 use Rattle.call_replies.specs.Texts.{Said}
 use Rattle.ghost_cli.specs.Questions.{WhichCompiled}
-use Rattle.ghost_cli.specs.Compiled.{HasLayoutFor, HasRoom, IsCompiledTo, LacksRoom, held_for, plan_for, source_for, room_fault}
+use Rattle.ghost_cli.specs.Compiled.{HasLayoutFor, HasRoom, IsCompiledTo, LacksRoom, held_for, most_code, plan_for, source_for, room_fault}
 use Rattle.ghost_cli.specs.Outside.{outside, LeftBy, Explains}
 use Rattle.command_words.specs.Windows.{WindowFits, windowed_profile}
 use Rattle.command_words.specs.declared.windows.Window.{Window}
@@ -62,8 +62,8 @@ pub spelling-compiled : (p : Source) (target : Target) (latencies : Latencies) (
     → stored_words o.code
     ≡ stores_by (source_for target.fast p) (plan_for target.fast p target.profile.block_log) target.profile target.fast
     (held_for target.fast p target.profile.block_log)
-    → IsCompiledTo p target (spelling o)
-spelling-compiled p target latencies o usually room ranges accepted implements layout machine stores = record {
+    → length o.code ≤ most_code target.fast p → IsCompiledTo p target (spelling o)
+spelling-compiled p target latencies o usually room ranges accepted implements layout machine stores size = record {
   room = room;
   o = o;
   spells = record { in_range = ranges; spelled = refl };
@@ -72,6 +72,7 @@ spelling-compiled p target latencies o usually room ranges accepted implements l
   layout = layout;
   machine = subst (λ (l : Latencies). IsFor target.profile l o) usually machine;
   stores = stores;
+  size = size;
 }
 
 -- ---- the printed text

@@ -30,8 +30,8 @@ module _ {mid now : SinkSeen} (none : mid.held ≡ None) (same : now.held ≡ mi
 
   cut_left : {before : Outside} {shelf : ShelfSeen} {status : ℕ} {ending : Ending}
       → LeftBy before (outside shelf mid) status ending → LeftBy before (outside shelf now) 4 ending
-  cut_left {before} {shelf} {status} (Unread name only put) =
-      Unread name only (cut_put before.sink (unread name) status put)
+  cut_left {before} {shelf} {status} (Unread name left put) =
+      Unread name left (cut_put before.sink (unread name) status put)
   cut_left {before} {shelf} {status} (Long name limit stays put) =
       Long name limit stays (cut_put before.sink (too_long name limit) status put)
   cut_left {before} {shelf} {status} (Judged seen verdict stays put) =

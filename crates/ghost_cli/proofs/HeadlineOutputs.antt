@@ -1,10 +1,9 @@
 -- Which file the work of a verb may write.
-use Rattle.std.proofs.Common.{◌≡◌, ◌≢◌, ◌⊎◌, inl, inr, ℕ, ◌+◌, ℤ, Bool, true, false, cond, List, [], ◌∷◌, ◌++◌, codes, Option, Some, None, Result, Ok, Err, refl, sym, ap, ◌∙◌, subst, ⊎_elim}
+use Rattle.std.proofs.Common.{◌≡◌, ◌≢◌, ℕ, ◌+◌, ℤ, Bool, true, false, cond, List, [], ◌∷◌, ◌++◌, codes, Option, Some, None, Result, Ok, Err, refl, sym, ap, ◌∙◌, subst}
 use Rattle.std.specs.FinMap.{get, remove, get-remove}
 use Rattle.std.specs.Option.{option_map}
 use Rattle.std.specs.Ordering.{nat_cmp, eq_by_cmp}
 use Rattle.std.specs.Cmp.Lexicographic.{slice_cmp, nat_list_cmp_total}
-use Rattle.std.specs.Str.{bytes_eq}
 use Rattle.std.proofs.lemmas.Option.{same_Some}
 use Rattle.std.proofs.lemmas.Map.Text.{is_eq-slice_cmp}
 use Rattle.std.proofs.lemmas.Slice.Eq.{bytes_eq-Decides}
@@ -43,6 +42,7 @@ use Rattle.command_words.specs.WordsAsk.{verb_names}
 use Rattle.ghost_cli.specs.Work.{Asks, Ends, MayWrite, Reads, Work, Writes, WritesIt, WritesLater, WritesThen}
 use Rattle.ghost_cli.specs.Headline.{NameOutput}
 use Rattle.command_words.proofs.VerbWords.{words-ask}
+use Rattle.ghost_cli.proofs.EachVerb.{each-verb}
 
 -- ---- the files after a write
 
@@ -204,21 +204,6 @@ names-output verb writes more others output name parts says is = record {
   };
 }
 
-either : (x y : Text) → (x ≡ y) ⊎ (x ≡ y → ⊥)
-either x y = by (bytes_eq x y) refl
-  where
-    by : (b : Bool) → bytes_eq x y ≡ b → (x ≡ y) ⊎ (x ≡ y → ⊥)
-    by true e = inl ((bytes_eq-Decides x y).0 e)
-    by false e = inr (λ same. let f : ◌≡◌ {A = Bool} false true = sym e ∙ (bytes_eq-Decides x y).1 same in absurd cc)
-
-among : (names : List Text) (x : Text) → IsAmong names x ⊎ (IsAmong names x → ⊥)
-among [] x = inr (λ none. none)
-among (y ∷ names) x =
-    ⊎_elim (λ is. inl (inl is))
-    (λ other. ⊎_elim (λ later. inl (inr later)) (λ none. inr (λ one. elim one [ inl e ↦ other e | inr l ↦ none l ]))
-    (among names x))
-    (either x y)
-
 module _ (more : List Text) (texts : AreTexts more) (work : Work) (name : Text) (may : MayWrite work name) where
   abbrev OfVerb : Text → Type 0
   OfVerb verb = work_of (verb ∷ more) ≡ Some work → NameOutput (verb ∷ more) name
@@ -289,30 +274,16 @@ module _ (more : List Text) (texts : AreTexts more) (work : Work) (name : Text) 
       names-output Infer tt more (a.first ∷ []) a.second name a.parts a.says
       (by-only (Out a.second) _ a.is (infer-only (Out a.second) a.second refl a.first))
 
-  at : (verb known : Text) → verb ≡ known → OfVerb known → OfVerb verb
-  at verb known is of = subst OfVerb (sym is) of
-
-  of-known : (verb : Text) → IsAmong verb_names verb → OfVerb verb
-  of-known verb (inl is) = at verb _ is of-check
-  of-known verb (inr (inl is)) = at verb _ is of-trace
-  of-known verb (inr (inr (inl is))) = at verb _ is of-run
-  of-known verb (inr (inr (inr (inl is)))) = at verb _ is of-assemble
-  of-known verb (inr (inr (inr (inr (inl is))))) = at verb _ is of-disassemble
-  of-known verb (inr (inr (inr (inr (inr (inl is)))))) = at verb _ is of-evaluate
-  of-known verb (inr (inr (inr (inr (inr (inr (inl is))))))) = at verb _ is of-compile
-  of-known verb (inr (inr (inr (inr (inr (inr (inr (inl is)))))))) = at verb _ is of-sample
-  of-known verb (inr (inr (inr (inr (inr (inr (inr (inr (inl is))))))))) = at verb _ is of-bus
-  of-known verb (inr (inr (inr (inr (inr (inr (inr (inr (inr (inl is)))))))))) = at verb _ is of-infer
-  of-known verb (inr (inr (inr (inr (inr (inr (inr (inr (inr (inr none)))))))))) = absurd none
-
-  of-verb : (verb : Text) → OfVerb verb
-  of-verb verb asked =
-      ⊎_elim (λ known. of-known verb known asked)
-      (λ unknown. absurd (none-asked (sym ((words-ask works).no_verb verb more unknown) ∙ asked)))
-      (among verb_names verb)
+  of-none : (verb : Text) → (IsAmong verb_names verb → ⊥) → OfVerb verb
+  of-none verb unknown asked = absurd (none-asked (sym ((words-ask works).no_verb verb more unknown) ∙ asked))
     where
       none-asked : None ≡ Some work → ⊥
       none-asked e = let f : ◌≡◌ {A = Option Work} None (Some work) = e in cc
+
+  of-verb : (verb : Text) → OfVerb verb
+  of-verb =
+      each-verb (λ (verb : Text). OfVerb verb) of-check of-trace of-run of-assemble of-disassemble of-evaluate
+      of-compile of-sample of-bus of-infer of-none
 
 -- the words name the output that their work may write
 pub words-name : (words : List Text) → AreTexts words → (work : Work) (name : Text) → work_of words ≡ Some work

@@ -5,14 +5,14 @@ use Rattle.src_tree.specs.Limits.{IsWithinLimits}
 use Rattle.src_tree.specs.Trees.{Source}
 use Rattle.scratch_alloc.specs.Plans.{IsSoundPlan}
 use Rattle.scratch_alloc.proofs.StandardPlan.{standard_sound}
-use Rattle.resident_alloc.proofs.SoundPlan.{resident_sound}
+use Rattle.code_gen.proofs.FastPlans.{fast-sound}
 use Rattle.ghost_cli.specs.declared.targets.Target.{Target}
 use Rattle.ghost_cli.specs.Compiled.{HasRoom, IsCompiledTo, plan_for}
 
 plan-sound : (fast : Bool) (p : Source) (w : ℕ) → IsWithinLimits p → Within 3 9 w → HasRoom fast p w
     → IsSoundPlan p w (plan_for fast p w)
 plan-sound false p w limits log room = standard_sound p w limits log room
-plan-sound true p w limits log room = resident_sound p w limits log room
+plan-sound true p w limits log room = fast-sound p w limits log room
 
 pub target-sound : (p : Source) (target : Target) (bytes : List ℕ) → IsWithinLimits p
     → (compiled : IsCompiledTo p target bytes)

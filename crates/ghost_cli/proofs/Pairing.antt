@@ -95,7 +95,7 @@ module _ (shelf : ShelfSeen) (pair : Pair) (k : ℕ) (read : Read) (next : Read 
 
 -- ---- all pairs
 
-next-pair : (pairs : List Pair) (i : ℕ) (d : Pair) → i < length pairs
+pub next-pair : (pairs : List Pair) (i : ℕ) (d : Pair) → i < length pairs
     → drop i pairs ≡ get_or pairs i d ∷ drop (suc i) pairs
 next-pair [] i d within = absurd (omega arith)
 next-pair (p ∷ pairs) zero d within = refl

@@ -40,6 +40,7 @@ use Rattle.block_cache_gen.specs.ProgramWords.{BlockHasWords}
 use Rattle.block_cache_gen.specs.ServedBlocks.{block_served}
 use Rattle.block_cache_gen.specs.Settings.{homes_at, setting_for}
 use Rattle.block_cache_gen.proofs.HeldBeginning.{held-at}
+use Rattle.block_cache_gen.proofs.HomesOfFrames.{further-low}
 use Rattle.block_cache_gen.proofs.RangesOfCode.{HomeFits, HomesFit}
 use Rattle.block_cache_gen.proofs.ServedBlocks.{served-home, first-all}
 use Rattle.block_cache_gen.proofs.Settled.{get_or-homes_at, length-homes_at, place-length}
@@ -113,7 +114,7 @@ module _ (p : Source) (plan : Plan) (given : Profile) (reduces : Bool) (held : L
   bank-low b there = omega (arith, (sound.blocks b there).1, most_blocks-le b)
 
   home_fits-at : (k : ℕ) → k < length p.decls
-      → HomeFits (length plan.blocks) (get_or (homes_at plan.pins plan.places plan.slots) k no_home)
+      → HomeFits (length plan.blocks) (get_or (homes_at plan.pins w plan.places plan.slots) k no_home)
   home_fits-at k below =
       let q = get_or plan.places k no_place in
       let place = sound.place k below in
@@ -122,13 +123,15 @@ module _ (p : Source) (plan : Plan) (given : Profile) (reduces : Bool) (held : L
       let few = bank-low q.bank place.bank in
       let words = width w fits.block_log.1 in
       subst (HomeFits (length plan.blocks))
-      (sym (get_or-homes_at plan.pins plan.places plan.slots k same (omega (arith, below, sound.places))))
+      (sym (get_or-homes_at plan.pins w plan.places plan.slots k same (omega (arith, below, sound.places))))
       (record {
         bank = place.bank;
         block = omega (arith, block, few);
         word = omega (arith, place.word, words);
         length = size;
         slot = slot-low k below;
+        more = further-low p w plan sound (get_or p.decls k no_decl) q (get_or plan.slots k 0)
+            (pin_of_slot plan (get_or plan.slots k 0)) refl (sound.served k below);
       })
 
   homes-fit : HomesFit (length plan.blocks) f
@@ -142,7 +145,7 @@ module _ (p : Source) (plan : Plan) (given : Profile) (reduces : Bool) (held : L
 
   served-fits : (slot block : ℕ) → block_served f slot ≡ Some block → block ≤ 65536
   served-fits slot block served =
-      let count = length-homes_at plan.pins plan.places plan.slots same in
+      let count = length-homes_at plan.pins w plan.places plan.slots same in
       let home = served-home f slot block served in
       let at = home_fits-at home.0 (omega (arith, home.1, count, sound.places)) in
       omega (arith, at.block, home.2)

@@ -10,7 +10,7 @@ use Rattle.call_replies.specs.declared.replies.Verdict.{Verdict}
 use Rattle.ghost_cli.specs.Questions.{Question, Answer, IsRight}
 use Rattle.ghost_cli.specs.Showing.{nothing_seen}
 use Rattle.ghost_cli.specs.Work.{Work, Ends, Reads, Asks, Ending, IsUnread, IsTooLong, IsVerdict, IsWritten, MayEnd, Ended, Missing, TooLong, Found, Answered, said_at}
-use Rattle.ghost_cli.specs.Outside.{Outside, Gives, PutsSaid, OnlyReads, LeavesShelf, LeftBy, Unread, Long, Judged, Explains, NoRoom, Worked}
+use Rattle.ghost_cli.specs.Outside.{Outside, Gives, PutsSaid, OnlyReads, LeavesShelf, LeavesUnread, LeftBy, Unread, Long, Judged, Explains, NoRoom, Worked}
 use Rattle.ghost_cli.specs.Progress.{HasLeft, Stops, NoRoomLeft, StopsAt, EndsWorkWith}
 use Rattle.ghost_cli.proofs.Promised.{same-only}
 
@@ -72,18 +72,18 @@ gives-failed (Some all) before now name rose = inr rose
 -- so does one that is missing
 pub read-missing : (before after : ShelfSeen) (name : List ℕ) (n : ℕ)
     → MatchOption before.files (Rose before.read_faults after.read_faults) (λ all. get all name ≡ None)
-    → OnlyReads before after → (next : List ℕ → Work) → Stops before after (Reads name n next) (unread name)
-read-missing before after name n missing only next =
+    → LeavesUnread name before after → (next : List ℕ → Work) → Stops before after (Reads name n next) (unread name)
+read-missing before after name n missing left next =
     StopsAt (IsUnread name)
-    (Missing name n next (gives-none before.files before.read_faults after.read_faults name missing)) only refl
+    (Missing name n next (gives-none before.files before.read_faults after.read_faults name missing)) left refl
 
 -- and one whose read fails
 pub read-failed : (before after : ShelfSeen) (name : List ℕ) (n : ℕ)
-    → Rose before.read_faults after.read_faults → OnlyReads before after
+    → Rose before.read_faults after.read_faults → LeavesUnread name before after
     → (next : List ℕ → Work) → Stops before after (Reads name n next) (unread name)
-read-failed before after name n rose only next =
+read-failed before after name n rose left next =
     StopsAt (IsUnread name)
-    (Missing name n next (gives-failed before.files before.read_faults after.read_faults name rose)) only refl
+    (Missing name n next (gives-failed before.files before.read_faults after.read_faults name rose)) left refl
 
 pub read-starved : (before after : ShelfSeen) (work : Work) → after ≡ before → Stops before after work no_memory
 read-starved before after work same = NoRoomLeft (same-only same) refl
@@ -159,7 +159,7 @@ stopped before after status work said (StopsAt ending comes left is) put = elim 
     left-so (IsWritten name bytes done) left put = absurd left
 
     only : (ending : Ending) → LeavesShelf ending before.shelf after.shelf → OnlyReads before.shelf after.shelf
-    only (IsUnread name) left = left
+    only (IsUnread name) left = left.only
     only (IsTooLong name limit) left = same-only left
     only (IsVerdict seen verdict) left = same-only left
     only (IsWritten name bytes done) left = absurd left

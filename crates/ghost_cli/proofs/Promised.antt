@@ -68,7 +68,7 @@ pub usage-of : {asked : Option Work} {before after : Outside} {status : ℕ}
     → Explains before after status asked → status ≡ 2 → asked ≡ None
 usage-of (NoWork same put) two = refl
 usage-of (NoRoom asked' same put) two = not-put put (λ is. omega (arith, two, is)) (λ is. omega (arith, two, is))
-usage-of (Worked work ending comes (Unread name only put)) two =
+usage-of (Worked work ending comes (Unread name left put)) two =
     not-put put (λ is. omega (arith, two, is)) (λ is. omega (arith, two, is))
 usage-of (Worked work ending comes (Long name limit same put)) two =
     not-put put (λ is. omega (arith, two, is)) (λ is. omega (arith, two, is))
@@ -94,13 +94,13 @@ pub unread-of : {asked : Option Work} {before after : Outside} {status : ℕ}
     → Explains before after status asked → status ≡ 3 → ReadFailed asked before after
 unread-of (NoWork same put) three = not-put put (λ is. omega (arith, three, is)) (λ is. omega (arith, three, is))
 unread-of (NoRoom asked' same put) three = not-put put (λ is. omega (arith, three, is)) (λ is. omega (arith, three, is))
-unread-of {before = before} {after = after} (Worked work ending comes (Unread name only put)) three =
+unread-of {before = before} {after = after} (Worked work ending comes (Unread name left put)) three =
     let named = names _ work (IsUnread name) comes in
     record {
       name = name;
       read = (work, refl, named.0);
       put = (whole put (λ is. omega (arith, three, is))).put;
-      left = only;
+      left = left;
       cause = missing before.shelf.files before.shelf.read_faults after.shelf.read_faults name named.1;
     }
   where
@@ -125,7 +125,7 @@ pub failed-of : {asked : Option Work} {before after : Outside} {status : ℕ} �
     → status ≡ 4 → Rose before.sink.faults after.sink.faults ⊎ WriteFailed asked before after
 failed-of (NoWork same put) four = inl (cut put four (λ is. omega (arith, is))).failed
 failed-of (NoRoom asked' same put) four = inl (cut put four (λ is. omega (arith, is))).failed
-failed-of (Worked work ending comes (Unread name only put)) four = inl (cut put four (λ is. omega (arith, is))).failed
+failed-of (Worked work ending comes (Unread name left put)) four = inl (cut put four (λ is. omega (arith, is))).failed
 failed-of (Worked work ending comes (Long name limit same put)) four =
     inl (cut put four (λ is. omega (arith, is))).failed
 failed-of (Worked work ending comes (Judged seen verdict same put)) four =
@@ -150,7 +150,7 @@ pub no-room-of : {asked : Option Work} {before after : Outside} {status : ℕ}
 no-room-of (NoWork same put) five = not-put put (λ is. omega (arith, five, is)) (λ is. omega (arith, five, is))
 no-room-of (NoRoom asked' same put) five =
     record { put = (whole put (λ is. omega (arith, five, is))).put; cause = inl same }
-no-room-of (Worked work ending comes (Unread name only put)) five =
+no-room-of (Worked work ending comes (Unread name left put)) five =
     not-put put (λ is. omega (arith, five, is)) (λ is. omega (arith, five, is))
 no-room-of (Worked work ending comes (Long name limit same put)) five =
     not-put put (λ is. omega (arith, five, is)) (λ is. omega (arith, five, is))
@@ -181,8 +181,8 @@ pub calm-of : {asked : Option Work} {before after : Outside} {status : ℕ}
     → Explains before after status asked → status ≢ 4 → IsCalm before after
 calm-of (NoWork same put) other = record { writes = ap writes-of same; puts = (whole put other).calm }
 calm-of (NoRoom asked' same put) other = record { writes = ap writes-of same.0; puts = (whole put other).calm }
-calm-of (Worked work ending comes (Unread name only put)) other =
-    record { writes = ap writes-of only.0; puts = (whole put other).calm }
+calm-of (Worked work ending comes (Unread name left put)) other =
+    record { writes = ap writes-of left.only.0; puts = (whole put other).calm }
 calm-of (Worked work ending comes (Long name limit same put)) other =
     record { writes = ap writes-of same; puts = (whole put other).calm }
 calm-of (Worked work ending comes (Judged seen verdict same put)) other =
@@ -201,7 +201,7 @@ pub reads-calm : {asked : Option Work} {before after : Outside} {status : ℕ} �
     → status ≢ 3 → status ≢ 4 → status ≢ 5 → after.shelf.read_faults ≡ before.shelf.read_faults
 reads-calm (NoWork same put) three four five = ap reads-of same
 reads-calm (NoRoom asked' same put) three four five = not-put put five four
-reads-calm (Worked work ending comes (Unread name only put)) three four five = not-put put three four
+reads-calm (Worked work ending comes (Unread name left put)) three four five = not-put put three four
 reads-calm (Worked work ending comes (Long name limit same put)) three four five = ap reads-of same
 reads-calm (Worked work ending comes (Judged seen verdict same put)) three four five = ap reads-of same
 reads-calm (Worked work ending comes (Written name bytes done written put)) three four five = ap reads-of written
@@ -216,7 +216,7 @@ pub starved-calm : {asked : Option Work} {before after : Outside} {status : ℕ}
     → Explains before after status asked → status ≢ 5 → status ≢ 4 → after.shelf.starved ≡ before.shelf.starved
 starved-calm (NoWork same put) five four = ap starved-count same
 starved-calm (NoRoom asked' same put) five four = ap starved-count same.0
-starved-calm (Worked work ending comes (Unread name only put)) five four = ap starved-count only.0
+starved-calm (Worked work ending comes (Unread name left put)) five four = ap starved-count left.only.0
 starved-calm (Worked work ending comes (Long name limit same put)) five four = ap starved-count same
 starved-calm (Worked work ending comes (Judged seen verdict same put)) five four = ap starved-count same
 starved-calm (Worked work ending comes (Written name bytes done written put)) five four = ap starved-count written
@@ -239,7 +239,7 @@ pub others-of : {asked : Option Work} {before after : Outside} {status : ℕ}
     → Explains before after status asked → (after.shelf.files ≡ before.shelf.files) ⊎ OnlyOutput asked before after
 others-of (NoWork same put) = inl (ap files-of same)
 others-of (NoRoom asked' same put) = inl (ap files-of same.0)
-others-of (Worked work ending comes (Unread name only put)) = inl (ap files-of only.0)
+others-of (Worked work ending comes (Unread name left put)) = inl (ap files-of left.only.0)
 others-of (Worked work ending comes (Long name limit same put)) = inl (ap files-of same)
 others-of (Worked work ending comes (Judged seen verdict same put)) = inl (ap files-of same)
 others-of {before = before} (Worked work ending comes (Written name bytes done written put)) = inr (record {
@@ -266,10 +266,15 @@ others-of (Worked work ending comes (Starved name bytes done refused rose calm p
       others = refused.others;
     })
 
+abbrev last-unread : ShelfSeen → Option (List ℕ)
+last-unread s = s.unread
+
 -- a shelf that stays was only read
 pub same-only : {before after : ShelfSeen} → after ≡ before → OnlyReads before after
 same-only {before} {after} same = (
-  same ∙ ap (λ n. record before { read_faults = n }) (sym (ap reads-of same)),
+  same
+      ∙ (ap (λ n. record before { read_faults = n }) (sym (ap reads-of same))
+      ∙ ap (λ n. record before { read_faults = after.read_faults; unread = n }) (sym (ap last-unread same))),
   omega (arith, ap reads-of same),
 )
 
@@ -278,7 +283,7 @@ pub last-of : {asked : Option Work} {before after : Outside} {status : ℕ}
     → Explains before after status asked → status ≢ 0 → status ≢ 4 → status ≢ 5 → OnlyReads before.shelf after.shelf
 last-of (NoWork same put) zero four five = same-only same
 last-of (NoRoom asked' same put) zero four five = same
-last-of (Worked work ending comes (Unread name only put)) zero four five = only
+last-of (Worked work ending comes (Unread name left put)) zero four five = left.only
 last-of (Worked work ending comes (Long name limit same put)) zero four five = same-only same
 last-of (Worked work ending comes (Judged seen verdict same put)) zero four five = same-only same
 last-of (Worked work ending comes (Written name bytes done written put)) zero four five = not-put put zero four
@@ -295,7 +300,7 @@ pub tells-of : {asked : Option Work} {before after : Outside} {status : ℕ}
     → Explains before after status asked → is_some after.shelf.files ≡ is_some before.shelf.files
 tells-of (NoWork same put) = ap told-at same
 tells-of (NoRoom asked' same put) = ap told-at same.0
-tells-of (Worked work ending comes (Unread name only put)) = ap told-at only.0
+tells-of (Worked work ending comes (Unread name left put)) = ap told-at left.only.0
 tells-of (Worked work ending comes (Long name limit same put)) = ap told-at same
 tells-of (Worked work ending comes (Judged seen verdict same put)) = ap told-at same
 tells-of {before = before} (Worked work ending comes (Written name bytes done written put)) =
@@ -363,7 +368,7 @@ answers-of (NoWork same put) files is four five =
       left = ap files-of same ∙ is;
     })
 answers-of (NoRoom asked' same put) files is four five = not-put put five four
-answers-of {before = before} {after = after} (Worked work ending comes (Unread name only put)) files is four five =
+answers-of {before = before} {after = after} (Worked work ending comes (Unread name left put)) files is four five =
     let done = whole put four in
     let named = names _ work (IsUnread name) comes in
     elim (told-of files before.shelf.files before.shelf.read_faults after.shelf.read_faults work
@@ -374,7 +379,7 @@ answers-of {before = before} {after = after} (Worked work ending comes (Unread n
         answer = AnswersSo work (IsUnread name) so;
         is = done.is;
         put = done.put;
-        left = ap files-of only.0 ∙ is;
+        left = ap files-of left.only.0 ∙ is;
       })
       | Unreadable other bytes same there rose ↦ inr (record {
         name = name;
@@ -384,7 +389,7 @@ answers-of {before = before} {after = after} (Worked work ending comes (Unread n
         is = done.is;
         failed = rose;
         put = done.put;
-        left = only;
+        left = left;
       })
     ]
   where
@@ -412,13 +417,13 @@ stands-of (NoWork same put) files is four calm =
     OfAnswer usage files NoAnswer (ap files-of same ∙ is) (cut put four (λ e. omega (arith, e))).less
 stands-of (NoRoom asked' same put) files is four calm =
     NoMemoryCut (cut put four (λ e. omega (arith, e))).less (inl same)
-stands-of {before = before} {after = after} (Worked work ending comes (Unread name only put)) files is four calm =
+stands-of {before = before} {after = after} (Worked work ending comes (Unread name left put)) files is four calm =
     let less = (cut put four (λ e. omega (arith, e))).less in
     let named = names _ work (IsUnread name) comes in
     elim (told-of files before.shelf.files before.shelf.read_faults after.shelf.read_faults work
     (IsUnread name) is comes) [
-      | Same so ↦ OfAnswer (unread name) files (AnswersSo work (IsUnread name) so) (ap files-of only.0 ∙ is) less
-      | Unreadable other bytes same there rose ↦ UnreadCut name (work, refl, named.0) less rose only
+      | Same so ↦ OfAnswer (unread name) files (AnswersSo work (IsUnread name) so) (ap files-of left.only.0 ∙ is) less
+      | Unreadable other bytes same there rose ↦ UnreadCut name (work, refl, named.0) less rose left
     ]
 stands-of {before = before} {after = after} (Worked work ending comes (Long name limit same put)) files is four calm =
     OfAnswer _ files (answers-so files before after work (IsTooLong name limit) refl is comes) (ap files-of same ∙ is)

@@ -150,7 +150,8 @@ text-starved n few text is said refuses =
       | inr why ↦ absurd (source-starved n few why.1 why.0 why.2 why.3)
     ]
 
-no-room_fault : (fast : Bool) (n : ℕ) → n ≤ 65536 → (e : CompileError) (shown : SourceFault)
+-- there is room for its variables
+pub no-room_fault : (fast : Bool) (n : ℕ) → n ≤ 65536 → (e : CompileError) (shown : SourceFault)
     → LacksRoom fast e (sample_program n) 9 → room_fault e ≡ Some shown → ⊥
 no-room_fault false n few (room.TooManyScalars Public) shown many is =
     let fits = (sample_fits n few).scalars.public in omega (arith, many, fits)

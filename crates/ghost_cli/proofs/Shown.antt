@@ -3,7 +3,7 @@ use Rattle.std.proofs.Common.{◌≡◌, ℕ, ◌-◌, ◌<◌, ◌≤◌, ◌^�
 use Rattle.std.specs.List.{All}
 use Rattle.banks.specs.declared.bank.Leaves.{Leaves}
 use Rattle.banks.specs.Accesses.{accesses_from}
-use Rattle.banks.proofs.AccessBounds.{blocks-exist}
+use Rattle.banks.proofs.AccessBounds.{accesses-counted, blocks-exist}
 use Rattle.ghost_cli.specs.Showing.{run_seen}
 use Rattle.std.proofs.lemmas.List.{length-map}
 use Rattle.std.proofs.lemmas.List.Elements.{All-map}
@@ -11,7 +11,7 @@ use Rattle.std.proofs.lemmas.Nat.{pow_pos}
 use Rattle.std.proofs.Math.Nat.{mod-lt}
 use Rattle.lt_isa.specs.Object.{Parts, blocks_of}
 use Rattle.lt_isa.specs.Ranges.{IsInRange}
-use Rattle.lt_isa.specs.Start.{FitsObject, start_state}
+use Rattle.lt_isa.specs.Start.{FitsObject, start_state, trace}
 use Rattle.lt_isa.proofs.Starts.{IsShaped-start}
 use Rattle.processor.specs.ObliviousBanks.{oram_of, paths_shown, shown_of}
 use Rattle.processor.specs.Watching.{run_shown}
@@ -26,9 +26,10 @@ use Rattle.path_oram.proofs.Ending.{settled_after}
 use Rattle.rand_chacha.specs.ChaCha.{ChaCha}
 use Rattle.ghost_cli.specs.Beginning.{BankBegins, BeginFrom}
 use Rattle.ghost_cli.specs.Levels.{AllStand, MayEndOn, MayRun, OfOram}
-use Rattle.ghost_cli.specs.Paths.{IsShown, OfBank}
+use Rattle.ghost_cli.specs.Paths.{IsShown, OfBank, words_drawn}
 use Rattle.ghost_cli.specs.Seeds.{seeded_words, stream_from}
 use Rattle.ghost_cli.proofs.Beginnings.{each-begins}
+use Rattle.ghost_cli.proofs.PathsShown.{leaf-count, paths-with_paths, shows-with_paths}
 
 -- the leaves that a bank shows for accesses to blocks
 abbrev pub shows : Oram ChaCha → List ℕ → List Leaves
@@ -82,14 +83,24 @@ module _ (o : Parts) (range : IsInRange o) (inputs : List (List ℤ)) (fits : Fi
           oram.places ends.after (touched o inputs cycles b) levels begins.first begins.words ends.come ends.are;
     }
 
+    -- the paths of each bank
+    abbrev paths : ℕ → List Leaves
+    paths = paths_shown shows orams (accesses_from o (start_state o inputs) cycles)
+
     -- the trace of the run is the answer
     pub is-shown : (levels : List (List (Option ℕ))) → AllStand o (start_state o inputs) cycles orams levels → IsShown o
         inputs cycles seed (run_seen (run_shown shows o (start_state o inputs) orams cycles) levels)
     is-shown levels stand = record {
-      paths = paths_shown shows orams (accesses_from o (start_state o inputs) cycles);
-      shown = refl;
+      shown = shows-with_paths (trace o inputs cycles) paths;
       alone = (refl, refl);
       count = stand.count;
-      banks = λ b two exists. of-bank b (oram_of orams b) (get_or levels (b - 2) []) (begins b two exists)
-          (stand.banks b two (omega (arith, two, exists, stand.count)));
+      banks = λ b two exists.
+          let bank = of-bank b (oram_of orams b) (get_or levels (b - 2) []) (begins b two exists)
+          (stand.banks b two (omega (arith, two, exists, stand.count))) in
+          subst (λ l. OfBank o inputs cycles seed b l (get_or levels (b - 2) []))
+          (sym (paths-with_paths b (trace o inputs cycles) paths
+          (ap length bank.shown
+          ∙ leaf-count (blocks_of o b) bank.height (words_drawn o inputs cycles seed b) (touched o inputs cycles b)
+          ∙ sym (accesses-counted b two o (start_state o inputs) cycles))))
+          bank;
     }

@@ -1,13 +1,13 @@
 -- What a run over recursive banks shows.
-use Rattle.std.proofs.Common.{◌≡◌, ℕ, ◌+◌, ◌*◌, ◌-◌, ℤ, List, [], length, map, Option, Some, None, refl, sym, ap, ◌∙◌}
+use Rattle.std.proofs.Common.{◌≡◌, ℕ, ◌+◌, ◌*◌, ◌-◌, ℤ, List, [], length, map, Option, Some, None, refl, sym, ap, ◌∙◌, subst}
 use Rattle.std.proofs.lemmas.List.{length-map}
 use Rattle.lt_isa.specs.Object.{Parts}
 use Rattle.lt_isa.specs.Ranges.{IsInRange}
-use Rattle.lt_isa.specs.Start.{FitsObject, start_state}
+use Rattle.lt_isa.specs.Start.{FitsObject, start_state, trace}
 use Rattle.lt_isa.proofs.Starts.{IsShaped-start}
 use Rattle.banks.specs.declared.bank.Leaves.{Leaves}
 use Rattle.banks.specs.Accesses.{accesses_from}
-use Rattle.banks.proofs.AccessBounds.{blocks-exist}
+use Rattle.banks.proofs.AccessBounds.{accesses-counted, blocks-exist}
 use Rattle.processor.specs.ObliviousBanks.{oram_of, paths_shown, shown_of}
 use Rattle.processor.specs.Watching.{run_shown}
 use Rattle.path_oram.specs.LeavesAlike.{touched}
@@ -22,6 +22,7 @@ use Rattle.ghost_cli.specs.RecursivePaths.{IsShownInTrees, OfRecursiveBank}
 use Rattle.ghost_cli.specs.Showing.{run_seen}
 use Rattle.ghost_cli.specs.Seeds.{seeded_words, stream_from}
 use Rattle.ghost_cli.proofs.Beginnings.{each-begins}
+use Rattle.ghost_cli.proofs.PathsShown.{paths-with_paths, rec-leaf-count, shows-with_paths}
 
 -- the leaves that a bank shows for accesses to blocks
 abbrev pub shows : Recursive ChaCha → List ℕ → List Leaves
@@ -44,14 +45,23 @@ module _ (o : Parts) (range : IsInRange o) (inputs : List (List ℤ)) (fits : Fi
         (sym (length-map (all_trees oram) size_of));
   }
 
+  -- the paths of each bank
+  abbrev paths : ℕ → List Leaves
+  paths = paths_shown shows orams (accesses_from o (start_state o inputs) cycles)
+
   -- the trace of the run is the answer
   pub is-shown : IsShownInTrees o inputs cycles seed
       (run_seen (run_shown shows o (start_state o inputs) orams cycles) [])
   is-shown = record {
-    paths = paths_shown shows orams (accesses_from o (start_state o inputs) cycles);
-    shown = refl;
+    shown = shows-with_paths (trace o inputs cycles) paths;
     alone = (refl, refl);
     none = refl;
-    banks = λ b two exists. of-bank b (oram_of orams b)
-        (each-begins (RecursiveBegins o inputs seed 0) (length o.banks) orams count begun b two exists);
+    banks = λ b two exists.
+        let bank = of-bank b (oram_of orams b)
+        (each-begins (RecursiveBegins o inputs seed 0) (length o.banks) orams count begun b two exists) in
+        subst (OfRecursiveBank o inputs cycles seed b)
+        (sym (paths-with_paths b (trace o inputs cycles) paths
+        (ap length bank.shown ∙ rec-leaf-count _ bank.sizes (touched o inputs cycles b)
+        ∙ sym (accesses-counted b two o (start_state o inputs) cycles))))
+        bank;
   }

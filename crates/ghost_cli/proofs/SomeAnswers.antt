@@ -5,6 +5,7 @@ use Rattle.std.specs.Option.{option_map_or}
 use Rattle.std.specs.FinMap.{get}
 use Rattle.std.specs.List.{list_all}
 use Rattle.std.proofs.lemmas.Bool.{cases_lt}
+use Rattle.gr_base.specs.Lists.{Within}
 use Rattle.gr_outside.specs.Shelf.{Files}
 use Rattle.gr_word.specs.declared.variables.Want.{Want}
 use Rattle.lt_isa.specs.Machine.{Observed, RamRead, RamWrite, EncRead, EncWrite, Oram, Halted}
@@ -59,14 +60,16 @@ use Rattle.ghost_cli.specs.Check.{check_work}
 use Rattle.ghost_cli.specs.Compile.{compile_work, on_compiled}
 use Rattle.ghost_cli.specs.Disassemble.{disassemble_work}
 use Rattle.ghost_cli.specs.Evaluate.{evaluate_work, evaluates_on, on_left}
+use Rattle.ghost_cli.specs.Histogram.{Made, figures_of, sample_cycles, sample_inputs}
 use Rattle.ghost_cli.specs.Infer.{infer_work, infers_to, on_inferred}
 use Rattle.call_replies.specs.NameText.{name_text}
 use Rattle.ghost_cli.specs.Objects.{object_limit}
 use Rattle.ghost_cli.specs.OneAnswer.{AreBytes, HasSomeAnswer, SomeAnswer}
 use Rattle.ghost_cli.specs.Promises.{AnswersSo}
-use Rattle.ghost_cli.specs.Questions.{Answer, AreInputs, IsRight, Question, WhatIsInferred, WhatIsJoined, WhatIsLeft, WhenItHalts, WhetherAccepted, WhichAssembly, WhichCompiled, WhichInputs, WhichObject, WhichSource}
+use Rattle.ghost_cli.specs.Questions.{Answer, AreInputs, IsRight, Question, WhatIsInferred, WhatIsJoined, WhatIsLeft, WhatIsMade, WhatIsShown, WhenItHalts, WhetherAccepted, WhichAssembly, WhichCompiled, WhichInputs, WhichObject, WhichSource}
 use Rattle.ghost_cli.specs.Run.{on_halt, run_work, runs_on}
 use Rattle.ghost_cli.specs.Runs.{HaltOf}
+use Rattle.ghost_cli.specs.Sample.{on_sampled, sample_work, samples_on}
 use Rattle.ghost_cli.specs.Sharing.{AreRead}
 use Rattle.ghost_cli.specs.Showing.{Seen, events_alone, nothing_seen}
 use Rattle.ghost_cli.specs.Sources.{SpellsTyped, source_limit}
@@ -76,6 +79,8 @@ use Rattle.ghost_cli.specs.Work as work
 use Rattle.ghost_cli.specs.Work.{Asks, Ended, Ending, Ends, Found, Holds, IsTooLong, IsUnread, IsVerdict, IsWritten, MayEnd, Missing, Reads, TooLong, Work, Writes, Wrote, files_at, said_at}
 use Rattle.ghost_cli.proofs.Pairing.{none-read, one-read}
 use Rattle.ghost_cli.proofs.SomeObjects.{compiled-some, program-fits}
+use Rattle.ghost_cli.proofs.SomePaths.{shown-in-trees-some, shown-some}
+use Rattle.ghost_cli.proofs.SomeSamples.{made-some}
 use Rattle.ghost_cli.proofs.SomeSources.{source-some}
 
 -- ---- inputs: that memory ran out is no fault of a text
@@ -355,12 +360,25 @@ module _ (files : Files) (are : AreBytes files) where
   check-some : (object : List ℕ) → HasEnd (check_work object)
   check-some object = accepted-some object _ (λ o range. ends-some nothing_seen verdict.Accepted)
 
-  trace-some : (object input : List ℕ) (cycles seed : ℕ) (recursive : Bool)
-      → HasEnd (trace_work object input cycles seed false recursive)
-  trace-some object input cycles seed recursive =
-      accepted-some object _ (λ o range. given-some o range input (traces_on false recursive cycles seed o)
-      (λ d fits. halts-some o d cycles (shows_on false recursive cycles seed o d)
-      (λ halt. ends-some (events_alone (trace o d cycles)) (verdict.Traced (is_some halt)))))
+  shows-some : (paths recursive : Bool) (cycles seed : ℕ) (o : Parts) → IsInRange o → (d : List (List ℤ))
+      → FitsObject o d → (halt : Option ℕ) → HasEnd (shows_on paths recursive cycles seed o d halt)
+  shows-some false recursive cycles seed o range d fits halt =
+      ends-some (events_alone (trace o d cycles)) (verdict.Traced (is_some halt))
+  shows-some true false cycles seed o range d fits halt =
+      let seen = shown-some o range d fits cycles seed in
+      asks-some (WhatIsShown false o d cycles seed) _ seen.0 seen.1
+      (ends-some seen.0 (verdict.Traced (is_some halt)))
+  shows-some true true cycles seed o range d fits halt =
+      let seen = shown-in-trees-some o range d fits cycles seed in
+      asks-some (WhatIsShown true o d cycles seed) _ seen.0 seen.1
+      (ends-some seen.0 (verdict.Traced (is_some halt)))
+
+  trace-some : (object input : List ℕ) (cycles seed : ℕ) (paths recursive : Bool)
+      → HasEnd (trace_work object input cycles seed paths recursive)
+  trace-some object input cycles seed paths recursive =
+      accepted-some object _ (λ o range. given-some o range input (traces_on paths recursive cycles seed o)
+      (λ d fits. halts-some o d cycles (shows_on paths recursive cycles seed o d)
+      (λ halt. shows-some paths recursive cycles seed o range d fits halt)))
 
   run-some : (object input output : List ℕ) (cycles : ℕ) → HasEnd (run_work object input output cycles)
   run-some object input output cycles =
@@ -399,6 +417,17 @@ module _ (files : Files) (are : AreBytes files) where
       by (Ok bytes) = writes-some output bytes made.Compiled
       by (Err shown) = ends-some nothing_seen (verdict.BadSource shown)
 
+  sample-some : (fast : Bool) (n : ℕ) (output : List ℕ) → Within 1 65536 n → HasEnd (sample_work fast n output)
+  sample-some fast n output few =
+      let sample = made-some fast n few in
+      asks-some (WhatIsMade fast n) (samples_on n output) sample.0 sample.1
+      (halts-some sample.0.object (sample_inputs (wants_of sample.0.object)) sample_cycles
+      (on_sampled n output sample.0) (by sample.0))
+    where
+      by : (sample : Made) (halt : Option ℕ) → HasEnd (on_sampled n output sample halt)
+      by sample (Some at) = writes-some output sample.bytes (made.Sampled (figures_of n sample at))
+      by sample None = ends-some nothing_seen (verdict.Spent sample_cycles)
+
   infer-some : (object output : List ℕ) → HasEnd (infer_work object output)
   infer-some object output = object-some object (infers_to output) (λ o range. by o (answered o range))
     where
@@ -418,8 +447,8 @@ some-answer asked some files are =
 pub some-answers : SomeAnswer
 some-answers = record {
   check = λ object. some-answer _ (λ files are. check-some files are object);
-  trace = λ object input cycles seed recursive.
-      some-answer _ (λ files are. trace-some files are object input cycles seed recursive);
+  trace = λ object input cycles seed paths recursive.
+      some-answer _ (λ files are. trace-some files are object input cycles seed paths recursive);
   run = λ object input output cycles. some-answer _ (λ files are. run-some files are object input output cycles);
   assemble = λ text output. some-answer _ (λ files are. assemble-some files are text output);
   disassemble = λ object output. some-answer _ (λ files are. disassemble-some files are object output);
@@ -429,5 +458,6 @@ some-answers = record {
       some-answer _ (λ files are. evaluate-some files are source input output turns procs);
   compile = λ source output target procs profile.
       some-answer _ (λ files are. compile-some files are source output target procs profile);
+  sample = λ fast items output within. some-answer _ (λ files are. sample-some files are fast items output within);
   source = λ procs text. source-some procs text;
 }

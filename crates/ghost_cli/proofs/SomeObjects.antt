@@ -1,5 +1,5 @@
 -- Each well-typed program with names and numbers in their ranges is compiled, or something lacks room first.
-use Rattle.std.proofs.Common.{ℕ, ◌^◌, ◌<◌, ◌≤◌, ℤ, Bool, true, false, List, [], ◌⊎◌, inl, inr, Result, Ok, Err, refl, sym, subst, arith}
+use Rattle.std.proofs.Common.{ℕ, ◌+◌, ◌*◌, ◌^◌, ◌<◌, ◌≤◌, ℤ, Bool, true, false, List, [], length, ◌⊎◌, inl, inr, Result, Ok, Err, refl, sym, subst, arith}
 use Rattle.std.proofs.Math.Facts.{sfits_to_z}
 use Rattle.std.proofs.Math.Pow.{pow_mono}
 use Rattle.gr_word.specs.Words.{IsWord}
@@ -8,13 +8,11 @@ use Rattle.gr_word.proofs.Words.{IsWord-applied}
 use Rattle.lt_isa.specs.Object.{usual_latencies}
 use Rattle.lt_isa.specs.Ranges.{ProfileFits}
 use Rattle.object_file.specs.Spelling.{spelling}
-use Rattle.src_tree.specs.Limits.{IsWithinLimits}
+use Rattle.src_tree.specs.Limits.{IsWithinLimits, weight_of}
 use Rattle.src_tree.specs.Trees.{Tree, Number, Variable, Element, Operation, Test, Statement, SetVariable, SetElement, Choice, Loop, Block, Nothing, Then, Source}
 use Rattle.src_tree.specs.Typing.{IsTyped}
 use Rattle.scratch_alloc.specs.Plans.{standard_plan}
 use Rattle.scratch_alloc.proofs.StandardPlan.{standard_sound_at}
-use Rattle.resident_alloc.specs.ResidentPlan.{resident_plan}
-use Rattle.resident_alloc.proofs.SoundPlan.{resident_sound}
 use Rattle.source_folding.specs.Folded.{folded, folded_block, folded_source, folded_statement, folded_test, mask_of}
 use Rattle.source_folding.specs.Numbers.{BlockNumbersFit, NumbersFit, StatementNumbersFit}
 use Rattle.source_folding.proofs.FoldedPrograms.{folded-source_typed, folded-within}
@@ -24,10 +22,12 @@ use Rattle.block_cache_gen.specs.ProgramWords.{BlockHasWords, StatementHasWords}
 use Rattle.block_cache_gen.specs.TreeWords.{HasWords, TestHasWords}
 use Rattle.block_cache_gen.proofs.RangesOfCode.{small-word}
 use Rattle.code_gen.specs.Compiles.{LatenciesFit}
+use Rattle.code_gen.specs.FastLayout.{fast_plan}
 use Rattle.code_gen.specs.HeldNumbers.{held_for}
 use Rattle.code_gen.proofs.Assembled.{made-promises}
+use Rattle.code_gen.proofs.FastPlans.{fast-sound, fast-secret_slot}
 use Rattle.code_gen.proofs.HeldNumbers.{held_for-sound, places-fit}
-use Rattle.code_gen.proofs.FoldedPlans.{folded-implements, folded-laid, folded-sound}
+use Rattle.code_gen.proofs.FoldedPlans.{folded-implements, folded-laid, folded-short, folded-sound}
 use Rattle.call_replies.specs.declared.source_faults.SourceFault.{SourceFault}
 use Rattle.ghost_cli.specs.declared.targets.Target.{Target}
 use Rattle.ghost_cli.specs.Compiled.{HasRoom, IsCompiled, IsCompiledTo}
@@ -128,24 +128,25 @@ module _ (p : Source) (target : Target) (profile : ProfileFits target.profile) (
           layout = made.1.layout;
           machine = is.machine;
           stores = is.stores;
+          size = is.size;
         },
       )
 
   fast-object : HasRoom true p w → SomeBytes true
   fast-object room =
-      let plan = resident_plan p w in
+      let plan = fast_plan p w in
       let q = folded_source p in
       let words = block-folds p.body fits.words in
       let held = held_for q plan.places in
       let holds = held_for-sound q plan.places words
-      (places-fit p w plan within (resident_sound p w within profile.block_log room) profile.block_log.1) in
-      let sound = folded-sound p w plan (resident_sound p w within profile.block_log room) in
+      (places-fit p w plan within (fast-sound p w within profile.block_log room) profile.block_log.1) in
+      let sound = folded-sound p w plan (fast-sound p w within profile.block_log room) in
       let typed' = folded-source_typed p typed in
       let within' = folded-within p within in
       let made = made-some q plan target.profile true held typed' within' sound holds profile usual_latencies usual-fit words
       fits.named in
       let is = made-promises q plan target.profile true held usual_latencies typed' within' sound holds
-      (λ some. (record { bank = 1; block = 0 }, refl, refl)) profile made.0 made.1 in (
+      (λ some. fast-secret_slot p w) profile made.0 made.1 in (
         spelling made.0,
         record {
           room = room;
@@ -156,6 +157,11 @@ module _ (p : Source) (target : Target) (profile : ProfileFits target.profile) (
           layout = folded-laid p w plan made.0 made.1.layout;
           machine = is.machine;
           stores = is.stores;
+          size =
+              let few : length held ≤ 13 = holds.few in
+              let short = folded-short p made.0 (64 + 4 * length held) is.size in
+              let bound : length made.0.code ≤ 120 * weight_of p + 116 = omega (arith, short, few) in
+              bound;
         },
       )
 

@@ -3,6 +3,7 @@
 -- levels of blocks with `--paths`.
 use Rattle.std.specs.Prelude.{◌≡◌, ◌≢◌, ℕ, ◌<◌, ◌≤◌, ℤ, Bool, false, List, length, All, Some, None, Result, Ok}
 use Rattle.std.specs.FinMap.{get}
+use Rattle.gr_base.specs.Lists.{Within}
 use Rattle.gr_outside.specs.Shelf.{Files, SameBut}
 use Rattle.ghost_cli.specs.declared.targets.Target.{Target}
 use Rattle.lt_isa.specs.Object.{Parts}
@@ -31,6 +32,7 @@ use Rattle.ghost_cli.specs.Objects.{SpellsObject, object_limit}
 use Rattle.ghost_cli.specs.Promises.{Answers, IsDone}
 use Rattle.ghost_cli.specs.Questions.{AreInputs, IsRight, WhichSource}
 use Rattle.ghost_cli.specs.Run.{run_work}
+use Rattle.ghost_cli.specs.Sample.{sample_work}
 use Rattle.ghost_cli.specs.Steps.{input_limit}
 use Rattle.call_replies.specs.Texts.{Said, usage}
 use Rattle.ghost_cli.specs.Trace.{trace_work}
@@ -90,11 +92,11 @@ abbrev pub HasSomeAnswer : Work → Type 0
 HasSomeAnswer work =
     (files : Files) → AreBytes files → (said : Said) × (left : Files) × Answers files (Some work) said left
 
--- The work of these verbs has an answer, and a source text is a program or has a first fault.
+-- The work of each verb has an answer, and a source text is a program or has a first fault.
 pub record SomeAnswer : Type 0 where
   pub check : (object : List ℕ) → HasSomeAnswer (check_work object)
-  pub trace : (object input : List ℕ) (cycles seed : ℕ) (recursive : Bool)
-      → HasSomeAnswer (trace_work object input cycles seed false recursive)
+  pub trace : (object input : List ℕ) (cycles seed : ℕ) (paths recursive : Bool)
+      → HasSomeAnswer (trace_work object input cycles seed paths recursive)
   pub run : (object input output : List ℕ) (cycles : ℕ) → HasSomeAnswer (run_work object input output cycles)
   pub assemble : (text output : List ℕ) → HasSomeAnswer (assemble_work text output)
   pub disassemble : (object output : List ℕ) → HasSomeAnswer (disassemble_work object output)
@@ -104,6 +106,8 @@ pub record SomeAnswer : Type 0 where
       → HasSomeAnswer (evaluate_work source input output turns procs)
   pub compile : (source output : List ℕ) (target : Target) (procs : Bool) → ProfileFits target.profile
       → HasSomeAnswer (compile_work source output target procs)
+  pub sample : (fast : Bool) (items : ℕ) (output : List ℕ) → Within 1 65536 items
+      → HasSomeAnswer (sample_work fast items output)
   pub source : (procs : Bool) (text : List ℕ)
       → (a : Result Source SourceFault) × IsRight (WhichSource procs text) a
 

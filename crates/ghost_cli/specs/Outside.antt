@@ -1,5 +1,5 @@
 -- The outcome of a call of the program, whether or not the bytes of the shelf's files and of the sink are known.
-use Rattle.std.specs.Prelude.{◌≡◌, ◌⊎◌, ℕ, ◌≤◌, List, Option, Some, None, is_some}
+use Rattle.std.specs.Prelude.{◌≡◌, ◌⊎◌, ℕ, ◌≤◌, List, Option, Some, None, is_some, IfSome}
 use Rattle.std.specs.Option.{option_map}
 use Rattle.std.specs.FinMap.{get}
 use Rattle.gr_base.specs.Counts.{Rose}
@@ -35,10 +35,16 @@ PutsSaid before after said status =
     ((status ≡ said.status) × Adds before.held after.held said.text × (after.faults ≡ before.faults))
     ⊎ ((status ≡ 4) × Rose before.faults after.faults × AddsLess before.held after.held said.text)
 
--- of the shelf at most the count of failed reads changed, and that didn't fall
+-- of the shelf at most the count of failed reads changed, and that didn't fall, and the last file that couldn't be read
 abbrev pub OnlyReads : ShelfSeen → ShelfSeen → Type 0
 OnlyReads before after =
-    (after ≡ record before { read_faults = after.read_faults }) × (before.read_faults ≤ after.read_faults)
+    (after ≡ record before { read_faults = after.read_faults; unread = after.unread })
+    × (before.read_faults ≤ after.read_faults)
+
+-- only that changed, and the last file that couldn't be read is this one, if its name is visible
+pub record LeavesUnread (name : List ℕ) (before after : ShelfSeen) : Type 0 where
+  pub only : OnlyReads before after
+  pub named : IfSome after.unread (λ unread. unread ≡ name)
 
 -- a write was refused: all other files are as they were, and so is the count of failed reads
 pub record RefusedWrite (name : List ℕ) (before after : ShelfSeen) : Type 0 where
@@ -49,8 +55,8 @@ pub record RefusedWrite (name : List ℕ) (before after : ShelfSeen) : Type 0 wh
 -- The files after an ending, with the exit status. A file that couldn't be written is reported instead of the finished
 -- work, and so is want of memory in that write. If it is written, nothing else of the shelf changed.
 pub data LeftBy (before after : Outside) (status : ℕ) : Ending → Type 0 where
-  Unread : (name : List ℕ) → OnlyReads before.shelf after.shelf → PutsSaid before.sink after.sink (unread name) status
-      → LeftBy before after status (IsUnread name)
+  Unread : (name : List ℕ) → LeavesUnread name before.shelf after.shelf
+      → PutsSaid before.sink after.sink (unread name) status → LeftBy before after status (IsUnread name)
   Long : (name : List ℕ) (limit : ℕ)
       → after.shelf ≡ before.shelf → PutsSaid before.sink after.sink (too_long name limit) status
       → LeftBy before after status (IsTooLong name limit)
@@ -79,7 +85,7 @@ pub data Explains (before after : Outside) (status : ℕ) : Option Work → Type
 
 -- what of the shelf an ending leaves that writes no file
 abbrev pub LeavesShelf : Ending → ShelfSeen → ShelfSeen → Type 0
-LeavesShelf (IsUnread name) before after = OnlyReads before after
+LeavesShelf (IsUnread name) before after = LeavesUnread name before after
 LeavesShelf (IsTooLong name limit) before after = after ≡ before
 LeavesShelf (IsVerdict seen verdict) before after = after ≡ before
 LeavesShelf (IsWritten name bytes done) before after = ⊥

@@ -6,12 +6,12 @@ use Rattle.lt_isa.specs.Object.{Parts, blocks_of}
 use Rattle.lt_isa.specs.Start.{trace}
 use Rattle.banks.specs.declared.bank.Leaves.{Leaves}
 use Rattle.banks.specs.Banks.{one_leaf}
-use Rattle.processor.specs.Watching.{with_paths}
 use Rattle.path_oram.specs.LeavesAlike.{touched}
 use Rattle.path_oram.specs.Settles.{Settles}
 use Rattle.path_oram.specs.Whole.{IsHeightFor}
 use Rattle.path_oram.specs.Words.{first_words}
 use Rattle.path_oram.specs.WordsRead.{leaves_shown}
+use Rattle.ghost_cli.specs.PathsShown.{ShowsPaths, paths_of_bank}
 use Rattle.ghost_cli.specs.Seeds.{seeded_words}
 use Rattle.ghost_cli.specs.Showing.{Seen}
 
@@ -33,9 +33,8 @@ pub record OfBank (o : Parts) (inputs : List (List ℤ)) (cycles seed b : ℕ) (
 
 -- what a run shows: its trace with the paths of each oblivious bank, and the levels of each
 pub record IsShown (o : Parts) (inputs : List (List ℤ)) (cycles seed : ℕ) (seen : Seen) : Type 0 where
-  pub paths : ℕ → List Leaves
-  pub shown : seen.shown ≡ with_paths (trace o inputs cycles) paths
+  pub shown : ShowsPaths (trace o inputs cycles) seen.shown
   pub alone : (seen.transfers ≡ []) × (seen.halts ≡ [])
   pub count : length seen.levels ≡ length o.banks - 2
   pub banks : (b : ℕ) → 2 ≤ b → b < length o.banks
-      → OfBank o inputs cycles seed b (paths b) (slice_index_or seen.levels (b - 2) [])
+      → OfBank o inputs cycles seed b (paths_of_bank b seen.shown) (slice_index_or seen.levels (b - 2) [])

@@ -27,7 +27,7 @@ use Rattle.ghost_cli.specs.Inferred.{GetsNotes}
 use Rattle.ghost_cli.specs.Sample.{sample_work}
 use Rattle.ghost_cli.specs.Work.{Work, Ending, MayEnd, Holds, MayRead, MayWrite, said_at, files_at}
 use Rattle.ghost_cli.specs.Steps.{with_accepted}
-use Rattle.ghost_cli.specs.Outside.{Outside, Explains, OnlyReads, RefusedWrite}
+use Rattle.ghost_cli.specs.Outside.{Outside, Explains, LeavesUnread, OnlyReads, RefusedWrite}
 
 -- The answers of the program: the printed text and the files afterwards, if the shelf has these files and nothing
 -- fails.
@@ -61,14 +61,15 @@ pub record IsUnreadable (asked : Option Work) (before after : Outside) (status :
   pub is : status ≡ 3
   pub failed : Rose before.shelf.read_faults after.shelf.read_faults
   pub put : Adds before.sink.held after.sink.held (unread name).text
-  pub left : OnlyReads before.shelf after.shelf
+  pub left : LeavesUnread name before.shelf after.shelf
 
--- status 3: only the line of a file that was to be read was printed; the known files lack it, or a read failed
+-- status 3: only the line of a file that was to be read was printed, the one that couldn't be read; the known files
+-- lack it, or a read failed
 pub record ReadFailed (asked : Option Work) (before after : Outside) : Type 0 where
   pub name : List ℕ
   pub read : IsRead asked name
   pub put : Adds before.sink.held after.sink.held (unread name).text
-  pub left : OnlyReads before.shelf after.shelf
+  pub left : LeavesUnread name before.shelf after.shelf
   pub cause : MatchOption before.shelf.files ⊥ (λ files. get files name ≡ None)
       ⊎ Rose before.shelf.read_faults after.shelf.read_faults
 
@@ -110,7 +111,7 @@ pub data StandsAtFour (asked : Option Work) (before after : Outside) (files : Fi
       → Answers files asked said afterwards → after.shelf.files ≡ Some afterwards
       → AddsLess before.sink.held after.sink.held said.text → StandsAtFour asked before after files
   UnreadCut : (name : List ℕ) → IsRead asked name → AddsLess before.sink.held after.sink.held (unread name).text
-      → Rose before.shelf.read_faults after.shelf.read_faults → OnlyReads before.shelf after.shelf
+      → Rose before.shelf.read_faults after.shelf.read_faults → LeavesUnread name before.shelf after.shelf
       → StandsAtFour asked before after files
   NoMemoryCut : AddsLess before.sink.held after.sink.held no_memory.text
       → OnlyReads before.shelf after.shelf ⊎ WriteStarved asked before after → StandsAtFour asked before after files

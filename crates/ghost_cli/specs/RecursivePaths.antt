@@ -4,10 +4,10 @@ use Rattle.std.specs.Prelude.{◌≡◌, ℕ, ◌+◌, ◌*◌, ◌<◌, ◌≤�
 use Rattle.lt_isa.specs.Object.{Parts, blocks_of}
 use Rattle.lt_isa.specs.Start.{trace}
 use Rattle.banks.specs.declared.bank.Leaves.{Leaves}
-use Rattle.processor.specs.Watching.{with_paths}
 use Rattle.path_oram.specs.LeavesAlike.{touched}
 use Rattle.path_oram.specs.Words.{first_words}
 use Rattle.recursive_oram.specs.RecLeaves.{AreSizes, Size, rec_leaves, words_made}
+use Rattle.ghost_cli.specs.PathsShown.{ShowsPaths, paths_of_bank}
 use Rattle.ghost_cli.specs.Seeds.{seeded_words}
 use Rattle.ghost_cli.specs.Showing.{Seen}
 
@@ -22,8 +22,8 @@ pub record OfRecursiveBank (o : Parts) (inputs : List (List ℤ)) (cycles seed b
 
 -- what a run shows: its trace with the paths of each oblivious bank, and no levels
 pub record IsShownInTrees (o : Parts) (inputs : List (List ℤ)) (cycles seed : ℕ) (seen : Seen) : Type 0 where
-  pub paths : ℕ → List Leaves
-  pub shown : seen.shown ≡ with_paths (trace o inputs cycles) paths
+  pub shown : ShowsPaths (trace o inputs cycles) seen.shown
   pub alone : (seen.transfers ≡ []) × (seen.halts ≡ [])
   pub none : seen.levels ≡ []
-  pub banks : (b : ℕ) → 2 ≤ b → b < length o.banks → OfRecursiveBank o inputs cycles seed b (paths b)
+  pub banks : (b : ℕ) → 2 ≤ b → b < length o.banks
+      → OfRecursiveBank o inputs cycles seed b (paths_of_bank b seen.shown)

@@ -9,6 +9,8 @@ ghost use Rattle.command_words.specs.Asks.{bus_asks, bus_named, bus_named_on};
 ghost use Rattle.command_words.specs.Pairs.{pairs_of};
 ghost use Rattle.ghost_cli.specs.Bus.{Read, bus_said, bus_work, none_read, with_core, with_cores};
 ghost use Rattle.command_words.specs.Options.{texts};
+ghost use Rattle.ghost_cli.specs.CallsFollow.{Follows, Makes};
+ghost use Rattle.ghost_cli.specs.Happened.{Log};
 ghost use Rattle.ghost_cli.specs.Outside.{Explains, outside};
 ghost use Rattle.ghost_cli.specs.Progress.{HasLeft, LeavesToSay, Stops};
 ghost use Rattle.ghost_cli.specs.Sharing.{AllBegin, AreRead, PutsShared};
@@ -66,6 +68,8 @@ pub fn bus<'a, F: Shelf, O: Sink>(
     ensures stopped { IfErr result (λ reply. LeavesToSay (F.seen shelf.old) (F.seen shelf.new)
         (bus_asks bus_work (rows_of (found_of matches.now))) (said reply)) }
     ensures unput { OnErr result (O.seen out.new ≡ O.seen out.old) }
+    ensures calls { Makes (bus_asks bus_work (rows_of (found_of matches.now)))
+        (F.log shelf.old) (F.log shelf.new) }
 {
     let Some(asked) = words_in(
         alloc,
@@ -156,6 +160,7 @@ fn bus_files<'a, F: Shelf, O: Sink>(
     ensures stopped { IfErr result (λ reply. LeavesToSay (F.seen shelf.old) (F.seen shelf.new)
         (Some (bus_work asked.entry.pairs.items asked.entry.cycles)) (said reply)) }
     ensures unput { OnErr result (O.seen out.new ≡ O.seen out.old) }
+    ensures calls { Follows (bus_work asked.entry.pairs.items asked.entry.cycles) (F.log shelf.old) (F.log shelf.new) }
 {
     let cores = read_cores(alloc, asked.pairs.as_slice(), shelf)?;
     Ok(share_bus(alloc, cores, asked.cycles, asked.seed, out)?)
@@ -264,6 +269,10 @@ fn read_core<'a, F: Shelf>(
     ensures stopped { IfErr result (λ reply. (next : Read → Work)
         → Stops (F.seen shelf.old) (F.seen shelf.new) (with_core pair.now (length cores.old.plan) cores.old next)
         (said reply)) }
+    ensures onward { OnOk result ((next : Read → Work) (after : Log) → Follows (next cores.new) (F.log shelf.new) after
+        → Follows (with_core pair.now (length cores.old.plan) cores.old next) (F.log shelf.old) after) }
+    ensures part { OnErr result ((next : Read → Work)
+        → Follows (with_core pair.now (length cores.old.plan) cores.old next) (F.log shelf.old) (F.log shelf.new)) }
 {
     let core = cores.plan.len();
     let accepted = find_accepted(alloc, pair.object, shelf)?;
@@ -291,6 +300,11 @@ pub fn read_cores<'a, F: Shelf>(
     ensures calm { OnOk result (F.seen shelf.new ≡ F.seen shelf.old) }
     ensures stopped { IfErr result (λ reply. (next : Read → Work)
         → Stops (F.seen shelf.old) (F.seen shelf.new) (with_cores pairs.now 0 none_read next) (said reply)) }
+    ensures onward { IfOk result (λ cores. (next : Read → Work) (after : Log)
+        → Follows (next cores) (F.log shelf.new) after
+        → Follows (with_cores pairs.now 0 none_read next) (F.log shelf.old) after) }
+    ensures part { OnErr result ((next : Read → Work)
+        → Follows (with_cores pairs.now 0 none_read next) (F.log shelf.old) (F.log shelf.new)) }
 {
     let mut cores = Cores {
         plan: Plan::new(alloc),

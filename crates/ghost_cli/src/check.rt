@@ -2,6 +2,7 @@ ghost use Rattle.std.specs.Prelude.{◌≡◌, IfErr, IfOk, OnErr};
 ghost use Rattle.clap.specs.Words.{found_of, rows_of};
 ghost use Rattle.command_words.specs.Asks.{check_asks};
 ghost use Rattle.ghost_cli.specs.Check.{check_work};
+ghost use Rattle.ghost_cli.specs.CallsFollow.{Makes};
 ghost use Rattle.ghost_cli.specs.Outside.{Explains, outside};
 ghost use Rattle.ghost_cli.specs.Progress.{LeavesToSay};
 ghost use Rattle.call_replies.specs.Texts.{said};
@@ -27,6 +28,8 @@ pub fn check<'a, F: Shelf, O: Sink>(
     ensures stopped { IfErr result (λ reply. LeavesToSay (F.seen shelf.old) (F.seen shelf.new)
         (check_asks check_work (rows_of (found_of matches.now))) (said reply)) }
     ensures unput { OnErr result (O.seen out.new ≡ O.seen out.old) }
+    ensures calls { Makes (check_asks check_work (rows_of (found_of matches.now)))
+        (F.log shelf.old) (F.log shelf.new) }
 {
     let Some(object) = value(matches, "OBJ") else {
         return Err(Reply::Usage);

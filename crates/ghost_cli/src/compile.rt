@@ -7,6 +7,7 @@ ghost use Rattle.clap.specs.Words.{found_of, rows_of};
 ghost use Rattle.command_words.specs.Asks.{compile_asks, compile_named};
 ghost use Rattle.ghost_cli.specs.Compile.{compile_on, compile_work, on_compiled};
 ghost use Rattle.ghost_cli.specs.Compiled.{IsCompiledTo, LacksRoom, room_fault};
+ghost use Rattle.ghost_cli.specs.CallsFollow.{Follows, Makes};
 ghost use Rattle.ghost_cli.specs.Outside.{Explains, outside};
 ghost use Rattle.ghost_cli.specs.Progress.{EndsWorkWith, LeavesToSay, SaysSource};
 ghost use Rattle.ghost_cli.specs.Questions.{WhichCompiled};
@@ -51,6 +52,8 @@ pub fn compile<'a, F: Shelf, O: Sink>(
     ensures stopped { IfErr result (λ reply. LeavesToSay (F.seen shelf.old) (F.seen shelf.new)
         (compile_asks compile_on (rows_of (found_of matches.now))) (said reply)) }
     ensures unput { OnErr result (O.seen out.new ≡ O.seen out.old) }
+    ensures calls { Makes (compile_asks compile_on (rows_of (found_of matches.now)))
+        (F.log shelf.old) (F.log shelf.new) }
 {
     let Some(asked) = words_in(
         value(matches, "SRC"),
@@ -104,6 +107,9 @@ fn compile_file<'a, F: Shelf, O: Sink>(
         (Some (compile_work asked.entry.source.now asked.entry.output.now asked.entry.target asked.entry.procs))
         (said reply)) }
     ensures unput { OnErr result (O.seen out.new ≡ O.seen out.old) }
+    ensures calls { Follows
+        (compile_work asked.entry.source.now asked.entry.output.now asked.entry.target asked.entry.procs)
+        (F.log shelf.old) (F.log shelf.new) }
 {
     let program = find_source(alloc, asked.source, asked.procs, shelf)?;
     let bytes = object_bytes(alloc, &program, &asked.target)?;

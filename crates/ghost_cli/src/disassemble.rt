@@ -2,6 +2,7 @@ ghost use Rattle.std.specs.Prelude.{◌≡◌, IfErr, IfOk, OnErr, Some};
 ghost use Rattle.clap.specs.Words.{found_of, rows_of};
 ghost use Rattle.command_words.specs.Asks.{disassemble_asks};
 ghost use Rattle.ghost_cli.specs.Disassemble.{disassemble_work};
+ghost use Rattle.ghost_cli.specs.CallsFollow.{Follows, Makes};
 ghost use Rattle.ghost_cli.specs.Outside.{Explains, outside};
 ghost use Rattle.ghost_cli.specs.Progress.{LeavesToSay};
 ghost use Rattle.call_replies.specs.Texts.{said};
@@ -30,6 +31,8 @@ pub fn disassemble<'a, F: Shelf, O: Sink>(
     ensures stopped { IfErr result (λ reply. LeavesToSay (F.seen shelf.old) (F.seen shelf.new)
         (disassemble_asks disassemble_work (rows_of (found_of matches.now))) (said reply)) }
     ensures unput { OnErr result (O.seen out.new ≡ O.seen out.old) }
+    ensures calls { Makes (disassemble_asks disassemble_work (rows_of (found_of matches.now)))
+        (F.log shelf.old) (F.log shelf.new) }
 {
     let Some(asked) = two_names(value(matches, "OBJ"), value(matches, "OUT")) else {
         return Err(Reply::Usage);
@@ -49,6 +52,8 @@ fn disassemble_file<'a, F: Shelf, O: Sink>(
     ensures stopped { IfErr result (λ reply. LeavesToSay (F.seen shelf.old) (F.seen shelf.new)
         (Some (disassemble_work asked.entry.read.now asked.entry.written.now)) (said reply)) }
     ensures unput { OnErr result (O.seen out.new ≡ O.seen out.old) }
+    ensures calls { Follows (disassemble_work asked.entry.read.now asked.entry.written.now)
+        (F.log shelf.old) (F.log shelf.new) }
 {
     let found = find_object(alloc, asked.read, shelf)?;
     let bytes = text_of(alloc, &found)?;

@@ -7,6 +7,7 @@ ghost use Rattle.clap.specs.Words.{found_of, rows_of};
 ghost use Rattle.command_words.specs.Asks.{evaluate_asks, evaluate_named};
 ghost use Rattle.ghost_cli.specs.Evaluate.{evaluate_work};
 ghost use Rattle.ghost_cli.specs.Evaluated.{LeavesText};
+ghost use Rattle.ghost_cli.specs.CallsFollow.{Follows, Makes};
 ghost use Rattle.ghost_cli.specs.Outside.{Explains, outside};
 ghost use Rattle.ghost_cli.specs.Progress.{LeavesToSay};
 ghost use Rattle.call_replies.specs.Texts.{said};
@@ -49,6 +50,8 @@ pub fn evaluate<'a, F: Shelf, O: Sink>(
     ensures stopped { IfErr result (λ reply. LeavesToSay (F.seen shelf.old) (F.seen shelf.new)
         (evaluate_asks evaluate_work (rows_of (found_of matches.now))) (said reply)) }
     ensures unput { OnErr result (O.seen out.new ≡ O.seen out.old) }
+    ensures calls { Makes (evaluate_asks evaluate_work (rows_of (found_of matches.now)))
+        (F.log shelf.old) (F.log shelf.new) }
 {
     let Some(asked) = words_in(
         value(matches, "SRC"),
@@ -97,6 +100,9 @@ fn evaluate_files<'a, F: Shelf, O: Sink>(
         (Some (evaluate_work asked.entry.source.now asked.entry.input.now asked.entry.output.now asked.entry.turns
         asked.entry.procs)) (said reply)) }
     ensures unput { OnErr result (O.seen out.new ≡ O.seen out.old) }
+    ensures calls { Follows (evaluate_work asked.entry.source.now asked.entry.input.now asked.entry.output.now
+        asked.entry.turns asked.entry.procs)
+        (F.log shelf.old) (F.log shelf.new) }
 {
     let program = find_source(alloc, asked.source, asked.procs, shelf)?;
     let wants = program.wants(alloc)?;

@@ -4,6 +4,7 @@ ghost use Rattle.lt_isa.specs.Ranges.{IsInRange};
 ghost use Rattle.note_infer.specs.Inferred.{IsInferred};
 ghost use Rattle.command_words.specs.Asks.{infer_asks};
 ghost use Rattle.ghost_cli.specs.Infer.{infer_work, on_inferred};
+ghost use Rattle.ghost_cli.specs.CallsFollow.{Follows, Makes};
 ghost use Rattle.ghost_cli.specs.Outside.{Explains, outside};
 ghost use Rattle.ghost_cli.specs.Progress.{EndsWorkWith, LeavesToSay, SaysNotes};
 ghost use Rattle.ghost_cli.specs.Questions.{WhatIsInferred};
@@ -34,6 +35,8 @@ pub fn infer<'a, F: Shelf, O: Sink>(
     ensures stopped { IfErr result (λ reply. LeavesToSay (F.seen shelf.old) (F.seen shelf.new)
         (infer_asks infer_work (rows_of (found_of matches.now))) (said reply)) }
     ensures unput { OnErr result (O.seen out.new ≡ O.seen out.old) }
+    ensures calls { Makes (infer_asks infer_work (rows_of (found_of matches.now)))
+        (F.log shelf.old) (F.log shelf.new) }
 {
     let Some(asked) = two_names(value(matches, "OBJ"), value(matches, "OUT")) else {
         return Err(Reply::Usage);
@@ -53,6 +56,8 @@ fn infer_file<'a, F: Shelf, O: Sink>(
     ensures stopped { IfErr result (λ reply. LeavesToSay (F.seen shelf.old) (F.seen shelf.new)
         (Some (infer_work asked.entry.read.now asked.entry.written.now)) (said reply)) }
     ensures unput { OnErr result (O.seen out.new ≡ O.seen out.old) }
+    ensures calls { Follows (infer_work asked.entry.read.now asked.entry.written.now)
+        (F.log shelf.old) (F.log shelf.new) }
 {
     let object = find_object(alloc, asked.read, shelf)?;
     let found = with_notes(alloc, &object)?;

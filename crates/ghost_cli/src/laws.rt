@@ -66,9 +66,9 @@ pub fn one_source()
     ensures { OneSource }
 {}
 
-/// Does nothing; its clause is a law: for files of bytes the work of `check`, `run`, `asm`, `dis`, `infer`, `eval`,
-/// `compile`, of `bus` on up to eight pairs, and of `trace` without `--paths`, has an answer. Each source text, with
-/// procedures or without, is a program or has a first fault.
+/// Does nothing; its clause is a law: for files of bytes the work of each verb has an answer, with every option; that of
+/// `bus` if there are at most eight pairs. Each source text, with procedures or without, is a program or has a first
+/// fault.
 pub fn some_answer()
     ensures { SomeAnswer }
 {}

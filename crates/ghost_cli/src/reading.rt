@@ -1,10 +1,13 @@
-ghost use Rattle.std.specs.Prelude.{◌≡◌, ◌≤◌, ℕ, ℤ, IfErr, IfOk, List, OnOk, Option, length};
+ghost use Rattle.std.specs.Prelude.{◌≡◌, ◌≤◌, ℕ, ℤ, IfErr, IfOk, List, OnOk, Option, length, [], ◌∷◌, OnErr, true};
+ghost use Rattle.gr_base.specs.Added.{Adds};
+ghost use Rattle.gr_outside.specs.Shelf.{read_of};
 ghost use Rattle.gr_word.specs.Fitting.{AreVariables, FitsWants};
 ghost use Rattle.lt_isa.specs.Object.{Parts};
 ghost use Rattle.lt_isa.specs.Ranges.{IsInRange};
 ghost use Rattle.lt_isa.specs.Start.{FitsObject};
 ghost use Rattle.lt_assembler.specs.Spelled.{SpellsInText};
 ghost use Rattle.trace_patterns.specs.Accepts.{Accepts};
+ghost use Rattle.ghost_cli.specs.CallsFollow.{TriesRead};
 ghost use Rattle.ghost_cli.specs.Objects.{SpellsObject, object_limit};
 ghost use Rattle.ghost_cli.specs.Progress.{HasLeft, EndsWorkWith, SaysInputs, SaysObject, SaysText, Stops};
 ghost use Rattle.ghost_cli.specs.Questions.{AreInputs, Shows, WhetherAccepted, WhichAssembly, WhichInputs, WhichObject};
@@ -44,6 +47,8 @@ pub(crate) fn read_whole<'a, F: Shelf>(
         (λ bytes. (next : List ℕ → Work) → HasLeft (F.seen shelf.old) (Reads name.now limit next) (next bytes.items)) }
     ensures size { IfOk result (λ bytes. length bytes.items ≤ limit) }
     ensures calm { OnOk result (F.seen shelf.new ≡ F.seen shelf.old) }
+    ensures whole { OnOk result (Adds (F.log shelf.old) (F.log shelf.new) (read_of name.now true ∷ [])) }
+    ensures part { OnErr result (TriesRead name.now (F.log shelf.old) (F.log shelf.new)) }
     ensures stopped { IfErr result (λ reply.
         (next : List ℕ → Work) → Stops (F.seen shelf.old) (F.seen shelf.new) (Reads name.now limit next) (said reply)) }
 {
@@ -69,6 +74,8 @@ pub fn find_object<'a, F: Shelf>(
     ensures found { IfOk result
         (λ o. (next : Parts → Work) → HasLeft (F.seen shelf.old) (with_object name.now next) (next o)) }
     ensures calm { OnOk result (F.seen shelf.new ≡ F.seen shelf.old) }
+    ensures whole { OnOk result (Adds (F.log shelf.old) (F.log shelf.new) (read_of name.now true ∷ [])) }
+    ensures part { OnErr result (TriesRead name.now (F.log shelf.old) (F.log shelf.new)) }
     ensures stopped { IfErr result (λ reply.
         (next : Parts → Work) → Stops (F.seen shelf.old) (F.seen shelf.new) (with_object name.now next) (said reply)) }
 {
@@ -86,6 +93,8 @@ pub fn find_accepted<'a, F: Shelf>(
         (λ o. (next : Parts → Work) → HasLeft (F.seen shelf.old) (with_accepted name.now next) (next o)) }
     ensures in_range { IfOk result (λ o. IsInRange o) }
     ensures calm { OnOk result (F.seen shelf.new ≡ F.seen shelf.old) }
+    ensures whole { OnOk result (Adds (F.log shelf.old) (F.log shelf.new) (read_of name.now true ∷ [])) }
+    ensures part { OnErr result (TriesRead name.now (F.log shelf.old) (F.log shelf.new)) }
     ensures stopped { IfErr result (λ reply. (next : Parts → Work)
         → Stops (F.seen shelf.old) (F.seen shelf.new) (with_accepted name.now next) (said reply)) }
 {
@@ -102,6 +111,8 @@ pub fn find_assembly<'a, F: Shelf>(
     ensures found { IfOk result
         (λ o. (next : Parts → Work) → HasLeft (F.seen shelf.old) (with_assembly name.now next) (next o)) }
     ensures calm { OnOk result (F.seen shelf.new ≡ F.seen shelf.old) }
+    ensures whole { OnOk result (Adds (F.log shelf.old) (F.log shelf.new) (read_of name.now true ∷ [])) }
+    ensures part { OnErr result (TriesRead name.now (F.log shelf.old) (F.log shelf.new)) }
     ensures stopped { IfErr result (λ reply. (next : Parts → Work)
         → Stops (F.seen shelf.old) (F.seen shelf.new) (with_assembly name.now next) (said reply)) }
 {
@@ -120,6 +131,8 @@ pub fn find_inputs<'a, F: Shelf>(
         → HasLeft (F.seen shelf.old) (with_inputs accepted.now name.now next) (next inputs)) }
     ensures fits { IfOk result (λ inputs. FitsObject accepted.now inputs) }
     ensures calm { OnOk result (F.seen shelf.new ≡ F.seen shelf.old) }
+    ensures whole { OnOk result (Adds (F.log shelf.old) (F.log shelf.new) (read_of name.now true ∷ [])) }
+    ensures part { OnErr result (TriesRead name.now (F.log shelf.old) (F.log shelf.new)) }
     ensures stopped { IfErr result (λ reply. (next : List (List ℤ) → Work)
         → Stops (F.seen shelf.old) (F.seen shelf.new) (with_inputs accepted.now name.now next) (said reply)) }
 {
@@ -139,6 +152,8 @@ pub fn find_variables<'a, F: Shelf>(
         → HasLeft (F.seen shelf.old) (with_variables wants.now name.now next) (next inputs)) }
     ensures fits { IfOk result (λ inputs. FitsWants wants.now inputs) }
     ensures calm { OnOk result (F.seen shelf.new ≡ F.seen shelf.old) }
+    ensures whole { OnOk result (Adds (F.log shelf.old) (F.log shelf.new) (read_of name.now true ∷ [])) }
+    ensures part { OnErr result (TriesRead name.now (F.log shelf.old) (F.log shelf.new)) }
     ensures stopped { IfErr result (λ reply. (next : List (List ℤ) → Work)
         → Stops (F.seen shelf.old) (F.seen shelf.new) (with_variables wants.now name.now next) (said reply)) }
 {

@@ -5,6 +5,7 @@ ghost use Rattle.lt_isa.specs.Ranges.{IsInRange};
 ghost use Rattle.lt_isa.specs.Start.{FitsObject, wants_of};
 ghost use Rattle.run_data.specs.OutputText.{output_of};
 ghost use Rattle.clap.specs.Words.{found_of, rows_of};
+ghost use Rattle.ghost_cli.specs.CallsFollow.{Follows, Makes};
 ghost use Rattle.ghost_cli.specs.Outside.{Explains, outside};
 ghost use Rattle.ghost_cli.specs.Progress.{LeavesToSay};
 ghost use Rattle.ghost_cli.specs.Ran.{RanTo};
@@ -51,6 +52,8 @@ pub fn run<'a, F: Shelf, O: Sink>(
     ensures stopped { IfErr result (λ reply. LeavesToSay (F.seen shelf.old) (F.seen shelf.new)
         (run_asks run_work (rows_of (found_of matches.now))) (said reply)) }
     ensures unput { OnErr result (O.seen out.new ≡ O.seen out.old) }
+    ensures calls { Makes (run_asks run_work (rows_of (found_of matches.now)))
+        (F.log shelf.old) (F.log shelf.new) }
 {
     let Some(asked) = words_in(
         value(matches, "OBJ"),
@@ -103,6 +106,9 @@ fn run_files<'a, F: Shelf, O: Sink>(
         (Some (run_work asked.entry.object.now asked.entry.input.now asked.entry.output.now asked.entry.cycles))
         (said reply)) }
     ensures unput { OnErr result (O.seen out.new ≡ O.seen out.old) }
+    ensures calls { Follows
+        (run_work asked.entry.object.now asked.entry.input.now asked.entry.output.now asked.entry.cycles)
+        (F.log shelf.old) (F.log shelf.new) }
 {
     let accepted = find_accepted(alloc, asked.object, shelf)?;
     let inputs = find_inputs(alloc, &accepted, asked.input, shelf)?;

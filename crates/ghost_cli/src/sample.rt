@@ -5,6 +5,7 @@ ghost use Rattle.lt_isa.specs.Ranges.{IsInRange};
 ghost use Rattle.src_tree.specs.Meaning.{Store, meaning};
 ghost use Rattle.src_tree.specs.Trees.{source_of};
 ghost use Rattle.clap.specs.Words.{found_of, rows_of};
+ghost use Rattle.ghost_cli.specs.CallsFollow.{Follows, Makes};
 ghost use Rattle.ghost_cli.specs.Histogram.{sample_cycles, sample_store, sum_left};
 ghost use Rattle.ghost_cli.specs.Outside.{Explains, outside};
 ghost use Rattle.ghost_cli.specs.Progress.{LeavesToSay};
@@ -61,6 +62,8 @@ pub fn sample<'a, F: Shelf, O: Sink>(
     ensures stopped { IfErr result (λ reply. LeavesToSay (F.seen shelf.old) (F.seen shelf.new)
         (sample_asks sample_work (rows_of (found_of matches.now))) (said reply)) }
     ensures unput { OnErr result (O.seen out.new ≡ O.seen out.old) }
+    ensures calls { Makes (sample_asks sample_work (rows_of (found_of matches.now)))
+        (F.log shelf.old) (F.log shelf.new) }
 {
     let Some(asked) = words_in(
         value(matches, "N"),
@@ -105,6 +108,8 @@ fn sample_file<'a, F: Shelf, O: Sink>(
     ensures stopped { IfErr result (λ reply. LeavesToSay (F.seen shelf.old) (F.seen shelf.new)
         (Some (sample_work asked.entry.fast asked.entry.items asked.entry.output.now)) (said reply)) }
     ensures unput { OnErr result (O.seen out.new ≡ O.seen out.old) }
+    ensures calls { Follows (sample_work asked.entry.fast asked.entry.items asked.entry.output.now)
+        (F.log shelf.old) (F.log shelf.new) }
 {
     match made(alloc, asked.items, asked.seed, asked.fast)? {
         Some(file) => write_and_say(

@@ -1,7 +1,10 @@
-ghost use Rattle.std.specs.Prelude.{◌≡◌, ◌≤◌, IfErr, IfOk, IfSome, OnOk, false, length, true};
+ghost use Rattle.std.specs.Prelude.{◌≡◌, ◌≤◌, IfErr, IfOk, IfSome, OnOk, false, length, true, [], ◌∷◌, OnErr};
+ghost use Rattle.gr_base.specs.Added.{Adds};
+ghost use Rattle.gr_outside.specs.Shelf.{read_of};
 ghost use Rattle.src_tree.specs.Limits.{IsWithinLimits};
 ghost use Rattle.src_tree.specs.Typing.{IsTyped};
 ghost use Rattle.src_tree.specs.Trees.{Source, source_of};
+ghost use Rattle.ghost_cli.specs.CallsFollow.{TriesRead};
 ghost use Rattle.ghost_cli.specs.Progress.{HasLeft, EndsWorkWith, SaysSource, Stops};
 ghost use Rattle.ghost_cli.specs.Questions.{WhichSource};
 ghost use Rattle.ghost_cli.specs.Sources.{AreProgram, IsTokensFault, SpellsTyped, source_limit};
@@ -37,6 +40,8 @@ pub fn find_source<'a, F: Shelf>(
         (λ p. (next : Source → Work) → HasLeft (F.seen shelf.old) (with_source procs name.now next)
         (next (source_of p))) }
     ensures calm { OnOk result (F.seen shelf.new ≡ F.seen shelf.old) }
+    ensures whole { OnOk result (Adds (F.log shelf.old) (F.log shelf.new) (read_of name.now true ∷ [])) }
+    ensures part { OnErr result (TriesRead name.now (F.log shelf.old) (F.log shelf.new)) }
     ensures stopped { IfErr result (λ reply. (next : Source → Work)
         → Stops (F.seen shelf.old) (F.seen shelf.new) (with_source procs name.now next) (said reply)) }
 {

@@ -44,6 +44,8 @@ impl Sink for TextSink {
 
     ghost seen = { λ s. s };
 
+    ghost waiting = { λ _. 0 };
+
     #[tactic(auto, using(gr_base::proofs::Counts::rose_by_one))]
     fn put(&mut self, bytes: &[u8]) -> Result<(), SinkFailed> {
         match self.bytes.extend_from_slice(bytes) {

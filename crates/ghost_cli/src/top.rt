@@ -1,5 +1,7 @@
 ghost use Rattle.std.specs.Prelude.{◌≡◌, IfErr, IfOk, OnErr};
 ghost use Rattle.command_words.specs.CommandLines.{AreTexts};
+ghost use Rattle.ghost_cli.specs.CallsFollow.{Makes};
+ghost use Rattle.ghost_cli.specs.Happened.{Happened};
 ghost use Rattle.ghost_cli.specs.HeadlineFollows.{HasHeadline};
 ghost use Rattle.command_words.specs.Options.{texts};
 ghost use Rattle.ghost_cli.specs.Outside.{Explains, outside};
@@ -50,6 +52,7 @@ pub fn ghostrider<F: Shelf, O: Sink>(
         (outside (F.seen shelf.old) (O.seen out.old)) (outside (F.seen shelf.new) (O.seen out.new)) result }
     ensures headline { HasHeadline (texts words.now)
         (outside (F.seen shelf.old) (O.seen out.old)) (outside (F.seen shelf.new) (O.seen out.new)) result }
+    ensures happened { Happened (texts words.now) (F.log shelf.old) (F.log shelf.new) (O.waiting out.new) result }
 {
     look_at(words);
     let status = explained(alloc, words, shelf, out);
@@ -70,8 +73,9 @@ fn look_at(words: &[&str])
 
 /// The call, with the cause of its status.
 fn explained<F: Shelf, O: Sink>(alloc: Global, words: &[&str], shelf: &mut F, out: &mut O) -> u8
-    ensures { Explains (outside (F.seen shelf.old) (O.seen out.old))
+    ensures explained { Explains (outside (F.seen shelf.old) (O.seen out.old))
         (outside (F.seen shelf.new) (O.seen out.new)) result (work_of (texts words.now)) }
+    ensures calls { Makes (work_of (texts words.now)) (F.log shelf.old) (F.log shelf.new) }
 {
     match answered(alloc, words, shelf, out) {
         Ok(status) => status,
@@ -91,6 +95,7 @@ fn answered<'a, F: Shelf, O: Sink>(
     ensures stopped { IfErr result (λ reply. LeavesToSay (F.seen shelf.old) (F.seen shelf.new)
         (work_of (texts words.now)) (said reply)) }
     ensures unput { OnErr result (O.seen out.new ≡ O.seen out.old) }
+    ensures calls { Makes (work_of (texts words.now)) (F.log shelf.old) (F.log shelf.new) }
 {
     if words.len() == 0 {
         return Err(Reply::Usage);
@@ -111,6 +116,7 @@ fn perform<'a, F: Shelf, O: Sink>(
     ensures stopped { IfErr result (λ reply. LeavesToSay (F.seen shelf.old) (F.seen shelf.new)
         (asked_of works name.now (texts words.now)) (said reply)) }
     ensures unput { OnErr result (O.seen out.new ≡ O.seen out.old) }
+    ensures calls { Makes (asked_of works name.now (texts words.now)) (F.log shelf.old) (F.log shelf.new) }
 {
     let Some(verb) = verb_named(name) else {
         return Err(Reply::Usage);
@@ -135,6 +141,7 @@ fn work<'a, F: Shelf, O: Sink>(
     ensures stopped { IfErr result (λ reply. LeavesToSay (F.seen shelf.old) (F.seen shelf.new)
         (asks_of works verb (rows_of (found_of matches.now))) (said reply)) }
     ensures unput { OnErr result (O.seen out.new ≡ O.seen out.old) }
+    ensures calls { Makes (asks_of works verb (rows_of (found_of matches.now))) (F.log shelf.old) (F.log shelf.new) }
 {
     match verb {
         Verb::Check => check(alloc, matches, shelf, out),

@@ -2,6 +2,7 @@ ghost use Rattle.std.specs.Prelude.{◌≡◌, ◌≢◌, ◌≤◌, [], IfErr, 
 ghost use Rattle.std.specs.Option.{option_map};
 ghost use Rattle.clap.specs.Words.{found_of, rows_of};
 ghost use Rattle.banks.specs.Accesses.{accesses_from};
+ghost use Rattle.ghost_cli.specs.CallsFollow.{Follows, Makes};
 ghost use Rattle.ghost_cli.specs.Outside.{Explains, outside};
 ghost use Rattle.ghost_cli.specs.Progress.{LeavesToSay};
 ghost use Rattle.call_replies.specs.Texts.{comes_to, said};
@@ -61,6 +62,8 @@ pub fn trace<'a, F: Shelf, O: Sink>(
     ensures stopped { IfErr result (λ reply. LeavesToSay (F.seen shelf.old) (F.seen shelf.new)
         (trace_asks trace_work (rows_of (found_of matches.now))) (said reply)) }
     ensures unput { OnErr result (O.seen out.new ≡ O.seen out.old) }
+    ensures calls { Makes (trace_asks trace_work (rows_of (found_of matches.now)))
+        (F.log shelf.old) (F.log shelf.new) }
 {
     let Some(asked) = words_in(
         value(matches, "OBJ"),
@@ -115,6 +118,8 @@ fn trace_files<'a, F: Shelf, O: Sink>(
         (Some (trace_work asked.entry.object.now asked.entry.input.now asked.entry.cycles
         asked.entry.seed asked.entry.paths asked.entry.recursive)) (said reply)) }
     ensures unput { OnErr result (O.seen out.new ≡ O.seen out.old) }
+    ensures calls { Follows (trace_work asked.entry.object.now asked.entry.input.now asked.entry.cycles
+        asked.entry.seed asked.entry.paths asked.entry.recursive) (F.log shelf.old) (F.log shelf.new) }
 {
     let accepted = find_accepted(alloc, asked.object, shelf)?;
     let inputs = find_inputs(alloc, &accepted, asked.input, shelf)?;

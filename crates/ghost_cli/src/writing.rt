@@ -1,4 +1,5 @@
 ghost use Rattle.std.specs.Prelude.{◌≡◌, IfErr, IfOk, OnErr};
+ghost use Rattle.ghost_cli.specs.CallsFollow.{TriesWrite};
 ghost use Rattle.ghost_cli.specs.Outside.{LeftBy, outside};
 ghost use Rattle.call_replies.specs.Texts.{no_memory, said};
 ghost use Rattle.ghost_cli.specs.Work.{IsWritten};
@@ -23,6 +24,7 @@ pub fn write_and_say<'a, F: Shelf, O: Sink>(
     ensures starved { IfErr result (λ reply. said reply ≡ no_memory) }
     ensures unwritten { OnErr result (F.seen shelf.new ≡ F.seen shelf.old) }
     ensures unput { OnErr result (O.seen out.new ≡ O.seen out.old) }
+    ensures calls { TriesWrite name.now (F.log shelf.old) (F.log shelf.new) }
 {
     let unwritten = line_of(alloc, &Reply::Unwritten(name))?;
     let wrote = line_of(alloc, &Reply::Wrote(done))?;

@@ -40,6 +40,7 @@ as_shelf s = record {
   read_faults = s.read_faults;
   write_faults = s.write_faults;
   starved = s.starved;
+  unread = None;
 }
 
 -- a code for what is seen, as a value of contracts

@@ -1,5 +1,5 @@
 -- The outcome of a call of the program from a page. (This project's profile.)
-use Rattle.std.specs.Prelude.{◌≡◌, ◌⊎◌, ℕ, All, ◌≤◌, ◌==◌, List, [], ◌∷◌, codes, take, length, Some, MatchOption}
+use Rattle.std.specs.Prelude.{◌≡◌, ◌⊎◌, ℕ, All, ◌≤◌, ◌==◌, List, [], ◌∷◌, codes, take, length, Some, None, MatchOption}
 use Rattle.std.specs.List.{slice_split}
 use Rattle.std.specs.FinMap.{from_entries, get}
 use Rattle.gr_outside.specs.Shelf.{Files, ShelfSeen}
@@ -32,7 +32,13 @@ page_shelf program input = record {
 -- what is seen of a shelf and of a sink in memory: all of their files and bytes
 abbrev pub shelf_seen : Shelved → ShelfSeen
 shelf_seen s =
-    record { files = Some s.files; read_faults = s.read_faults; write_faults = s.write_faults; starved = s.starved }
+    record {
+      files = Some s.files;
+      read_faults = s.read_faults;
+      write_faults = s.write_faults;
+      starved = s.starved;
+      unread = None;
+    }
 
 abbrev pub sink_seen : Held → SinkSeen
 sink_seen s = record { held = Some s.bytes; faults = s.faults }
@@ -40,7 +46,7 @@ sink_seen s = record { held = Some s.bytes; faults = s.faults }
 -- what a call begins with: these files, of which no call failed yet, and a sink that holds nothing
 abbrev pub page_outside : List ℕ → List ℕ → Outside
 page_outside program input = outside
-    (record { files = Some (page_files program input); read_faults = 0; write_faults = 0; starved = 0 })
+    (record { files = Some (page_files program input); read_faults = 0; write_faults = 0; starved = 0; unread = None })
     (record { held = Some []; faults = 0 })
 
 -- the bytes are at the beginning of the room, if they fit

@@ -17,7 +17,7 @@ only-reads before after only = ap (λ (s : ShelfSeen). s.files) only.0
 
 ending-leaves : (ending : Ending) (before after : ShelfSeen) → LeavesShelf ending before after
     → after.files ≡ before.files
-ending-leaves (IsUnread name) before after leaves = only-reads before after leaves
+ending-leaves (IsUnread name) before after leaves = only-reads before after leaves.only
 ending-leaves (IsTooLong name limit) before after leaves = ap (λ (s : ShelfSeen). s.files) leaves
 ending-leaves (IsVerdict seen verdict) before after leaves = ap (λ (s : ShelfSeen). s.files) leaves
 ending-leaves (IsWritten name bytes done) before after leaves = absurd leaves

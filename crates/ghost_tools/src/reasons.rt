@@ -5,13 +5,13 @@ ghost use Rattle.lt_isa.specs.Ranges.{ProfileFits};
 use crate::source_texts::{Access, SourceText};
 use crate::variables::{number_of, push_name};
 use bank_alloc::banks;
+use code_gen::fast_plan;
 use flow_types::Typed;
 use ghost_cli::targets::Target;
 use gr_base::Memory;
 use gr_word::Name;
 use lt_isa::{BankKind, Object, Symbol, bank_kind};
-use resident_alloc::resident_plan;
-use scratch_alloc::{SlotPlan, slots};
+use scratch_alloc::{Pin, SlotPlan, slots};
 use src_tree::Decl;
 use std::alloc::Global;
 
@@ -33,7 +33,7 @@ pub(crate) fn slots_of(alloc: Global, program: &Typed, target: &Target) -> Resul
 {
     let block_log = target.profile.block_log;
     if target.fast {
-        return match resident_plan(alloc, program.program(), block_log) {
+        return match fast_plan(alloc, program.program(), block_log) {
             Ok(plan) => Ok(plan.slots),
             Err(_) => Err(Memory),
         };
@@ -50,6 +50,16 @@ pub(crate) fn is_pinned(slots: &SlotPlan, slot: u8) -> bool {
         Some(pin) => pin.is_some(),
         None => false,
     }
+}
+
+// Whether a block has words of a variable, where a block has 2^block_log words.
+fn has_words_of(pin: Pin, symbol: &Symbol, block_log: u8) -> bool {
+    if pin.bank != symbol.bank || pin.block < symbol.block {
+        return false;
+    }
+    let size = 1u64.wrapping_shl(u32::from(block_log));
+    let first = u64::from(pin.block - symbol.block).saturating_mul(size);
+    first < u64::from(symbol.word) + u64::from(symbol.length)
 }
 
 impl Reasons<'_> {
@@ -71,7 +81,7 @@ impl Reasons<'_> {
     ) -> Result<(), Memory> {
         match bank_kind(symbol.bank) {
             BankKind::Oblivious => self.push_oblivious(alloc, text, object, symbol),
-            BankKind::Plain | BankKind::Encrypted => self.push_slot(alloc, text, symbol),
+            BankKind::Plain | BankKind::Encrypted => self.push_slot(alloc, text, object, symbol),
         }
     }
 
@@ -109,7 +119,13 @@ impl Reasons<'_> {
     }
 
     // Adds the slot of a variable of plain or encrypted memory.
-    fn push_slot(&self, alloc: Global, text: &mut String, symbol: &Symbol) -> Result<(), Memory> {
+    fn push_slot(
+        &self,
+        alloc: Global,
+        text: &mut String,
+        object: &Object,
+        symbol: &Symbol,
+    ) -> Result<(), Memory> {
         let Some(number) = number_of(self.decls, symbol.name.bytes()) else {
             return Ok(());
         };
@@ -118,11 +134,42 @@ impl Reasons<'_> {
         };
         let slot = *slot;
         if is_pinned(self.slots, slot) {
-            text.push_str(format!(in alloc; "; resident: slot {slot}")?.as_str())?;
-            return Ok(());
+            return self.push_resident(alloc, text, object, symbol);
         }
         text.push_str(format!(in alloc; "; cached: slot {slot}")?.as_str())?;
         self.push_sharers(alloc, text, number, slot)
+    }
+
+    // Adds the slots that hold a variable for the whole run: one for each block that has words of it.
+    fn push_resident(
+        &self,
+        alloc: Global,
+        text: &mut String,
+        object: &Object,
+        symbol: &Symbol,
+    ) -> Result<(), Memory> {
+        let block_log = object.profile().block_log;
+        let mut numbers = String::new(alloc);
+        let mut several = false;
+        for (slot, pin) in self.slots.pins.iter().enumerate() {
+            let Some(pin) = *pin else {
+                continue;
+            };
+            if has_words_of(pin, symbol, block_log) {
+                several = !numbers.is_empty();
+                if several {
+                    numbers.push_str(", ")?;
+                }
+                numbers.push_str(format!(in alloc; "{slot}")?.as_str())?;
+            }
+        }
+        text.push_str(if several {
+            "; resident: slots "
+        } else {
+            "; resident: slot "
+        })?;
+        text.push_str(numbers.as_str())?;
+        Ok(())
     }
 
     // Adds the other variables of a slot.

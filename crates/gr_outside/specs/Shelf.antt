@@ -1,5 +1,5 @@
 -- What a shelf holds: files by their names. (This project's profile.)
-use Rattle.std.specs.Prelude.{◌≡◌, ℕ, List, take, Option}
+use Rattle.std.specs.Prelude.{◌≡◌, ℕ, Bool, true, false, List, take, Option}
 use Rattle.std.specs.Option.{option_map}
 use Rattle.std.specs.Ordering.{nat_cmp}
 use Rattle.std.specs.Cmp.Lexicographic.{slice_cmp}
@@ -34,3 +34,16 @@ pub record ShelfSeen : Type 0 where
   pub read_faults : ℕ
   pub write_faults : ℕ
   pub starved : ℕ
+  pub unread : Option (List ℕ)
+
+-- A call of a shelf: a write or a read, of the file with this name, and whether it succeeded.
+pub record ShelfCall : Type 0 where
+  pub writes : Bool
+  pub name : List ℕ
+  pub done : Bool
+
+abbrev pub read_of : List ℕ → Bool → ShelfCall
+read_of name done = record { writes = false; name = name; done = done }
+
+abbrev pub write_of : List ℕ → Bool → ShelfCall
+write_of name done = record { writes = true; name = name; done = done }

@@ -1,10 +1,12 @@
 //! The outside of GhostRider as two traits: a [`Shelf`], where files are read and written by name, and a [`Sink`],
 //! which takes bytes. Their contracts define what they do. Each counts its own faults, so that code that uses it can
 //! show the cause of each fault that it reports. There are also shelves and sinks in memory: [`MemShelf`] and
-//! [`MemSink`] fail at calls that are chosen in advance, and [`SureShelf`] and [`SureSink`] never fail.
+//! [`MemSink`] fail at calls that are chosen in advance, and [`SureShelf`] and [`SureSink`] never fail. A
+//! [`LoggedShelf`] over any shelf keeps a log of its calls.
 #![tactic(auto)]
 
 pub mod files;
+pub mod logged_shelf;
 pub mod mem_shelf;
 pub mod mem_sink;
 pub mod shelf;
@@ -13,6 +15,7 @@ pub mod sure_shelf;
 pub mod sure_sink;
 
 pub use files::{File, names_are_distinct};
+pub use logged_shelf::LoggedShelf;
 pub use mem_shelf::MemShelf;
 pub use mem_sink::MemSink;
 pub use shelf::{Shelf, ShelfError};

@@ -77,6 +77,7 @@ impl Shelf for MemShelf {
       read_faults = s.read_faults;
       write_faults = s.write_faults;
       starved = s.starved;
+      unread = None;
     } };
 
     #[tactic(auto, using(gr_base::proofs::Counts::rose_by_one))]

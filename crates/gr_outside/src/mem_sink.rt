@@ -60,6 +60,8 @@ impl Sink for MemSink {
 
     ghost seen = { λ s. record { held = Some s.bytes; faults = s.faults } };
 
+    ghost waiting = { λ _. 0 };
+
     #[tactic(auto, using(gr_base::proofs::Counts::rose_by_one))]
     fn put(&mut self, bytes: &[u8]) -> Result<(), SinkFailed>
         ensures exactly_failing { is_err result ≡ put_fails bytes.now self.old }

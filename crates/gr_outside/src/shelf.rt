@@ -1,8 +1,9 @@
-ghost use Rattle.std.specs.Prelude.{◌≡◌, ◌≢◌, ◌≤◌, ◌^◌, ◌-◌, ℕ, List, Option, Some, None, IfOk, IfSome, MatchOption, OnOk, OnErr, is_some, vec_len};
+ghost use Rattle.std.specs.Prelude.{◌≡◌, ◌≢◌, ◌⊎◌, ◌≤◌, ◌^◌, ◌-◌, ℕ, List, [], ◌∷◌, Option, Some, None, IfOk, IfSome, MatchOption, OnOk, OnErr, is_ok, is_some, vec_len};
 ghost use Rattle.std.specs.Option.{option_map};
 ghost use Rattle.std.specs.FinMap.{get};
+ghost use Rattle.gr_base.specs.Added.{Adds};
 ghost use Rattle.gr_base.specs.Counts.{Rose};
-ghost use Rattle.gr_outside.specs.Shelf.{ShelfSeen, front_of, with_file, SameBut};
+ghost use Rattle.gr_outside.specs.Shelf.{ShelfCall, ShelfSeen, front_of, read_of, with_file, write_of, SameBut};
 ghost use Rattle.gr_outside.specs.declared.shelf.ShelfError.TheVariants.{Memory};
 
 use std::alloc::{AllocError, AllocFailed};
@@ -45,9 +46,12 @@ impl<T: Drop> From<AllocFailed<T>> for ShelfError {
 /// 2^64 - 1. Code that uses a shelf can't raise its counts, so a fault that the code reports was a fault of the shelf.
 /// A call that succeeds leaves every count as it was.
 pub trait Shelf {
-    /// How contracts see the shelf: its files, if they are visible; how many reads and how many writes failed; and how
-    /// many writes ran out of memory.
+    /// How contracts see the shelf: its files, if they are visible; how many reads and how many writes failed; how many
+    /// writes ran out of memory; and the name of the last file that couldn't be read, if that name is visible.
     ghost seen: { Self → ShelfSeen };
+
+    /// The calls so far, in order, if the shelf keeps a log of them that is visible.
+    ghost log: { Self → Option (List ShelfCall) } = { λ _. None };
 
     /// The first `most` bytes of the file with that name, or all of them if it has fewer.
     fn read(&mut self, name: &str, most: usize) -> Result<Vec<u8>, ShelfError>
@@ -55,7 +59,12 @@ pub trait Shelf {
         ensures bytes { IfOk result
             (λ bytes. IfSome (seen self.old).files (λ all. front_of all name.now most ≡ Some bytes.items)) }
         ensures calm { OnOk result (seen self.new ≡ seen self.old) }
-        ensures others { seen self.new ≡ record (seen self.old) { read_faults = (seen self.new).read_faults } }
+        ensures others { seen self.new ≡ record (seen self.old) {
+          read_faults = (seen self.new).read_faults;
+          unread = (seen self.new).unread;
+        } }
+        ensures named { (result ≡ Err ShelfError.Missing) ⊎ (result ≡ Err ShelfError.Failed)
+            → IfSome (seen self.new).unread (λ unread. unread ≡ name.now) }
 
         // Missing: the files are visible and none has the name, or they aren't visible and the read counts as failed.
         ensures missing { result ≡ Err ShelfError.Missing
@@ -66,7 +75,9 @@ pub trait Shelf {
 
         ensures read_count { (seen self.old).read_faults ≤ (seen self.new).read_faults }
         ensures read_count_stays { (seen self.old).read_faults ≡ 2 ^ 64 - 1
-            → (seen self.new).read_faults ≡ 2 ^ 64 - 1 };
+            → (seen self.new).read_faults ≡ 2 ^ 64 - 1 }
+
+        ensures logged { Adds (log self.old) (log self.new) (read_of name.now (is_ok result) ∷ []) };
 
     /// Makes these bytes the contents of the file with that name. A write that fails may leave anything under that
     /// name.
@@ -90,5 +101,7 @@ pub trait Shelf {
         ensures write_count_stays { (seen self.old).write_faults ≡ 2 ^ 64 - 1
             → (seen self.new).write_faults ≡ 2 ^ 64 - 1 }
         ensures starved_count { (seen self.old).starved ≤ (seen self.new).starved }
-        ensures starved_count_stays { (seen self.old).starved ≡ 2 ^ 64 - 1 → (seen self.new).starved ≡ 2 ^ 64 - 1 };
+        ensures starved_count_stays { (seen self.old).starved ≡ 2 ^ 64 - 1 → (seen self.new).starved ≡ 2 ^ 64 - 1 }
+
+        ensures logged { Adds (log self.old) (log self.new) (write_of name.now (is_ok result) ∷ []) };
 }

@@ -18,6 +18,9 @@ pub trait Sink {
     /// How contracts see the sink: the bytes that it took, if they are visible, and how many calls failed.
     ghost seen: { Self → SinkSeen };
 
+    /// How many bytes the sink holds back.
+    ghost waiting: { Self → ℕ };
+
     /// Adds the bytes at the end. A call that fails adds a prefix of the bytes, possibly none but never all of them. If
     /// the sink's bytes are visible after a call, they were visible before it.
     fn put(&mut self, bytes: &[u8]) -> Result<(), SinkFailed>
@@ -36,9 +39,7 @@ pub trait Sink {
         ensures failed { OnErr result (Rose (seen self.old).faults (seen self.new).faults) }
         ensures untold { OnErr result ((seen self.old).held ≡ None) }
         ensures count { (seen self.old).faults ≤ (seen self.new).faults }
-    {
-        Ok(())
-    }
+        ensures passed_on { OnOk result (waiting self.new ≡ 0) };
 
     /// How many bytes the sink holds, if they are visible; otherwise any number.
     fn mark(&self) -> usize

@@ -45,7 +45,13 @@ impl SureShelf {
 impl Shelf for SureShelf {
     ghost use Rattle.gr_outside.specs.Shelf.{ShelfSeen};
 
-    ghost seen = { λ s. record { files = Some s.files; read_faults = 0; write_faults = 0; starved = s.starved } };
+    ghost seen = { λ s. record {
+      files = Some s.files;
+      read_faults = 0;
+      write_faults = 0;
+      starved = s.starved;
+      unread = None;
+    } };
 
     fn read(&mut self, name: &str, most: usize) -> Result<Vec<u8>, ShelfError>
         ensures never_fails { result ≢ Err ShelfError.Failed }

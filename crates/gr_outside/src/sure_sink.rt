@@ -68,6 +68,8 @@ impl Sink for SureSink {
 
     ghost seen = { λ s. record { held = s.held; faults = 0 } };
 
+    ghost waiting = { λ _. 0 };
+
     fn put(&mut self, bytes: &[u8]) -> Result<(), SinkFailed>
         ensures ok { IsOk result }
         ensures after { self.new ≡ after_counted_put bytes.now self.old }

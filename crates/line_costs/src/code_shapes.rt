@@ -175,8 +175,8 @@ impl CompiledCode<'_> {
         Some(*self.slots.of_var.as_slice().get(number)?)
     }
 
-    /// The end of an assignment to a variable, whose code begins at a place: after its store or its copy to a register, and
-    /// for an element of an array that no slot holds for the whole run after the store of its block.
+    /// The end of an assignment to a variable, whose code begins at a place: after its last store or its copy to a
+    /// register, and for an element of an array that no slot holds for the whole run after the store of its block.
     pub(crate) fn assignment_end(
         &self,
         name: &[u8],
@@ -185,17 +185,59 @@ impl CompiledCode<'_> {
     ) -> Option<usize> {
         let own = self.slot_of(name)?;
         let store = self.expression_end(from)?;
-        let next = store.checked_add(1)?;
         match self.code.get(store)? {
-            Instr::Stw { slot, .. } if *slot == own => {}
-            Instr::Alu { .. } if !is_element => return Some(next),
+            Instr::Stw { slot, .. } if self.is_stored_in(own, *slot) => {}
+            Instr::Alu { .. } if !is_element => return store.checked_add(1),
             _ => return None,
         }
+        let next = self.last_store(store).checked_add(1)?;
         if !is_element || is_pinned(self.slots, own) {
             return Some(next);
         }
         match self.code.get(next)? {
             Instr::Stb { slot } if *slot == own => next.checked_add(1),
+            _ => None,
+        }
+    }
+
+    // Whether a variable whose first words are in one slot may have words in another: slots that hold blocks for the whole
+    // run may share an array.
+    fn is_stored_in(&self, own: u8, slot: u8) -> bool {
+        slot == own || is_pinned(self.slots, own) && is_pinned(self.slots, slot)
+    }
+
+    // The last store of a write whose first is at a place: a write of an array in several slots stores a word of each.
+    fn last_store(&self, first: usize) -> usize {
+        let mut last = first;
+        for _ in 1..8 {
+            if let Some(next) = self.next_store(last) {
+                last = next;
+            }
+        }
+        last
+    }
+
+    // The store of the next slot after the store of a slot. Before it the slot's word is read with the same register, and
+    // three operations choose between it and the new word; four instructions before them may make a mask.
+    fn next_store(&self, store: usize) -> Option<usize> {
+        let number = self.number_of_store(store)?;
+        let next = self.code.get(store.checked_add(1)?)?;
+        let masked: usize = if let Instr::Li { .. } = next { 5 } else { 1 };
+        let read = store.checked_add(masked)?;
+        let write = read.checked_add(4)?;
+        match (self.code.get(read)?, self.code.get(write)?) {
+            (Instr::Ldw { slot: one, off, .. }, Instr::Stw { slot: other, .. })
+                if *off == number && one == other && self.number_of_store(write)? == number => {
+                Some(write)
+            }
+            _ => None,
+        }
+    }
+
+    // The register with the number of the word that is stored at a place.
+    fn number_of_store(&self, at: usize) -> Option<u8> {
+        match self.code.get(at)? {
+            Instr::Stw { off, .. } => Some(*off),
             _ => None,
         }
     }
@@ -237,13 +279,15 @@ impl CompiledCode<'_> {
     // The end of the code of a statement of an arm.
     fn statement_end(&self, from: usize) -> Option<usize> {
         let end = self.expression_end(from)?;
-        let next = end.checked_add(1)?;
         match self.code.get(end)? {
-            Instr::Stw { .. } => match self.code.get(next)? {
-                Instr::Stb { .. } => next.checked_add(1),
-                _ => Some(next),
-            },
-            Instr::Alu { .. } => Some(next),
+            Instr::Stw { .. } => {
+                let next = self.last_store(end).checked_add(1)?;
+                match self.code.get(next)? {
+                    Instr::Stb { .. } => next.checked_add(1),
+                    _ => Some(next),
+                }
+            }
+            Instr::Alu { .. } => end.checked_add(1),
             Instr::Br { .. } => Some(self.region_at(end)?.end),
             _ => None,
         }

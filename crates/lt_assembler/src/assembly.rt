@@ -1,4 +1,4 @@
-ghost use Rattle.std.specs.Prelude.{◌≡◌, ◌≢◌, ◌≤◌, ◌==◌, ◌&&◌, not, nat_le, length, Ok, Err, IfOk, IfErr, MatchResult};
+ghost use Rattle.std.specs.Prelude.{◌≡◌, ◌≢◌, ◌≤◌, ◌==◌, ◌&&◌, not, nat_le, length, Ok, IfOk, IfErr, MatchResult};
 ghost use Rattle.lt_isa.specs.Object.{Parts};
 ghost use Rattle.lt_isa.specs.Ranges.{IsInRange};
 ghost use Rattle.lt_assembler.specs.Faults.{Finds};
@@ -92,10 +92,6 @@ pub fn assemble(alloc: Global, text: &[u8]) -> Result<Object, AsmError>
 
     // An error is that of the first line with one or, if no line has one, of the text as a whole.
     ensures first { IfErr result (λ e. e ≢ AsmError.Memory → IsFirstTextFault text.now e) }
-
-    // The same by the computing form.
-    ensures exact { MatchResult result (λ o. assembled text.now ≡ Ok o)
-        (λ e. e ≢ AsmError.Memory → assembled text.now ≡ Err e) }
 {
     assembled(alloc, text)
 }

@@ -1,5 +1,5 @@
 -- The first error that reading meets is the first error of the file, as people read it.
-use Rattle.std.proofs.Common.{◌≡◌, ◌≢◌, ℕ, ◌+◌, ◌<◌, ◌≤◌, Bool, true, false, cond, eqb, ltb, List, [], ◌∷◌, ◌++◌, length, take, drop, Result, Ok, Err, MatchResult, refl, sym, ap, subst, ◌∙◌, append_assoc, arith}
+use Rattle.std.proofs.Common.{◌≡◌, ◌≢◌, ℕ, ◌+◌, ◌<◌, ◌≤◌, Bool, true, false, cond, eqb, ltb, List, [], ◌∷◌, ◌++◌, length, take, drop, Result, Ok, Err, IfErr, refl, sym, ap, subst, ◌∙◌, append_assoc, arith}
 use Rattle.std.proofs.Math.Seq.{take-append_seam, take-add}
 use Rattle.std.proofs.lemmas.Bool.{ltb-false, ltb-true, le-ltb, lt-ltb}
 use Rattle.std.proofs.lemmas.Bool.Decides.{nat_tests}
@@ -291,10 +291,10 @@ decoded-first bytes e fits is =
     (λ f. found_in bytes object_fields [] bytes refl Nothing f) e (sym (decoded-closed bytes) ∙ is)
 
 -- a function whose result is that of reading reports the first error
-pub is_exact : (bytes : List ℕ) (r : Result Parts DecodeError) → IsBytes bytes → Decodes (λ o. o) r (decoded bytes)
-    → MatchResult r (λ o. decoded bytes ≡ Ok o) (λ e. e ≢ Memory → IsFirstObjectFault bytes e)
-is_exact bytes (Ok o) fits read = read
-is_exact bytes (Err e) fits read = λ known. decoded-first bytes e fits (read known)
+pub is_first : (bytes : List ℕ) (r : Result Parts DecodeError) → IsBytes bytes → Decodes (λ o. o) r (decoded bytes)
+    → IfErr r (λ e. e ≢ Memory → IsFirstObjectFault bytes e)
+is_first bytes (Ok o) fits read = tt
+is_first bytes (Err e) fits read = λ known. decoded-first bytes e fits (read known)
 
 -- each prefix of a truncated file is truncated
 

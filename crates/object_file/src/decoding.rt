@@ -1,4 +1,4 @@
-ghost use Rattle.std.specs.Prelude.{◌≡◌, ◌≢◌, ◌≤◌, List, length, IfOk, MatchResult, Ok, Err};
+ghost use Rattle.std.specs.Prelude.{◌≡◌, ◌≢◌, ◌≤◌, length, IfErr, IfOk, MatchResult};
 ghost use Rattle.lt_isa.specs.Object.{Parts};
 ghost use Rattle.lt_isa.specs.Ranges.{IsInRange};
 ghost use Rattle.object_file.specs.Spelling.{spelling};
@@ -85,9 +85,8 @@ pub fn decode(alloc: Global, bytes: &[u8]) -> Result<Object, DecodeError>
     ensures only { (o : Parts)
         → IsInRange o → bytes.now ≡ spelling o → MatchResult result (λ p. p ≡ o) (λ e. e ≡ DecodeError.Memory) }
 
-    // The object is the one that reading the bytes yields, and an error is the file's first.
-    ensures exact { MatchResult result (λ o. decoded bytes.now ≡ Ok o)
-        (λ e. e ≢ DecodeError.Memory → IsFirstObjectFault bytes.now e) }
+    // An error is the file's first.
+    ensures first { IfErr result (λ e. e ≢ DecodeError.Memory → IsFirstObjectFault bytes.now e) }
 {
     read_object(alloc, bytes)
 }

@@ -1,24 +1,27 @@
--- There always is a greedy write-back, so each run ends in some places, and each block is on a level there.
-use Rattle.std.proofs.Common.{◌≡◌, ◌≢◌, ◌⊎◌, inl, inr, ℕ, zero, suc, ◌+◌, ◌<◌, ◌≤◌, ◌^◌, Bool, true, false, List, [], ◌∷◌, ◌++◌, length, get_or, set, Option, Some, None, refl, sym, ◌∙◌, subst, ⊎_elim, arith, append_assoc, length-append, length-set}
+-- There always is a greedy write-back, so each run ends in some places, and each block is on a level there. And there
+-- is a height for each number of blocks.
+use Rattle.std.proofs.Common.{◌≡◌, ◌≢◌, ◌⊎◌, inl, inr, ℕ, zero, suc, ◌+◌, ◌<◌, ◌≤◌, ◌^◌, Bool, true, false, List, [], ◌∷◌, ◌++◌, length, map, take, drop, get_or, set, Option, Some, None, refl, sym, ◌∙◌, subst, ⊎_elim, arith, append_assoc, length-append, length-set}
 use Rattle.std.specs.Prelude.{Contains}
 use Rattle.std.specs.List.{All, swap_remove}
 use Rattle.std.proofs.lemmas.Bool.{cases_eq, cases_lt}
-use Rattle.std.proofs.lemmas.List.{get_or_default}
+use Rattle.std.proofs.lemmas.List.{get_or_default, length-drop, length-map, length-take-le}
+use Rattle.std.proofs.lemmas.List.Elements.{All-map}
 use Rattle.std.proofs.lemmas.List.Sorted.{IsPermutation-swap_remove, length_permutation}
 use Rattle.std.proofs.lemmas.Nat.{pow_pos}
 use Rattle.std.proofs.Math.ListN.{get_or-append}
-use Rattle.std.proofs.Math.Nat.{mod-lt}
+use Rattle.std.proofs.Math.Nat.{mod-lt, pow-suc}
 use Rattle.std.proofs.Math.Seq.{get_or-append_seam}
 use Rattle.rand_core.specs.Stream.{Stream}
 use Rattle.path_oram.specs.Places.{Places, held, on_path, passes_bucket, path_blocks}
 use Rattle.path_oram.specs.Moves.{Moves, MovesBy, Stays, Then}
 use Rattle.path_oram.specs.Pouring.{poured}
 use Rattle.path_oram.specs.Orams.{ComesBy}
-use Rattle.path_oram.specs.Settles.{AreLevels, StandsOn}
+use Rattle.path_oram.specs.Settles.{AreLevels, Settles, StandsOn, places_from}
 use Rattle.path_oram.specs.Settling.{HasRoom, IsDeepest, IsSettled, NoneFrom}
-use Rattle.path_oram.specs.Whole.{IsWhole}
+use Rattle.path_oram.specs.Whole.{IsHeightFor, IsWhole}
 use Rattle.path_oram.specs.Words.{first_words, leaf_of, words_left}
 use Rattle.path_oram.proofs.Ahead.{length-first_words}
+use Rattle.path_oram.proofs.Beginning.{first_whole}
 use Rattle.path_oram.proofs.PathNumbers.{path_within}
 use Rattle.path_oram.proofs.Poured.{poured_most, poured_on, poured_size}
 use Rattle.path_oram.proofs.Settled.{settled_start, settled_kept, settled_put}
@@ -283,3 +286,62 @@ ends_somehow p words blocks whole exist =
       levels = levels.more;
       are = levels.are;
     }
+
+-- ---- the height of a tree
+
+below_power : (n : ℕ) → n ≤ 2 ^ n
+below_power zero = omega arith
+below_power (suc n) = omega (arith, below_power n, pow-suc 2 n, pow_pos n)
+
+module _ (count : ℕ) where
+  -- no height below this one is enough
+  abbrev IsLow : ℕ → Type 0
+  IsLow height = (less : ℕ) → count ≤ 2 ^ less → height ≤ less
+
+  one_higher : (height : ℕ) → 2 ^ height < count → IsLow height → IsLow (suc height)
+  one_higher height few low less enough =
+      ⊎_elim
+      (λ same. absurd (let here : count ≤ 2 ^ height = subst (λ n. count ≤ 2 ^ n) same enough in omega (arith, here, few)))
+      (λ other. omega (arith, low less enough, other))
+      (cases_eq less height)
+
+  height_from : (left height : ℕ) → count ≤ 2 ^ (height + left) → IsLow height → (least : ℕ) × IsHeightFor count least
+  height_from zero height enough low =
+      let none : height + 0 ≡ height = omega arith in
+      (height, record { enough = subst (λ n. count ≤ 2 ^ n) none enough; least = low })
+  height_from (suc left) height enough low =
+      let next : height + suc left ≡ suc height + left = omega arith in
+      ⊎_elim
+      (λ few.
+      height_from left (suc height) (subst (λ n. count ≤ 2 ^ n) next enough) (one_higher height few low))
+      (λ holds. (height, record { enough = holds; least = low }))
+      (cases_lt (2 ^ height) count)
+
+  -- the least height of a tree that has a leaf for each of this many blocks
+  pub some_height : (least : ℕ) × IsHeightFor count least
+  some_height =
+      let from : count ≡ 0 + count = omega arith in
+      height_from count 0 (subst (λ n. count ≤ 2 ^ n) from (below_power count)) (λ less enough. omega arith)
+
+-- ---- a bank from the start on
+
+-- there are levels that the blocks may have after any accesses to existing blocks
+pub settles_somehow : (count height : ℕ) (blocks words : List ℕ) → IsHeightFor count height
+    → All (λ block. block < count) blocks → length words ≡ count + length blocks
+    → (levels : List (Option ℕ)) × Settles count height blocks words levels
+settles_somehow count height blocks words tall exist enough =
+    let first = take count words in
+    let leaves = map (leaf_of height) first in
+    let many : length leaves ≡ count =
+    length-map first (leaf_of height) ∙ length-take-le count words (omega (arith, enough)) in
+    let whole : IsWhole (places_from count height words) =
+    first_whole height leaves (subst (λ n. IsHeightFor n height) (sym many) tall)
+    (All-map (λ leaf. leaf < 2 ^ height) (leaf_of height) first (λ k d within. mod-lt _ (pow_pos height))) in
+    let ran =
+    ran_on blocks (drop count words) (places_from count height words) whole
+    (subst (λ n. All (λ block. block < n) blocks) (sym many) exist)
+    (omega (arith, length-drop count words, enough)) in
+    let levels =
+    all_levels (length ran.after.leaves) ran.after ran.whole [] (omega arith)
+    (λ block less. absurd (omega (arith, less))) in
+    (levels.more, record { places = ran.after; moves = ran.moves; stand = levels.are })

@@ -108,6 +108,7 @@ where
       read_faults = s.read_faults;
       write_faults = s.write_faults;
       starved = s.starved;
+      unread = None;
     } };
 
     #[tactic(auto, using(gr_base::proofs::Counts::rose_by_one))]

@@ -144,6 +144,8 @@ impl<W: Write + Drop> Sink for RealSink<W> {
 
     ghost seen = { λ s. record { held = None; faults = s.faults } };
 
+    ghost waiting = { λ s. length s.waiting };
+
     fn put(&mut self, bytes: &[u8]) -> Result<(), SinkFailed>
         ensures taken { OnOk result (Takes self.old self.new bytes.now) }
         ensures part { OnErr result (TakesLess self.old self.new bytes.now) }

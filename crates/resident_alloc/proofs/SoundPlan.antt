@@ -1,5 +1,5 @@
 -- The plan of resident variables is sound for each program with room for them.
-use Rattle.std.proofs.Common.{◌≡◌, ℕ, ◌*◌, ◌^◌, ◌<◌, ◌≤◌, true, false, length, get_or, Option, Some, None, refl, sym, ap, ◌∙◌, subst, arith}
+use Rattle.std.proofs.Common.{◌≡◌, ℕ, ◌*◌, ◌^◌, ◌<◌, ◌≤◌, true, false, length, get_or, Option, Some, None, inl, refl, sym, ap, ◌∙◌, subst, arith}
 use Rattle.std.proofs.lemmas.Nat.{pow_pos}
 use Rattle.gr_base.specs.Lists.{Within}
 use Rattle.src_tree.specs.Limits.{IsWithinLimits}
@@ -63,7 +63,7 @@ module _ (p : Source) (w : ℕ) (limits : IsWithinLimits p) (room : ResidentsFit
         bank = bank ∙ ap scalar_bank (label_at p k);
         pinned_bank = slot;
         pinned_block = sym h.block;
-        inside = omega (arith, inside, words);
+        inside = inl (omega (arith, inside, words));
       })
 
   alone_sound : (k : ℕ) → k < length p.decls → (item p w k).storage ≡ Own
@@ -81,7 +81,7 @@ module _ (p : Source) (w : ℕ) (limits : IsWithinLimits p) (room : ResidentsFit
         bank = h.bank ∙ ap scalar_bank (label_at p k);
         pinned_bank = refl;
         pinned_block = refl;
-        inside = omega (arith, words, word, short);
+        inside = inl (omega (arith, words, word, short));
       })
 
   cached_sound : (k : ℕ) → k < length p.decls → (item p w k).storage ≡ Cached

@@ -1,7 +1,6 @@
 pub mod Residents
 pub mod ResidentPlan
 pub mod ResidentFits
-pub mod ResidentLayout
 pub mod Ranges
 pub use Rattle.src_tree.specs.Trees
 pub use Rattle.src_tree.specs.Typing

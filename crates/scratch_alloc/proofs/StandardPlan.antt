@@ -100,11 +100,11 @@ module _ (p : Source) (w : ℕ) (limits : IsWithinLimits p) (fit : Fits p w) whe
       let low : (place k).bank < 2 = omega (arith, is.bank, scalar_bank-lt (decl k).label) in
       let same = slot-is k below ∙ scalar_slot-is (take k (places_of p w)) (place k) is.scalar low in
       let word = (places_sound p w limits fit).place k below in
-      let here : IsSoundResident w (decl k) (place k) (record { bank = slot k; block = 0 }) = record {
+      let here : IsSoundResident w (standard_plan p w) (decl k) (place k) (record { bank = slot k; block = 0 }) = record {
         bank = is.bank;
         pinned_bank = same;
         pinned_block = sym is.block;
-        inside = omega (arith, word.word, is.one_word);
+        inside = inl (omega (arith, word.word, is.one_word));
       } in
       subst (IsSoundByPin w (standard_plan p w) (decl k) (place k) (slot k))
       (sym (scalar_pin (slot k) (omega (arith, same, low)))) here

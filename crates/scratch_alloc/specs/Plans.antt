@@ -2,6 +2,7 @@
 -- is stored, which slot serves it, and which block each slot holds for the whole run. (This project's profile.)
 use Rattle.std.specs.Prelude.{◌≡◌, ◌≢◌, ℕ, ◌+◌, ◌*◌, ◌^◌, ◌<◌, ◌≤◌, ◌⊎◌, List, [], ◌∷◌, length, slice_index_or, Option, Some, None}
 use Rattle.gr_base.specs.Lists.{Within}
+use Rattle.gr_word.specs.declared.variables.Label.TheVariants.{Secret}
 use Rattle.lt_isa.specs.Limits.{most_blocks}
 use Rattle.src_tree.specs.declared.trees.Decl.{Decl}
 use Rattle.src_tree.specs.Limits.{words_of}
@@ -72,12 +73,25 @@ pub record IsSoundPlace (w : ℕ) (plan : Plan) (d : Decl) (q : Place) : Type 0 
   pub word : q.word < 2 ^ w
   pub inside : end_of_place (2 ^ w) q ≤ slice_index_or plan.blocks q.bank 0 * 2 ^ w
 
--- a resident variable is within the block that its slot holds for the whole run
-pub record IsSoundResident (w : ℕ) (d : Decl) (q : Place) (p : Pin) : Type 0 where
+-- a block of a bank, as a pin
+abbrev pub pin_to : (bank block : ℕ) → Pin
+pin_to bank block = record { bank = bank; block = block }
+
+-- A secret array of up to five blocks, from the first word of its first block on: a slot holds each of its blocks for the
+-- whole run.
+pub record IsSpread (w : ℕ) (plan : Plan) (d : Decl) (q : Place) : Type 0 where
+  pub secret : d.label ≡ Secret
+  pub word : q.word ≡ 0
+  pub few : q.length ≤ 5 * 2 ^ w
+  pub pinned : (j : ℕ) → j * 2 ^ w < q.length
+      → (k : ℕ) × (pin_of_slot plan k ≡ Some (pin_to q.bank (q.block + j)))
+
+-- A resident variable: its slot holds its first block for the whole run, and it is within that block, or spread.
+pub record IsSoundResident (w : ℕ) (plan : Plan) (d : Decl) (q : Place) (p : Pin) : Type 0 where
   pub bank : q.bank ≡ scalar_bank d.label
   pub pinned_bank : p.bank ≡ q.bank
   pub pinned_block : p.block ≡ q.block
-  pub inside : q.word + q.length ≤ 2 ^ w
+  pub inside : (q.word + q.length ≤ 2 ^ w) ⊎ IsSpread w plan d q
 
 -- any other variable is an array with whole blocks of its own, of which no slot holds one for the whole run
 pub record IsSoundArray (w : ℕ) (plan : Plan) (d : Decl) (q : Place) (slot : ℕ) : Type 0 where
@@ -89,7 +103,7 @@ pub record IsSoundArray (w : ℕ) (plan : Plan) (d : Decl) (q : Place) (slot : �
 
 abbrev pub IsSoundByPin : ℕ → Plan → Decl → Place → ℕ → Option Pin → Type 0
 IsSoundByPin w plan d q slot None = IsSoundArray w plan d q slot
-IsSoundByPin w plan d q slot (Some p) = IsSoundResident w d q p
+IsSoundByPin w plan d q slot (Some p) = IsSoundResident w plan d q p
 
 abbrev pub decl_at : Source → ℕ → Decl
 decl_at p k = slice_index_or p.decls k no_decl

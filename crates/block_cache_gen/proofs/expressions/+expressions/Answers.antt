@@ -113,20 +113,20 @@ put_access-returns-in_ok-put_operand-in-None-clause-grows t c =
 pub put_expr-returns-in_ok-put_access-in-Item-clause-emitted :
     goal.put_expr-returns-in_ok-put_access-in-Item-clause-emitted
 put_expr-returns-in_ok-put_access-in-Item-clause-emitted t c =
-    on_ok_weaker c.put-in-Item.result
+    on_ok_weaker c.put_element.result
     (element_appended c.args.emitter.now c.args.mode c.args.mask c.args.to (expr_tree c.args.e.now) c.in-Item.name
     c.bytes-in-Item.result.now (expr_tree c.in-Item.index.value) (expr_tree c.deref.result.now)
-    (home_in c.variable-array.result) c.args.out.now c.put_access.new.out c.put-in-Item.new.self
+    (expr_tree c.deref-in-Item.result.now) (home_in c.variable-array.result) c.args.out.now c.put_access.new.out c.put_element.new.out
     (ap expr_tree c.in-Item.is) c.bytes-in-Item.ensures.bytes (ap expr_tree c.deref.ensures)
-    c.variable-array.ensures.home
+    (ap expr_tree c.deref-in-Item.ensures) c.variable-array.ensures.home
     c.in_ok-put_access-in-Item.ensures.emitted)
-    c.put-in-Item.ensures.appended
+    c.put_element.ensures.appended
 
 pub put_expr-returns-in_ok-put_access-in-Item-clause-grows :
     goal.put_expr-returns-in_ok-put_access-in-Item-clause-grows
 put_expr-returns-in_ok-put_access-in-Item-clause-grows t c =
-    grows_then c.args.out.now c.put_access.new.out c.put-in-Item.new.self c.put_access.ensures.grows
-    c.put-in-Item.ensures.grows
+    grows_then c.args.out.now c.put_access.new.out c.put_element.new.out c.put_access.ensures.grows
+    c.put_element.ensures.grows
 
 pub put_expr-returns-in_ok-put_operand-in-Bin-clause-grows :
     goal.put_expr-returns-in_ok-put_operand-in-Bin-clause-grows

@@ -11,7 +11,7 @@ loop-left-preserved c =
     record {
       within = omega arith;
       known =
-          one_more c.args.pins.now c.args.held.now c.args.decls.now c.args.places.now c.args.slots.now
+          one_more c.args.pins.now c.args.w c.args.held.now c.args.decls.now c.args.places.now c.args.slots.now
           (c.loop-left.left - 1) c.index-decls-left.result _ _ _
           c.bytes.result.now (found_under c.loop-left.variables) (found_under c.add_variable.new.variables)
           (omega arith)
@@ -21,6 +21,8 @@ loop-left-preserved c =
             place = get_or c.args.places.now (c.loop-left.left - 1) no_place;
             slot = get_or c.args.slots.now (c.loop-left.left - 1) 0;
             resident = c.is_pinned.ensures i;
+            further = c.further_blocks.ensures.count i;
+            more = c.four_slots.ensures i;
             held = c.register_of_scalar.ensures.register i;
           })
           rest

@@ -7,7 +7,7 @@ abbrev pub invariant-loop-left : goal.invariant-loop-left
 invariant-loop-left l = record {
   within : l.left ≤ length l.decls;
   known : (x : List ℕ)
-      → found_under l.variables x ≡ variable_of l.pins l.held l.left (drop l.left l.decls) (drop l.left l.places) (drop l.left l.slots) x;
+      → found_under l.variables x ≡ variable_of l.pins l.w l.held l.left (drop l.left l.decls) (drop l.left l.places) (drop l.left l.slots) x;
 }
 
 abbrev pub decreases-loop-left : goal.decreases-loop-left

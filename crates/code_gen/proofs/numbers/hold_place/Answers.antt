@@ -13,7 +13,7 @@ returns-clause-held c =
     let place = c.args.place in
     let one : to_z w64 (of_z w64 c.reducer_at.result) ≡ c.reducer_at.result = search (rules, wraps) in
     let two : to_z w64 (of_z w64 c.from.result) ≡ pos c.args.place.word = search (rules, wraps) in
-    let first = c.in_ok-hold_number.ensures ∙ ap (with_number before) (one ∙ c.reducer_at.ensures) in
+    let first = c.in_ok-hold_number.ensures ∙ ap (with_number before) (one ∙ c.reducer_at.ensures 0) in
     on_ok_weaker c.hold_number-2.result
     (λ held. held ∙ (λ k. with_number (first k) (two k))
     ∙ sym (ap (λ (b : Bool).

@@ -1,7 +1,9 @@
 use Rattle.std.proofs.Common.{◌∙◌}
 use Rattle.ghost_cli.specs.Assemble.{assemble_work}
 use Rattle.command_words.specs.Options.{two_named}
-use Rattle.ghost_cli.proofs.Answering.{asked-done, asked-left, unasked}
+use Rattle.ghost_cli.specs.CallsFollow.{NoCalls}
+use Rattle.ghost_cli.proofs.Answering.{asked-done, asked-is, asked-left, unasked}
+use Rattle.ghost_cli.proofs.CallsMade.{work-made}
 use Rattle.ghost_cli.proofs.assemble.assemble.Goals as goal
 
 pub returns-in_default-clause-stopped : goal.returns-in_default-clause-stopped
@@ -20,3 +22,12 @@ returns-clause-stopped g c =
     asked-left _ _ _ _ _ _ c.assemble_file.result c.in-Some.is
     (c.two_names.ensures assemble_work ∙ (λ k. two_named assemble_work (c.value.ensures k) (c.value-2.ensures k)))
     c.assemble_file.ensures.stopped
+
+pub returns-in_default-clause-calls : goal.returns-in_default-clause-calls
+returns-in_default-clause-calls g c = NoCalls _ _
+
+pub returns-clause-calls : goal.returns-clause-calls
+returns-clause-calls g c =
+    work-made _ _ _ _ (asked-is _ _ _ _ c.in-Some.is
+    (c.two_names.ensures assemble_work ∙ (λ k. two_named assemble_work (c.value.ensures k) (c.value-2.ensures k))))
+    c.assemble_file.ensures.calls

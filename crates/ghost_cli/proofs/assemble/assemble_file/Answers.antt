@@ -1,9 +1,10 @@
-use Rattle.std.proofs.Common.{refl, ◌∙◌}
+use Rattle.std.proofs.Common.{refl, ◌∙◌, inr, true}
 use Rattle.object_file.specs.Spelling.{spelling}
 use Rattle.call_replies.specs.declared.replies.Done.TheVariants.{Assembled}
 use Rattle.ghost_cli.specs.Progress.{WorkStops}
 use Rattle.ghost_cli.specs.Work.{Writes}
 use Rattle.ghost_cli.proofs.Answering.{passed-on, starved-yet, written-said}
+use Rattle.ghost_cli.proofs.CallsMade.{assembly-read, read-tried, write-tried}
 use Rattle.ghost_cli.proofs.assemble.assemble_file.Goals as goal
 
 pub returns-in_err-found-clause-stopped : goal.returns-in_err-found-clause-stopped
@@ -24,3 +25,23 @@ returns-clause-stopped g c =
     starved-yet c.write_and_say.result (g.F.Shelf.seen c.args.shelf.now) (g.F.Shelf.seen c.find_assembly.new.shelf)
     (g.F.Shelf.seen c.write_and_say.new.shelf) _ c.in_ok-found.ensures.calm c.write_and_say.ensures.unwritten
     c.write_and_say.ensures.starved
+
+pub returns-in_err-found-clause-calls : goal.returns-in_err-found-clause-calls
+returns-in_err-found-clause-calls g c =
+    let before = g.F.Shelf.log c.args.shelf.now in
+    let read = g.F.Shelf.log c.find_assembly.new.shelf in
+    read-tried _ _ _ before read c.in_err-found.ensures.part
+
+pub returns-in_err-bytes-clause-calls : goal.returns-in_err-bytes-clause-calls
+returns-in_err-bytes-clause-calls g c =
+    let before = g.F.Shelf.log c.args.shelf.now in
+    let read = g.F.Shelf.log c.find_assembly.new.shelf in
+    read-tried _ _ _ before read (inr (true, c.in_ok-found.ensures.whole))
+
+pub returns-clause-calls : goal.returns-clause-calls
+returns-clause-calls g c =
+    let before = g.F.Shelf.log c.args.shelf.now in
+    let read = g.F.Shelf.log c.find_assembly.new.shelf in
+    let after = g.F.Shelf.log c.write_and_say.new.shelf in
+    assembly-read _ c.in_ok-found.found (λ o. Writes c.args.asked.written.now (spelling o) Assembled)
+    before read after c.in_ok-found.ensures.whole (write-tried _ _ _ read after c.write_and_say.ensures.calls)

@@ -3,6 +3,7 @@ use Rattle.command_words.specs.Pairs.{Pair}
 use Rattle.ghost_cli.specs.Bus.{bus_work, shares_bus}
 use Rattle.ghost_cli.specs.Progress.{HasLeft, Stops, WorkStops}
 use Rattle.call_replies.specs.Texts.{said}
+use Rattle.ghost_cli.specs.CallsFollow.{Follows, StopsHere}
 use Rattle.ghost_cli.proofs.Answering.{passed-on}
 use Rattle.ghost_cli.proofs.SharedBus.{shared-said}
 use Rattle.ghost_cli.proofs.bus.bus_files.Goals as goal
@@ -27,3 +28,27 @@ returns-clause-done g c =
     (subst (λ (l : List Pair). HasLeft before (bus_work l n) (shares_bus n c.in_ok-cores.cores))
     c.as_slice.ensures.value (c.in_ok-cores.ensures.found (shares_bus n))) c.in_ok-cores.ensures.calm
     c.in_ok-share_bus.ensures.shared
+
+pub returns-in_err-cores-clause-calls : goal.returns-in_err-cores-clause-calls
+returns-in_err-cores-clause-calls g c =
+    let before = g.F.Shelf.log c.args.shelf.now in
+    let after = g.F.Shelf.log c.read_cores.new.shelf in
+    let n = c.args.asked.cycles in
+    subst (λ (l : List Pair). Follows (bus_work l n) before after) c.as_slice.ensures.value
+    (c.in_err-cores.ensures.part (shares_bus n))
+
+pub returns-in_err-share_bus-clause-calls : goal.returns-in_err-share_bus-clause-calls
+returns-in_err-share_bus-clause-calls g c =
+    let before = g.F.Shelf.log c.args.shelf.now in
+    let after = g.F.Shelf.log c.read_cores.new.shelf in
+    let n = c.args.asked.cycles in
+    subst (λ (l : List Pair). Follows (bus_work l n) before after) c.as_slice.ensures.value
+    (c.in_ok-cores.ensures.onward (shares_bus n) after (StopsHere _ after))
+
+pub returns-clause-calls : goal.returns-clause-calls
+returns-clause-calls g c =
+    let before = g.F.Shelf.log c.args.shelf.now in
+    let after = g.F.Shelf.log c.read_cores.new.shelf in
+    let n = c.args.asked.cycles in
+    subst (λ (l : List Pair). Follows (bus_work l n) before after) c.as_slice.ensures.value
+    (c.in_ok-cores.ensures.onward (shares_bus n) after (StopsHere _ after))

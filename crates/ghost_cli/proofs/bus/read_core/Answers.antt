@@ -1,4 +1,4 @@
-use Rattle.std.proofs.Common.{◌≡◌, ◌⊎◌, ℤ, List, [], ◌∷◌, ◌++◌, Some, None, length, sym, ap, ◌∙◌, subst}
+use Rattle.std.proofs.Common.{◌≡◌, ◌⊎◌, ℤ, List, [], ◌∷◌, ◌++◌, Some, None, inr, true, length, sym, ap, ◌∙◌, subst}
 use Rattle.std.proofs.lemmas.Result.{err_from_is_err_and}
 use Rattle.lt_isa.specs.Object.{Parts}
 use Rattle.bus_arbiter.specs.Refusals.{refusal}
@@ -11,6 +11,9 @@ use Rattle.ghost_cli.specs.Progress.{HasLeft, Stops}
 use Rattle.ghost_cli.specs.Sharing.{AreRead}
 use Rattle.ghost_cli.specs.Steps.{with_inputs}
 use Rattle.call_replies.specs.Texts.{said}
+use Rattle.ghost_cli.specs.CallsFollow.{Follows}
+use Rattle.ghost_cli.specs.Work.{Work}
+use Rattle.ghost_cli.proofs.BusCalls.{core-made, core-stopped, core-tried, inputs-tried, of-error}
 use Rattle.ghost_cli.proofs.Pairing.{core-leads, core-off, core-stops, one-read, read-is, refused-worked, taken-worked}
 use Rattle.ghost_cli.proofs.bus.read_core.Goals as goal
 
@@ -96,3 +99,105 @@ returns-clause-found g c next =
     c.in_ok-accepted.ensures.calm (subst (λ l. refusal l (share_of o) ≡ None) plan
     (taken-worked _ o c.len-core.ensures.plan c.in_ok-accepted.ensures.in_range c.in-Ok.ensures.fits)) d
     c.in_ok-inputs.ensures.found))
+
+pub returns-in_err-accepted-clause-part : goal.returns-in_err-accepted-clause-part
+returns-in_err-accepted-clause-part g c =
+    let read : Read = c.args.cores.now in
+    let k = length read.plan in
+    let pair : Pair = record { object = c.pair.inside.object.now; input = c.pair.inside.input.now } in
+    let before = g.F.Shelf.log c.args.shelf.now in
+    let between = g.F.Shelf.log c.find_accepted.new.shelf in
+    let made : (next : Read → Work) → Follows (with_core c.args.pair.now k read next) before between =
+    λ next. subst (λ (p : Pair). Follows (with_core p k read next) before between) c.pair.view_is
+    (core-tried pair k read next before between c.in_err-accepted.ensures.part) in
+    of-error c.from_residual.result made
+
+pub returns-in-Err-clause-part : goal.returns-in-Err-clause-part
+returns-in-Err-clause-part g c next =
+    let read : Read = c.args.cores.now in
+    let k = length read.plan in
+    let o = c.in_ok-accepted.accepted in
+    let pair : Pair = record { object = c.pair.inside.object.now; input = c.pair.inside.input.now } in
+    let before = g.F.Shelf.log c.args.shelf.now in
+    let between = g.F.Shelf.log c.find_accepted.new.shelf in
+    subst (λ (p : Pair). Follows (with_core p k read next) before between) c.pair.view_is
+    (core-stopped pair k read next before between o c.in_ok-accepted.ensures.whole)
+
+pub returns-in_err-inputs-clause-part : goal.returns-in_err-inputs-clause-part
+returns-in_err-inputs-clause-part g c =
+    let read : Read = c.args.cores.now in
+    let k = length read.plan in
+    let o = c.in_ok-accepted.accepted in
+    let pair : Pair = record { object = c.pair.inside.object.now; input = c.pair.inside.input.now } in
+    let before = g.F.Shelf.log c.args.shelf.now in
+    let between = g.F.Shelf.log c.find_accepted.new.shelf in
+    let plan = ap (λ (r : Read). r.plan) c.cores.view_is in
+    let taken = subst (λ l. refusal l (share_of o) ≡ None) plan
+    (taken-worked _ o c.len-core.ensures.plan c.in_ok-accepted.ensures.in_range c.in-Ok.ensures.fits) in
+    let after = g.F.Shelf.log c.find_inputs.new.shelf in
+    let made : (next : Read → Work) → Follows (with_core c.args.pair.now k read next) before after =
+    λ next. subst (λ (p : Pair). Follows (with_core p k read next) before after) c.pair.view_is
+    (inputs-tried pair k read next before between o c.in_ok-accepted.ensures.whole taken after
+    c.in_err-inputs.ensures.part) in
+    of-error c.from_residual-in_err-inputs.result made
+
+pub returns-in_err-push-clause-part : goal.returns-in_err-push-clause-part
+returns-in_err-push-clause-part g c =
+    let read : Read = c.args.cores.now in
+    let k = length read.plan in
+    let o = c.in_ok-accepted.accepted in
+    let pair : Pair = record { object = c.pair.inside.object.now; input = c.pair.inside.input.now } in
+    let before = g.F.Shelf.log c.args.shelf.now in
+    let between = g.F.Shelf.log c.find_accepted.new.shelf in
+    let plan = ap (λ (r : Read). r.plan) c.cores.view_is in
+    let taken = subst (λ l. refusal l (share_of o) ≡ None) plan
+    (taken-worked _ o c.len-core.ensures.plan c.in_ok-accepted.ensures.in_range c.in-Ok.ensures.fits) in
+    let after = g.F.Shelf.log c.find_inputs.new.shelf in
+    let made : (next : Read → Work) → Follows (with_core c.args.pair.now k read next) before after =
+    λ next. subst (λ (p : Pair). Follows (with_core p k read next) before after) c.pair.view_is
+    (inputs-tried pair k read next before between o c.in_ok-accepted.ensures.whole taken after
+    (inr (true, c.in_ok-inputs.ensures.whole))) in
+    of-error c.from_residual-in_err-push.result made
+
+pub returns-in_err-push-2-clause-part : goal.returns-in_err-push-2-clause-part
+returns-in_err-push-2-clause-part g c =
+    let read : Read = c.args.cores.now in
+    let k = length read.plan in
+    let o = c.in_ok-accepted.accepted in
+    let pair : Pair = record { object = c.pair.inside.object.now; input = c.pair.inside.input.now } in
+    let before = g.F.Shelf.log c.args.shelf.now in
+    let between = g.F.Shelf.log c.find_accepted.new.shelf in
+    let plan = ap (λ (r : Read). r.plan) c.cores.view_is in
+    let taken = subst (λ l. refusal l (share_of o) ≡ None) plan
+    (taken-worked _ o c.len-core.ensures.plan c.in_ok-accepted.ensures.in_range c.in-Ok.ensures.fits) in
+    let after = g.F.Shelf.log c.find_inputs.new.shelf in
+    let made : (next : Read → Work) → Follows (with_core c.args.pair.now k read next) before after =
+    λ next. subst (λ (p : Pair). Follows (with_core p k read next) before after) c.pair.view_is
+    (inputs-tried pair k read next before between o c.in_ok-accepted.ensures.whole taken after
+    (inr (true, c.in_ok-inputs.ensures.whole))) in
+    of-error c.from_residual-in_err-push-2.result made
+
+pub returns-clause-onward : goal.returns-clause-onward
+returns-clause-onward g c next =
+    let read : Read = c.args.cores.now in
+    let k = length read.plan in
+    let o = c.in_ok-accepted.accepted in
+    let pair : Pair = record { object = c.pair.inside.object.now; input = c.pair.inside.input.now } in
+    let before = g.F.Shelf.log c.args.shelf.now in
+    let between = g.F.Shelf.log c.find_accepted.new.shelf in
+    let plan = ap (λ (r : Read). r.plan) c.cores.view_is in
+    let taken = subst (λ l. refusal l (share_of o) ≡ None) plan
+    (taken-worked _ o c.len-core.ensures.plan c.in_ok-accepted.ensures.in_range c.in-Ok.ensures.fits) in
+    let after = g.F.Shelf.log c.find_inputs.new.shelf in
+    λ last follows.
+    let d = c.in_ok-inputs.inputs in
+    subst (λ (p : Pair). Follows (with_core p k read next) before last) c.pair.view_is
+    (core-made pair k read next before between o c.in_ok-accepted.ensures.whole taken after d
+    c.in_ok-inputs.ensures.whole last
+    (subst (λ (r : Read). Follows (next r) after last)
+    (sym (read-is read o d c.add.new.self c.push.new.self.items c.push-2.new.self.items
+    (c.in-Ok.ensures.added ∙ ap (λ (l : List Share). l ++ share_of o ∷ []) plan)
+    (c.in_ok-push.ensures.items
+    ∙ ap (λ (l : List Parts). l ++ o ∷ []) (ap (λ (r : Read). r.objects) c.cores.view_is))
+    (c.in_ok-push-2.ensures.items
+    ∙ ap (λ (l : List (List (List ℤ))). l ++ d ∷ []) (ap (λ (r : Read). r.inputs) c.cores.view_is)))) follows))

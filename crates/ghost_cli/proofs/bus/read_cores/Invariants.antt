@@ -1,5 +1,6 @@
 use Rattle.std.proofs.Common.{◌≡◌, length}
 use Rattle.ghost_cli.specs.Sharing.{AreRead}
+use Rattle.ghost_cli.proofs.BusCalls.{HasMade}
 use Rattle.ghost_cli.proofs.Pairing.{HasRead}
 use Rattle.ghost_cli.proofs.bus.read_cores.Given as goal
 
@@ -9,4 +10,5 @@ invariant-reading g l = record {
   are : AreRead l.cores;
   seen : g.F.Shelf.seen l.shelf ≡ g.F.Shelf.seen l.fn.shelf;
   read : HasRead (g.F.Shelf.seen l.fn.shelf) l.pairs l.pair-index l.cores;
+  made : HasMade (g.F.Shelf.log l.fn.shelf) (g.F.Shelf.log l.shelf) l.pairs l.pair-index l.cores;
 }

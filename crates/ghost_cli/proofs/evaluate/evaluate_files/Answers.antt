@@ -1,4 +1,4 @@
-use Rattle.std.proofs.Common.{refl, ◌∙◌, subst}
+use Rattle.std.proofs.Common.{refl, ◌∙◌, subst, inr, true, Some}
 use Rattle.src_tree.specs.Trees.{source_of}
 use Rattle.flow_types.specs.Wants.{declared_wants}
 use Rattle.ghost_cli.specs.Steps.{with_variables}
@@ -8,6 +8,10 @@ use Rattle.ghost_cli.specs.Evaluate.{evaluates_on}
 use Rattle.ghost_cli.specs.Progress.{WorkStops}
 use Rattle.ghost_cli.proofs.Answering.{passed-on, starved-yet}
 use Rattle.ghost_cli.proofs.Evaluating.{variables-lead, variables-stop, evaluated-said, turns-spent}
+use Rattle.ghost_cli.specs.Evaluate.{on_left}
+use Rattle.ghost_cli.specs.Questions.{WhatIsLeft}
+use Rattle.ghost_cli.specs.CallsFollow.{AsksOn}
+use Rattle.ghost_cli.proofs.CallsMade.{source-read, read-tried, variables-read, write-tried}
 use Rattle.ghost_cli.proofs.evaluate.evaluate_files.Goals as goal
 
 pub returns-in_err-program-clause-stopped : goal.returns-in_err-program-clause-stopped
@@ -64,3 +68,72 @@ returns-clause-stopped g c =
     (c.in_ok-inputs.ensures.calm ∙ c.in_ok-program.ensures.calm)
     (subst (LeavesText (source_of c.in_ok-program.program) c.in_ok-inputs.inputs c.args.asked.turns)
     c.in-Spent.is c.in_ok-text.ensures))
+
+pub returns-in_err-program-clause-calls : goal.returns-in_err-program-clause-calls
+returns-in_err-program-clause-calls g c =
+    let before = g.F.Shelf.log c.args.shelf.now in
+    let between = g.F.Shelf.log c.find_source.new.shelf in
+    read-tried _ _ _ before between c.in_err-program.ensures.part
+
+pub returns-in_err-wants-clause-calls : goal.returns-in_err-wants-clause-calls
+returns-in_err-wants-clause-calls g c =
+    let before = g.F.Shelf.log c.args.shelf.now in
+    let between = g.F.Shelf.log c.find_source.new.shelf in
+    read-tried _ _ _ before between (inr (true, c.in_ok-program.ensures.whole))
+
+pub returns-in_err-inputs-clause-calls : goal.returns-in_err-inputs-clause-calls
+returns-in_err-inputs-clause-calls g c =
+    let before = g.F.Shelf.log c.args.shelf.now in
+    let between = g.F.Shelf.log c.find_source.new.shelf in
+    let later = g.F.Shelf.log c.find_variables.new.shelf in
+    let p = source_of c.in_ok-program.program in
+    let output = c.args.asked.output.now in
+    let n = c.args.asked.turns in
+    source-read c.args.asked.procs _ p
+    (λ q. with_variables (declared_wants q.decls) c.args.asked.input.now (evaluates_on output n q)) before between later
+    c.in_ok-program.ensures.whole
+    (read-tried _ _ _ between later c.in_err-inputs.ensures.part)
+
+pub returns-in_err-text-clause-calls : goal.returns-in_err-text-clause-calls
+returns-in_err-text-clause-calls g c =
+    let before = g.F.Shelf.log c.args.shelf.now in
+    let between = g.F.Shelf.log c.find_source.new.shelf in
+    let later = g.F.Shelf.log c.find_variables.new.shelf in
+    let p = source_of c.in_ok-program.program in
+    let output = c.args.asked.output.now in
+    let n = c.args.asked.turns in
+    source-read c.args.asked.procs _ p
+    (λ q. with_variables (declared_wants q.decls) c.args.asked.input.now (evaluates_on output n q)) before between later
+    c.in_ok-program.ensures.whole
+    (read-tried _ _ _ between later (inr (true, c.in_ok-inputs.ensures.whole)))
+
+pub returns-in-Done-clause-calls : goal.returns-in-Done-clause-calls
+returns-in-Done-clause-calls g c =
+    let before = g.F.Shelf.log c.args.shelf.now in
+    let between = g.F.Shelf.log c.find_source.new.shelf in
+    let later = g.F.Shelf.log c.find_variables.new.shelf in
+    let after = g.F.Shelf.log c.write_and_say.new.shelf in
+    let p = source_of c.in_ok-program.program in
+    let output = c.args.asked.output.now in
+    let n = c.args.asked.turns in
+    let inputs = c.in_ok-inputs.inputs in
+    source-read c.args.asked.procs _ p
+    (λ q. with_variables (declared_wants q.decls) c.args.asked.input.now (evaluates_on output n q)) before between after
+    c.in_ok-program.ensures.whole
+    (variables-read (declared_wants p.decls) _ inputs (evaluates_on output n p) between later after
+    c.in_ok-inputs.ensures.whole
+    (AsksOn (WhatIsLeft p inputs n) (on_left p output n) (Some inputs) later after
+    (write-tried _ _ _ later after c.write_and_say.ensures.calls)))
+
+pub returns-clause-calls : goal.returns-clause-calls
+returns-clause-calls g c =
+    let before = g.F.Shelf.log c.args.shelf.now in
+    let between = g.F.Shelf.log c.find_source.new.shelf in
+    let later = g.F.Shelf.log c.find_variables.new.shelf in
+    let p = source_of c.in_ok-program.program in
+    let output = c.args.asked.output.now in
+    let n = c.args.asked.turns in
+    source-read c.args.asked.procs _ p
+    (λ q. with_variables (declared_wants q.decls) c.args.asked.input.now (evaluates_on output n q)) before between later
+    c.in_ok-program.ensures.whole
+    (read-tried _ _ _ between later (inr (true, c.in_ok-inputs.ensures.whole)))

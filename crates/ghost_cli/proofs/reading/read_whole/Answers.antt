@@ -1,4 +1,4 @@
-use Rattle.std.proofs.Common.{ap, Err, arith}
+use Rattle.std.proofs.Common.{ap, inl, inr, Err, arith}
 use Rattle.ghost_cli.proofs.Progressing.{read-leads, read-long, read-missing, read-failed}
 use Rattle.ghost_cli.proofs.reading.read_whole.Goals as goal
 
@@ -16,10 +16,16 @@ pub returns-in-Err-Missing-clause-stopped : goal.returns-in-Err-Missing-clause-s
 returns-in-Err-Missing-clause-stopped g c =
     read-missing (g.F.Shelf.seen c.args.shelf.now) _ _ _
     (c.in-Err-Missing.ensures.missing (ap Err c.in-Err-Missing.field-0-is))
-    (c.in-Err-Missing.ensures.others, c.in-Err-Missing.ensures.read_count)
+    (record {
+      only = (c.in-Err-Missing.ensures.others, c.in-Err-Missing.ensures.read_count);
+      named = c.in-Err-Missing.ensures.named (inl (ap Err c.in-Err-Missing.field-0-is));
+    })
 
 pub returns-in-Err-Failed-clause-stopped : goal.returns-in-Err-Failed-clause-stopped
 returns-in-Err-Failed-clause-stopped g c =
     read-failed (g.F.Shelf.seen c.args.shelf.now) _ _ _
     (c.in-Err-Failed.ensures.failed (ap Err c.in-Err-Failed.field-0-is))
-    (c.in-Err-Failed.ensures.others, c.in-Err-Failed.ensures.read_count)
+    (record {
+      only = (c.in-Err-Failed.ensures.others, c.in-Err-Failed.ensures.read_count);
+      named = c.in-Err-Failed.ensures.named (inr (ap Err c.in-Err-Failed.field-0-is));
+    })

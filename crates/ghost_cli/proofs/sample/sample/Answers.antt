@@ -1,7 +1,9 @@
 use Rattle.std.proofs.Common.{◌∙◌}
 use Rattle.command_words.specs.Asks.{sample_named}
 use Rattle.ghost_cli.specs.Sample.{sample_work}
-use Rattle.ghost_cli.proofs.Answering.{asked-done, asked-left, unasked}
+use Rattle.ghost_cli.specs.CallsFollow.{NoCalls}
+use Rattle.ghost_cli.proofs.Answering.{asked-done, asked-is, asked-left, unasked}
+use Rattle.ghost_cli.proofs.CallsMade.{work-made}
 use Rattle.ghost_cli.proofs.sample.sample.Goals as goal
 
 pub returns-in_default-clause-stopped : goal.returns-in_default-clause-stopped
@@ -23,3 +25,13 @@ returns-clause-stopped g c =
     (c.words_in.ensures.asked
     ∙ (λ k. sample_named sample_work (c.value.ensures k) (c.value-2.ensures k) (c.value-3.ensures k) (c.value-4.ensures k)))
     c.sample_file.ensures.stopped
+
+pub returns-in_default-clause-calls : goal.returns-in_default-clause-calls
+returns-in_default-clause-calls g c = NoCalls _ _
+
+pub returns-clause-calls : goal.returns-clause-calls
+returns-clause-calls g c =
+    work-made _ _ _ _ (asked-is _ _ _ _ c.in-Some.is
+    (c.words_in.ensures.asked
+    ∙ (λ k. sample_named sample_work (c.value.ensures k) (c.value-2.ensures k) (c.value-3.ensures k) (c.value-4.ensures k))))
+    c.sample_file.ensures.calls

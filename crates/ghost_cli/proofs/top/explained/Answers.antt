@@ -1,8 +1,8 @@
 use Rattle.ghost_cli.proofs.Answering.{left-said}
 use Rattle.ghost_cli.proofs.top.explained.Goals as goal
 
-pub returns-in-Err : goal.returns-in-Err
-returns-in-Err g c =
+pub returns-in-Err-clause-explained : goal.returns-in-Err-clause-explained
+returns-in-Err-clause-explained g c =
     left-said (g.F.Shelf.seen c.args.shelf.now) (g.F.Shelf.seen c.answered.new.shelf)
     (g.O.Sink.seen c.args.out.now) (g.O.Sink.seen c.answered.new.out) (g.O.Sink.seen c.say.new.out) _ _ _
     c.in-Err.ensures.stopped c.in-Err.ensures.unput c.say.ensures

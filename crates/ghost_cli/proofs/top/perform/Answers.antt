@@ -8,7 +8,9 @@ use Rattle.command_words.specs.Verbs.{asked_for, asks_of}
 use Rattle.command_words.specs.declared.verbs.Verb.{Verb}
 use Rattle.ghost_cli.specs.Verbs.{works}
 use Rattle.command_words.proofs.Wording.{verb-found}
+use Rattle.ghost_cli.specs.CallsFollow.{NoCalls}
 use Rattle.ghost_cli.proofs.Answering.{told-done, told-left}
+use Rattle.ghost_cli.proofs.CallsMade.{told-made}
 use Rattle.ghost_cli.proofs.top.perform.Goals as goal
 
 pub returns-in_default-clause-stopped : goal.returns-in_default-clause-stopped
@@ -39,3 +41,19 @@ returns-clause-stopped g c =
     c.in-Some.is (ap (option_and_then (λ verb. asked_for works verb (texts c.args.words.now))) c.verb_named.ensures)
     (told-left (λ m. asks_of works c.in-Some.verb (rows_of (found_of m))) _ _ _ _ _ c.work.result c.in-Some-2.is
     (verb-found works c.in-Some.verb (texts c.args.words.now) _ c.in_ok-matches.ensures) c.work.ensures.stopped)
+
+pub returns-in_default-clause-calls : goal.returns-in_default-clause-calls
+returns-in_default-clause-calls g c = NoCalls _ _
+
+pub returns-in_default-2-clause-calls : goal.returns-in_default-2-clause-calls
+returns-in_default-2-clause-calls g c = NoCalls _ _
+
+pub returns-in_err-matches-clause-calls : goal.returns-in_err-matches-clause-calls
+returns-in_err-matches-clause-calls g c = NoCalls _ _
+
+pub returns-clause-calls : goal.returns-clause-calls
+returns-clause-calls g c =
+    told-made (λ verb. asked_for works verb (texts c.args.words.now)) c.verb_named.result c.in-Some.verb _ _ _
+    c.in-Some.is (ap (option_and_then (λ verb. asked_for works verb (texts c.args.words.now))) c.verb_named.ensures)
+    (told-made (λ m. asks_of works c.in-Some.verb (rows_of (found_of m))) _ _ _ _ _ c.in-Some-2.is
+    (verb-found works c.in-Some.verb (texts c.args.words.now) _ c.in_ok-matches.ensures) c.work.ensures.calls)

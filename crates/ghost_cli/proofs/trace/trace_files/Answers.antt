@@ -1,4 +1,4 @@
-use Rattle.std.proofs.Common.{rules, ◌≡◌, Some, [], true, false, refl, ◌∙◌, sym, subst}
+use Rattle.std.proofs.Common.{rules, ◌≡◌, Some, [], true, false, refl, ◌∙◌, sym, subst, inr}
 use Rattle.ghost_cli.specs.Steps.{with_inputs}
 use Rattle.lt_isa.specs.Object.{Parts}
 use Rattle.lt_isa.specs.Machine.{State}
@@ -15,6 +15,7 @@ use Rattle.ghost_cli.specs.Showing.{run_seen}
 use Rattle.ghost_cli.specs.Watched.{PutsTrace, kept}
 use Rattle.ghost_cli.proofs.Shown.{is-shown, may-run, shows}
 use Rattle.ghost_cli.proofs.Answering.{given-leads, given-stops, passed-on, traced-said}
+use Rattle.ghost_cli.proofs.CallsMade.{given-tried, read-tried}
 use Rattle.ghost_cli.proofs.trace.trace_files.Goals as goal
 
 pub returns-in_err-accepted-clause-stopped : goal.returns-in_err-accepted-clause-stopped
@@ -101,3 +102,72 @@ returns-clause-done g c =
     (subst (λ p. AreBehind p o (start_state o inputs) n machine.orams levels) on are))
     (subst (λ (p : Parts). PutFrom p (start_state o inputs)) begun.object
     (subst (λ (s : State). PutFrom machine.object s) begun.state c.put_trace.ensures)))
+
+pub returns-in_err-accepted-clause-calls : goal.returns-in_err-accepted-clause-calls
+returns-in_err-accepted-clause-calls g c =
+    let before = g.F.Shelf.log c.args.shelf.now in
+    let between = g.F.Shelf.log c.find_accepted.new.shelf in
+    read-tried _ _ _ before between c.in_err-accepted.ensures.part
+
+pub returns-in_err-inputs-clause-calls : goal.returns-in_err-inputs-clause-calls
+returns-in_err-inputs-clause-calls g c =
+    let before = g.F.Shelf.log c.args.shelf.now in
+    let between = g.F.Shelf.log c.find_accepted.new.shelf in
+    let later = g.F.Shelf.log c.find_inputs.new.shelf in
+    given-tried _ _ c.in_ok-accepted.accepted
+    (traces_on c.args.asked.paths c.args.asked.recursive c.args.asked.cycles c.args.asked.seed) before between
+    c.in_ok-accepted.ensures.whole later c.in_err-inputs.ensures.part
+
+pub returns-in_err-halted-clause-calls : goal.returns-in_err-halted-clause-calls
+returns-in_err-halted-clause-calls g c =
+    let before = g.F.Shelf.log c.args.shelf.now in
+    let between = g.F.Shelf.log c.find_accepted.new.shelf in
+    let later = g.F.Shelf.log c.find_inputs.new.shelf in
+    given-tried _ _ c.in_ok-accepted.accepted
+    (traces_on c.args.asked.paths c.args.asked.recursive c.args.asked.cycles c.args.asked.seed) before between
+    c.in_ok-accepted.ensures.whole later (inr (true, c.in_ok-inputs.ensures.whole))
+
+pub returns-in_err-spent-clause-calls : goal.returns-in_err-spent-clause-calls
+returns-in_err-spent-clause-calls g c =
+    let before = g.F.Shelf.log c.args.shelf.now in
+    let between = g.F.Shelf.log c.find_accepted.new.shelf in
+    let later = g.F.Shelf.log c.find_inputs.new.shelf in
+    given-tried _ _ c.in_ok-accepted.accepted
+    (traces_on c.args.asked.paths c.args.asked.recursive c.args.asked.cycles c.args.asked.seed) before between
+    c.in_ok-accepted.ensures.whole later (inr (true, c.in_ok-inputs.ensures.whole))
+
+pub returns-in_err-trace_in_trees-clause-calls : goal.returns-in_err-trace_in_trees-clause-calls
+returns-in_err-trace_in_trees-clause-calls g c =
+    let before = g.F.Shelf.log c.args.shelf.now in
+    let between = g.F.Shelf.log c.find_accepted.new.shelf in
+    let later = g.F.Shelf.log c.find_inputs.new.shelf in
+    given-tried _ _ c.in_ok-accepted.accepted
+    (traces_on c.args.asked.paths c.args.asked.recursive c.args.asked.cycles c.args.asked.seed) before between
+    c.in_ok-accepted.ensures.whole later (inr (true, c.in_ok-inputs.ensures.whole))
+
+pub returns-then-asked-clause-calls : goal.returns-then-asked-clause-calls
+returns-then-asked-clause-calls g c =
+    let before = g.F.Shelf.log c.args.shelf.now in
+    let between = g.F.Shelf.log c.find_accepted.new.shelf in
+    let later = g.F.Shelf.log c.find_inputs.new.shelf in
+    given-tried _ _ c.in_ok-accepted.accepted
+    (traces_on c.args.asked.paths c.args.asked.recursive c.args.asked.cycles c.args.asked.seed) before between
+    c.in_ok-accepted.ensures.whole later (inr (true, c.in_ok-inputs.ensures.whole))
+
+pub returns-in_err-machine-clause-calls : goal.returns-in_err-machine-clause-calls
+returns-in_err-machine-clause-calls g c =
+    let before = g.F.Shelf.log c.args.shelf.now in
+    let between = g.F.Shelf.log c.find_accepted.new.shelf in
+    let later = g.F.Shelf.log c.find_inputs.new.shelf in
+    given-tried _ _ c.in_ok-accepted.accepted
+    (traces_on c.args.asked.paths c.args.asked.recursive c.args.asked.cycles c.args.asked.seed) before between
+    c.in_ok-accepted.ensures.whole later (inr (true, c.in_ok-inputs.ensures.whole))
+
+pub returns-clause-calls : goal.returns-clause-calls
+returns-clause-calls g c =
+    let before = g.F.Shelf.log c.args.shelf.now in
+    let between = g.F.Shelf.log c.find_accepted.new.shelf in
+    let later = g.F.Shelf.log c.find_inputs.new.shelf in
+    given-tried _ _ c.in_ok-accepted.accepted
+    (traces_on c.args.asked.paths c.args.asked.recursive c.args.asked.cycles c.args.asked.seed) before between
+    c.in_ok-accepted.ensures.whole later (inr (true, c.in_ok-inputs.ensures.whole))

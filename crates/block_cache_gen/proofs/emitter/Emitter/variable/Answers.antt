@@ -1,5 +1,5 @@
 use Rattle.std.proofs.Common.{◌∙◌, sym}
-use Rattle.block_cache_gen.proofs.FrameParts.{frame_held, frame_home, frame_label, frame_length, frame_declared}
+use Rattle.block_cache_gen.proofs.FrameParts.{frame_few, frame_held, frame_home, frame_label, frame_length, frame_declared}
 use Rattle.block_cache_gen.proofs.emitter.Emitter.variable.Goals as goal
 
 pub unreachable-requires : goal.unreachable-requires
@@ -16,4 +16,5 @@ returns c =
       label = frame_label frame c.args.self.now c.args.name.now c.in-Some.variable c.self.view_is found;
       held = frame_held frame c.args.self.now c.args.name.now c.in-Some.variable c.self.view_is found;
       length = frame_length frame c.args.name.now c.in-Some.variable c.self.invariant.0 found;
+      few = frame_few frame c.args.name.now c.in-Some.variable found;
     }

@@ -1,0 +1,13 @@
+pub mod MaskWords
+pub mod Registers
+pub mod SlotContents
+pub mod SlotRuns
+pub mod SlotPasses
+pub mod SlotWalks
+pub mod Reading
+pub mod Writing
+pub mod BlockSizes
+pub mod ReadLaws
+pub mod WriteLaws
+pub mod AppendedCode
+pub mod StepRanges

@@ -1,0 +1,9 @@
+use Rattle.std.proofs.Common.{◌≡◌, suc, ◌++◌, false, drop}
+use Rattle.word_selection.specs.Selection.{exchanges_steps}
+use Rattle.word_selection.specs.SlotSteps.{code_of}
+use Rattle.word_selection.proofs.writes.put_exchanges.Given as goal
+
+abbrev pub invariant-loop-i : goal.invariant-loop-i
+invariant-loop-i l =
+    l.code.items ++ code_of l.to (exchanges_steps l.effect l.size l.value (suc l.i) l.turn (drop l.i l.slots))
+    ≡ l.fn.code.items ++ code_of l.to (exchanges_steps l.effect l.size l.value 1 false l.slots)

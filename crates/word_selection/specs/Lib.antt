@@ -1,0 +1,3 @@
+pub mod SlotSteps
+pub mod Selection
+pub mod Selected
