@@ -18,7 +18,7 @@ extern "C" {
 #endif
 
 /* The version of this header: as text, and as 10000 * major + 100 * minor + patch. */
-#define GR_VERSION "1.5.0"
+#define GR_VERSION "1.6.0"
 #define GR_VERSION_NUMBER 10500
 
 /* What gr_check returns: the exit statuses of `ghostrider check`. */
