@@ -165,6 +165,8 @@ class Browser {
     await this.ask('Emulation.setDeviceMetricsOverride', { width, height, deviceScaleFactor: 1, mobile: touch });
     await this.ask('Emulation.setEmulatedMedia', { features: media });
     await this.ask('Emulation.setTouchEmulationEnabled', { enabled: touch });
+    // places are asked of the page once it is laid out anew
+    await this.value('new Promise((resolve) => requestAnimationFrame(() => requestAnimationFrame(resolve)))');
   }
 
   close() {

@@ -36,12 +36,16 @@ async function lineAt(user, number) {
 }
 
 // whether only the lines of one source line are lit, and its header is one of them
-async function lights(user, number, what) {
+async function isLit(user, number) {
   const lines = await litLines(user);
   const own = lines.filter((it) => it.startsWith('; line '));
-  user.says(own.length > 0 && own.every((it) => it.startsWith(`; line ${number}: `)) && await litNumber(user) === String(number)
-    && lines.length > own.length && (await said(user)).startsWith(`Line ${number}: `), what,
-  `${await litNumber(user)}; ${await said(user)}; ${lines.join('; ')}`);
+  return own.length > 0 && own.every((it) => it.startsWith(`; line ${number}: `)) && await litNumber(user) === String(number)
+    && lines.length > own.length && (await said(user)).startsWith(`Line ${number}: `);
+}
+
+async function lights(user, number, what) {
+  user.says(await user.soon(() => isLit(user, number)), what,
+    `${await litNumber(user)}; ${await said(user)}; ${(await litLines(user)).join('; ')}`);
 }
 
 async function pointer(user) {
@@ -54,7 +58,7 @@ async function pointer(user) {
   await user.browser.mouse('mouseMoved', ...await rowAt(user, '; line 9: '));
   await lights(user, 9, 'pointing at the assembly lights up its line');
   await user.browser.mouse('mouseMoved', 5, 5);
-  user.says((await litLines(user)).length === 0, 'and no longer once the pointer has left');
+  user.says(await user.soon(async () => (await litLines(user)).length === 0), 'and no longer once the pointer has left');
   await user.browser.clickAt(...await rowAt(user, '; line 11: '));
   await user.browser.mouse('mouseMoved', 5, 5);
   await lights(user, 11, 'a click keeps it lit');
@@ -89,12 +93,20 @@ async function keys(user) {
   await user.clicks('#restore');
 }
 
+// taps on a place until it lights up a line, since a busy browser may drop a tap
+async function taps(user, place, number) {
+  for (let i = 0; i < 3; i += 1) {
+    await user.browser.tapAt(...await place());
+    if (await user.soon(() => isLit(user, number), 2)) return;
+  }
+}
+
 async function touch(user) {
   await user.browser.show({ width: 390, height: 844, touch: true });
   await user.presses('compile');
-  await user.browser.tapAt(...await rowAt(user, '; line 9: '));
+  await taps(user, () => rowAt(user, '; line 9: '), 9);
   await lights(user, 9, 'a tap on the assembly lights up its line');
-  await user.browser.tapAt(...await lineAt(user, 11));
+  await taps(user, () => lineAt(user, 11), 11);
   await lights(user, 11, 'and a tap on the source its instructions');
   const wide = await user.value('document.documentElement.scrollWidth');
   user.says(wide <= 390, 'nothing is cut off', wide);

@@ -105,9 +105,11 @@ async function touch(user) {
   const bar = await user.value("(() => { const it = document.querySelector('#picture path[data-kind=\"encrypted memory, read\"]')"
     + '.getBoundingClientRect(); return [it.left + 1, it.top + it.height / 2]; })()');
   await user.browser.tapAt(...bar);
-  const told = await user.textOf('under');
-  user.says(told.includes('run 1, event 2,') && told.includes('encrypted memory, read: block'),
-    'a tap says what is there', told);
+  const tells = async () => {
+    const told = await user.textOf('under');
+    return told.includes('run 1, event 2,') && told.includes('encrypted memory, read: block');
+  };
+  user.says(await user.soon(tells), 'a tap says what is there', await user.textOf('under'));
   user.says(await user.value("getComputedStyle(document.querySelector('#picture svg')).touchAction") === 'pan-y',
     'a finger scrolls the page');
   await user.browser.show({});

@@ -51,6 +51,16 @@ class User {
     return new Promise((resolve) => setTimeout(resolve, milliseconds));
   }
 
+  // whether what an asynchronous function says is true within some seconds
+  async soon(holds, seconds = 5) {
+    const end = Date.now() + seconds * 1000;
+    while (!await holds()) {
+      if (Date.now() > end) return false;
+      await this.waits(20);
+    }
+    return true;
+  }
+
   // ---- what the user does
 
   async placeOf(selector, share = [0.5, 0.5]) {
