@@ -1,5 +1,5 @@
 -- Stores that agree on the public variables of a program are inputs that agree on the public symbols of its object.
-use Rattle.std.proofs.Common.{◌≡◌, false, ℕ, suc, ◌<◌, ℤ, List, [], ◌∷◌, length, map, get_or, sym, ap, ◌∙◌, arith}
+use Rattle.std.proofs.Common.{◌≡◌, false, ℕ, zero, suc, ◌<◌, ℤ, List, [], ◌∷◌, length, map, get_or, Option, Some, refl, sym, ap, ◌∙◌, arith}
 use Rattle.std.proofs.lemmas.Option.{slice_get-get_or}
 use Rattle.gr_word.specs.Fitting.{FitsWants}
 use Rattle.gr_word.specs.declared.variables.Label.TheVariants.{Public}
@@ -21,13 +21,18 @@ use Rattle.code_gen.specs.AgreeingStores.{AgreeOnPublic}
 use Rattle.code_gen.specs.Implements.{by_name}
 use Rattle.code_gen.proofs.ByName.{IsVariable, setting-of, symbols-variables, inputs-fit}
 
+some-is : (s t : Symbol) → ◌≡◌ {A = Option Symbol} (Some s) (Some t) → s ≡ t
+some-is s t is = cc
+
 agree-each : (one other : Symbol → List ℤ) (symbols : List Symbol)
     → ((k : ℕ) (d : Symbol) → k < length symbols → (get_or symbols k d).label ≡ Public
     → one (get_or symbols k d) ≡ other (get_or symbols k d))
     → AgreeOn symbols (map one symbols) (map other symbols)
-agree-each one other [] each = tt
-agree-each one other (s ∷ symbols) each =
-    (each 0 s (omega arith), agree-each one other symbols (λ k d within. each (suc k) d (omega arith)))
+agree-each one other [] each k s is public = refl
+agree-each one other (s ∷ symbols) each zero t is public =
+    ap Some (each 0 s (omega arith) (ap (λ (u : Symbol). u.label) (some-is s t is) ∙ public))
+agree-each one other (s ∷ symbols) each (suc k) t is public =
+    agree-each one other symbols (λ k d within. each (suc k) d (omega arith)) k t is public
 
 -- the inputs of stores that agree on what is public do so
 pub planned-inputs_agree : (p : Source) (w : ℕ) (plan : Plan) → DeclaredOnce p.decls → IsWithinLimits p

@@ -63,9 +63,7 @@ starts_alike o d e range accepts agree =
 
 -- inputs agree with themselves
 agrees_with_itself : (symbols : List Symbol) (d : List (List ℤ)) → AgreeOn symbols d d
-agrees_with_itself [] d = tt
-agrees_with_itself (s ∷ symbols) [] = tt
-agrees_with_itself (s ∷ symbols) (x ∷ d) = (λ e. refl, agrees_with_itself symbols d)
+agrees_with_itself symbols d = λ k s is public. refl
 
 -- the first of two inputs that agree agrees with itself
 pub agree_first : (o : Parts) (d e : List (List ℤ)) → Agree o d e → Agree o d d

@@ -1,10 +1,12 @@
 -- Traces and final states satisfy the relations that define them, and nothing else does; and inputs that agree may
 -- differ.
-use Rattle.std.proofs.Common.{◌≡◌, ℕ, zero, suc, ◌+◌, ◌<◌, ◌≤◌, ℤ, List, [], ◌∷◌, get_or, sym, ◌∙◌, ⊎_elim, arith}
+use Rattle.std.proofs.Common.{◌≡◌, ℕ, zero, suc, ◌+◌, ◌<◌, ◌≤◌, ℤ, List, [], ◌∷◌, get_or, Option, Some, refl, sym, ap, ◌∙◌, subst, ⊎_elim, arith}
+use Rattle.std.specs.Prelude.{slice_get}
 use Rattle.std.proofs.lemmas.Bool.{cases_lt}
 use Rattle.gr_word.specs.declared.variables.Label.{Label}
 use Rattle.gr_word.specs.declared.variables.Label.TheVariants.{Public, Secret}
 use Rattle.gr_word.specs.Words.{IsWord}
+use Rattle.lt_isa.specs.declared.symbols.Symbol.{Symbol}
 use Rattle.lt_isa.specs.Object.{Parts}
 use Rattle.lt_isa.specs.Ranges.{IsInRange}
 use Rattle.lt_isa.specs.Machine.{State}
@@ -75,7 +77,7 @@ pub secrets_differ : (o : Parts) → OneSecret o → (x y : ℤ) → IsWord x �
 secrets_differ o one x y fx fy = record {
   first_fits = fits x fx;
   second_fits = fits y fy;
-  public_words = rw one.only (λ is_public. absurd (no_public is_public), tt);
+  public_words = λ k s is is_public. each k s (subst (λ symbols. slice_get symbols k ≡ Some s) one.only is) is_public;
 }
   where
     fits : (z : ℤ) → IsWord z → FitsObject o (one_word z)
@@ -87,3 +89,9 @@ secrets_differ o one x y fx fy = record {
 
     no_public : one.symbol.label ≡ Public → ⊥
     no_public is = let f : ◌≡◌ {A = Label} Secret Public = sym one.secret ∙ is in cc
+
+    each : (k : ℕ) (s : Symbol) → slice_get (one.symbol ∷ []) k ≡ Some s → s.label ≡ Public
+        → slice_get (one_word x) k ≡ slice_get (one_word y) k
+    each zero s is is_public =
+        let same : one.symbol ≡ s = cc in absurd (no_public (ap (λ (t : Symbol). t.label) same ∙ is_public))
+    each (suc k) s is is_public = refl

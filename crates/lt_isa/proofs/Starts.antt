@@ -1,5 +1,5 @@
 -- The state that a run starts in.
-use Rattle.std.proofs.Common.{◌≡◌, ℕ, ◌+◌, ◌-◌, ◌*◌, ◌<◌, Bool, true, false, cond, ◌&&◌, ◌==◌, ℤ, pos, List, [], ◌∷◌, length, map, replicate, get_or, All, refl, sym, ap, ◌∙◌, subst, ⊎_elim, arith}
+use Rattle.std.proofs.Common.{◌≡◌, ℕ, suc, ◌+◌, ◌-◌, ◌*◌, ◌<◌, Bool, true, false, cond, ◌&&◌, ◌==◌, ℤ, pos, List, [], ◌∷◌, length, map, replicate, get_or, Option, Some, All, refl, sym, ap, ◌∙◌, subst, ⊎_elim, arith}
 use Rattle.std.specs.List.{range_with_len}
 use Rattle.std.proofs.lemmas.Bool.{cases_lt, eqb-true}
 use Rattle.std.proofs.lemmas.List.{get_or_past, get_or-replicate, length-replicate}
@@ -137,6 +137,16 @@ same_choice : (c : Bool) (x y : List ℤ) (k : ℕ) (p q : ℤ) → (c ≡ true 
 same_choice true x y k p q here there = ap (λ l. get_or l k (pos 0)) (here refl)
 same_choice false x y k p q here there = there
 
+-- inputs that agree have the same words for a first symbol that is public, and agree on the other symbols
+agree_first : (s : Symbol) (symbols : List Symbol) (x y : List ℤ) (d e : List (List ℤ))
+    → AgreeOn (s ∷ symbols) (x ∷ d) (y ∷ e) → s.label ≡ Public → x ≡ y
+agree_first s symbols x y d e agree public =
+    let same : ◌≡◌ {A = Option (List ℤ)} (Some x) (Some y) = agree 0 s refl public in cc
+
+agree_rest : (s : Symbol) (symbols : List Symbol) (x y : List ℤ) (d e : List (List ℤ))
+    → AgreeOn (s ∷ symbols) (x ∷ d) (y ∷ e) → AgreeOn symbols d e
+agree_rest s symbols x y d e agree = λ k t is public. agree (suc k) t is public
+
 -- if all symbols of a bank are public, inputs that agree give each of its words the same start
 start_word-same : (w : ℕ) (symbols : List Symbol) (d e : List (List ℤ)) (b : ℕ) → FitsWants (map want_of symbols) d
     → FitsWants (map want_of symbols) e → AgreeOn symbols d e → All (λ s. s.bank ≡ b → s.label ≡ Public) symbols
@@ -147,8 +157,8 @@ start_word-same w (s ∷ symbols) [] e b fits_d fits_e agree public i = absurd f
 start_word-same w (s ∷ symbols) (x ∷ d) [] b fits_d fits_e agree public i = absurd fits_e
 start_word-same w (s ∷ symbols) (x ∷ d) (y ∷ e) b fits_d fits_e agree public i =
     same_choice (covers w s b i) x y (i - first_word w s) _ _
-    (λ taken. agree.0 (public 0 s (omega arith) (covers-bank w s b i taken)))
-    (start_word-same w symbols d e b fits_d.2 fits_e.2 agree.1
+    (λ taken. agree_first s symbols x y d e agree (public 0 s (omega arith) (covers-bank w s b i taken)))
+    (start_word-same w symbols d e b fits_d.2 fits_e.2 (agree_rest s symbols x y d e agree)
     (All-tail (λ s. s.bank ≡ b → s.label ≡ Public) s symbols public) i)
 
 pub start_block-same : (o : Parts) (d e : List (List ℤ)) (b : ℕ) → Agree o d e

@@ -1,5 +1,5 @@
 -- How a run starts, and which inputs agree. (This project's profile.)
-use Rattle.std.specs.Prelude.{◌≡◌, ℕ, ◌+◌, ◌-◌, ◌*◌, Bool, ◌&&◌, ◌==◌, nat_le, nat_lt, if◌then◌else◌, ℤ, pos, List, [], ◌∷◌, length, map, replicate, slice_index_or}
+use Rattle.std.specs.Prelude.{◌≡◌, ℕ, ◌+◌, ◌-◌, ◌*◌, Bool, ◌&&◌, ◌==◌, nat_le, nat_lt, if◌then◌else◌, ℤ, pos, List, [], ◌∷◌, length, map, replicate, Some, slice_get, slice_index_or}
 use Rattle.std.specs.List.{range_with_len}
 use Rattle.gr_word.specs.declared.variables.Label.TheVariants.{Public}
 use Rattle.gr_word.specs.declared.variables.Want.{Want}
@@ -60,10 +60,8 @@ final o inputs n = final_from o (start_state o inputs) n
 
 -- two inputs have the same words for each public symbol
 abbrev pub AgreeOn : List Symbol → List (List ℤ) → List (List ℤ) → Type 0
-AgreeOn [] ds es = Unit {0}
-AgreeOn (s ∷ symbols) [] es = Unit {0}
-AgreeOn (s ∷ symbols) (d ∷ ds) [] = Unit {0}
-AgreeOn (s ∷ symbols) (d ∷ ds) (e ∷ es) = (s.label ≡ Public → d ≡ e) × AgreeOn symbols ds es
+AgreeOn symbols ds es =
+    (k : ℕ) (s : Symbol) → slice_get symbols k ≡ Some s → s.label ≡ Public → slice_get ds k ≡ slice_get es k
 
 -- both fit the object, and they have the same words for each public symbol
 pub record Agree (o : Parts) (d e : List (List ℤ)) : Type 0 where
