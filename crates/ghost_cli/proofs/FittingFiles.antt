@@ -1,5 +1,5 @@
 -- The program of a file with procedures has names and numbers in their ranges.
-use Rattle.std.proofs.Common.{◌≡◌, ℕ, ◌+◌, ◌≤◌, ◌^◌, Bool, true, false, List, [], ◌∷◌, ◌++◌, length, reverse, None, sym, subst, arith}
+use Rattle.std.proofs.Common.{ℕ, ◌+◌, ◌≤◌, ◌^◌, Bool, true, false, List, [], ◌∷◌, ◌++◌, length, reverse, sym, subst, arith}
 use Rattle.std.specs.Prelude.{All, IsTrue, bytes_eq, if◌then◌else◌}
 use mathlib.Core.List.{reverse-cons}
 use Rattle.std.proofs.lemmas.List.Elements.{All-append, All-cons, All-nil}
@@ -9,12 +9,14 @@ use Rattle.src_lexer.specs.declared.tokens.TokenKind.{TokenKind}
 use Rattle.src_lexer.specs.declared.tokens.TokenKind.TheVariants as kind
 use Rattle.src_tree.specs.declared.trees.Decl.{Decl}
 use Rattle.src_tree.specs.Trees as plain
-use Rattle.src_tree.specs.Trees.{Tree, Number, Variable, Element, Operation, Test}
+use Rattle.src_tree.specs.Trees.{Tree, Number, Variable, Element, Operation}
 use Rattle.src_parser.specs.Grammar.{Limits}
 use Rattle.src_procs.specs.Trees.{Statement, SetVariable, SetElement, Choice, Loop, Call, Block, Nothing, Then, Parameter, OfValue, OfVariable, Procedure, File}
 use Rattle.src_procs.specs.Frames.{naming_all, new_labels, new_values}
 use Rattle.src_procs.specs.Inlined.{Inlined, Inlines, Renaming, added, assigned, blocks_joined, inlined, inlined_all, inlined_body, inlined_call, inlined_file, inlines_of, kept_name, new_name, no_name, renamed}
-use Rattle.src_procs.specs.InlineFaults.{inline_fault}
+use Rattle.src_procs.specs.CallCauses.{IsFirstCallFault}
+use Rattle.src_procs.specs.declared.errors.InlineError.{InlineError}
+use Rattle.src_procs.proofs.CallCauses.{no-fault}
 use Rattle.src_procs.proofs.Judged.{few_labels}
 use Rattle.src_procs.proofs.NameFits.{new_name_fits}
 use Rattle.procs_parser.specs.FileGrammar.{SpellsTrees, Last, Before, Arguments, NoArgument, Given, SpellsBlock, Ends, Sets, Puts, Calls, Chooses, ChoosesElse, Repeats, Procedures, NoProcedure, AProcedure, SpellsFile, AFile}
@@ -208,8 +210,8 @@ added-named next (label ∷ labels) few =
     All-cons IsNamed _ (added (next + 1) labels) (new_name_fits next (omega (arith, few)))
     (added-named (next + 1) labels (omega (arith, few)))
 
-pub file-fits : {most : Limits} {ks : List TokenKind} {f : File} → SpellsFile most ks f → inline_fault f ≡ None
-    → AllFit ks → ProgramFits (inlined_file f)
+pub file-fits : {most : Limits} {ks : List TokenKind} {f : File} → SpellsFile most ks f
+    → ((e : InlineError) → IsFirstCallFault f e → ⊥) → AllFit ks → ProgramFits (inlined_file f)
 file-fits (AFile {front = front} {middle = middle} {back = back} {decls = decls} {procedures = procedures} {body = body}
     shown d ps w) faultless all =
     let f : File = record { decls = decls; procedures = procedures; body = body } in
@@ -221,5 +223,5 @@ file-fits (AFile {front = front} {middle = middle} {back = back} {decls = decls}
           (block-fits w (right-fit middle back behind));
       named = All-append IsNamed decls (added 0 (inlined_body f).labels)
           (decls-named d (left-fit front (middle ++ back) all))
-          (added-named 0 (inlined_body f).labels (omega (arith, few_labels f faultless)));
+          (added-named 0 (inlined_body f).labels (omega (arith, few_labels f (no-fault f faultless))));
     }

@@ -22,9 +22,10 @@ use Rattle.procs_parser.proofs.FileLaws.{file_laws}
 use Rattle.procs_parser.proofs.ReadFiles.{file_read}
 use Rattle.src_procs.specs.Inlined.{inlined_file}
 use Rattle.src_procs.specs.Trees.{File}
-use Rattle.src_procs.specs.InlineFaults.{inline_fault, ExplainsInlining}
+use Rattle.src_procs.specs.CallCauses.{IsFirstCallFault, ExplainsInlining}
 use Rattle.src_procs.specs.declared.errors.InlineError.{InlineError}
 use Rattle.src_procs.specs.declared.errors.InlineError.TheVariants as calls
+use Rattle.src_procs.proofs.CallCauses.{one-cause}
 use Rattle.src_tree.specs.Trees.{Source}
 use Rattle.src_tree.specs.FirstFault.{first_fault}
 use Rattle.src_tree.specs.declared.faults.TypeError.{TypeError}
@@ -140,7 +141,7 @@ no-file-refusal tokens f e s h told =
 -- ---- errors of calls and of programs
 
 call-is : (e : InlineError) (f : File) (shown : SourceFault) → ExplainsInlining e f → shown_call_fault e ≡ Some shown
-    → inline_fault f ≡ Some e
+    → IsFirstCallFault f e
 call-is calls.Memory f shown h is = none-not None shown refl is
 call-is e f shown h is = h
 
@@ -162,7 +163,8 @@ file-fault-once tokens a b (InCalls f e' spells h' is') (NoFile e h is) =
     absurd (no-file-refusal tokens f e spells h (is-told e b is))
 file-fault-once tokens a b (InCalls f e spells h is) (InCalls g e' spells' h' is') =
     let files = same-file tokens g f spells' spells in
-    let same = some-once (inline_fault f) e e' (call-is e f a h is) (ap inline_fault (sym files) ∙ call-is e' g b h' is') in
+    let same = one-cause f e e' (call-is e f a h is)
+    (subst (λ (x : File). IsFirstCallFault x e') files (call-is e' g b h' is')) in
     some-once (shown_call_fault e) a b is (ap shown_call_fault same ∙ is')
 
 tokens-fault-once : (procs : Bool) (tokens : List Token) (a b : SourceFault) → IsTokensFault procs tokens a
@@ -178,8 +180,8 @@ file-fault-not : (tokens : List Token) (a : SourceFault) (p : Source) → IsFile
     → ⊥
 file-fault-not tokens a p (NoFile e h is) made = no-file-refusal tokens made.file e made.spelled h (is-told e a is)
 file-fault-not tokens a p (InCalls f e spells h is) made =
-    none-not (inline_fault f) e (ap inline_fault (same-file tokens f made.file spells made.spelled) ∙ made.faultless)
-    (call-is e f a h is)
+    made.faultless e
+    (subst (λ (x : File). IsFirstCallFault x e) (same-file tokens f made.file spells made.spelled) (call-is e f a h is))
 
 tokens-fault-not : (procs : Bool) (tokens : List Token) (a : SourceFault) (p : Source) → IsTokensFault procs tokens a
     → AreProgram procs tokens p → ⊥

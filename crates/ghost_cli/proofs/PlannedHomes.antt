@@ -181,8 +181,8 @@ module _ (p : Source) (plan : Plan) (given : Profile) (reduces : Bool) (held : L
       profile = given;
       banks = banks_from l 0 plan.blocks;
       symbols = symbols;
-      notes = program_notes f (padding_of f) p.body;
-      code = program_code f (padding_of f) p.body;
+      notes = program_notes f padding_of p.body;
+      code = program_code f padding_of p.body;
     }
 
     blocks-are : map (λ (b : BankSpec). b.blocks) (banks_from l 0 plan.blocks) ≡ plan.blocks

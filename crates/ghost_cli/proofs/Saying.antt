@@ -19,7 +19,7 @@ use Rattle.src_parser.specs.Refusals.{token_kinds}
 use Rattle.procs_parser.specs.FileGrammar.{SpellsFile}
 use Rattle.procs_parser.specs.FileRefusals.{ExplainsFile}
 use Rattle.src_procs.specs.Trees.{File}
-use Rattle.src_procs.specs.InlineFaults.{ExplainsInlining}
+use Rattle.src_procs.specs.CallCauses.{ExplainsInlining}
 use Rattle.src_procs.specs.declared.errors.InlineError.{InlineError}
 use Rattle.src_parser.specs.Explained.{ExplainsTokens}
 use Rattle.src_parser.specs.declared.errors.ParseError.{ParseError}

@@ -17,6 +17,7 @@ use Rattle.src_procs.specs.InlineFaults.{inline_fault}
 use Rattle.src_procs.specs.Trees.{File}
 use Rattle.src_procs.specs.declared.errors.InlineError.{InlineError}
 use Rattle.src_procs.specs.declared.errors.InlineError.TheVariants as calls
+use Rattle.src_procs.proofs.CallCauses.{cause as call-cause, not-caused}
 use Rattle.src_procs.proofs.Judged as files
 use Rattle.src_tree.specs.FirstFault.{first_fault}
 use Rattle.src_tree.specs.Trees.{Source}
@@ -86,14 +87,15 @@ module _ (text : List ℕ) where
         of_file = record {
           file = f;
           spelled = spelled;
-          faultless = none;
+          faultless = not-caused f none;
           made = refl;
           means = files.kept_for f (inlined_file f) (file_plain spelled) none refl;
         };
       })
       by (Some e) is =
-          let shown = call-shown e (inline-told f e is) in
-          (Err shown.0, InTokens tokens split (InCalls f e spelled (files.explained e f is) shown.1))
+          let first = call-cause f e is in
+          let shown = call-shown e (inline-told f e first) in
+          (Err shown.0, InTokens tokens split (InCalls f e spelled (files.explained e f first) shown.1))
 
   plain-tokens : (tokens : List Token) → Splits 0 text (Ok tokens) → Outcome Sentence tokens → SomeRight false text
   plain-tokens tokens split (IsSentence p sentence) =

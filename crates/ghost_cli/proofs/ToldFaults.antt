@@ -1,8 +1,6 @@
 -- No first fault of a program or of a file's calls is want of memory.
-use Rattle.std.proofs.Common.{◌≡◌, ℕ, ◌+◌, Bool, true, false, not, ◌||◌, List, [], ◌∷◌, length, pos, reverse, Option, Some, None, is_some, Result, Ok, Err, subst}
-use Rattle.std.specs.Prelude.{nat_lt, ◌==◌}
+use Rattle.std.proofs.Common.{ℕ, Bool, true, false, not, ◌||◌, List, [], pos, Option, Some, None, subst}
 use Rattle.std.specs.Option.{option_or}
-use Rattle.gr_base.specs.Results.{◌>>=◌}
 use Rattle.gr_word.specs.declared.variables.Label.{Label}
 use Rattle.gr_word.specs.declared.variables.Label.TheVariants.{Public}
 use Rattle.gr_word.specs.declared.variables.Shape.{Shape}
@@ -16,11 +14,8 @@ use Rattle.src_tree.specs.FirstFault.{where_true, kind_fault, use_fault, names_f
 use Rattle.src_tree.specs.declared.faults.TypeError.{TypeError}
 use Rattle.src_tree.specs.declared.faults.TypeError.TheVariants as program
 use Rattle.src_tree.specs.declared.faults.Which.TheVariants.{Height}
-use Rattle.src_procs.specs.CallMeaning.{Names}
-use Rattle.src_procs.specs.Inlined.{inlined_file}
-use Rattle.src_procs.specs.InlineFaults.{Called, body_fault, call_fault, calls_fault, calls_walked, calls_walked_all, fault_met, fault_where, file_walked, inline_fault, knows_block, lacks_name, max_statements, next_call, none_named, numbered, numbered_all, own_names, procedure_named, procedures_fault, procedures_walked}
-use Rattle.src_procs.specs.Sizes.{statements_in}
-use Rattle.src_procs.specs.Trees.{Statement, SetVariable, SetElement, Choice, Loop, Call, Block, Nothing, Then, Procedure, File}
+use Rattle.src_procs.specs.CallCauses.{FoundCall, ProcedureFault, RepeatsName, UsesOther, CallFault, CallsNone, CountDiffers, PassesOther, IsFirstCallFault, InProcedure, InCall, TooMany}
+use Rattle.src_procs.specs.Trees.{Procedure, File}
 use Rattle.src_procs.specs.declared.errors.InlineError.{InlineError}
 use Rattle.src_procs.specs.declared.errors.InlineError.TheVariants as calls
 
@@ -121,89 +116,16 @@ abbrev pub IsToldCall : InlineError → Type 0
 IsToldCall calls.Memory = ⊥
 IsToldCall _ = Unit {0}
 
-abbrev ToldCall : Option InlineError → Type 0
-ToldCall None = Unit {0}
-ToldCall (Some e) = IsToldCall e
+procedure-told : (before : List Procedure) (p : Procedure) (e : InlineError) → ProcedureFault before p e → IsToldCall e
+procedure-told before p e (RepeatsName again) = tt
+procedure-told before p e (UsesOther fresh x c out) = tt
 
-abbrev ToldWalk : Result ℕ InlineError → Type 0
-ToldWalk (Ok n) = Unit {0}
-ToldWalk (Err e) = IsToldCall e
+call-told : (before : List FoundCall) (c : FoundCall) (e : InlineError) → CallFault before c e → IsToldCall e
+call-told before c e (CallsNone none) = tt
+call-told before c e (CountDiffers p calls differs) = tt
+call-told before c e (PassesOther p calls count x argument there other) = tt
 
-where-call : (b : Bool) (e : InlineError) → IsToldCall e → ToldCall (fault_where b e)
-where-call true e told = told
-where-call false e told = tt
-
-either-call : (a b : Option InlineError) → ToldCall a → ToldCall b → ToldCall (option_or a b)
-either-call None b one other = other
-either-call (Some e) b one other = one
-
-body-told : (n : ℕ) (own : Option Names) (body : Block) → ToldCall (body_fault n own body)
-body-told n None body = tt
-body-told n (Some own) body = where-call (not (knows_block own body)) (calls.Undeclared (shown_place n)) tt
-
-procedures-told : (known : Names) (n : ℕ) (ps : List Procedure) → ToldCall (procedures_fault known n ps)
-procedures-told known n [] = tt
-procedures-told known n (p ∷ ps) =
-    either-call (fault_where (is_some (known p.name)) (calls.TwiceNamed (shown_place n))) _
-    (where-call (is_some (known p.name)) (calls.TwiceNamed (shown_place n)) tt)
-    (either-call (body_fault n (numbered_all none_named 0 (own_names p)) p.body)
-    (procedures_fault (numbered known p.name n) (n + 1) ps)
-    (body-told n (numbered_all none_named 0 (own_names p)) p.body)
-    (procedures-told (numbered known p.name n) (n + 1) ps))
-
-call-told : (n : ℕ) (es : List Tree) (p : Option Procedure) → ToldCall (call_fault n es p)
-call-told n es None = tt
-call-told n es (Some p) =
-    either-call (fault_where (not (length es == length p.parameters)) (calls.WrongCount n)) _
-    (where-call (not (length es == length p.parameters)) (calls.WrongCount n) tt)
-    (where-call (lacks_name p.parameters es) (calls.NotAnArray n) tt)
-
-next-told : (n : ℕ) (e : Option InlineError) → ToldCall e → ToldWalk (next_call n e)
-next-told n None told = tt
-next-told n (Some e) told = told
-
-then-told : (r : Result ℕ InlineError) (next : ℕ → Result ℕ InlineError) → ToldWalk r
-    → ((n : ℕ) → ToldWalk (next n)) → ToldWalk (r >>= next)
-then-told (Ok n) next one more = more n
-then-told (Err e) next one more = one
-
-mutual
-  walked-told : (called : Called) (n : ℕ) (s : Statement) → ToldWalk (calls_walked called n s)
-  walked-told called n (SetVariable x e) = tt
-  walked-told called n (SetElement x i e) = tt
-  walked-told called n (Choice t a b) =
-      then-told (calls_walked_all called n a) (λ m. calls_walked_all called m b) (all-told called n a)
-      (λ m. all-told called m b)
-  walked-told called n (Loop t a) = all-told called n a
-  walked-told called n (Call name es) =
-      next-told n (call_fault n es (called name)) (call-told n es (called name))
-
-  all-told : (called : Called) (n : ℕ) (b : Block) → ToldWalk (calls_walked_all called n b)
-  all-told called n Nothing = tt
-  all-told called n (Then s rest) =
-      then-told (calls_walked called n s) (λ m. calls_walked_all called m rest) (walked-told called n s)
-      (λ m. all-told called m rest)
-
-each-told : (earlier : List Procedure) (n : ℕ) (ps : List Procedure) → ToldWalk (procedures_walked earlier n ps)
-each-told earlier n [] = tt
-each-told earlier n (p ∷ ps) =
-    then-told (calls_walked_all (procedure_named earlier) n p.body) (λ m. procedures_walked (p ∷ earlier) m ps)
-    (all-told (procedure_named earlier) n p.body) (λ m. each-told (p ∷ earlier) m ps)
-
-met-told : (r : Result ℕ InlineError) → ToldWalk r → ToldCall (fault_met r)
-met-told (Ok n) told = tt
-met-told (Err e) told = told
-
-calls-told : (f : File) → ToldCall (calls_fault f)
-calls-told f =
-    met-told (file_walked f.procedures f.body)
-    (then-told (procedures_walked [] 0 f.procedures)
-    (λ n. calls_walked_all (procedure_named (reverse f.procedures)) n f.body) (each-told [] 0 f.procedures)
-    (λ n. all-told (procedure_named (reverse f.procedures)) n f.body))
-
-pub inline-told : (f : File) (e : InlineError) → inline_fault f ≡ Some e → IsToldCall e
-inline-told f e is =
-    subst ToldCall is
-    (either-call (procedures_fault none_named 0 f.procedures) _ (procedures-told none_named 0 f.procedures)
-    (either-call (calls_fault f) _ (calls-told f)
-    (where-call (nat_lt max_statements (statements_in (inlined_file f).body)) calls.TooLarge tt)))
+pub inline-told : (f : File) (e : InlineError) → IsFirstCallFault f e → IsToldCall e
+inline-told f e (InProcedure e' first) = procedure-told first.before first.item e' first.faulty
+inline-told f e (InCall none e' first) = call-told first.before first.item e' first.faulty
+inline-told f e (TooMany none clear many) = tt

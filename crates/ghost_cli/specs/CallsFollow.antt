@@ -9,7 +9,7 @@ use Rattle.ghost_cli.specs.Work.{Work, Reads, Writes, Asks}
 
 -- The calls from one log to another follow a work: its files are read in its order, and then its output is written. No
 -- call follows a read that failed or a write. The calls may stop anywhere, since memory may run out. What the files
--- held and which answers are right isn't stated here, but by `Explains`.
+-- held and which results are right isn't stated here, but by `Explains`.
 pub data Follows : Work → Log → Log → Type 0 where
   StopsHere : (work : Work) (log : Log) → Follows work log log
   ReadFails : (name : List ℕ) (limit : ℕ) (next : List ℕ → Work) (before after : Log)

@@ -15,7 +15,7 @@ use Rattle.procs_parser.specs.FileGrammar.{SpellsFile}
 use Rattle.procs_parser.specs.FileRefusals.{ExplainsFile}
 use Rattle.src_procs.specs.Trees.{File}
 use Rattle.src_procs.specs.Inlined.{inlined_file}
-use Rattle.src_procs.specs.InlineFaults.{inline_fault, ExplainsInlining}
+use Rattle.src_procs.specs.CallCauses.{IsFirstCallFault, ExplainsInlining}
 use Rattle.src_procs.specs.Promise.{KeepsMeaning}
 use Rattle.src_procs.specs.declared.errors.InlineError.{InlineError}
 use Rattle.src_procs.specs.declared.errors.InlineError.TheVariants as calls
@@ -37,7 +37,7 @@ source_limit = 1048576
 pub record IsMadeOf (tokens : List Token) (p : Source) : Type 0 where
   pub file : File
   pub spelled : SpellsFile limits (token_kinds tokens) file
-  pub faultless : inline_fault file ≡ None
+  pub faultless : (e : InlineError) → IsFirstCallFault file e → ⊥
   pub made : p ≡ inlined_file file
   pub means : KeepsMeaning file p
 

@@ -16,7 +16,7 @@ use Rattle.src_tree.specs.Trees.{Tree, Number, Variable, Element, Operation}
 use Rattle.src_procs.specs.Expanding.{Found, found}
 use Rattle.src_procs.specs.Frames.{naming_all, named_by, new_values, new_labels}
 use Rattle.src_procs.specs.Handed.{Arguments, HandsOn, SameStatement, argument_of, argument_seen, arguments_under, bare, handed, with_argument}
-use Rattle.src_procs.specs.InlineFaults.{parameter_name}
+use Rattle.src_procs.specs.CallCauses.{parameter_name}
 use Rattle.src_procs.specs.declared.trees.Param.{Param}
 use Rattle.src_procs.specs.Seen.{parameter_of}
 use Rattle.src_procs.specs.Views.{trees_seen}

@@ -8,14 +8,16 @@ use Rattle.src_tree.specs.Trees as plain
 use Rattle.src_procs.specs.declared.errors.InlineError.{InlineError}
 use Rattle.src_procs.specs.declared.errors.InlineError.TheVariants.{TwiceNamed, Undeclared, NoProcedure, WrongCount, NotAnArray, TooLarge, Memory}
 use Rattle.src_procs.specs.Trees.{File}
-use Rattle.src_procs.specs.InlineFaults.{none_named, procedures_fault, file_walked, calls_fault, fault_met, fault_where, max_statements, inline_fault, ExplainsInlining}
+use Rattle.src_procs.specs.CallCauses.{ExplainsInlining, IsFirstCallFault, max_statements}
+use Rattle.src_procs.specs.InlineFaults.{none_named, procedures_fault, file_walked, calls_fault, fault_met, fault_where, inline_fault, IsFoundFault}
 use Rattle.src_procs.specs.Inlined.{inlined_body, inlined_file}
 use Rattle.src_procs.specs.Sizes.{statements_in, file_size}
 use Rattle.src_procs.specs.Promise.{ArePlain, KeepsMeaning}
+use Rattle.src_procs.proofs.CallCauses.{cause}
 use Rattle.src_procs.proofs.Counted.{file_sized}
 use Rattle.src_procs.proofs.KeptMeaning.{kept_meaning}
 
-pub explained : (e : InlineError) (f : File) → inline_fault f ≡ Some e → ExplainsInlining e f
+pub explained : (e : InlineError) (f : File) → IsFirstCallFault f e → ExplainsInlining e f
 explained (TwiceNamed n) f h = h
 explained (Undeclared n) f h = h
 explained (NoProcedure n) f h = h
@@ -23,6 +25,17 @@ explained (WrongCount n) f h = h
 explained (NotAnArray n) f h = h
 explained TooLarge f h = h
 explained Memory f h = tt
+
+-- so does what is computed, also of another file with the same first fault
+pub found_explains : (e : InlineError) (f g : File) → inline_fault f ≡ inline_fault g → IsFoundFault e f
+    → ExplainsInlining e g
+found_explains (TwiceNamed n) f g same h = cause g (TwiceNamed n) (sym same ∙ h)
+found_explains (Undeclared n) f g same h = cause g (Undeclared n) (sym same ∙ h)
+found_explains (NoProcedure n) f g same h = cause g (NoProcedure n) (sym same ∙ h)
+found_explains (WrongCount n) f g same h = cause g (WrongCount n) (sym same ∙ h)
+found_explains (NotAnArray n) f g same h = cause g (NotAnArray n) (sym same ∙ h)
+found_explains TooLarge f g same h = cause g TooLarge (sym same ∙ h)
+found_explains Memory f g same h = tt
 
 behind_none : (a b : Option InlineError) → a ≡ None → option_or a b ≡ b
 behind_none None b e = refl

@@ -10,6 +10,12 @@ pub mod Bindings
 pub mod Measured
 pub mod NamesAdded
 pub mod CallsWalked
+pub mod Members
+pub mod NamesKnown
+pub mod FirstWith
+pub mod NamesAgain
+pub mod FaultyCalls
+pub mod CallCauses
 pub mod Judged
 pub mod Finished
 pub mod NameFits

@@ -7,7 +7,7 @@ use Rattle.gr_base.specs.NameMaps.{found_under}
 use Rattle.src_tree.specs.Trees.{Tree, Variable, expr_tree}
 use Rattle.src_tree.specs.declared.trees.Expr.{Expr}
 use Rattle.src_procs.specs.Trees.{Parameter, Procedure, Statement, Call}
-use Rattle.src_procs.specs.InlineFaults.{parameter_name}
+use Rattle.src_procs.specs.CallCauses.{parameter_name}
 use Rattle.src_procs.specs.Measured.{scalars}
 use Rattle.src_procs.specs.Inlined.{Renaming, inlined, inlines_of}
 

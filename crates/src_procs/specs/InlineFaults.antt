@@ -1,8 +1,8 @@
--- The first cause for which the calls of a file can't be replaced. Procedure by procedure, in their order: a name that
--- is declared twice, then a variable that isn't the procedure's own. Then call by call, in the order of their first
--- tokens: no procedure of that name is declared before it, the number of arguments differs, an array's argument isn't a
--- bare name. Last, the number of statements of the program without calls (this project's profile).
-use Rattle.std.specs.Prelude.{◌≡◌, ℕ, ◌+◌, ◌==◌, ◌&&◌, ◌||◌, nat_lt, Bool, true, false, not, List, [], ◌∷◌, ◌++◌, map, length, reverse, bytes_eq, if◌then◌else◌, Option, Some, None, is_some, Result, Ok, Err}
+-- For proofs, and for contracts of private functions: the fault of CallCauses.antt as it is computed. Procedure by
+-- procedure, in their order: a name that is declared twice, then a variable that isn't the procedure's own. Then call by
+-- call, in the order of their first tokens: no procedure of that name is declared before it, the number of arguments
+-- differs, an array's argument isn't a bare name. Last, the number of statements of the program without calls.
+use Rattle.std.specs.Prelude.{◌≡◌, ℕ, ◌+◌, ◌==◌, ◌&&◌, ◌||◌, nat_lt, Bool, true, false, not, List, [], ◌∷◌, length, reverse, bytes_eq, if◌then◌else◌, Option, Some, None, is_some, Result, Ok, Err}
 use Rattle.std.specs.Option.{option_or}
 use Rattle.gr_base.specs.Results.{◌>>=◌}
 use Rattle.src_tree.specs.declared.trees.Decl.{Decl}
@@ -12,6 +12,7 @@ use Rattle.src_procs.specs.declared.errors.InlineError.{InlineError}
 use Rattle.src_procs.specs.declared.errors.InlineError.TheVariants.{TwiceNamed, Undeclared, NoProcedure, WrongCount, NotAnArray, TooLarge, Memory}
 use Rattle.src_procs.specs.Trees.{Statement, SetVariable, SetElement, Choice, Loop, Call, Block, Nothing, Then, Parameter, OfValue, OfVariable, Procedure, File}
 use Rattle.src_procs.specs.CallMeaning.{Names}
+use Rattle.src_procs.specs.CallCauses.{own_names, max_statements}
 use Rattle.src_procs.specs.Inlined.{inlined_file}
 use Rattle.src_procs.specs.Sizes.{statements_in}
 
@@ -32,16 +33,8 @@ abbrev pub numbered_all : Names → ℕ → List (List ℕ) → Option Names
 numbered_all known n [] = Some known
 numbered_all known n (x ∷ xs) = if is_some (known x) then None else numbered_all (numbered known x n) (n + 1) xs
 
-abbrev pub parameter_name : Parameter → List ℕ
-parameter_name (OfValue label name) = name
-parameter_name (OfVariable name) = name
-
 abbrev pub local_name : Decl → List ℕ
 local_name d = d.name
-
--- the names of a procedure's parameters and locals
-abbrev pub own_names : Procedure → List (List ℕ)
-own_names p = map parameter_name p.parameters ++ map local_name p.locals
 
 -- every variable of an expression, of statements, has a known name
 abbrev pub knows : Names → Tree → Bool
@@ -149,17 +142,13 @@ file_walked ps body = procedures_walked [] 0 ps >>= λ n. calls_walked_all (proc
 abbrev pub calls_fault : File → Option InlineError
 calls_fault f = fault_met (file_walked f.procedures f.body)
 
--- the most statements of a program without calls
-abbrev pub max_statements : ℕ
-max_statements = 8192
-
 abbrev pub inline_fault : File → Option InlineError
 inline_fault f =
     option_or (procedures_fault none_named 0 f.procedures)
     (option_or (calls_fault f)
     (fault_where (nat_lt max_statements (statements_in (inlined_file f).body)) TooLarge))
 
--- it is the file's first fault; want of memory says nothing
-abbrev pub ExplainsInlining : InlineError → File → Type 0
-ExplainsInlining Memory f = Unit {0}
-ExplainsInlining e f = inline_fault f ≡ Some e
+-- it is the file's first fault, as it is computed; want of memory says nothing
+abbrev pub IsFoundFault : InlineError → File → Type 0
+IsFoundFault Memory f = Unit {0}
+IsFoundFault e f = inline_fault f ≡ Some e

@@ -7,6 +7,7 @@ pub mod Sizes
 pub mod Seen
 pub mod Views
 pub mod Expanding
+pub mod CallCauses
 pub mod InlineFaults
 pub mod Measured
 pub mod Numbered

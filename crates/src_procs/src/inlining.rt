@@ -1,8 +1,10 @@
 ghost use Rattle.std.specs.Prelude.{◌≡◌, ◌++◌, ◌≤◌, ◌∷◌, [], IfErr, IfOk, OnOk, None, length, map};
 ghost use Rattle.gr_base.specs.NameMaps.{found_under};
 ghost use Rattle.src_tree.specs.Trees.{source_of};
+ghost use Rattle.src_procs.specs.declared.errors.InlineError.{InlineError};
 ghost use Rattle.src_procs.specs.Expanding.{Rest, expanded, first_block, held_start, with_made};
-ghost use Rattle.src_procs.specs.InlineFaults.{ExplainsInlining, inline_fault};
+ghost use Rattle.src_procs.specs.CallCauses.{ExplainsInlining, IsFirstCallFault};
+ghost use Rattle.src_procs.specs.InlineFaults.{IsFoundFault, inline_fault};
 ghost use Rattle.src_procs.specs.Inlined.{added, inlined_body, inlined_file};
 ghost use Rattle.src_procs.specs.Measured.{HasSizes};
 ghost use Rattle.src_procs.specs.Numbered.{AreNumbered};
@@ -43,7 +45,7 @@ fn judge<'a>(alloc: Global, procs: &'a [Proc], body: &'a [PStmt]) -> Result<Judg
     ensures numbers { IfOk result (λ r. AreNumbered (map procedure_of procs.now) (found_under r.numbers)) }
     ensures sizes { IfOk result (λ r. HasSizes (map procedure_of procs.now) r.sizes.items) }
     ensures faultless { OnOk result (inline_fault (bare_file procs.now body.now) ≡ None) }
-    ensures refused { IfErr result (λ e. ExplainsInlining e (bare_file procs.now body.now)) }
+    ensures refused { IfErr result (λ e. IsFoundFault e (bare_file procs.now body.now)) }
 {
     match procedures_fault(alloc, procs)? {
         Some(fault) => return Err(fault),
@@ -217,7 +219,7 @@ fn finish<'a>(
 pub fn inline(alloc: Global, f: &ProcFile) -> Result<Program, InlineError>
     requires plain { ArePlain f.now.decls.items }
     ensures inlined { IfOk result (λ p. source_of p ≡ inlined_file (file_of f.now)) }
-    ensures faultless { OnOk result (inline_fault (file_of f.now) ≡ None) }
+    ensures faultless { OnOk result ((e : InlineError) → IsFirstCallFault (file_of f.now) e → ⊥) }
     ensures meaning { IfOk result (λ p. KeepsMeaning (file_of f.now) (source_of p)) }
     ensures refused { IfErr result (λ e. ExplainsInlining e (file_of f.now)) }
 {

@@ -1,8 +1,11 @@
-ghost use Rattle.std.specs.Prelude.{◌≤◌, ◌^◌, length};
+ghost use Rattle.std.specs.Prelude.{◌≡◌, ◌≤◌, ◌^◌, Some, length};
 ghost use Rattle.flow_types.specs.Wants.{declared_wants};
 ghost use Rattle.gr_word.specs.Fitting.{FitsWants};
 ghost use Rattle.src_tree.specs.Meaning.{Store};
+ghost use Rattle.src_procs.specs.declared.errors.InlineError.{InlineError};
 ghost use Rattle.src_procs.specs.Trees.{File};
+ghost use Rattle.src_procs.specs.CallCauses.{IsFirstCallFault};
+ghost use Rattle.src_procs.specs.InlineFaults.{inline_fault};
 ghost use Rattle.src_procs.specs.Inlined.{inlined_body, inlined_file};
 ghost use Rattle.src_procs.specs.Sizes.{HasSize, file_size};
 ghost use Rattle.src_procs.specs.Promise.{ArePlain, HasNewWords, KeepsMeaning};
@@ -20,4 +23,11 @@ pub fn inlined_size()
 /// A law: inputs that fit the variables of a file's program give it room for what the file means.
 pub fn room_for_inputs()
     ensures { (f : File) (store : Store) → FitsWants (declared_wants (inlined_file f).decls) store → HasNewWords f store }
+{}
+
+/// Laws of a file's first fault: it is the one that the relation defines, and no other; there is one at most.
+pub fn first_call_fault()
+    ensures found { (f : File) (e : InlineError) → IsFirstCallFault f e → inline_fault f ≡ Some e }
+    ensures only { (f : File) (e : InlineError) → inline_fault f ≡ Some e → IsFirstCallFault f e }
+    ensures once { (f : File) (a b : InlineError) → IsFirstCallFault f a → IsFirstCallFault f b → a ≡ b }
 {}

@@ -2,7 +2,7 @@
 //!
 //! A file has declarations, procedures and statements, among them calls (`specs/Trees`); what it means is in
 //! `specs/CallMeaning`. [`inline`] replaces its calls (`specs/Inlined`), or names the first cause for which they can't
-//! be replaced (`specs/InlineFaults`). The program that it makes does with the file's own variables what the file
+//! be replaced (`specs/CallCauses`). The program that it makes does with the file's own variables what the file
 //! means, for every store and any starting values of its new variables (`specs/Promise`).
 #![tactic(auto)]
 

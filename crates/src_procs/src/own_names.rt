@@ -3,6 +3,7 @@ ghost use Rattle.std.specs.Option.{option_or};
 ghost use Rattle.gr_base.specs.NameMaps.{found_under};
 ghost use Rattle.src_tree.specs.FirstFault.{shown_place};
 ghost use Rattle.src_tree.specs.Trees.{expr_tree, test_of};
+ghost use Rattle.src_procs.specs.CallCauses as causes;
 ghost use Rattle.src_procs.specs.InlineFaults as spec;
 ghost use Rattle.src_procs.specs.Seen.{statement_of, block_of_all, trees_of, parameter_of, procedure_of};
 ghost use Rattle.src_procs.specs.Views.{names_seen};
@@ -47,7 +48,7 @@ pub(crate) fn add_name<'a>(names: &mut Numbers<'a>, name: &'a [u8], n: usize) ->
 }
 
 pub(crate) fn parameter_name<'a>(param: &'a Param) -> &'a [u8]
-    ensures { result.now ≡ spec.parameter_name (parameter_of param.now) }
+    ensures { result.now ≡ causes.parameter_name (parameter_of param.now) }
 {
     match param {
         Param::Scalar(_, name) => name.bytes(),
@@ -61,7 +62,7 @@ fn with_parameters<'a>(
     params: &'a [Param],
 ) -> Result<Vec<&'a [u8]>, Memory>
     ensures { IfOk result (λ r. names_seen r.items
-        ≡ names_seen names.entry.items ++ map spec.parameter_name (map parameter_of params.now)) }
+        ≡ names_seen names.entry.items ++ map causes.parameter_name (map parameter_of params.now)) }
 {
     for param in params {
         names.push(parameter_name(param))?;
@@ -81,7 +82,7 @@ fn with_locals<'a>(mut names: Vec<&'a [u8]>, locals: &'a [Decl]) -> Result<Vec<&
 
 // The names of a procedure's parameters and locals.
 fn own_names<'a>(alloc: Global, p: &'a Proc) -> Result<Vec<&'a [u8]>, Memory>
-    ensures { IfOk result (λ names. names_seen names.items ≡ spec.own_names (procedure_of p.now)) }
+    ensures { IfOk result (λ names. names_seen names.items ≡ causes.own_names (procedure_of p.now)) }
 {
     let names = with_parameters(Vec::new(alloc), p.params.as_slice())?;
     with_locals(names, p.locals.as_slice())
@@ -172,7 +173,7 @@ fn fault_where(test: bool, fault: InlineError) -> Option<InlineError>
 // What is wrong with the names of procedure number `n`.
 fn body_fault(alloc: Global, n: usize, p: &Proc) -> Result<Option<InlineError>, Memory>
     ensures { IfOk result (λ r. r ≡ spec.body_fault n
-        (spec.numbered_all spec.none_named 0 (spec.own_names (procedure_of p.now))) (procedure_of p.now).body) }
+        (spec.numbered_all spec.none_named 0 (causes.own_names (procedure_of p.now))) (procedure_of p.now).body) }
 {
     let own = own_names(alloc, p)?;
     match gather(alloc, own.as_slice())? {

@@ -1,22 +1,48 @@
-use Rattle.std.proofs.Common.{◌≡◌, List, map, None, subst, ap, ◌∙◌}
+use Rattle.std.proofs.Common.{◌≡◌, List, map, sym, ap, ◌∙◌}
 use Rattle.src_tree.specs.Trees.{source_of}
 use Rattle.src_tree.specs.declared.trees.Decl.{Decl}
+use Rattle.std.proofs.lemmas.Result.{err_from_is_err_and}
 use Rattle.src_procs.specs.declared.trees.PStmt.{PStmt}
 use Rattle.src_procs.specs.declared.trees.Proc.{Proc}
 use Rattle.src_procs.specs.InlineFaults.{inline_fault}
 use Rattle.src_procs.specs.Inlined.{inlined_file}
 use Rattle.src_procs.specs.Seen.{file_of, procedure_of, block_of_all}
 use Rattle.src_procs.specs.Views.{bare_file}
-use Rattle.src_procs.proofs.Judged.{kept_for}
+use Rattle.src_procs.proofs.CallCauses.{not-caused}
+use Rattle.src_procs.proofs.Judged.{found_explains, kept_for}
 use Rattle.src_procs.proofs.inlining.inline.Goals as goal
+
+-- files with the same procedures and statements
+same-fault : (ps qs : List Proc) (ss ts : List PStmt) → ps ≡ qs → ss ≡ ts
+    → inline_fault (bare_file ps ss) ≡ inline_fault (bare_file qs ts)
+same-fault ps qs ss ts procs body =
+    ap (λ (l : List Proc). inline_fault (bare_file l ss)) procs
+    ∙ ap (λ (l : List PStmt). inline_fault (bare_file qs l)) body
+
+pub returns-in_err-numbers-clause-refused : goal.returns-in_err-numbers-clause-refused
+returns-in_err-numbers-clause-refused c =
+    let f = c.args.f.now in
+    let passed = err_from_is_err_and c.from_residual.result c.from_residual.ensures.1 in
+    rw (passed.1, passed.2)
+    (found_explains c.in_err-numbers.field-0.0
+    (bare_file c.as_slice-procs.result.now c.as_slice-body.result.now) (file_of f)
+    (same-fault c.as_slice-procs.result.now f.procs.items c.as_slice-body.result.now f.body.items
+    c.as_slice-procs.ensures.value c.as_slice-body.ensures.value)
+    c.in_err-numbers.ensures.refused)
+
+pub returns-clause-faultless : goal.returns-clause-faultless
+returns-clause-faultless c =
+    let f = c.args.f.now in
+    not-caused (file_of f)
+    (sym (same-fault c.as_slice-procs.result.now f.procs.items c.as_slice-body.result.now f.body.items
+    c.as_slice-procs.ensures.value c.as_slice-body.ensures.value) ∙ c.in_ok-numbers.ensures.faultless)
 
 pub returns-clause-meaning : goal.returns-clause-meaning
 returns-clause-meaning c =
     let f = c.args.f.now in
     kept_for (file_of f) (source_of c.in_ok-program.program) c.requires.plain
-    (subst (λ (ss : List PStmt). inline_fault (bare_file f.procs.items ss) ≡ None) c.as_slice-body.ensures.value
-    (subst (λ (ps : List Proc). inline_fault (bare_file ps c.as_slice-body.result.now) ≡ None)
-    c.as_slice-procs.ensures.value c.in_ok-numbers.ensures.faultless))
+    (sym (same-fault c.as_slice-procs.result.now f.procs.items c.as_slice-body.result.now f.body.items
+    c.as_slice-procs.ensures.value c.as_slice-body.ensures.value) ∙ c.in_ok-numbers.ensures.faultless)
     (c.in_ok-program.ensures
     ∙ (ap (λ (ds : List Decl). inlined_file (record {
       decls = ds;
