@@ -2,22 +2,24 @@
  * Making the code of programs in one pass over their trees. See emitting.h.
  *
  * An expression leaves its value in a register, and uses those above. A resident variable is in the block that its slot holds
- * for the whole run, or in those of several slots, and needs no load and no store of a block. In public code a load of another block of plain or encrypted
- * memory is skipped where the slot holds the block, and a note stands behind it. A branch on a secret becomes two arms that
- * show the same: each does its own statements, and those of the other without effect, by storing the old words; statements
- * of the two that show the same stand side by side instead. Arms have no notes.
+ * for the whole run, or in those of several slots, and needs no load and no store of a block. In public code a load of
+ * another block of plain or encrypted memory is skipped where the slot holds the block, and a note stands behind it. A branch
+ * on a secret becomes two arms that show the same: each does its own statements, and those of the other without effect, by
+ * storing the old words; statements of the two that show the same stand side by side instead. If no arm accesses memory, the
+ * shorter one does nothing for some cycles instead. Arms have no notes.
  */
 #include "emitting.h"
 
 #include "files.h"
 #include "holding.h"
 #include "layout.h"
+#include "ranges.h"
 #include "reducing.h"
 #include "selecting.h"
 
 #include <stdlib.h>
 
-enum { SCALAR_REGISTER = 0, FIRST_CODE = 1024, FIRST_NOTES = 256 };
+enum { SCALAR_REGISTER = 0, FIRST_CODE = 1024, FIRST_NOTES = 256, MOST_SLACK = 50 };
 
 /* How code is made: in public code; in an arm with its effect; in an arm without it. */
 enum mode { IN_PUBLIC, WITH_EFFECT, WITHOUT_EFFECT };
@@ -33,6 +35,8 @@ struct emitter {
     struct holding holding;
     /* The registers that may hold a secret between statements. */
     uint32_t base_mask;
+    /* What is known of scalars here. */
+    struct ranges known;
 };
 
 /* The statements of the two blocks of a branch on a secret, of which so many first ones pair. */
@@ -40,6 +44,18 @@ struct parts {
     const struct block *first, *second;
     size_t pairs;
     enum mode mode;
+};
+
+/* Cycles, if they are known: those of code that doesn't access memory. */
+struct cycles {
+    bool is_known;
+    uint64_t count;
+};
+
+/* Whether a branch on a secret is quiet, and for how many cycles each of its ways then does nothing. */
+struct slack {
+    bool is_quiet;
+    unsigned untaken, taken;
 };
 
 /* ---- instructions and notes */
@@ -177,10 +193,20 @@ static void put_compared(struct emitter *emitter, uint32_t length, unsigned to, 
     put_note(emitter, without(mask, to));
 }
 
+/* Whether an index is known to be within its array. */
+static bool is_within(const struct emitter *emitter, const struct variable *array, const struct expr *index)
+{
+    return emitter->is_fast && !is_oblivious(array) && is_below(&emitter->known, index, array->symbol.length);
+}
+
 /* Leaves the number of the word of an array that an index names in a register. */
 static void put_word(struct emitter *emitter, const struct variable *array, const struct expr *index, unsigned to,
                      enum mode mode, uint32_t mask)
 {
+    if (is_within(emitter, array, index)) {
+        put_expr(emitter, index, to, mode, mask);
+        return;
+    }
     if (is_compared(emitter, array, index, mode)) {
         put_expr(emitter, index, to, mode, mask);
         put_compared(emitter, array->symbol.length, to, mask);
@@ -397,17 +423,25 @@ static bool is_number_alike(const struct emitter *emitter, int64_t one, int64_t 
     return (register_of_number(&emitter->holding, one) != 0) == (register_of_number(&emitter->holding, other) != 0);
 }
 
-/* Whether accesses of two arrays show the same for any indexes that do: of one oblivious bank, or of resident arrays whose
- * indexes are reduced by the same operation, that are both at the beginning of a block, or neither, and that as many slots
- * hold. Registers hold the numbers of their code alike. */
+/* Whether the indexes of two arrays become numbers of words alike: neither is reduced, or both are by the same operation. */
+static bool is_reduced_alike(const struct emitter *emitter, const struct variable *one, const struct expr *index,
+                             const struct variable *other, const struct expr *other_index)
+{
+    const bool within = is_within(emitter, one, index);
+    if (within != is_within(emitter, other, other_index))
+        return false;
+    return within || (is_masked(one) == is_masked(other)
+                      && is_number_alike(emitter, reducer_of(one), reducer_of(other)));
+}
+
+/* Whether accesses of two arrays show the same for any indexes that do, and that are reduced alike: of one oblivious bank, or
+ * of resident arrays that are both at the beginning of a block, or neither, and that as many slots hold. Registers hold the
+ * numbers of their code alike. */
 static bool is_like(const struct emitter *emitter, const struct variable *one, const struct variable *other)
 {
-    if (!is_number_alike(emitter, reducer_of(one), reducer_of(other)))
-        return false;
     if (is_oblivious(one))
         return one->symbol.bank == other->symbol.bank && is_number_alike(emitter, one->symbol.block, other->symbol.block);
-    return one->is_resident && other->is_resident && is_masked(one) == is_masked(other)
-           && (one->symbol.word == 0) == (other->symbol.word == 0)
+    return one->is_resident && other->is_resident && (one->symbol.word == 0) == (other->symbol.word == 0)
            && is_number_alike(emitter, one->symbol.word, other->symbol.word) && one->spread_count == other->spread_count;
 }
 
@@ -416,7 +450,8 @@ static bool shows_same(const struct emitter *emitter, int32_t array, const struc
                        const struct expr *other_index)
 {
     const struct variable *one = variable_of(emitter, array), *other = variable_of(emitter, other_array);
-    if (is_like(emitter, one, other) && is_alike(emitter, index, other_index))
+    if (is_reduced_alike(emitter, one, index, other, other_index) && is_like(emitter, one, other)
+        && is_alike(emitter, index, other_index))
         return true;
     return !is_oblivious(one) && array == other_array && is_same(index, other_index);
 }
@@ -493,18 +528,92 @@ static void put_taken(struct emitter *emitter, const struct parts *parts)
     put_nops(emitter, emitter->object->profile.taken);
 }
 
+/* The cycles of the instructions from a place on, which are taken back. */
+static struct cycles taken_back(struct emitter *emitter, uint32_t from)
+{
+    const struct profile *profile = &emitter->object->profile;
+    struct cycles cycles = {true, 0};
+    for (uint32_t at = from; at < emitter->object->code_count; at++) {
+        const uint8_t opcode = emitter->object->code[at].opcode;
+        switch (opcode) {
+        case LDB: case STB: case IDB: cycles.is_known = false; break;
+        case LDW: case STW: cycles.count += profile->word; break;
+        case MUL: case DIV: case REM: case REMU: cycles.count += profile->mul; break;
+        case LI: case NOP: cycles.count++; break;
+        default: cycles.count += profile->alu; break; /* the other operations */
+        }
+    }
+    emitter->object->code_count = from;
+    return cycles;
+}
+
+/* The slack of a branch whose blocks take so many cycles. The way on which it isn't taken costs one cycle more. */
+static struct slack slack_between(struct cycles first, struct cycles second)
+{
+    const uint64_t one = first.count, other = second.count + 1;
+    const uint64_t untaken = one > other ? one - other : 0, taken = other > one ? other - one : 0;
+    const bool is_quiet = first.is_known && second.is_known && untaken <= MOST_SLACK && taken <= MOST_SLACK;
+    return is_quiet ? (struct slack){true, (unsigned)untaken, (unsigned)taken} : (struct slack){false, 0, 0};
+}
+
+static struct cycles cycles_of_all(struct emitter *emitter, const struct block *block);
+
+/* The cycles of a statement in an arm. It is put, and taken back. */
+static struct cycles cycles_of(struct emitter *emitter, const struct statement *made)
+{
+    const uint32_t from = emitter->object->code_count;
+    if (made->kind != CHOICE) {
+        put_assignment(emitter, made, WITH_EFFECT);
+        return taken_back(emitter, from);
+    }
+    put_guard(emitter, &made->guard, WITH_EFFECT);
+    const struct cycles guard = taken_back(emitter, from), first = cycles_of_all(emitter, &made->first);
+    const struct slack slack = slack_between(first, cycles_of_all(emitter, &made->second));
+    return (struct cycles){guard.is_known && slack.is_quiet,
+                           guard.count + emitter->object->profile.taken + slack.taken + first.count};
+}
+
+static struct cycles cycles_of_all(struct emitter *emitter, const struct block *block)
+{
+    struct cycles all = {true, 0};
+    for (size_t i = 0; i < block->count && all.is_known; i++) {
+        const struct cycles one = cycles_of(emitter, &block->items[i]);
+        all.is_known = one.is_known;
+        all.count += one.count;
+    }
+    return all;
+}
+
+/* Puts the arms of a branch, between which the jump is that is put at the place returned. */
+static uint32_t put_arms(struct emitter *emitter, const struct statement *made, uint32_t branch, enum mode mode)
+{
+    const struct slack slack = emitter->is_fast
+        ? slack_between(cycles_of_all(emitter, &made->first), cycles_of_all(emitter, &made->second))
+        : (struct slack){false, 0, 0};
+    const struct parts parts = {&made->first, &made->second, pairs_of(emitter, &made->first, &made->second), mode};
+    if (slack.is_quiet) {
+        put_row(emitter, parts.second, 0, parts.second->count, mode);
+        put_nops(emitter, slack.untaken);
+    } else {
+        put_untaken(emitter, &parts);
+    }
+    const uint32_t jump = put_later(emitter);
+    lead_here(emitter, branch, made->guard.opcode);
+    if (slack.is_quiet) {
+        put_row(emitter, parts.first, 0, parts.first->count, mode);
+        put_nops(emitter, slack.taken);
+    } else {
+        put_taken(emitter, &parts);
+    }
+    return jump;
+}
+
 /* Puts a choice whose arms are secret code and show the same. */
 static void put_branch(struct emitter *emitter, const struct statement *made, enum mode mode)
 {
-    const struct parts parts = {
-        &made->first, &made->second, pairs_of(emitter, &made->first, &made->second), mode == IN_PUBLIC ? WITH_EFFECT : mode,
-    };
     put_guard(emitter, &made->guard, mode);
     const uint32_t branch = put_later(emitter);
-    put_untaken(emitter, &parts);
-    const uint32_t jump = put_later(emitter);
-    lead_here(emitter, branch, made->guard.opcode);
-    put_taken(emitter, &parts);
+    const uint32_t jump = put_arms(emitter, made, branch, mode == IN_PUBLIC ? WITH_EFFECT : mode);
     lead_here(emitter, jump, JMP);
 }
 
@@ -532,17 +641,28 @@ static uint8_t opposite(uint8_t opcode)
 
 static bool put_block(struct emitter *emitter, const struct block *block);
 
+/* Puts a block before which this is known. What is known outside stays. */
+static bool put_inner_block(struct emitter *emitter, const struct block *block, struct ranges known)
+{
+    const struct ranges outside = emitter->known;
+    emitter->known = known;
+    const bool is_noted = put_block(emitter, block);
+    free(known.of);
+    emitter->known = outside;
+    return is_noted;
+}
+
 /* Puts a choice with a public guard: the branch leads over the first block, and a jump over the second. */
 static void put_choice(struct emitter *emitter, const struct statement *made)
 {
     put_guard(emitter, &made->guard, IN_PUBLIC);
     const uint32_t branch = put_later(emitter);
-    bool is_noted = put_block(emitter, &made->first);
+    bool is_noted = put_inner_block(emitter, &made->first, copied_ranges(&emitter->known));
     if (made->second.count > 0) {
         const uint32_t jump = put_later(emitter);
         lead_here(emitter, branch, opposite(made->guard.opcode));
         put_head_note(emitter, false);
-        is_noted = put_block(emitter, &made->second);
+        is_noted = put_inner_block(emitter, &made->second, copied_ranges(&emitter->known));
         lead_here(emitter, jump, JMP);
     } else {
         lead_here(emitter, branch, opposite(made->guard.opcode));
@@ -555,7 +675,8 @@ static void put_loop(struct emitter *emitter, const struct statement *made)
 {
     const uint32_t start = put_later(emitter);
     put_head_note(emitter, false);
-    const bool is_noted = put_block(emitter, &made->first);
+    const bool is_noted = put_inner_block(emitter, &made->first, inside_loop(&emitter->known, made));
+    pass_statement(&emitter->known, made);
     lead_here(emitter, start, JMP);
     put_head_note(emitter, is_noted || emitter->object->code_count == start + 1);
     put_guard(emitter, &made->guard, IN_PUBLIC);
@@ -578,6 +699,7 @@ static bool put_block(struct emitter *emitter, const struct block *block)
             put_loop(emitter, made);
         else
             put_assignment(emitter, made, IN_PUBLIC);
+        pass_statement(&emitter->known, made);
     }
     return is_noted;
 }
@@ -690,7 +812,7 @@ void emit(const struct source *source, bool is_fast, struct object *object)
 {
     struct emitter emitter = {
         .source = source, .object = object, .is_fast = is_fast, .code_room = FIRST_CODE, .note_room = FIRST_NOTES,
-        .holding = is_fast ? hold_for(source) : hold_nothing(source),
+        .holding = is_fast ? hold_for(source) : hold_nothing(source), .known = ranges_for(source),
     };
     emitter.base_mask = secret_registers(&emitter.holding, source);
     object->code = room_for(FIRST_CODE, sizeof object->code[0]);

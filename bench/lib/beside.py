@@ -27,7 +27,7 @@ C_PROGRAMS = {
     'asm': ['asm', 'spelling', 'files', 'object'],
     'eval': ['eval', 'options', 'json', 'inputs', 'object'] + SOURCES,
     'compile': ['compile', 'options', 'layout', 'residents', 'spreading', 'folding', 'reducing', 'holding', 'selecting',
-                'emitting', 'object'] + SOURCES,
+                'ranges', 'emitting', 'object'] + SOURCES,
     'oram': ['oram', 'recursive_oram', 'path_oram', 'chacha', 'files'],
     'crafted': ['crafted'],
     'measure': ['measure'],

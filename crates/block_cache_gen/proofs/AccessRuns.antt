@@ -25,6 +25,7 @@ use Rattle.src_tree.specs.Trees.{Tree, Number, Variable, Element, Operation}
 use Rattle.scratch_alloc.proofs.Serving.{serves-within}
 use Rattle.block_cache_gen.specs.declared.frames.Mode.{Mode}
 use Rattle.block_cache_gen.specs.declared.frames.Mode.TheVariants.{Public, Real, Mirrored}
+use Rattle.block_cache_gen.specs.declared.indexes.Numbering.{Numbering}
 use Rattle.block_cache_gen.specs.Homes.{Home, Setting, HasHomes, home_of, words_a_block}
 use Rattle.block_cache_gen.specs.Codes.{skips, is_cached, fixed_index, fixed_word, located_code, fixed_code, numbered_code, shift_code, load_code, access_by}
 use Rattle.block_cache_gen.specs.StandsFor.{StandsFor, FitsHomes, IsBlockOf}
@@ -33,7 +34,7 @@ use Rattle.block_cache_gen.specs.LeavesWord.{LeavesWord}
 use Rattle.block_cache_gen.proofs.AccessLaws.{slots_after-append, seen_of_all-append, may_skip-is, seen_of-unskipped}
 use Rattle.block_cache_gen.proofs.HomeFacts.{serves-cached, block-of, block-exists, block-small, profile-fits}
 use Rattle.block_cache_gen.proofs.Stands.{stands-like, stands-loaded}
-use Rattle.block_cache_gen.proofs.IndexRuns.{Locates, Reduces, runs-numbered, runs-block, runs-fixed}
+use Rattle.block_cache_gen.proofs.IndexRuns.{FitsNumbering, Locates, Reduces, runs-numbered, runs-block, runs-fixed}
 use Rattle.block_cache_gen.proofs.Kept.{Keeps, keeps-set}
 use Rattle.block_cache_gen.proofs.OperandRuns.{LeavesAt, RunsValue}
 
@@ -219,14 +220,15 @@ module _ (o : Parts) (fits : IsInRange o) (f : Setting) (homes : HasHomes o f) (
   -- the word and the block are found
   runs-located : (mode : Mode) (to from : ℕ) (i : Tree) (code : List Instr) (s : State) → IsShaped o s
       → StandsFor f s store → to + 2 < 19 → from ≢ to + 1
-      → RunsValue o f store mode to from i code s → (near : Bool) → (near ≡ true → from ≡ to) → (fixed : Option ℤ)
+      → RunsValue o f store mode to from i code s → (way : Numbering)
+      → FitsNumbering way to from (evaluated f.decls store i) (home_of f x).length → (fixed : Option ℤ)
       → fixed_index (home_of f x) i ≡ fixed
-      → StandsAt o s.place (located_code near f (home_of f x) to from fixed code)
-      → RunsThrough o s (located_code near f (home_of f x) to from fixed code)
+      → StandsAt o s.place (located_code way f (home_of f x) to from fixed code)
+      → RunsThrough o s (located_code way f (home_of f x) to from fixed code)
       (seen_of_all mode s.banks s.slots (accesses f store i))
       (Finds f store (accesses f store i) to (word_number f store x (evaluated f.decls store i))
       (access_of f store x (evaluated f.decls store i)).block s)
-  runs-located mode to from i code s shaped stands small other run near own (Some z) is at =
+  runs-located mode to from i code s shaped stands small other run way own (Some z) is at =
       let h = home_of f x in
       let n = word_number f store x z in
       let w = words_a_block f in
@@ -250,7 +252,7 @@ module _ (o : Parts) (fits : IsInRange o) (f : Setting) (homes : HasHomes o f) (
         slots = locates.keeps.slots;
         stands = stands-like f s t store locates.keeps.slots locates.keeps.banks locates.keeps.above stands;
       }))
-  runs-located mode to from i code s shaped stands small other run near own None is at =
+  runs-located mode to from i code s shaped stands small other run way own None is at =
       let h = home_of f x in
       let home = homes.arrays x label known turn in
       let w = words_a_block f in
@@ -262,13 +264,13 @@ module _ (o : Parts) (fits : IsInRange o) (f : Setting) (homes : HasHomes o f) (
       let log_small : f.profile.block_log < 64 = omega (arith, (profile-fits fits homes).block_log) in
       let block_small : h.block + n / w < 2 ^ 63 =
       omega (arith, block-small o fits f homes label h home n (word-within index)) in
-      let number = numbered_code near f h to from in
+      let number = numbered_code way f h to from in
       runs-weaker s (code ++ (number ++ shift_code f h to)) (seen ++ []) seen Found Found
       (runs-append s code (number ++ shift_code f h to) seen [] (LeavesAt f store before to from index s) Found at run
       (λ t shape leaves at'.
       runs-append t number (shift_code f h to) [] []
       (Reduces to (unsigned_of index % h.length) t) Found at'
-      (runs-numbered o fits f store near h to from t index shape leaves.stands leaves.value other own small home.length.0 home.length.1)
+      (runs-numbered o fits f store way h to from t index shape leaves.stands leaves.value other own small home.length.0 home.length.1)
       (λ u shape' reduces at''.
       let word : register u to ≡ pos n = reduces.word ∙ ap pos (word_number-is index) in
       let stands' = stands-like f t u store reduces.keeps.slots reduces.keeps.banks reduces.keeps.above leaves.stands in
@@ -292,16 +294,17 @@ module _ (o : Parts) (fits : IsInRange o) (f : Setting) (homes : HasHomes o f) (
       (λ t shape found. found)
 
   -- the whole access
-  pub runs-access : (near : Bool) (mode : Mode) (to from : ℕ) (i : Tree) (code : List Instr) (s : State)
-      → IsShaped o s → StandsFor f s store → to + 2 < 19 → from ≢ to + 1 → (near ≡ true → from ≡ to)
+  pub runs-access : (way : Numbering) (mode : Mode) (to from : ℕ) (i : Tree) (code : List Instr) (s : State)
+      → IsShaped o s → StandsFor f s store → to + 2 < 19 → from ≢ to + 1
+      → FitsNumbering way to from (evaluated f.decls store i) (home_of f x).length
       → RunsValue o f store mode to from i code s → StandsAt o s.place
-      (access_by false near f mode (home_of f x) to from (fixed_index (home_of f x) i) code)
+      (access_by false way f mode (home_of f x) to from (fixed_index (home_of f x) i) code)
       → RunsThrough o s
-      (access_by false near f mode (home_of f x) to from (fixed_index (home_of f x) i) code)
+      (access_by false way f mode (home_of f x) to from (fixed_index (home_of f x) i) code)
       (seen_of_all mode s.banks s.slots (accesses f store i ++ access_of f store x (evaluated f.decls store i) ∷ []))
       (Accesses f store (accesses f store i)
       (access_of f store x (evaluated f.decls store i)) to (word_number f store x (evaluated f.decls store i)) s)
-  runs-access near mode to from i code s shaped stands small other own run at =
+  runs-access way mode to from i code s shaped stands small other own run at =
       let h = home_of f x in
       let home = homes.arrays x label known turn in
       let w = words_a_block f in
@@ -310,7 +313,7 @@ module _ (o : Parts) (fits : IsInRange o) (f : Setting) (homes : HasHomes o f) (
       let n = word_number f store x index in
       let before = accesses f store i in
       let a = access_of f store x index in
-      let located = located_code near f h to from fixed code in
+      let located = located_code way f h to from fixed code in
       let load = load_code (skips mode h) h to in
       let first = seen_of_all mode s.banks s.slots before in
       let second = seen_of mode s.banks (slots_after s.banks s.slots before) a in
@@ -320,7 +323,7 @@ module _ (o : Parts) (fits : IsInRange o) (f : Setting) (homes : HasHomes o f) (
       ap (λ l. first ++ l) (sym (append-nil second)) ∙ sym (seen_of_all-append mode s.banks s.slots before (a ∷ [])) in
       runs-weaker s (located ++ load) (first ++ second) (seen_of_all mode s.banks s.slots (before ++ a ∷ [])) Done Done
       (runs-append s located load first second Found Done at
-      (runs-located mode to from i code s shaped stands small other run near own fixed refl)
+      (runs-located mode to from i code s shaped stands small other run way own fixed refl)
       (λ t shape finds at'.
       runs-weaker t load (seen_of mode t.banks t.slots a) second (Loads a to t) Done
       (runs-load mode to n t shape finds.stands (word-within index) small finds.block (skips mode h)

@@ -17,12 +17,13 @@ use Rattle.trace_patterns.specs.Events.{Oram}
 use Rattle.stretches.specs.Shows.{Show, Gap, Seen, pattern_of}
 use Rattle.trace_patterns.specs.SymStates.{SymSlot, OramSlot}
 use Rattle.block_cache_gen.specs.Homes.{further_slots, Home, Setting, home_of, register_for, HasHomes}
-use Rattle.block_cache_gen.specs.Codes.{is_cached, is_masked, is_power, literal, fixed_index, held_number, reducing, reducer, operand, operand_part, operand_unless, left_operand, steps_at}
+use Rattle.block_cache_gen.specs.Codes.{is_cached, is_masked, is_within_home, is_power, literal, fixed_index, held_number, reducing, reducer, operand, operand_part, operand_unless, left_operand, steps_at}
 use Rattle.strength_reduction.specs.Steps.{Step}
 use Rattle.block_cache_gen.proofs.StepsAt.{not-stepped}
-use Rattle.block_cache_gen.specs.PatternsOf.{store_shows, shows_among, read_shows_by, read_shows, stored_shows_by, stored_shows, applied_shows, operand_tree, scalar_shows, write_shows, operation_gap, word_gap, block_tree, found_shows, plain_loaded, encrypted_loaded, block_loaded, load_shows, placed_shows, shows_by, loads_by, Loads, then_loads, one_load, index_loads, no_loads, operation_shows, operation_loads, element_slot, access_shows, access_loads, tree_of_expr, shows_of_expr, slots_of_expr, shows_of_set, slots_of_set, pattern_of_expr, pattern_of_set}
-use Rattle.block_cache_gen.specs.Alike.{is_product, AreNumbersAlike, InOneBank, AreReducedAlike, Residents, ToResidents, Alike, Numbers, Scalars, Oblivious, Same, Operations, ByNumber, Pair, ToScalars, ToOblivious, ToSame}
+use Rattle.block_cache_gen.specs.PatternsOf.{index_by, store_shows, shows_among, read_shows_by, read_shows, stored_shows_by, stored_shows, applied_shows, operand_tree, scalar_shows, write_shows, operation_gap, word_gap, block_tree, found_shows, plain_loaded, encrypted_loaded, block_loaded, load_shows, placed_shows, shows_by, loads_by, Loads, then_loads, one_load, index_loads, no_loads, operation_shows, operation_loads, element_slot, access_shows, access_loads, tree_of_expr, shows_of_expr, slots_of_expr, shows_of_set, slots_of_set, pattern_of_expr, pattern_of_set}
+use Rattle.block_cache_gen.specs.Alike.{is_product, AreNumbersAlike, InOneBank, AreNumberedAlike, BothWithin, BothReduced, AreReducedAlike, Residents, ToResidents, Alike, Numbers, Scalars, Oblivious, Same, Operations, ByNumber, Pair, ToScalars, ToOblivious, ToSame}
 use Rattle.word_selection.specs.Selection as selection
+use Rattle.scalar_ranges.specs.Known.{is_within}
 use Rattle.bank_alloc.proofs.Apart.{scalar_bank-lt}
 use Rattle.block_cache_gen.proofs.HomeFacts.{serves-oblivious}
 
@@ -80,25 +81,35 @@ module _ (f : Setting) (h : Home) (oblivious : 2 ≤ h.bank) where
   oblivious_shows bank reduced block shows =
       (shows ++ oblivious-found Remu reduced block) ++ Seen (Oram bank) ∷ []
 
-  oblivious-slot : (i : Tree) (index : Option Value) → element_slot f h (fixed_index h i) index ≡ OramSlot h.bank
-  oblivious-slot i index = oblivious-loaded (block_tree f h (fixed_index h i) index)
+  oblivious-slot : (near : Bool) (i : Tree) (index : Option Value)
+      → element_slot near f h (fixed_index h i) index ≡ OramSlot h.bank
+  oblivious-slot near i index = oblivious-loaded (block_tree near f h (fixed_index h i) index)
+
+  -- no index is taken as it is
+  oblivious-within : (i : Tree) → is_within_home f h i ≡ false
+  oblivious-within i =
+      ap (λ (b : Bool). f.reduces && (b && is_within f.decls f.ranges i h.length)) not_cached ∙ never f.reduces
+    where
+      never : (b : Bool) → (b && false) ≡ false
+      never true = refl
+      never false = refl
 
   oblivious-shows : (i : Tree) (index : Option Value) (shows : List Show)
-      → shows_by false f h (fixed_index h i) index shows
+      → shows_by false false f h (fixed_index h i) index shows
       ≡ oblivious_shows h.bank (set_shows (reducer h)) (set_shows (pos h.block)) shows
   oblivious-shows i index shows =
       let op = oblivious-reducing in
       let fixed = oblivious-fixed i in
-      let slot = oblivious-slot i index in
-      (λ j. found_shows f h (fixed j) shows ++ load_shows (slot j))
+      let slot = oblivious-slot false i index in
+      (λ j. found_shows false f h (fixed j) shows ++ load_shows (slot j))
       ∙ λ j.
       (shows ++ oblivious-found (op j) (set_shows (reducer h)) (set_shows (pos h.block))) ++ Seen (Oram h.bank) ∷ []
 
-  oblivious-loads : (i : Tree) (index : Option Value) (loads : Loads)
-      → loads_by false f h (fixed_index h i) index loads ≡ then_loads loads (one_load h.slot (OramSlot h.bank))
-  oblivious-loads i index loads =
+  oblivious-loads : (near : Bool) (i : Tree) (index : Option Value) (loads : Loads)
+      → loads_by false near f h (fixed_index h i) index loads ≡ then_loads loads (one_load h.slot (OramSlot h.bank))
+  oblivious-loads near i index loads =
       let fixed = oblivious-fixed i in
-      let slot = oblivious-slot i index in
+      let slot = oblivious-slot near i index in
       λ j. then_loads (index_loads (fixed j) loads) (one_load h.slot (slot j))
 
 -- only numbers are alike to a number
@@ -136,7 +147,7 @@ set-alike f y z held = part-alike (held_number f y) (held_number f z) (Gap 1 ∷
 placed-alike : (f : Setting) (h g : Home) (one other : Option ℤ) (shows more : List Show) → is_masked h ≡ is_masked g
     → (h.word == 0) ≡ (g.word == 0) → AreNumbersAlike f (reducer h) (reducer g)
     → AreNumbersAlike f (pos h.word) (pos g.word) → is_some one ≡ is_some other → shows ≡ more
-    → placed_shows f h one shows ≡ placed_shows f g other more
+    → placed_shows false f h one shows ≡ placed_shows false f g other more
 placed-alike f h g (Some y) (Some z) shows more masked first reduced word fixed same = refl
 placed-alike f h g None None shows more masked first reduced word fixed same =
     let one = set-alike f (reducer h) (reducer g) reduced in
@@ -148,6 +159,17 @@ placed-alike f h g (Some y) None shows more masked first reduced word fixed same
     absurd (let e : true ≡ false = fixed in cc)
 placed-alike f h g None (Some z) shows more masked first reduced word fixed same =
     absurd (let e : false ≡ true = fixed in cc)
+
+-- so are those of two whose indexes are the numbers of the words
+placed-within : (f : Setting) (h g : Home) (one other : Option ℤ) (shows more : List Show)
+    → (h.word == 0) ≡ (g.word == 0) → AreNumbersAlike f (pos h.word) (pos g.word) → is_some one ≡ is_some other
+    → shows ≡ more → placed_shows true f h one shows ≡ placed_shows true f g other more
+placed-within f h g (Some y) (Some z) shows more first word fixed same = refl
+placed-within f h g None None shows more first word fixed same =
+    let two = set-alike f (pos h.word) (pos g.word) word in
+    λ k. same k ++ ([] ++ (if first k then [] else two k ++ operation_gap f Add ∷ []))
+placed-within f h g (Some y) None shows more first word fixed same = absurd (let e : true ≡ false = fixed in cc)
+placed-within f h g None (Some z) shows more first word fixed same = absurd (let e : false ≡ true = fixed in cc)
 
 -- their words are read and stored alike
 read-alike : (f : Setting) (g h : Home) (one other : Option ℤ) → is_some one ≡ is_some other
@@ -200,12 +222,20 @@ operand-alike : (f : Setting) (a b : Tree) → Alike f a b → shows_of_expr f a
 operand-alike f a b alike same =
     part-alike (operand f a) (operand f b) (shows_of_expr f a) (shows_of_expr f b) (alike-held f a b alike) same
 
--- the tree and the cycles of an index
-abbrev index_tree : Setting → Tree → Option Value
-index_tree f i = operand_tree f (operand f i) (tree_of_expr f i)
+-- the tree and the cycles of an index, and what the access to an array by it shows
+abbrev index_tree : (near : Bool) → Setting → Tree → Option Value
+index_tree near f i = operand_tree f (index_by near f i) (tree_of_expr f i)
 
-abbrev index_shows : Setting → Tree → List Show
-index_shows f i = operand_part (operand f i) (shows_of_expr f i)
+abbrev index_shows : (near : Bool) → Setting → Tree → List Show
+index_shows near f i = operand_part (index_by near f i) (shows_of_expr f i)
+
+abbrev array_shows : (near : Bool) → Setting → List ℕ → Tree → List Show
+array_shows near f x i =
+    access_shows near f (home_of f x) (fixed_index (home_of f x) i) (index_tree near f i) (index_shows near f i)
+
+-- an index is known to be below the length of an array
+abbrev is_near : Setting → List ℕ → Tree → Bool
+is_near f x i = is_within_home f (home_of f x) i
 
 loads-alike : (one other : Option ℤ) (loads more : Loads) → is_some one ≡ is_some other → loads ≡ more
     → index_loads one loads ≡ index_loads other more
@@ -228,28 +258,35 @@ module _ (o : Parts) (f : Setting) (homes : HasHomes o f) where
       by false is = refl
 
   -- the accesses of two arrays of one oblivious bank
-  both-shows : (x y : List ℕ) (i j : Tree) (index other : Option Value) (shows more : List Show) → InOneBank f x y
-      → UsedAs (context_of f.decls) x Array → UsedAs (context_of f.decls) y Array → shows ≡ more
-      → access_shows f (home_of f x) (fixed_index (home_of f x) i) index shows
-      ≡ access_shows f (home_of f y) (fixed_index (home_of f y) j) other more
-  both-shows x y i j index other shows more one left right same =
+  both-shows : (x y : List ℕ) (i j : Tree) → InOneBank f x y → Alike f i j
+      → UsedAs (context_of f.decls) x Array → UsedAs (context_of f.decls) y Array
+      → shows_of_expr f i ≡ shows_of_expr f j
+      → array_shows (is_near f x i) f x i ≡ array_shows (is_near f y j) f y j
+  both-shows x y i j one alike left right shown =
       let g = home_of f x in
       let h = home_of f y in
       let high : 2 ≤ h.bank = omega (arith, one.oblivious, one.same) in
       let reduced = set-alike f (reducer g) (reducer h) one.reduced in
       let block = set-alike f (pos g.block) (pos h.block) one.blocks in
-      ap (λ (b : Bool). shows_by b f g (fixed_index g i) index shows) (oblivious-turn x left one.oblivious)
+      let same = operand-alike f i j alike shown in
+      let index = index_tree false f i in
+      let other = index_tree false f j in
+      let shows = index_shows false f i in
+      let more = index_shows false f j in
+      ap (λ (b : Bool). array_shows b f x i) (oblivious-within f g one.oblivious i)
+      ∙ ap (λ (b : Bool). shows_by b false f g (fixed_index g i) index shows) (oblivious-turn x left one.oblivious)
       ∙ oblivious-shows f g one.oblivious i index shows
       ∙ (λ k. oblivious_shows f g one.oblivious (one.same k) (reduced k) (block k) (same k))
       ∙ sym (oblivious-shows f h high j other more)
-      ∙ sym (ap (λ (b : Bool). shows_by b f h (fixed_index h j) other more) (oblivious-turn y right high))
+      ∙ sym (ap (λ (b : Bool). shows_by b false f h (fixed_index h j) other more) (oblivious-turn y right high))
+      ∙ sym (ap (λ (b : Bool). array_shows b f y j) (oblivious-within f h high j))
 
-  both-loads : (x y : List ℕ) (i j : Tree) (index other : Option Value) → InOneBank f x y
+  both-loads : (x y : List ℕ) (i j : Tree) (near far : Bool) (index other : Option Value) → InOneBank f x y
       → UsedAs (context_of f.decls) x Array → UsedAs (context_of f.decls) y Array
       → slots_of_expr f i ≡ slots_of_expr f j
-      → access_loads f (home_of f x) (fixed_index (home_of f x) i) index (slots_of_expr f i)
-      ≡ access_loads f (home_of f y) (fixed_index (home_of f y) j) other (slots_of_expr f j)
-  both-loads x y i j index other one left right same =
+      → access_loads near f (home_of f x) (fixed_index (home_of f x) i) index (slots_of_expr f i)
+      ≡ access_loads far f (home_of f y) (fixed_index (home_of f y) j) other (slots_of_expr f j)
+  both-loads x y i j near far index other one left right same =
       let g = home_of f x in
       let h = home_of f y in
       let high : 2 ≤ h.bank = omega (arith, one.oblivious, one.same) in
@@ -258,39 +295,56 @@ module _ (o : Parts) (f : Setting) (homes : HasHomes o f) where
       let first = serves-oblivious (homes.arrays x left.0 left.1 turn).slot one.oblivious in
       let second = serves-oblivious (homes.arrays y right.0 right.1 turn').slot high in
       let slot = first ∙ sym second in
-      ap (λ (b : Bool). loads_by b f g (fixed_index g i) index (slots_of_expr f i)) turn
-      ∙ oblivious-loads f g one.oblivious i index (slots_of_expr f i)
+      ap (λ (b : Bool). loads_by b near f g (fixed_index g i) index (slots_of_expr f i)) turn
+      ∙ oblivious-loads f g one.oblivious near i index (slots_of_expr f i)
       ∙ (λ k. then_loads (same k) (one_load (slot k) (OramSlot (one.same k))))
-      ∙ sym (oblivious-loads f h high j other (slots_of_expr f j))
-      ∙ sym (ap (λ (b : Bool). loads_by b f h (fixed_index h j) other (slots_of_expr f j)) turn')
+      ∙ sym (oblivious-loads f h high far j other (slots_of_expr f j))
+      ∙ sym (ap (λ (b : Bool). loads_by b far f h (fixed_index h j) other (slots_of_expr f j)) turn')
 
   -- those of two resident arrays
-  resident-shows : (x y : List ℕ) (i j : Tree) (index other : Option Value) (shows more : List Show)
-      → AreReducedAlike f x y → Alike f i j → shows ≡ more
-      → access_shows f (home_of f x) (fixed_index (home_of f x) i) index shows
-      ≡ access_shows f (home_of f y) (fixed_index (home_of f y) j) other more
-  resident-shows x y i j index other shows more one alike same =
-      let g = home_of f x in
-      let h = home_of f y in
-      ap (λ (b : Bool). shows_by b f g (fixed_index g i) index shows) one.first
-      ∙ placed-alike f g h (fixed_index g i) (fixed_index h j) shows more one.masked
-      one.offset one.reduced one.words (alike-fixed f g h i j one.low alike) same
-      ∙ sym (ap (λ (b : Bool). shows_by b f h (fixed_index h j) other more) one.second)
+  resident-shows : (x y : List ℕ) (i j : Tree) → AreReducedAlike f x y i j → Alike f i j
+      → shows_of_expr f i ≡ shows_of_expr f j
+      → array_shows (is_near f x i) f x i ≡ array_shows (is_near f y j) f y j
+  resident-shows x y i j one alike shown = by one.numbered
+    where
+      by : AreNumberedAlike f x y i j → array_shows (is_near f x i) f x i ≡ array_shows (is_near f y j) f y j
+      by (BothWithin near far) =
+          let g = home_of f x in
+          let h = home_of f y in
+          let shows = index_shows true f i in
+          let more = index_shows true f j in
+          ap (λ (b : Bool). array_shows b f x i) near
+          ∙ ap (λ (b : Bool). shows_by b true f g (fixed_index g i) (index_tree true f i) shows) one.first
+          ∙ placed-within f g h (fixed_index g i) (fixed_index h j) shows more one.offset one.words
+          (alike-fixed f g h i j one.low alike) shown
+          ∙ sym (ap (λ (b : Bool). shows_by b true f h (fixed_index h j) (index_tree true f j) more) one.second)
+          ∙ sym (ap (λ (b : Bool). array_shows b f y j) far)
+      by (BothReduced reduced) =
+          let g = home_of f x in
+          let h = home_of f y in
+          let shows = index_shows false f i in
+          let more = index_shows false f j in
+          ap (λ (b : Bool). array_shows b f x i) reduced.first
+          ∙ ap (λ (b : Bool). shows_by b false f g (fixed_index g i) (index_tree false f i) shows) one.first
+          ∙ placed-alike f g h (fixed_index g i) (fixed_index h j) shows more reduced.masked
+          one.offset reduced.reduced one.words (alike-fixed f g h i j one.low alike) (operand-alike f i j alike shown)
+          ∙ sym (ap (λ (b : Bool). shows_by b false f h (fixed_index h j) (index_tree false f j) more) one.second)
+          ∙ sym (ap (λ (b : Bool). array_shows b f y j) reduced.second)
 
-  resident-loads : (x y : List ℕ) (i j : Tree) (index other : Option Value) → AreReducedAlike f x y → Alike f i j
-      → slots_of_expr f i ≡ slots_of_expr f j
-      → access_loads f (home_of f x) (fixed_index (home_of f x) i) index (slots_of_expr f i)
-      ≡ access_loads f (home_of f y) (fixed_index (home_of f y) j) other (slots_of_expr f j)
-  resident-loads x y i j index other one alike same =
+  resident-loads : (x y : List ℕ) (i j : Tree) (near far : Bool) (index other : Option Value)
+      → AreReducedAlike f x y i j → Alike f i j → slots_of_expr f i ≡ slots_of_expr f j
+      → access_loads near f (home_of f x) (fixed_index (home_of f x) i) index (slots_of_expr f i)
+      ≡ access_loads far f (home_of f y) (fixed_index (home_of f y) j) other (slots_of_expr f j)
+  resident-loads x y i j near far index other one alike same =
       let g = home_of f x in
       let h = home_of f y in
-      ap (λ (b : Bool). loads_by b f g (fixed_index g i) index (slots_of_expr f i)) one.first
+      ap (λ (b : Bool). loads_by b near f g (fixed_index g i) index (slots_of_expr f i)) one.first
       ∙ loads-alike (fixed_index g i) (fixed_index h j) (slots_of_expr f i) (slots_of_expr f j)
       (alike-fixed f g h i j one.low alike) same
-      ∙ sym (ap (λ (b : Bool). loads_by b f h (fixed_index h j) other (slots_of_expr f j)) one.second)
+      ∙ sym (ap (λ (b : Bool). loads_by b far f h (fixed_index h j) other (slots_of_expr f j)) one.second)
 
   -- reads and stores of words of two resident arrays, and of two that aren't
-  resident-reads : (x y : List ℕ) (i j : Tree) → AreReducedAlike f x y → Alike f i j
+  resident-reads : (x y : List ℕ) (i j : Tree) → AreReducedAlike f x y i j → Alike f i j
       → read_shows f (home_of f x) (fixed_index (home_of f x) i) ≡ read_shows f (home_of f y) (fixed_index (home_of f y) j)
   resident-reads x y i j one alike =
       let g = home_of f x in
@@ -299,7 +353,7 @@ module _ (o : Parts) (f : Setting) (homes : HasHomes o f) where
       ∙ read-alike f g h (fixed_index g i) (fixed_index h j) (alike-fixed f g h i j one.low alike) one.blocks
       ∙ sym (ap (λ (b : Bool). read_shows_by b f h (fixed_index h j)) one.second)
 
-  resident-stores : (x y : List ℕ) (i j : Tree) (bound other : SymSlot) → AreReducedAlike f x y → Alike f i j
+  resident-stores : (x y : List ℕ) (i j : Tree) (bound other : SymSlot) → AreReducedAlike f x y i j → Alike f i j
       → stored_shows f (home_of f x) (fixed_index (home_of f x) i) bound
       ≡ stored_shows f (home_of f y) (fixed_index (home_of f y) j) other
   resident-stores x y i j bound other one alike =
@@ -325,13 +379,11 @@ module _ (o : Parts) (f : Setting) (homes : HasHomes o f) where
   alike-shows a b (Numbers y z one) left right = refl
   alike-shows a b (Scalars x y one) left right = scalar-alike f (register_for f x) (register_for f y) one
   alike-shows a b (Oblivious x y i j one alike) left right =
-      let found = both-shows x y i j (index_tree f i) (index_tree f j) (index_shows f i) (index_shows f j) one left.0
-      right.0 (operand-alike f i j alike (alike-shows i j alike left.1.0 right.1.0)) in
+      let found = both-shows x y i j one alike left.0 right.0 (alike-shows i j alike left.1.0 right.1.0) in
       let reads = both-reads x y i j one left.0 right.0 in
       λ k. found k ++ reads k
   alike-shows a b (Residents x y i j one alike) left right =
-      let found = resident-shows x y i j (index_tree f i) (index_tree f j) (index_shows f i) (index_shows f j) one alike
-      (operand-alike f i j alike (alike-shows i j alike left.1.0 right.1.0)) in
+      let found = resident-shows x y i j one alike (alike-shows i j alike left.1.0 right.1.0) in
       let reads = resident-reads x y i j one alike in
       λ k. found k ++ reads k
   alike-shows a b (Same x i cached) left right = refl
@@ -361,9 +413,12 @@ module _ (o : Parts) (f : Setting) (homes : HasHomes o f) where
   alike-slots a b (Numbers y z one) left right = refl
   alike-slots a b (Scalars x y one) left right = refl
   alike-slots a b (Oblivious x y i j one alike) left right =
-      both-loads x y i j (index_tree f i) (index_tree f j) one left.0 right.0 (alike-slots i j alike left.1.0 right.1.0)
+      both-loads x y i j (is_near f x i) (is_near f y j) (index_tree (is_near f x i) f i)
+      (index_tree (is_near f y j) f j)
+      one left.0 right.0 (alike-slots i j alike left.1.0 right.1.0)
   alike-slots a b (Residents x y i j one alike) left right =
-      resident-loads x y i j (index_tree f i) (index_tree f j) one alike (alike-slots i j alike left.1.0 right.1.0)
+      resident-loads x y i j (is_near f x i) (is_near f y j) (index_tree (is_near f x i) f i)
+      (index_tree (is_near f y j) f j) one alike (alike-slots i j alike left.1.0 right.1.0)
   alike-slots a b (Same x i cached) left right = refl
   alike-slots a b (Operations op oq l r m s plain other kind one two) left right =
       let first = alike-slots l m one left.0 right.0 in
@@ -382,6 +437,11 @@ module _ (o : Parts) (f : Setting) (homes : HasHomes o f) where
       → TypedTree (context_of f.decls) b → pattern_of_expr f a ≡ pattern_of_expr f b
   alike-patterns a b alike left right = ap pattern_of (alike-shows a b alike left right)
 
+  -- the block of an element that is assigned to
+  abbrev array_slot : List ℕ → Tree → SymSlot
+  array_slot x i =
+      element_slot (is_near f x i) f (home_of f x) (fixed_index (home_of f x) i) (index_tree (is_near f x i) f i)
+
   -- assignments that pair
   pub pair-shows : (s t : Statement) → Pair f s t → TypedStatement (context_of f.decls) Secret s
       → TypedStatement (context_of f.decls) Secret t → shows_of_set f s ≡ shows_of_set f t
@@ -391,37 +451,31 @@ module _ (o : Parts) (f : Setting) (homes : HasHomes o f) where
       λ k. first k ++ last k
   pair-shows s t (ToResidents x y i j e g one index value) left right =
       let first = operand-alike f e g value (alike-shows e g value left.1.0 right.1.0) in
-      let second = resident-shows x y i j (index_tree f i) (index_tree f j) (index_shows f i) (index_shows f j) one index
-      (operand-alike f i j index (alike-shows i j index left.0.1.0 right.0.1.0)) in
-      let last = resident-stores x y i j
-      (element_slot f (home_of f x) (fixed_index (home_of f x) i) (index_tree f i))
-      (element_slot f (home_of f y) (fixed_index (home_of f y) j) (index_tree f j)) one index in
+      let second = resident-shows x y i j one index (alike-shows i j index left.0.1.0 right.0.1.0) in
+      let last = resident-stores x y i j (array_slot x i) (array_slot y j) one index in
       λ k. first k ++ (second k ++ last k)
   pair-shows s t (ToOblivious x y i j e g one index value) left right =
       let first = operand-alike f e g value (alike-shows e g value left.1.0 right.1.0) in
-      let second = both-shows x y i j (index_tree f i) (index_tree f j) (index_shows f i) (index_shows f j) one left.0.0
-      right.0.0 (operand-alike f i j index (alike-shows i j index left.0.1.0 right.0.1.0)) in
+      let second = both-shows x y i j one index left.0.0 right.0.0 (alike-shows i j index left.0.1.0 right.0.1.0) in
       let turn = oblivious-turn x left.0.0 one.oblivious in
       let turn' = oblivious-turn y right.0.0 (omega (arith, one.oblivious, one.same)) in
       let other : 2 ≤ (home_of f y).bank = omega (arith, one.oblivious, one.same) in
-      let slot = oblivious-slot f (home_of f x) one.oblivious i (index_tree f i) ∙ ap OramSlot one.same
-      ∙ sym (oblivious-slot f (home_of f y) other j (index_tree f j)) in
-      let last : stored_shows f (home_of f x) (fixed_index (home_of f x) i)
-      (element_slot f (home_of f x) (fixed_index (home_of f x) i) (index_tree f i))
-      ≡ stored_shows f (home_of f y) (fixed_index (home_of f y) j)
-      (element_slot f (home_of f y) (fixed_index (home_of f y) j) (index_tree f j)) =
-      ap (λ (b : Bool). stored_shows_by b f (home_of f x) (fixed_index (home_of f x) i)
-      (element_slot f (home_of f x) (fixed_index (home_of f x) i) (index_tree f i))) turn
+      let near = is_near f x i in
+      let far = is_near f y j in
+      let slot = oblivious-slot f (home_of f x) one.oblivious near i (index_tree near f i) ∙ ap OramSlot one.same
+      ∙ sym (oblivious-slot f (home_of f y) other far j (index_tree far f j)) in
+      let last : stored_shows f (home_of f x) (fixed_index (home_of f x) i) (array_slot x i)
+      ≡ stored_shows f (home_of f y) (fixed_index (home_of f y) j) (array_slot y j) =
+      ap (λ (b : Bool). stored_shows_by b f (home_of f x) (fixed_index (home_of f x) i) (array_slot x i)) turn
       ∙ ap (λ (bound : SymSlot). word_gap f ∷ word_gap f ∷ store_shows bound) slot
-      ∙ sym (ap (λ (b : Bool). stored_shows_by b f (home_of f y) (fixed_index (home_of f y) j)
-      (element_slot f (home_of f y) (fixed_index (home_of f y) j) (index_tree f j))) turn') in
+      ∙ sym (ap (λ (b : Bool). stored_shows_by b f (home_of f y) (fixed_index (home_of f y) j) (array_slot y j))
+      turn') in
       λ k. first k ++ (second k ++ last k)
   pair-shows s t (ToSame x i e g encrypted value) left right =
       ap (λ (shows : List Show).
       shows
-      ++ (access_shows f (home_of f x) (fixed_index (home_of f x) i) (index_tree f i) (index_shows f i)
-      ++ stored_shows f (home_of f x) (fixed_index (home_of f x) i)
-      (element_slot f (home_of f x) (fixed_index (home_of f x) i) (index_tree f i))))
+      ++ (array_shows (is_near f x i) f x i
+      ++ stored_shows f (home_of f x) (fixed_index (home_of f x) i) (array_slot x i)))
       (operand-alike f e g value (alike-shows e g value left.1.0 right.1.0))
 
   -- two statements that pair leave the slots alike
@@ -430,16 +484,19 @@ module _ (o : Parts) (f : Setting) (homes : HasHomes o f) where
   pair-slots s t (ToScalars x y e g one alike) left right = alike-slots e g alike left.1.0 right.1.0
   pair-slots s t (ToOblivious x y i j e g one index value) left right =
       let first = alike-slots e g value left.1.0 right.1.0 in
-      let second = both-loads x y i j (index_tree f i) (index_tree f j) one left.0.0 right.0.0 (alike-slots i j index left.0.1.0 right.0.1.0) in
+      let second = both-loads x y i j (is_near f x i) (is_near f y j) (index_tree (is_near f x i) f i)
+      (index_tree (is_near f y j) f j) one left.0.0 right.0.0 (alike-slots i j index left.0.1.0 right.0.1.0) in
       λ k. then_loads (first k) (second k)
   pair-slots s t (ToResidents x y i j e g one index value) left right =
       let first = alike-slots e g value left.1.0 right.1.0 in
-      let second = resident-loads x y i j (index_tree f i) (index_tree f j) one index (alike-slots i j index left.0.1.0 right.0.1.0) in
+      let second = resident-loads x y i j (is_near f x i) (is_near f y j) (index_tree (is_near f x i) f i)
+      (index_tree (is_near f y j) f j) one index (alike-slots i j index left.0.1.0 right.0.1.0) in
       λ k. then_loads (first k) (second k)
   pair-slots s t (ToSame x i e g encrypted value) left right =
       ap (λ (loads : Loads).
       then_loads loads
-      (access_loads f (home_of f x) (fixed_index (home_of f x) i) (index_tree f i) (slots_of_expr f i)))
+      (access_loads (is_near f x i) f (home_of f x) (fixed_index (home_of f x) i) (index_tree (is_near f x i) f i)
+      (slots_of_expr f i)))
       (alike-slots e g value left.1.0 right.1.0)
 
   pub pair-patterns : (s t : Statement) → Pair f s t → TypedStatement (context_of f.decls) Secret s

@@ -9,9 +9,9 @@ use Rattle.symbolic_values.specs.Sameness.{same_op}
 use Rattle.symbolic_values.proofs.TreeEquality.{same_op-true, same_op-own}
 use Rattle.src_tree.specs.Trees.{Tree, Number, Variable, Element, Operation, Statement, SetVariable, SetElement, Block, Nothing, Then}
 use Rattle.block_cache_gen.specs.Homes.{further_slots, Setting, home_of}
-use Rattle.block_cache_gen.specs.Codes.{is_cached, is_masked, may_step, operand, held_number, reducer}
+use Rattle.block_cache_gen.specs.Codes.{is_cached, is_masked, is_within_home, may_step, operand, held_number, reducer}
 use Rattle.gr_word.specs.declared.operations.Op.{Op}
-use Rattle.block_cache_gen.specs.Alike.{is_product, AreNumbersAlike, numbers_alike, AreHeldAlike, held_alike, InOneBank, AreReducedAlike, Residents, ToResidents, same_flag, reduced_alike, Alike, Numbers, Scalars, Oblivious, Same, Operations, ByNumber, Pair, ToScalars, ToOblivious, ToSame, StartsPaired, NonePaired, OnePaired, IsPairCount, is_same, in_one_bank, both_products, are_plain, is_same_number, by_same_number, is_alike, is_pair, pair_count}
+use Rattle.block_cache_gen.specs.Alike.{is_product, AreNumbersAlike, numbers_alike, AreHeldAlike, held_alike, InOneBank, AreNumberedAlike, BothWithin, BothReduced, numbered_alike, AreReducedAlike, Residents, ToResidents, same_flag, reduced_alike, Alike, Numbers, Scalars, Oblivious, Same, Operations, ByNumber, Pair, ToScalars, ToOblivious, ToSame, StartsPaired, NonePaired, OnePaired, IsPairCount, is_same, in_one_bank, both_products, are_plain, is_same_number, by_same_number, is_alike, is_pair, pair_count}
 
 -- expressions as they stand
 same-true : (a b : Tree) → is_same a b ≡ true → a ≡ b
@@ -87,54 +87,85 @@ module _ (f : Setting) where
       (and_from reduced blocks (numbers-own (reducer g) (reducer h) one.reduced)
       (numbers-own (pos g.block) (pos h.block) one.blocks)))
 
-  reduced-true : (x y : List ℕ) → reduced_alike f x y ≡ true → AreReducedAlike f x y
-  reduced-true x y e =
+  -- two indexes that are numbered alike
+  numbered-true : (x y : List ℕ) (i j : Tree)
+      → numbered_alike f (home_of f x) (home_of f y) (is_within_home f (home_of f x) i)
+      (is_within_home f (home_of f y) j)
+      ≡ true
+      → AreNumberedAlike f x y i j
+  numbered-true x y i j e = by (is_within_home f (home_of f x) i) (is_within_home f (home_of f y) j) refl refl e
+    where
+      by : (near far : Bool) → is_within_home f (home_of f x) i ≡ near → is_within_home f (home_of f y) j ≡ far
+          → numbered_alike f (home_of f x) (home_of f y) near far ≡ true → AreNumberedAlike f x y i j
+      by true far first second e = BothWithin first (second ∙ e)
+      by false true first second e = absurd (let g : false ≡ true = e in cc)
+      by false false first second e =
+          let g = home_of f x in
+          let h = home_of f y in
+          let parts = and_parts (same_flag (is_masked g) (is_masked h)) (numbers_alike f (reducer g) (reducer h)) e in
+          BothReduced
+          (record {
+            first = first;
+            second = second;
+            masked = kinds-true (is_masked g) (is_masked h) parts.0;
+            reduced = numbers-true (reducer g) (reducer h) parts.1;
+          })
+
+  numbered-own : (x y : List ℕ) (i j : Tree) → AreNumberedAlike f x y i j
+      → numbered_alike f (home_of f x) (home_of f y) (is_within_home f (home_of f x) i)
+      (is_within_home f (home_of f y) j)
+      ≡ true
+  numbered-own x y i j (BothWithin near far) = λ k. numbered_alike f (home_of f x) (home_of f y) (near k) (far k)
+  numbered-own x y i j (BothReduced one) =
+      let g = home_of f x in
+      let h = home_of f y in
+      (λ k. numbered_alike f g h (one.first k) (one.second k))
+      ∙ and_from (same_flag (is_masked g) (is_masked h)) (numbers_alike f (reducer g) (reducer h))
+      (kinds-own (is_masked g) (is_masked h) one.masked) (numbers-own (reducer g) (reducer h) one.reduced)
+
+  reduced-true : (x y : List ℕ) (i j : Tree) → reduced_alike f x y i j ≡ true → AreReducedAlike f x y i j
+  reduced-true x y i j e =
       let g = home_of f x in
       let h = home_of f y in
       let low = same_flag (is_cached g) (is_cached h) in
-      let masked = same_flag (is_masked g) (is_masked h) in
       let offset = same_flag (g.word == 0) (h.word == 0) in
-      let reduced = numbers_alike f (reducer g) (reducer h) in
+      let numbered = numbered_alike f g h (is_within_home f g i) (is_within_home f h j) in
       let words = numbers_alike f (pos g.word) (pos h.word) in
       let blocks = length (further_slots g) == length (further_slots h) in
-      let numbers = reduced && (words && blocks) in
-      let one = and_parts g.resident (h.resident && (low && (masked && (offset && numbers)))) e in
-      let two = and_parts h.resident (low && (masked && (offset && numbers))) one.1 in
-      let three = and_parts low (masked && (offset && numbers)) two.1 in
-      let four = and_parts masked (offset && numbers) three.1 in
-      let five = and_parts offset numbers four.1 in
-      let six = and_parts reduced (words && blocks) five.1 in
-      let seven = and_parts words blocks six.1 in
+      let numbers = numbered && (words && blocks) in
+      let one = and_parts g.resident (h.resident && (low && (offset && numbers))) e in
+      let two = and_parts h.resident (low && (offset && numbers)) one.1 in
+      let three = and_parts low (offset && numbers) two.1 in
+      let four = and_parts offset numbers three.1 in
+      let five = and_parts numbered (words && blocks) four.1 in
+      let six = and_parts words blocks five.1 in
       record {
         first = one.0;
         second = two.0;
         low = kinds-true (is_cached g) (is_cached h) three.0;
-        masked = kinds-true (is_masked g) (is_masked h) four.0;
-        offset = kinds-true (g.word == 0) (h.word == 0) five.0;
-        reduced = numbers-true (reducer g) (reducer h) six.0;
-        words = numbers-true (pos g.word) (pos h.word) seven.0;
-        blocks = eqb-true (length (further_slots g)) (length (further_slots h)) seven.1;
+        offset = kinds-true (g.word == 0) (h.word == 0) four.0;
+        numbered = numbered-true x y i j five.0;
+        words = numbers-true (pos g.word) (pos h.word) six.0;
+        blocks = eqb-true (length (further_slots g)) (length (further_slots h)) six.1;
       }
 
-  reduced-own : (x y : List ℕ) → AreReducedAlike f x y → reduced_alike f x y ≡ true
-  reduced-own x y one =
+  reduced-own : (x y : List ℕ) (i j : Tree) → AreReducedAlike f x y i j → reduced_alike f x y i j ≡ true
+  reduced-own x y i j one =
       let g = home_of f x in
       let h = home_of f y in
       let low = same_flag (is_cached g) (is_cached h) in
-      let masked = same_flag (is_masked g) (is_masked h) in
       let offset = same_flag (g.word == 0) (h.word == 0) in
-      let reduced = numbers_alike f (reducer g) (reducer h) in
+      let numbered = numbered_alike f g h (is_within_home f g i) (is_within_home f h j) in
       let words = numbers_alike f (pos g.word) (pos h.word) in
       let blocks = length (further_slots g) == length (further_slots h) in
-      let numbers = reduced && (words && blocks) in
-      and_from g.resident (h.resident && (low && (masked && (offset && numbers)))) one.first
-      (and_from h.resident (low && (masked && (offset && numbers))) one.second
-      (and_from low (masked && (offset && numbers)) (kinds-own (is_cached g) (is_cached h) one.low)
-      (and_from masked (offset && numbers) (kinds-own (is_masked g) (is_masked h) one.masked)
+      let numbers = numbered && (words && blocks) in
+      and_from g.resident (h.resident && (low && (offset && numbers))) one.first
+      (and_from h.resident (low && (offset && numbers)) one.second
+      (and_from low (offset && numbers) (kinds-own (is_cached g) (is_cached h) one.low)
       (and_from offset numbers (kinds-own (g.word == 0) (h.word == 0) one.offset)
-      (and_from reduced (words && blocks) (numbers-own (reducer g) (reducer h) one.reduced)
+      (and_from numbered (words && blocks) (numbered-own x y i j one.numbered)
       (and_from words blocks (numbers-own (pos g.word) (pos h.word) one.words)
-      (eq-eqb (length (further_slots g)) (length (further_slots h)) one.blocks)))))))
+      (eq-eqb (length (further_slots g)) (length (further_slots h)) one.blocks))))))
 
   -- two numbers or scalars that registers hold, or neither
   held-true : (a b : Tree) → held_alike f a b ≡ true → AreHeldAlike f a b
@@ -194,22 +225,22 @@ module _ (f : Setting) where
   alike-true (Number y) (Number z) e = Numbers y z (held-true (Number y) (Number z) e)
   alike-true (Variable x) (Variable y) e = Scalars x y (held-true (Variable x) (Variable y) e)
   alike-true (Element x i) (Element y j) e =
-      let held = or_cases ((in_one_bank f x y || reduced_alike f x y) && is_alike f i j)
+      let held = or_cases ((in_one_bank f x y || reduced_alike f x y i j) && is_alike f i j)
       (nat_lt (home_of f x).bank 2 && (bytes_eq x y && is_same i j)) e in
       by (alike-true i j) held
     where
       by : (is_alike f i j ≡ true → Alike f i j)
-          → (((in_one_bank f x y || reduced_alike f x y) && is_alike f i j) ≡ true)
+          → (((in_one_bank f x y || reduced_alike f x y i j) && is_alike f i j) ≡ true)
           ⊎ ((nat_lt (home_of f x).bank 2 && (bytes_eq x y && is_same i j)) ≡ true)
           → Alike f (Element x i) (Element y j)
       by rest held =
           ⊎_elim
-          (λ (one : ((in_one_bank f x y || reduced_alike f x y) && is_alike f i j) ≡ true).
-          let parts = and_parts (in_one_bank f x y || reduced_alike f x y) (is_alike f i j) one in
+          (λ (one : ((in_one_bank f x y || reduced_alike f x y i j) && is_alike f i j) ≡ true).
+          let parts = and_parts (in_one_bank f x y || reduced_alike f x y i j) (is_alike f i j) one in
           ⊎_elim
           (λ (bank : in_one_bank f x y ≡ true). Oblivious x y i j (bank-true x y bank) (rest parts.1))
-          (λ (both : reduced_alike f x y ≡ true). Residents x y i j (reduced-true x y both) (rest parts.1))
-          (or_cases (in_one_bank f x y) (reduced_alike f x y) parts.0))
+          (λ (both : reduced_alike f x y i j ≡ true). Residents x y i j (reduced-true x y i j both) (rest parts.1))
+          (or_cases (in_one_bank f x y) (reduced_alike f x y i j) parts.0))
           (λ (same : (nat_lt (home_of f x).bank 2 && (bytes_eq x y && is_same i j)) ≡ true).
           let parts = and_parts (nat_lt (home_of f x).bank 2) (bytes_eq x y && is_same i j) same in
           let element = element-true x y i j parts.1 in
@@ -227,17 +258,17 @@ module _ (f : Setting) where
   alike-own a b (Numbers y z one) = held-own (Number y) (Number z) one
   alike-own a b (Scalars x y one) = held-own (Variable x) (Variable y) one
   alike-own a b (Oblivious x y i j one alike) =
-      or_left ((in_one_bank f x y || reduced_alike f x y) && is_alike f i j)
+      or_left ((in_one_bank f x y || reduced_alike f x y i j) && is_alike f i j)
       (nat_lt (home_of f x).bank 2 && (bytes_eq x y && is_same i j))
-      (and_from (in_one_bank f x y || reduced_alike f x y) (is_alike f i j)
-      (or_left (in_one_bank f x y) (reduced_alike f x y) (bank-own x y one)) (alike-own i j alike))
+      (and_from (in_one_bank f x y || reduced_alike f x y i j) (is_alike f i j)
+      (or_left (in_one_bank f x y) (reduced_alike f x y i j) (bank-own x y one)) (alike-own i j alike))
   alike-own a b (Residents x y i j one alike) =
-      or_left ((in_one_bank f x y || reduced_alike f x y) && is_alike f i j)
+      or_left ((in_one_bank f x y || reduced_alike f x y i j) && is_alike f i j)
       (nat_lt (home_of f x).bank 2 && (bytes_eq x y && is_same i j))
-      (and_from (in_one_bank f x y || reduced_alike f x y) (is_alike f i j)
-      (or_right (in_one_bank f x y) (reduced_alike f x y) (reduced-own x y one)) (alike-own i j alike))
+      (and_from (in_one_bank f x y || reduced_alike f x y i j) (is_alike f i j)
+      (or_right (in_one_bank f x y) (reduced_alike f x y i j) (reduced-own x y i j one)) (alike-own i j alike))
   alike-own a b (Same x i cached) =
-      or_right ((in_one_bank f x x || reduced_alike f x x) && is_alike f i i)
+      or_right ((in_one_bank f x x || reduced_alike f x x i i) && is_alike f i i)
       (nat_lt (home_of f x).bank 2 && (bytes_eq x x && is_same i i))
       (and_from (nat_lt (home_of f x).bank 2) (bytes_eq x x && is_same i i) (lt-ltb (home_of f x).bank 2 cached)
       (element-own x i))
@@ -265,25 +296,25 @@ module _ (f : Setting) where
       ToScalars x y e g (held-true (Variable x) (Variable y) parts.0) (alike-true e g parts.1)
   pair-true (SetElement x i e) (SetElement y j g) held =
       let parts = and_parts (is_alike f e g)
-      (((in_one_bank f x y || reduced_alike f x y) && is_alike f i j)
+      (((in_one_bank f x y || reduced_alike f x y i j) && is_alike f i j)
       || (((home_of f x).bank == 1) && (bytes_eq x y && is_same i j))) held in
       let value = alike-true e g parts.0 in
       ⊎_elim
-      (λ (one : ((in_one_bank f x y || reduced_alike f x y) && is_alike f i j) ≡ true).
-      let both = and_parts (in_one_bank f x y || reduced_alike f x y) (is_alike f i j) one in
+      (λ (one : ((in_one_bank f x y || reduced_alike f x y i j) && is_alike f i j) ≡ true).
+      let both = and_parts (in_one_bank f x y || reduced_alike f x y i j) (is_alike f i j) one in
       ⊎_elim
       (λ (bank : in_one_bank f x y ≡ true).
       ToOblivious x y i j e g (bank-true x y bank) (alike-true i j both.1) value)
-      (λ (reduced : reduced_alike f x y ≡ true).
-      ToResidents x y i j e g (reduced-true x y reduced) (alike-true i j both.1) value)
-      (or_cases (in_one_bank f x y) (reduced_alike f x y) both.0))
+      (λ (reduced : reduced_alike f x y i j ≡ true).
+      ToResidents x y i j e g (reduced-true x y i j reduced) (alike-true i j both.1) value)
+      (or_cases (in_one_bank f x y) (reduced_alike f x y i j) both.0))
       (λ (same : (((home_of f x).bank == 1) && (bytes_eq x y && is_same i j)) ≡ true).
       let both = and_parts ((home_of f x).bank == 1) (bytes_eq x y && is_same i j) same in
       let element = element-true x y i j both.1 in
       let own = ToSame x i e g (eqb-true (home_of f x).bank 1 both.0) value in
       subst (λ (z : List ℕ). Pair f (SetElement x i e) (SetElement z j g)) element.array
       (subst (λ (k : Tree). Pair f (SetElement x i e) (SetElement x k g)) element.index own))
-      (or_cases ((in_one_bank f x y || reduced_alike f x y) && is_alike f i j)
+      (or_cases ((in_one_bank f x y || reduced_alike f x y i j) && is_alike f i j)
       (((home_of f x).bank == 1) && (bytes_eq x y && is_same i j)) parts.1)
   pair-true _ _ held = absurd (let f : false ≡ true = held in cc)
 
@@ -293,28 +324,28 @@ module _ (f : Setting) where
       (alike-own e g alike)
   pair-own s t (ToOblivious x y i j e g one index value) =
       and_from (is_alike f e g)
-      (((in_one_bank f x y || reduced_alike f x y) && is_alike f i j)
+      (((in_one_bank f x y || reduced_alike f x y i j) && is_alike f i j)
       || (((home_of f x).bank == 1) && (bytes_eq x y && is_same i j)))
       (alike-own e g value)
-      (or_left ((in_one_bank f x y || reduced_alike f x y) && is_alike f i j)
+      (or_left ((in_one_bank f x y || reduced_alike f x y i j) && is_alike f i j)
       (((home_of f x).bank == 1) && (bytes_eq x y && is_same i j))
-      (and_from (in_one_bank f x y || reduced_alike f x y) (is_alike f i j)
-      (or_left (in_one_bank f x y) (reduced_alike f x y) (bank-own x y one)) (alike-own i j index)))
+      (and_from (in_one_bank f x y || reduced_alike f x y i j) (is_alike f i j)
+      (or_left (in_one_bank f x y) (reduced_alike f x y i j) (bank-own x y one)) (alike-own i j index)))
   pair-own s t (ToResidents x y i j e g one index value) =
       and_from (is_alike f e g)
-      (((in_one_bank f x y || reduced_alike f x y) && is_alike f i j)
+      (((in_one_bank f x y || reduced_alike f x y i j) && is_alike f i j)
       || (((home_of f x).bank == 1) && (bytes_eq x y && is_same i j)))
       (alike-own e g value)
-      (or_left ((in_one_bank f x y || reduced_alike f x y) && is_alike f i j)
+      (or_left ((in_one_bank f x y || reduced_alike f x y i j) && is_alike f i j)
       (((home_of f x).bank == 1) && (bytes_eq x y && is_same i j))
-      (and_from (in_one_bank f x y || reduced_alike f x y) (is_alike f i j)
-      (or_right (in_one_bank f x y) (reduced_alike f x y) (reduced-own x y one)) (alike-own i j index)))
+      (and_from (in_one_bank f x y || reduced_alike f x y i j) (is_alike f i j)
+      (or_right (in_one_bank f x y) (reduced_alike f x y i j) (reduced-own x y i j one)) (alike-own i j index)))
   pair-own s t (ToSame x i e g encrypted value) =
       and_from (is_alike f e g)
-      (((in_one_bank f x x || reduced_alike f x x) && is_alike f i i)
+      (((in_one_bank f x x || reduced_alike f x x i i) && is_alike f i i)
       || (((home_of f x).bank == 1) && (bytes_eq x x && is_same i i)))
       (alike-own e g value)
-      (or_right ((in_one_bank f x x || reduced_alike f x x) && is_alike f i i)
+      (or_right ((in_one_bank f x x || reduced_alike f x x i i) && is_alike f i i)
       (((home_of f x).bank == 1) && (bytes_eq x x && is_same i i))
       (and_from ((home_of f x).bank == 1) (bytes_eq x x && is_same i i) (eq-eqb (home_of f x).bank 1 encrypted)
       (element-own x i)))

@@ -1,6 +1,6 @@
 -- The code of assignments in secret code: walked in an arm, it shows what depends only on the assignment, whether it
 -- has its effect or only looks as if it had.
-use Rattle.std.proofs.Common.{◌≡◌, ℕ, ◌+◌, ◌≤◌, ℤ, pos, Bool, true, false, List, [], ◌∷◌, ◌++◌, length, get_or, Option, Some, None, refl, sym, ap, ◌∙◌, subst, arith, append-nil}
+use Rattle.std.proofs.Common.{◌≡◌, ℕ, ◌+◌, ◌≤◌, ℤ, pos, Bool, true, false, List, [], ◌∷◌, ◌++◌, length, get_or, Option, Some, None, refl, sym, ap, ◌∙◌, subst, arith}
 use Rattle.std.specs.Option.{unwrap_or}
 use Rattle.std.specs.List.{slice_get}
 use Rattle.gr_word.specs.declared.variables.Label.{Label}
@@ -24,10 +24,11 @@ use Rattle.stretches.proofs.ArmCode.{Walked, walked-none, walked-then}
 use Rattle.block_cache_gen.specs.declared.frames.Mode.{Mode}
 use Rattle.block_cache_gen.specs.declared.frames.Mode.TheVariants as modes
 use Rattle.block_cache_gen.specs.Homes.{further_slots, Setting, home_of, pin_of, slot_of_word, words_a_block, HasHomes, register_for}
-use Rattle.block_cache_gen.specs.Codes.{effect_of, fixed_word, stored_among, stored_by, may_skip_loads, fixed_index, expr_code, access_by, placed_code, store_code, stored_code, set_code, compares, operand, operand_part, operand_register, indexed_code, write_code, copied_from}
+use Rattle.block_cache_gen.specs.declared.indexes.Numbering.{Numbering}
+use Rattle.block_cache_gen.specs.Codes.{effect_of, fixed_word, stored_among, stored_by, may_skip_loads, fixed_index, expr_code, access_by, placed_code, store_code, stored_code, set_code, is_within_home, numbering_by, numbering, operand, operand_part, operand_register, indexed_code, write_code, copied_from}
 use Rattle.block_cache_gen.specs.Carries.{CarriesInArm}
 use Rattle.block_cache_gen.specs.PublicIndexes.{IndexIsPublic, HasPublicIndexes, SetHasPublicIndexes}
-use Rattle.block_cache_gen.specs.PatternsOf.{write_shows, operand_tree, word_gap, block_tree, number_tree, store_shows, shows_among, stored_shows_by, stored_shows, Loads, no_loads, then_loads, element_slot, placed_shows, placed_tree, index_loads, shows_by, loads_by, tree_of_expr, shows_of_expr, slots_of_expr, shows_of_set, slots_of_set}
+use Rattle.block_cache_gen.specs.PatternsOf.{write_shows, operand_tree, index_by, word_gap, block_tree, number_tree, store_shows, shows_among, stored_shows_by, stored_shows, Loads, no_loads, then_loads, element_slot, placed_shows, placed_tree, index_loads, shows_by, loads_by, tree_of_expr, shows_of_expr, slots_of_expr, shows_of_set, slots_of_set}
 use Rattle.lt_checker.proofs.Singles.{IsKnown, IsHidden}
 use Rattle.lt_isa.specs.declared.profiles.Profile.{Profile}
 use Rattle.word_selection.specs.Selection as selection
@@ -36,15 +37,15 @@ use Rattle.word_selection.specs.SlotSteps.{IsOutside}
 use Rattle.word_selection.proofs.WriteLaws.{walks-write}
 use Rattle.block_cache_gen.proofs.HeldOperands.{operand-outside}
 use Rattle.block_cache_gen.proofs.SpreadArms.{secret-bank, each-bank, word-bank, fixed-within}
-use Rattle.block_cache_gen.proofs.SomeCode.{compares-secret}
+use Rattle.block_cache_gen.proofs.SomeCode.{numbering-secret}
 use Rattle.block_cache_gen.proofs.ArmInstructions.{loaded-bank, sets-ldw, walked-stw, walked-stb, sets-alu}
 use Rattle.block_cache_gen.proofs.ArmStates.{LeavesIn, then_loads-held, carries-same, carries-copied}
 use Rattle.held_registers.specs.Held.{secret_zero}
 use Rattle.held_registers.proofs.Copies.{hidden_copy}
 use Rattle.block_cache_gen.proofs.HeldLabels.{register-label, register-low, zero-label}
 use Rattle.block_cache_gen.proofs.HomeFacts.{shows-cached}
-use Rattle.block_cache_gen.proofs.PublicTrees.{block-seen, public-operand}
-use Rattle.block_cache_gen.proofs.ArmExpressions.{access-leaves, placed-leaves, number-leaves, operand-leaves, index-apart, expr-leaves}
+use Rattle.block_cache_gen.proofs.PublicTrees.{is-index, block-seen, public-index}
+use Rattle.block_cache_gen.proofs.ArmExpressions.{access-leaves, placed-leaves, number-leaves, operand-leaves, index-apart, index-own, expr-leaves}
 use Rattle.block_cache_gen.proofs.OperandLabels.{is-operand}
 
 -- A stretch of secret code is walked from s: it shows this, keeps what the setting relies on, and leaves this in the
@@ -274,59 +275,74 @@ module _ (o : Parts) (f : Setting) (homes : HasHomes o f) (depth : ℕ) where
               slots = λ k. ap (λ (slots : List SymSlot). get_or slots k AnySlot) walks.slots;
             }
 
+    -- an index, in the register of an access to an array
+    index-leaves : (near : Bool) (i : Tree) (s : SymState) → TypedTree (context_of f.decls) i → HasPublicIndexes f i
+        → 1 + height_of i ≤ 17 → CarriesInArm f s
+        → LeavesIn o f depth s (operand_part (index_by near f i) (expr_code f mode 1 i))
+        (operand_part (index_by near f i) (shows_of_expr f i)) 1 (operand_register (index_by near f i) 1)
+        (operand_tree f (index_by near f i) (tree_of_expr f i)) (slots_of_expr f i)
+    index-leaves near i s typed public low carries =
+        operand-leaves o f homes depth mode i typed (index_by near f i) (is-index f near i) s 1 carries
+        (expr-leaves o f homes depth mode secret i s 1 typed public low carries)
+
     -- an assignment to an element, after the code of its value
-    element_by-goes : (b : Bool) (s : SymState) (x : List ℕ) (i : Tree) (value : ℕ) → (home_of f x).resident ≡ b
+    element_by-goes : (b near : Bool) (s : SymState) (x : List ℕ) (i : Tree) (value : ℕ) → (home_of f x).resident ≡ b
         → context_of f.decls x ≡ Some (Secret, Array) → TypedTree (context_of f.decls) i
         → IndexIsPublic f x i → HasPublicIndexes f i → 1 + height_of i ≤ 17 → IsOutside 1 4 value → CarriesInArm f s
         → Goes o f depth s
-        (access_by b false f mode (home_of f x) 1 (operand_register (operand f i) 1)
-        (fixed_index (home_of f x) i) (operand_part (operand f i) (expr_code f mode 1 i))
+        (access_by b (numbering_by near false) f mode (home_of f x) 1 (operand_register (index_by near f i) 1)
+        (fixed_index (home_of f x) i) (operand_part (index_by near f i) (expr_code f mode 1 i))
         ++ stored_by b f mode (home_of f x) (fixed_index (home_of f x) i) value)
-        (shows_by b f (home_of f x) (fixed_index (home_of f x) i) (operand_tree f (operand f i) (tree_of_expr f i))
-        (operand_part (operand f i) (shows_of_expr f i))
+        (shows_by b near f (home_of f x) (fixed_index (home_of f x) i)
+        (operand_tree f (index_by near f i) (tree_of_expr f i)) (operand_part (index_by near f i) (shows_of_expr f i))
         ++ stored_shows_by b f (home_of f x) (fixed_index (home_of f x) i)
-        (element_slot f (home_of f x) (fixed_index (home_of f x) i) (operand_tree f (operand f i) (tree_of_expr f i))))
-        (loads_by b f (home_of f x) (fixed_index (home_of f x) i) (operand_tree f (operand f i) (tree_of_expr f i))
-        (slots_of_expr f i))
-    element_by-goes true s x i value is declared typed shows public low outer carries =
+        (element_slot near f (home_of f x) (fixed_index (home_of f x) i)
+        (operand_tree f (index_by near f i) (tree_of_expr f i))))
+        (loads_by b near f (home_of f x) (fixed_index (home_of f x) i)
+        (operand_tree f (index_by near f i) (tree_of_expr f i)) (slots_of_expr f i))
+    element_by-goes true near s x i value is declared typed shows public low outer carries =
         let h = home_of f x in
         let fixed = fixed_index h i in
-        let q = operand f i in
+        let q = index_by near f i in
         let from = operand_register q 1 in
         let index = operand_tree f q (tree_of_expr f i) in
         let part = operand_part q (expr_code f mode 1 i) in
-        let number = value-leaves i s 1 typed public low carries in
-        let place = placed-leaves o f homes depth s 1 from h fixed index part (operand_part q (shows_of_expr f i))
-        (slots_of_expr f i) carries number (omega arith) (index-apart o f homes depth mode secret i 1 (omega arith)) in
-        let code = placed_code false f h 1 from fixed part in
-        let shown = placed_shows f h fixed (operand_part q (shows_of_expr f i)) in
+        let number = index-leaves near i s typed public low carries in
+        let place = placed-leaves o f homes depth near s 1 from h fixed index part (operand_part q (shows_of_expr f i))
+        (slots_of_expr f i) carries number (omega arith)
+        (index-apart o f homes depth mode secret near i 1 (omega arith))
+        (index-own o f homes depth mode secret near i 1) in
+        let code = placed_code (numbering_by near false) f h 1 from fixed part in
+        let shown = placed_shows near f h fixed (operand_part q (shows_of_expr f i)) in
         let loads = index_loads fixed (slots_of_expr f i) in
-        let one = goes-leaves o f depth s code shown 1 (placed_tree f h fixed index) loads place in
-        let bound = element_slot f h fixed index in
+        let one = goes-leaves o f depth s code shown 1 (placed_tree near f h fixed index) loads place in
+        let bound = element_slot near f h fixed index in
         let two = stored_by-goes place.state x fixed value bound declared is outer place.carries in
         goes-then o f depth s code shown loads one (stored_by true f mode h fixed value)
         (stored_shows_by true f h fixed bound) no_loads two
-    element_by-goes false s x i value is declared typed shows public low outer carries =
+    element_by-goes false near s x i value is declared typed shows public low outer carries =
         let h = home_of f x in
         let fixed = fixed_index h i in
-        let q = operand f i in
+        let q = index_by near f i in
         let from = operand_register q 1 in
         let index = operand_tree f q (tree_of_expr f i) in
         let part = operand_part q (expr_code f mode 1 i) in
         let home = homes.arrays x Secret declared is in
-        let number = value-leaves i s 1 typed public low carries in
+        let number = index-leaves near i s typed public low carries in
         let seen =
-        block-seen f h fixed index (λ cached. public-operand o f homes i typed (shows (shows-cached h is cached))) in
-        let bound = element_slot f h fixed index in
-        let access = access-leaves o f homes depth mode secret s 1 from x fixed index part
+        block-seen near f h fixed index (λ cached. public-index o f homes near i typed
+        (shows (shows-cached h is cached))) in
+        let bound = element_slot near f h fixed index in
+        let access = access-leaves o f homes depth mode secret near s 1 from x fixed index part
         (operand_part q (shows_of_expr f i)) (slots_of_expr f i) carries number (omega arith)
-        (index-apart o f homes depth mode secret i 1 (omega arith)) (Secret, declared) is seen in
-        let stored = stored-of_bank bound h.bank (loaded-bank f h.bank (block_tree f h fixed index) seen)
+        (index-apart o f homes depth mode secret near i 1 (omega arith))
+        (index-own o f homes depth mode secret near i 1) (Secret, declared) is seen in
+        let stored = stored-of_bank bound h.bank (loaded-bank f h.bank (block_tree near f h fixed index) seen)
         (λ e. let wrong : Secret ≡ Public = home.plain.0 e in let g : ◌≡◌ {A = Label} Secret Public = wrong in cc) in
-        let code = access_by false false f mode h 1 from fixed part in
-        let shown = shows_by false f h fixed index (operand_part q (shows_of_expr f i)) in
-        let loads = loads_by false f h fixed index (slots_of_expr f i) in
-        let one = goes-leaves o f depth s code shown 1 (number_tree f h fixed index) loads access.leaves in
+        let code = access_by false (numbering_by near false) f mode h 1 from fixed part in
+        let shown = shows_by false near f h fixed index (operand_part q (shows_of_expr f i)) in
+        let loads = loads_by false near f h fixed index (slots_of_expr f i) in
+        let one = goes-leaves o f depth s code shown 1 (number_tree near f h fixed index) loads access.leaves in
         let two = store_block-goes access.leaves.state h.slot value bound access.leaves.carries access.holds stored in
         goes-then o f depth s code shown loads one (store_code mode h.slot value ++ Stb h.slot ∷ [])
         (word_gap f ∷ word_gap f ∷ store_shows bound) no_loads two
@@ -349,18 +365,21 @@ module _ (o : Parts) (f : Setting) (homes : HasHomes o f) (depth : ℕ) where
         let value = value-leaves e s 0 typed.1.0 public.1 (omega arith) carries in
         let one = goes-leaves o f depth s first shown 0 (operand_tree f q (tree_of_expr f e)) (slots_of_expr f e)
         value in
-        let index = operand_tree f (operand f i) (tree_of_expr f i) in
-        let more = shows_by h.resident f h (fixed_index h i) index (operand_part (operand f i) (shows_of_expr f i))
-        ++ stored_shows f h (fixed_index h i) (element_slot f h (fixed_index h i) index) in
-        let loads = loads_by h.resident f h (fixed_index h i) index (slots_of_expr f i) in
-        let two = subst (λ (near : Bool). Goes o f depth value.state
-        (indexed_code f near mode h 1 i (expr_code f mode 1 i)
+        let near = is_within_home f h i in
+        let p = index_by near f i in
+        let index = operand_tree f p (tree_of_expr f i) in
+        let more = shows_by h.resident near f h (fixed_index h i) index (operand_part p (shows_of_expr f i))
+        ++ stored_shows f h (fixed_index h i) (element_slot near f h (fixed_index h i) index) in
+        let loads = loads_by h.resident near f h (fixed_index h i) index (slots_of_expr f i) in
+        let two = subst (λ (n : Numbering). Goes o f depth value.state
+        (indexed_code f n mode h 1 i (expr_code f mode 1 i)
         ++ stored_code f mode h (fixed_index h i) from) more loads)
-        (sym (compares-secret f mode h i secret))
-        (element_by-goes h.resident value.state x i from refl declared typed.0.1.0 public.0.0 public.0.1 (omega arith)
+        (sym (numbering-secret f mode h i secret))
+        (element_by-goes h.resident near value.state x i from refl declared typed.0.1.0 public.0.0 public.0.1
+        (omega arith)
         (operand-outside f e q (is-operand f e)) value.carries) in
         goes-then o f depth s first shown (slots_of_expr f e) one
-        (indexed_code f (compares f mode h i) mode h 1 i (expr_code f mode 1 i)
+        (indexed_code f (numbering f mode h i) mode h 1 i (expr_code f mode 1 i)
         ++ stored_code f mode h (fixed_index h i) from) more loads two
 
     -- the code of an assignment, and no code

@@ -1,5 +1,5 @@
 -- The code of expressions and guards in secret code: walked in an arm, it shows what depends only on the expression.
-use Rattle.std.proofs.Common.{◌≡◌, ◌≢◌, ℕ, ◌+◌, ◌-◌, ◌<◌, ◌≤◌, ◌/◌, ℤ, pos, Bool, true, false, ◌&&◌, ◌==◌, List, [], ◌∷◌, ◌++◌, length, map, get_or, Option, Some, None, refl, sym, ap, ◌∙◌, subst, arith}
+use Rattle.std.proofs.Common.{◌≡◌, ◌≢◌, ℕ, ◌+◌, ◌<◌, ◌≤◌, ◌/◌, ℤ, pos, Bool, true, false, ◌&&◌, ◌==◌, List, [], ◌∷◌, ◌++◌, length, map, get_or, Option, Some, None, refl, sym, ap, ◌∙◌, subst, arith}
 use Rattle.std.specs.Prelude.{All, IsTrue, is_some, if◌then◌else◌}
 use Rattle.std.specs.Option.{unwrap_or}
 use Rattle.std.proofs.lemmas.Bool.{eq-eqb}
@@ -21,17 +21,18 @@ use Rattle.trace_patterns.specs.Single.{applied_trees}
 use Rattle.stretches.proofs.ArmCode.{Walked, walked-none, walked-then}
 use Rattle.block_cache_gen.specs.declared.frames.Mode.{Mode}
 use Rattle.block_cache_gen.specs.Homes.{Home, Setting, home_of, words_a_block, blocks_set, HasHomes, held_label, label_by, register_for}
-use Rattle.block_cache_gen.specs.Codes.{read_by, read_code, may_skip_loads, is_cached, held_number, applied_code, reducing, reducer, fixed_index, fixed_word, scalar_code, reduced_code, shift_code, offset_code, placed_code, fixed_code, located_code, load_code, skips, access_by, operand, operand_part, operand_register, operand_unless, indexed_code, operation_code, steps_at, expr_code, guard_code}
+use Rattle.block_cache_gen.specs.declared.indexes.Numbering.{Numbering}
+use Rattle.block_cache_gen.specs.Codes.{read_by, read_code, may_skip_loads, is_cached, held_number, applied_code, reducing, reducer, is_within_home, numbering_by, is_in_place, numbered_code, fixed_index, fixed_word, scalar_code, reduced_code, shift_code, offset_code, placed_code, fixed_code, located_code, load_code, skips, access_by, operand, operand_part, operand_register, operand_unless, indexed_code, operation_code, steps_at, expr_code, guard_code}
 use Rattle.lt_isa.specs.declared.profiles.Profile.{Profile}
 use Rattle.strength_reduction.specs.Steps.{Step, Constant, Compute, StepFits, reads_known, numbered, code_of}
 use Rattle.strength_reduction.proofs.Replacing.{result-alike}
 use Rattle.step_code.proofs.StepWalks.{steps_show, walks-steps}
 use Rattle.src_tree.proofs.TreeHeights.{height-some}
-use Rattle.block_cache_gen.proofs.SomeCode.{compares-secret}
+use Rattle.block_cache_gen.proofs.SomeCode.{numbering-secret}
 use Rattle.block_cache_gen.proofs.StepsAt.{steps-of}
 use Rattle.block_cache_gen.specs.Carries.{CarriesInArm}
 use Rattle.block_cache_gen.specs.PublicIndexes.{shows_index, HasPublicIndexes, TestHasPublicIndexes}
-use Rattle.block_cache_gen.specs.PatternsOf.{read_shows_by, pinned_slot, number_in, applied_shows, reduced_shows, shifted_shows, operation_gap, word_gap, word_read, tree_by, scalar_shows, offset_shows, scalar_tree, operand_tree, reduced_tree, number_tree, shifted_tree, block_tree, placed_shows, placed_tree, shows_by, loads_by, element_by, found_shows, load_shows, Loads, no_loads, then_loads, one_load, index_loads, element_slot, step_gap, steps_tree, operation_tree, operation_shows, operation_loads, tree_of_expr, shows_of_expr, slots_of_expr, shows_of_test, slots_of_test}
+use Rattle.block_cache_gen.specs.PatternsOf.{read_shows_by, pinned_slot, number_in, applied_shows, reduced_shows, numbered_shows, index_by, shifted_shows, operation_gap, word_gap, word_read, tree_by, scalar_shows, offset_shows, scalar_tree, operand_tree, reduced_tree, numbered_tree, number_tree, shifted_tree, block_tree, placed_shows, placed_tree, shows_by, loads_by, element_by, found_shows, load_shows, Loads, no_loads, then_loads, one_load, index_loads, element_slot, step_gap, steps_tree, operation_tree, operation_shows, operation_loads, tree_of_expr, shows_of_expr, slots_of_expr, shows_of_test, slots_of_test}
 use Rattle.block_cache_gen.proofs.ArmInstructions.{IsSeen, Sets, loaded-bank, sets-li, sets-alu, sets-ldw, walked-ldb}
 use Rattle.block_cache_gen.proofs.SpreadArms.{read-leaves}
 use Rattle.block_cache_gen.proofs.ArmStates.{LeavesIn, LeavesTree, bound-of_bank, then_loads-held, one_load-held, serves-within, carries-same, carries-load, resident-read}
@@ -41,7 +42,7 @@ use Rattle.block_cache_gen.proofs.HeldLabels.{register-label, zero-label}
 use Rattle.block_cache_gen.proofs.HeldOperands.{IsOperandOf, operand-apart}
 use Rattle.block_cache_gen.proofs.OperandLabels.{is-operand, operand-label}
 use Rattle.block_cache_gen.proofs.HomeFacts.{shows-cached}
-use Rattle.block_cache_gen.proofs.PublicTrees.{IsKnown, block-seen, public-operand}
+use Rattle.block_cache_gen.proofs.PublicTrees.{IsKnown, is-index, block-seen, public-index}
 
 -- a load holds in its own slot
 loaded_here : (slot : ℕ) (bound other : SymSlot) → unwrap_or (one_load slot bound slot) other ≡ bound
@@ -293,41 +294,60 @@ module _ (o : Parts) (f : Setting) (homes : HasHomes o f) (depth : ℕ) where
   reduced-leaves s to from h index carries inside apart held =
       number-applied s (reducing h) to from (to + 1) (reducer h) index carries (omega arith) (omega arith) apart held
 
+  -- so it is, unless it is the number of the word
+  numbered-leaves : (s : SymState) (to from : ℕ) (h : Home) (index : Option Value) → CarriesInArm f s → to + 2 < 19
+      → from ≢ to + 1 → tree_held s from ≡ index → (within : Bool) → (within ≡ true → from ≡ to)
+      → LeavesTree o f depth s (numbered_code (numbering_by within false) f h to from) (numbered_shows within f h) to
+      (numbered_tree within f h index) no_loads
+  numbered-leaves s to from h index carries inside apart held false own =
+      reduced-leaves s to from h index carries inside apart held
+  numbered-leaves s to from h index carries inside apart held true own = record {
+    state = s;
+    walked = walked-none o depth s;
+    carries = carries;
+    held = ap (tree_held s) (sym (own refl)) ∙ held;
+    below = λ r lt. refl;
+    slots = λ k. refl;
+  }
+
   -- the place of an element by the index in a register
-  reduced-located : (s : SymState) (to from : ℕ) (h : Home) (index : Option Value) → CarriesInArm f s → to + 2 < 19
-      → from ≢ to + 1 → tree_held s from ≡ index
-      → LeavesTwo o f depth s (reduced_code f h to from ++ shift_code f h to) (reduced_shows f h ++ shifted_shows f h) to
-      (reduced_tree f h index) (shifted_tree f h (reduced_tree f h index)) no_loads
-  reduced-located s to from h index carries inside apart held =
-      let number = reduced_tree f h index in
-      let one = reduced-leaves s to from h index carries inside apart held in
-      two-leave s to number (shifted_tree f h number) (reduced_code f h to from) (shift_code f h to)
-      (reduced_shows f h) (shifted_shows f h) no_loads no_loads one
-      (block-leaves one.state to h number one.carries inside one.held)
+  module _ (within : Bool) (to from : ℕ) (inside : to + 2 < 19) (apart : from ≢ to + 1)
+      (own : within ≡ true → from ≡ to)
+      (h : Home) (index : Option Value) where
+    numbered-located : (s : SymState) → CarriesInArm f s → tree_held s from ≡ index
+        → LeavesTwo o f depth s (numbered_code (numbering_by within false) f h to from ++ shift_code f h to)
+        (numbered_shows within f h ++ shifted_shows f h) to
+        (numbered_tree within f h index) (shifted_tree f h (numbered_tree within f h index)) no_loads
+    numbered-located s carries held =
+        let number = numbered_tree within f h index in
+        let one = numbered-leaves s to from h index carries inside apart held within own in
+        two-leave s to number (shifted_tree f h number) (numbered_code (numbering_by within false) f h to from)
+        (shift_code f h to) (numbered_shows within f h) (shifted_shows f h) no_loads no_loads one
+        (block-leaves one.state to h number one.carries inside one.held)
 
-  index-located : (s : SymState) (to from : ℕ) (h : Home) (index : Option Value) (code : List Instr)
-      (shows : List Show) (loads : Loads) → LeavesIn o f depth s code shows to from index loads → to + 2 < 19
-      → from ≢ to + 1
-      → LeavesTwo o f depth s (code ++ (reduced_code f h to from ++ shift_code f h to))
-      (shows ++ (reduced_shows f h ++ shifted_shows f h)) to (reduced_tree f h index)
-      (shifted_tree f h (reduced_tree f h index)) loads
-  index-located s to from h index code shows loads first inside apart =
-      let found = reduced-located first.state to from h index first.carries inside apart first.held in
-      record {
-        leaves = leaves-then s code shows to index loads first (reduced_code f h to from ++ shift_code f h to)
-            (reduced_shows f h ++ shifted_shows f h) to (reduced_tree f h index) no_loads (omega arith) found.leaves;
-        next = found.next;
-      }
+    index-located : (s : SymState) (code : List Instr) (shows : List Show) (loads : Loads)
+        → LeavesIn o f depth s code shows to from index loads
+        → LeavesTwo o f depth s (code ++ (numbered_code (numbering_by within false) f h to from ++ shift_code f h to))
+        (shows ++ (numbered_shows within f h ++ shifted_shows f h)) to (numbered_tree within f h index)
+        (shifted_tree f h (numbered_tree within f h index)) loads
+    index-located s code shows loads first =
+        let found = numbered-located first.state first.carries first.held in
+        record {
+          leaves = leaves-then s code shows to index loads first
+              (numbered_code (numbering_by within false) f h to from ++ shift_code f h to)
+              (numbered_shows within f h ++ shifted_shows f h) to (numbered_tree within f h index)
+              no_loads (omega arith)
+              found.leaves;
+          next = found.next;
+        }
 
-  located : (s : SymState) (to from : ℕ) (h : Home) (fixed : Option ℤ) (index : Option Value) (code : List Instr)
-      (shows : List Show) (loads : Loads) → CarriesInArm f s → LeavesIn o f depth s code shows to from index loads
-      → to + 2 < 19 → from ≢ to + 1
-      → LeavesTwo o f depth s (located_code false f h to from fixed code)
-      (found_shows f h fixed shows) to (number_tree f h fixed index) (block_tree f h fixed index)
-      (index_loads fixed loads)
-  located s to from h (Some z) index code shows loads carries first inside apart = fixed-located s to h z carries inside
-  located s to from h None index code shows loads carries first inside apart =
-      index-located s to from h index code shows loads first inside apart
+    located : (s : SymState) (fixed : Option ℤ) (code : List Instr) (shows : List Show) (loads : Loads)
+        → CarriesInArm f s → LeavesIn o f depth s code shows to from index loads
+        → LeavesTwo o f depth s (located_code (numbering_by within false) f h to from fixed code)
+        (found_shows within f h fixed shows) to (number_tree within f h fixed index) (block_tree within f h fixed index)
+        (index_loads fixed loads)
+    located s (Some z) code shows loads carries first = fixed-located s to h z carries inside
+    located s None code shows loads carries first = index-located s code shows loads first
 
   -- the number of the array's first word is added, unless that is 0
   offset-leaves : (s : SymState) (to : ℕ) (h : Home) (tree : Option Value) → CarriesInArm f s → to + 2 < 19
@@ -348,21 +368,24 @@ module _ (o : Parts) (f : Setting) (homes : HasHomes o f) (depth : ℕ) where
       (λ e. absurd (omega (arith, e))) held
 
   -- the place of a resident array's word in its block
-  pub placed-leaves : (s : SymState) (to from : ℕ) (h : Home) (fixed : Option ℤ) (index : Option Value)
+  pub placed-leaves : (within : Bool) (s : SymState) (to from : ℕ) (h : Home) (fixed : Option ℤ) (index : Option Value)
       (code : List Instr) (shows : List Show) (loads : Loads) → CarriesInArm f s
       → LeavesIn o f depth s code shows to from index loads → to + 2 < 19 → from ≢ to + 1
-      → LeavesTree o f depth s (placed_code false f h to from fixed code) (placed_shows f h fixed shows) to
-      (placed_tree f h fixed index) (index_loads fixed loads)
-  placed-leaves s to from h (Some z) index code shows loads carries first inside apart =
+      → (within ≡ true → from ≡ to)
+      → LeavesTree o f depth s (placed_code (numbering_by within false) f h to from fixed code)
+      (placed_shows within f h fixed shows) to (placed_tree within f h fixed index) (index_loads fixed loads)
+  placed-leaves within s to from h (Some z) index code shows loads carries first inside apart own =
       number-leaves s to (pos (h.word + fixed_word h z)) carries (omega arith)
-  placed-leaves s to from h None index code shows loads carries first inside apart =
-      let one = reduced-leaves first.state to from h index first.carries inside apart first.held in
-      let two = offset-leaves one.state to h (reduced_tree f h index) one.carries inside one.held (h.word == 0) in
-      let tree = placed_tree f h None index in
-      let reduced = reduced_shows f h in
-      leaves-then s code shows to index loads first (reduced_code f h to from ++ offset_code f h to)
-      (reduced ++ offset_shows f h) to tree no_loads (omega arith)
-      (leaves-then first.state (reduced_code f h to from) reduced to (reduced_tree f h index) no_loads one
+  placed-leaves within s to from h None index code shows loads carries first inside apart own =
+      let number = numbered_tree within f h index in
+      let numbers = numbered_code (numbering_by within false) f h to from in
+      let one = numbered-leaves first.state to from h index first.carries inside apart first.held within own in
+      let two = offset-leaves one.state to h number one.carries inside one.held (h.word == 0) in
+      let tree = placed_tree within f h None index in
+      let shown = numbered_shows within f h in
+      leaves-then s code shows to index loads first (numbers ++ offset_code f h to)
+      (shown ++ offset_shows f h) to tree no_loads (omega arith)
+      (leaves-then first.state numbers shown to number no_loads one
       (offset_code f h to) (offset_shows f h) to tree no_loads (omega arith) two)
 
   module _ (mode : Mode) (secret : may_skip_loads mode ≡ false) where
@@ -373,20 +396,22 @@ module _ (o : Parts) (f : Setting) (homes : HasHomes o f) (depth : ℕ) where
       pub holds : slot_held leaves.state slot ≡ bound
 
     -- an access leaves the number of the word, and its block in the array's slot
-    pub access-leaves : (s : SymState) (to from : ℕ) (x : List ℕ) (fixed : Option ℤ) (index : Option Value)
+    pub access-leaves : (near : Bool) (s : SymState) (to from : ℕ) (x : List ℕ) (fixed : Option ℤ)
+        (index : Option Value)
         (code : List Instr) (shows : List Show) (loads : Loads) → CarriesInArm f s
-        → LeavesIn o f depth s code shows to from index loads → to + 2 < 19 → from ≢ to + 1 → (used : UsedAs (context_of f.decls) x Array)
-        → (home_of f x).resident ≡ false
-        → IsSeen (home_of f x).bank (block_tree f (home_of f x) fixed index)
-        → Accessed s (access_by false false f mode (home_of f x) to from fixed code)
-        (shows_by false f (home_of f x) fixed index shows) to (number_tree f (home_of f x) fixed index)
-        (loads_by false f (home_of f x) fixed index loads) (home_of f x).slot (element_slot f (home_of f x) fixed index)
-    access-leaves s to from x fixed index code shows loads carries first inside apart used turn seen =
+        → LeavesIn o f depth s code shows to from index loads → to + 2 < 19 → from ≢ to + 1 → (near ≡ true → from ≡ to)
+        → (used : UsedAs (context_of f.decls) x Array) → (home_of f x).resident ≡ false
+        → IsSeen (home_of f x).bank (block_tree near f (home_of f x) fixed index)
+        → Accessed s (access_by false (numbering_by near false) f mode (home_of f x) to from fixed code)
+        (shows_by false near f (home_of f x) fixed index shows) to (number_tree near f (home_of f x) fixed index)
+        (loads_by false near f (home_of f x) fixed index loads) (home_of f x).slot
+        (element_slot near f (home_of f x) fixed index)
+    access-leaves near s to from x fixed index code shows loads carries first inside apart own used turn seen =
         let h = home_of f x in
         let home = homes.arrays x used.0 used.1 turn in
-        let block = block_tree f h fixed index in
-        let bound = element_slot f h fixed index in
-        let found = located s to from h fixed index code shows loads carries first inside apart in
+        let block = block_tree near f h fixed index in
+        let bound = element_slot near f h fixed index in
+        let found = located near to from inside apart own h index s fixed code shows loads carries first in
         let there = found.leaves in
         let t = hold_slot there.state h.slot bound in
         let within = serves-within h.bank h.slot home.slot in
@@ -395,11 +420,11 @@ module _ (o : Parts) (f : Setting) (homes : HasHomes o f) (depth : ℕ) where
         let load = walked-ldb o depth f homes.profile there.state h.slot h.bank (to + 1) block sizes found.next seen in
         let skipped : load_code false h to ≡ load_code (skips mode h) h to =
         sym (ap (λ (b : Bool). load_code (b && is_cached h) h to) secret) in
-        let before = located_code false f h to from fixed code in
-        let shown = found_shows f h fixed shows in
+        let before = located_code (numbering_by near false) f h to from fixed code in
+        let shown = found_shows near f h fixed shows in
         let whole = walked-then o depth s before shown there.state (load_code false h to) (load_shows bound) t
         there.walked load in
-        let slots : (k : ℕ) → slot_held t k ≡ unwrap_or (loads_by false f h fixed index loads k) (slot_held s k) =
+        let slots : (k : ℕ) → slot_held t k ≡ unwrap_or (loads_by false near f h fixed index loads k) (slot_held s k) =
         λ k. one_load-held there.state h.slot bound k room
         ∙ ap (unwrap_or (one_load h.slot bound k)) (there.slots k)
         ∙ sym (then_loads-held (index_loads fixed loads) (one_load h.slot bound) k (slot_held s k)) in
@@ -419,62 +444,73 @@ module _ (o : Parts) (f : Setting) (homes : HasHomes o f) (depth : ℕ) where
         }
 
     -- the word of an element, by the code of its index
-    element_by-leaves : (b : Bool) (s : SymState) (to from : ℕ) (x : List ℕ) (fixed : Option ℤ) (index : Option Value)
-        (code : List Instr) (shows : List Show) (loads : Loads) → (home_of f x).resident ≡ b → CarriesInArm f s
-        → LeavesIn o f depth s code shows to from index loads → to + 3 < 19 → from ≢ to + 1
+    element_by-leaves : (b near : Bool) (s : SymState) (to from : ℕ) (x : List ℕ) (fixed : Option ℤ)
+        (index : Option Value) (code : List Instr) (shows : List Show) (loads : Loads) → (home_of f x).resident ≡ b
+        → CarriesInArm f s → LeavesIn o f depth s code shows to from index loads → to + 3 < 19 → from ≢ to + 1
+        → (near ≡ true → from ≡ to)
         → UsedAs (context_of f.decls) x Array → (shows_index (home_of f x) ≡ true → IsKnown index)
         → LeavesTree o f depth s
-        (access_by b false f mode (home_of f x) to from fixed code ++ read_by b f (home_of f x) fixed to)
-        (shows_by b f (home_of f x) fixed index shows ++ read_shows_by b f (home_of f x) fixed) to
-        (element_by b f (home_of f x) fixed index) (loads_by b f (home_of f x) fixed index loads)
-    element_by-leaves true s to from x fixed index code shows loads is carries first inside apart used known =
+        (access_by b (numbering_by near false) f mode (home_of f x) to from fixed code
+        ++ read_by b f (home_of f x) fixed to)
+        (shows_by b near f (home_of f x) fixed index shows ++ read_shows_by b f (home_of f x) fixed) to
+        (element_by b near f (home_of f x) fixed index) (loads_by b near f (home_of f x) fixed index loads)
+    element_by-leaves true near s to from x fixed index code shows loads is carries first inside apart own used known =
         let h = home_of f x in
-        let place = placed_tree f h fixed index in
-        let there = placed-leaves s to from h fixed index code shows loads carries first (omega (arith, inside)) apart in
-        leaves-then s (placed_code false f h to from fixed code) (placed_shows f h fixed shows) to place
-        (index_loads fixed loads) there (read_by true f h fixed to) (read_shows_by true f h fixed) to
+        let place = placed_tree near f h fixed index in
+        let there = placed-leaves near s to from h fixed index code shows loads carries first (omega (arith, inside))
+        apart own in
+        leaves-then s (placed_code (numbering_by near false) f h to from fixed code) (placed_shows near f h fixed shows)
+        to place (index_loads fixed loads) there (read_by true f h fixed to) (read_shows_by true f h fixed) to
         (word_read f (pinned_slot h) place) no_loads (omega arith)
         (read-leaves o f homes x used.0 Array used.1 is depth there.state there.carries to inside place there.held fixed)
-    element_by-leaves false s to from x fixed index code shows loads is carries first inside apart used known =
+    element_by-leaves false near s to from x fixed index code shows loads is carries first inside apart own used known =
         let h = home_of f x in
-        let bound = element_slot f h fixed index in
-        let number = number_tree f h fixed index in
-        let seen = block-seen f h fixed index (λ low. known (shows-cached h is low)) in
-        let access = access-leaves s to from x fixed index code shows loads carries first (omega (arith, inside)) apart used
-        is seen in
+        let bound = element_slot near f h fixed index in
+        let number = number_tree near f h fixed index in
+        let seen = block-seen near f h fixed index (λ low. known (shows-cached h is low)) in
+        let access = access-leaves near s to from x fixed index code shows loads carries first (omega (arith, inside))
+        apart own used is seen in
         let there = access.leaves in
-        let is_bound = bound-of_bank bound h.bank (loaded-bank f h.bank (block_tree f h fixed index) seen) in
+        let is_bound = bound-of_bank bound h.bank (loaded-bank f h.bank (block_tree near f h fixed index) seen) in
         let word = sets-ldw o depth f homes.profile there.state to h.slot to bound number there.carries.registers
         (omega arith) access.holds is_bound there.held in
-        leaves-then_sets s (access_by false false f mode h to from fixed code)
-        (shows_by false f h fixed index shows) to number (loads_by false f h fixed index loads)
+        leaves-then_sets s (access_by false (numbering_by near false) f mode h to from fixed code)
+        (shows_by false near f h fixed index shows) to number (loads_by false near f h fixed index loads)
         there (Ldw to h.slot to ∷ []) (word_gap f ∷ []) to (word_read f bound number) (omega arith) (omega arith) word
 
     -- an index is in no register that the code of an access sets before it is read
-    pub index-apart : (i : Tree) (to : ℕ) → to + 2 < 19 → operand_register (operand f i) to ≢ to + 1
-    index-apart i to low =
-        let apart = operand-apart f i (operand f i) (is-operand f i) to in
+    pub index-apart : (near : Bool) (i : Tree) (to : ℕ) → to + 2 < 19
+        → operand_register (index_by near f i) to ≢ to + 1
+    index-apart near i to low =
+        let apart = operand-apart f i (index_by near f i) (is-index f near i) to in
         apart.apart (to + 1) (omega arith) (omega arith)
+
+    -- and one that is the number of the word is where its code leaves it
+    pub index-own : (near : Bool) (i : Tree) (to : ℕ) → near ≡ true → operand_register (index_by near f i) to ≡ to
+    index-own near i to is =
+        ap (λ (b : Bool). operand_register (operand_unless (is_in_place (numbering_by b false)) (operand f i)) to) is
 
     element-leaves : (s : SymState) (to : ℕ) (x : List ℕ) (i : Tree) → TypedTree (context_of f.decls) i
         → CarriesInArm f s
         → LeavesTree o f depth s (expr_code f mode to i) (shows_of_expr f i) to (tree_of_expr f i) (slots_of_expr f i)
         → to + 3 < 19 → UsedAs (context_of f.decls) x Array
-        → (shows_index (home_of f x) ≡ true → IsKnown (operand_tree f (operand f i) (tree_of_expr f i)))
+        → (shows_index (home_of f x) ≡ true
+        → IsKnown (operand_tree f (index_by (is_within_home f (home_of f x) i) f i) (tree_of_expr f i)))
         → LeavesTree o f depth s (expr_code f mode to (Element x i)) (shows_of_expr f (Element x i)) to
         (tree_of_expr f (Element x i)) (slots_of_expr f (Element x i))
     element-leaves s to x i typed carries value inside used known =
         let h = home_of f x in
-        let q = operand f i in
-        let first = operand-leaves mode i typed q (is-operand f i) s to carries value in
-        subst (λ (near : Bool). LeavesTree o f depth s
-        (indexed_code f near mode h to i (expr_code f mode to i) ++ read_code f h (fixed_index h i) to)
+        let near = is_within_home f h i in
+        let q = index_by near f i in
+        let first = operand-leaves mode i typed q (is-index f near i) s to carries value in
+        subst (λ (n : Numbering). LeavesTree o f depth s
+        (indexed_code f n mode h to i (expr_code f mode to i) ++ read_code f h (fixed_index h i) to)
         (shows_of_expr f (Element x i)) to (tree_of_expr f (Element x i)) (slots_of_expr f (Element x i)))
-        (sym (compares-secret f mode h i secret))
-        (element_by-leaves h.resident s to (operand_register q to) x (fixed_index h i)
+        (sym (numbering-secret f mode h i secret))
+        (element_by-leaves h.resident near s to (operand_register q to) x (fixed_index h i)
         (operand_tree f q (tree_of_expr f i)) (operand_part q (expr_code f mode to i))
         (operand_part q (shows_of_expr f i)) (slots_of_expr f i) refl carries first inside
-        (index-apart i to (omega (arith, inside))) used known)
+        (index-apart near i to (omega (arith, inside))) (index-own near i to) used known)
 
     -- an operation on two operands
     operation-leaves : (op : Op) (a b : Tree) → TypedTree (context_of f.decls) a → TypedTree (context_of f.decls) b
@@ -552,7 +588,7 @@ module _ (o : Parts) (f : Setting) (homes : HasHomes o f) (depth : ℕ) where
     expr-leaves (Element x i) s to typed public low carries =
         element-leaves s to x i typed.1.0 carries (expr-leaves i s to typed.1.0 public.1 (omega arith) carries)
         (omega (arith, height-some i)) typed.0
-        (λ cached. public-operand o f homes i typed.1.0 (public.0 cached))
+        (λ cached. public-index o f homes (is_within_home f (home_of f x) i) i typed.1.0 (public.0 cached))
     expr-leaves (Operation op a b) s to typed public low carries =
         either-leaves op a b typed.0 typed.1 s to (omega (arith, height-some b)) carries
         (expr-leaves a s to typed.0 public.0 (omega arith) carries)

@@ -1,23 +1,20 @@
 -- The code of an assignment, run, leaves the store that it means, or the same store in a mirrored arm.
-use Rattle.std.proofs.Common.{◌≡◌, ◌≢◌, ℕ, ◌+◌, ◌/◌, ◌%◌, ◌<◌, ◌≤◌, Bool, true, false, ℤ, pos, List, [], ◌∷◌, ◌++◌, length, get_or, set, append_assoc, append-nil, Option, Some, None, refl, sym, ap, ◌∙◌, subst, arith, mod-eq_of_lt}
+use Rattle.std.proofs.Common.{◌≡◌, ◌≢◌, ℕ, ◌+◌, ◌/◌, ◌%◌, ◌≤◌, Bool, true, false, ℤ, pos, List, [], ◌∷◌, ◌++◌, get_or, set, append_assoc, append-nil, Option, Some, None, refl, sym, ap, ◌∙◌, subst, arith}
 use Rattle.std.proofs.lemmas.List.{get_or-set_same}
 use Rattle.gr_word.specs.Words.{IsWord}
 use Rattle.gr_word.specs.declared.variables.Label.{Label}
-use Rattle.gr_word.specs.declared.variables.Shape.{Shape}
 use Rattle.gr_word.specs.declared.variables.Shape.TheVariants.{Scalar, Array}
 use Rattle.lt_isa.specs.declared.instructions.Instr.{Instr}
-use Rattle.lt_isa.specs.declared.instructions.Instr.TheVariants.{Li, Ldw, Stw, Stb}
+use Rattle.lt_isa.specs.declared.instructions.Instr.TheVariants.{Li, Stb}
 use Rattle.lt_isa.specs.Object.{Parts, block_words}
 use Rattle.lt_isa.specs.Ranges.{IsInRange}
-use Rattle.lt_isa.specs.Machine.{State, Slot, Unbound, Bound, register, slot, bank_blocks, word_in, set_slot, write_event, slot_words}
+use Rattle.lt_isa.specs.Machine.{State, Unbound, Bound, register, slot, bank_blocks, word_in, write_event}
 use Rattle.lt_isa.specs.Shape.{IsShaped}
-use Rattle.lt_isa.specs.Step.{word_named}
 use Rattle.stretches.specs.Standing.{StandsAt}
 use Rattle.stretches.specs.Coming.{RunsThrough, Sets}
 use Rattle.lt_isa.proofs.Shapes.{IsWord-register}
-use Rattle.lt_isa.proofs.Steps.{bound-fits}
-use Rattle.stretches.proofs.Coming.{comes-stw, comes-stb}
-use Rattle.stretches.proofs.RunningThrough.{runs-cons, runs-one, runs-append, runs-weaker, sets-li, sets-ldw}
+use Rattle.stretches.proofs.Coming.{comes-stb}
+use Rattle.stretches.proofs.RunningThrough.{runs-cons, runs-one, runs-append, runs-weaker, sets-li}
 use Rattle.src_tree.specs.Contexts.{context_of}
 use Rattle.src_tree.specs.Heights.{height_of}
 use Rattle.src_tree.specs.Labels.{label_of}
@@ -25,10 +22,12 @@ use Rattle.src_tree.specs.Meaning.{Store, variable_number, words_of_number, scal
 use Rattle.src_tree.specs.Trees.{Tree, Variable, SetVariable, SetElement}
 use Rattle.src_tree.specs.Typing.{TypedTree}
 use Rattle.scratch_alloc.proofs.Serving.{serves-within}
+use Rattle.scalar_ranges.specs.Ranges.{AreWithin}
 use Rattle.block_cache_gen.specs.declared.frames.Mode.{Mode}
+use Rattle.block_cache_gen.specs.declared.indexes.Numbering.{Numbering}
 use Rattle.block_cache_gen.specs.declared.frames.Mode.TheVariants.{Public, Real, Mirrored}
 use Rattle.block_cache_gen.specs.Homes.{Setting, HasHomes, home_of, words_a_block, register_for, further_slots}
-use Rattle.block_cache_gen.specs.Codes.{fixed_index, access_by, placed_code, index_operand, operand, operand_part, operand_register, operand_unless, expr_code, store_code, stored_by, set_code, compares, zero_of, copy_code, copied_from, write_code}
+use Rattle.block_cache_gen.specs.Codes.{fixed_index, access_by, placed_code, index_operand, operand, operand_part, operand_register, expr_code, store_code, stored_by, set_code, is_in_place, numbering, zero_of, copy_code, copied_from, write_code}
 use Rattle.block_cache_gen.specs.StandsFor.{StandsFor, FitsHomes}
 use Rattle.block_cache_gen.specs.Accesses.{access_of, accessed_by, accesses, word_number, block_in, slots_after, seen_of_all}
 use Rattle.block_cache_gen.specs.Assignments.{Assigns, assigned, by_mode, words_written, write_by, seen_of_set}
@@ -40,8 +39,9 @@ use Rattle.block_cache_gen.proofs.HeldScalars.{array-free}
 use Rattle.block_cache_gen.proofs.HeldOperands.{IsApart, operand-apart, operand-outside, operand-stays, operand-unless}
 use Rattle.block_cache_gen.proofs.OperandRuns.{LeavesAt, RunsValue, runs-operand}
 use Rattle.block_cache_gen.proofs.RegisterWrites.{register-inside, register-word, zero-word, stands-scalar_set}
-use Rattle.block_cache_gen.proofs.Stands.{stands-like, stands-set}
+use Rattle.block_cache_gen.proofs.Stands.{stands-set}
 use Rattle.block_cache_gen.proofs.Stores.{fits-with_word, with_word-by_mode}
+use Rattle.block_cache_gen.proofs.IndexRuns.{FitsNumbering, fits-numbering}
 use Rattle.block_cache_gen.proofs.ResidentRuns.{fixed-number, resident-within, runs-placed}
 use Rattle.block_cache_gen.proofs.ResidentWrites.{Binds, by_mode-fits, runs-store, runs-put}
 use Rattle.block_cache_gen.proofs.SpreadRuns.{runs-stored_by}
@@ -115,12 +115,12 @@ module _ (o : Parts) (fits : IsInRange o) (f : Setting) (homes : HasHomes o f) (
       at')
 
   -- an assignment to a scalar
-  pub runs-set_variable : (mode : Mode) (x : List ℕ) (label : Label) → context_of f.decls x ≡ Some (label, Scalar)
+  pub runs-set_variable : AreWithin f.ranges store → (mode : Mode) (x : List ℕ) (label : Label) → context_of f.decls x ≡ Some (label, Scalar)
       → (e : Tree) → TypedTree (context_of f.decls) e → height_of e ≤ 17 → (s : State) → IsShaped o s
       → StandsFor f s store → StandsAt o s.place (set_code f mode (SetVariable x e))
       → RunsThrough o s (set_code f mode (SetVariable x e)) (seen_of_set f mode s.banks s.slots store (SetVariable x e))
       (Assigns f (by_mode mode (assigned f.decls (SetVariable x e) store) store))
-  runs-set_variable mode x label known e typed room s shaped stands at =
+  runs-set_variable in_ranges mode x label known e typed room s shaped stands at =
       let h = home_of f x in
       let l = label_of (context_of f.decls) (Variable x) in
       let value = evaluated f.decls store e in
@@ -133,25 +133,26 @@ module _ (o : Parts) (fits : IsInRange o) (f : Setting) (homes : HasHomes o f) (
       runs-append s (operand_part q (expr_code f mode 0 e)) write (seen_of_all mode s.banks s.slots before) []
       (LeavesAt f store before 0 v value s) Done at
       (runs-operand o f store mode e q (λ r held. held) 0 s shaped stands
-      (runs-expression o fits f homes store store_fits mode e typed 0 (omega arith) s shaped stands))
+      (runs-expression o fits f homes store store_fits in_ranges mode e typed 0 (omega arith) s shaped stands))
       (λ t shape leaves at'.
       runs-written mode x label known l v (operand-apart f e q (λ r held. held) 0) value t shape leaves.stands leaves.value
       (register_for f x) refl at')
 
   -- the same where the array is resident or isn't
-  runs-set_by : (mode : Mode) (x : List ℕ) (label : Label) → context_of f.decls x ≡ Some (label, Array)
+  runs-set_by : AreWithin f.ranges store → (mode : Mode) (x : List ℕ) (label : Label) → context_of f.decls x ≡ Some (label, Array)
       → (i e : Tree) → TypedTree (context_of f.decls) i → TypedTree (context_of f.decls) e → 1 + height_of i ≤ 17
       → height_of e ≤ 17 → (s : State) → IsShaped o s → StandsFor f s store
-      → (near resident : Bool) (from : ℕ) (index : List Instr) → from ≢ 2 → (near ≡ true → from ≡ 1)
+      → (way : Numbering) (resident : Bool) (from : ℕ) (index : List Instr) → from ≢ 2
+      → FitsNumbering way 1 from (evaluated f.decls store i) (home_of f x).length
       → ((t : State) → IsShaped o t → StandsFor f t store → RunsValue o f store mode 1 from i index t)
       → (home_of f x).resident ≡ resident
       → StandsAt o s.place
       (operand_part (operand f e) (expr_code f mode 0 e)
-      ++ (access_by resident near f mode (home_of f x) 1 from (fixed_index (home_of f x) i) index
+      ++ (access_by resident way f mode (home_of f x) 1 from (fixed_index (home_of f x) i) index
       ++ stored_by resident f mode (home_of f x) (fixed_index (home_of f x) i) (operand_register (operand f e) 0)))
       → RunsThrough o s
       (operand_part (operand f e) (expr_code f mode 0 e)
-      ++ (access_by resident near f mode (home_of f x) 1 from (fixed_index (home_of f x) i) index
+      ++ (access_by resident way f mode (home_of f x) 1 from (fixed_index (home_of f x) i) index
       ++ stored_by resident f mode (home_of f x) (fixed_index (home_of f x) i) (operand_register (operand f e) 0)))
       (seen_of_all mode s.banks s.slots
       (accesses f store e
@@ -162,7 +163,7 @@ module _ (o : Parts) (fits : IsInRange o) (f : Setting) (homes : HasHomes o f) (
       (block_in s.banks (home_of f x).bank (access_of f store x (evaluated f.decls store i)).block)
       (word_number f store x (evaluated f.decls store i) % words_a_block f) (evaluated f.decls store e))))
       (Assigns f (by_mode mode (assigned f.decls (SetElement x i e) store) store))
-  runs-set_by mode x label known i e typed_index typed room_index room s shaped stands near true from index_code other
+  runs-set_by in_ranges mode x label known i e typed_index typed room_index room s shaped stands way true from index_code other
       own run resident at =
       let h = home_of f x in
       let k = variable_number f.decls x in
@@ -176,7 +177,7 @@ module _ (o : Parts) (fits : IsInRange o) (f : Setting) (homes : HasHomes o f) (
       let v = operand_register q 0 in
       let apart = operand-apart f e q (λ r held. held) 0 in
       let first = operand_part q (expr_code f mode 0 e) in
-      let access = placed_code near f h 1 from (fixed_index h i) index_code in
+      let access = placed_code way f h 1 from (fixed_index h i) index_code in
       let store_word = stored_by true f mode h (fixed_index h i) v in
       let seen_first = seen_of_all mode s.banks s.slots before in
       let seen_then = seen_of_all mode s.banks (slots_after s.banks s.slots before) then in
@@ -193,14 +194,14 @@ module _ (o : Parts) (fits : IsInRange o) (f : Setting) (homes : HasHomes o f) (
       (runs-append s first (access ++ store_word) seen_first (seen_then ++ [])
       (LeavesAt f store before 0 v value s) Done at
       (runs-operand o f store mode e q (λ r held. held) 0 s shaped stands
-      (runs-expression o fits f homes store store_fits mode e typed 0 (omega arith) s shaped stands))
+      (runs-expression o fits f homes store store_fits in_ranges mode e typed 0 (omega arith) s shaped stands))
       (λ t shape leaves at'.
       let is : IsWord value = subst IsWord leaves.value (IsWord-register o t shape v) in
       runs-append t access store_word seen_then [] (Placed t) Done at'
       (λ at''.
       runs-weaker t access (seen_of_all mode t.banks t.slots then) seen_then (Placed t) (Placed t)
       (runs-placed o fits f homes store store_fits x label Array known resident mode 1 from i index_code t shape
-      leaves.stands (omega arith) other (run t shape leaves.stands) near own (fixed_index h i) refl at'')
+      leaves.stands (omega arith) other (run t shape leaves.stands) way own (fixed_index h i) refl at'')
       (ap (λ l. seen_of_all mode l t.slots then) leaves.banks ∙ ap (λ l. seen_of_all mode s.banks l then) leaves.slots)
       (λ u shape' done. done))
       (λ u shape' placed at''.
@@ -211,7 +212,7 @@ module _ (o : Parts) (fits : IsInRange o) (f : Setting) (homes : HasHomes o f) (
       (λ z found. fixed-number o fits f homes store store_fits x label Array known resident i z found) at'')))
       shown
       (λ t shape done. done)
-  runs-set_by mode x label known i e typed_index typed room_index room s shaped stands near false from index_code other
+  runs-set_by in_ranges mode x label known i e typed_index typed room_index room s shaped stands way false from index_code other
       own run turn at =
       let h = home_of f x in
       let home = homes.arrays x label known turn in
@@ -229,7 +230,7 @@ module _ (o : Parts) (fits : IsInRange o) (f : Setting) (homes : HasHomes o f) (
       let v = operand_register q 0 in
       let apart = operand-apart f e q (λ r held. held) 0 in
       let first = operand_part q (expr_code f mode 0 e) in
-      let access = access_by false near f mode h 1 from (fixed_index h i) index_code in
+      let access = access_by false way f mode h 1 from (fixed_index h i) index_code in
       let store_word = store_code mode h.slot v in
       let store_block = Stb h.slot in
       let seen_first = seen_of_all mode s.banks s.slots before in
@@ -245,7 +246,7 @@ module _ (o : Parts) (fits : IsInRange o) (f : Setting) (homes : HasHomes o f) (
       (runs-append s first (access ++ (store_word ++ store_block ∷ [])) seen_first (seen_then ++ write)
       (LeavesAt f store before 0 v value s) Done at
       (runs-operand o f store mode e q (λ r held. held) 0 s shaped stands
-      (runs-expression o fits f homes store store_fits mode e typed 0 (omega arith) s shaped stands))
+      (runs-expression o fits f homes store store_fits in_ranges mode e typed 0 (omega arith) s shaped stands))
       (λ t shape leaves at'.
       let is : IsWord value = subst IsWord leaves.value (IsWord-register o t shape v) in
       runs-append t access (store_word ++ store_block ∷ []) seen_then write
@@ -253,7 +254,7 @@ module _ (o : Parts) (fits : IsInRange o) (f : Setting) (homes : HasHomes o f) (
       (λ at''.
       runs-weaker t access (seen_of_all mode t.banks t.slots then) seen_then
       (Accesses f store (accesses f store i) a 1 n t) (Accesses f store (accesses f store i) a 1 n t)
-      (runs-access o fits f homes store store_fits x label known turn near mode 1 from i index_code t shape
+      (runs-access o fits f homes store store_fits x label known turn way mode 1 from i index_code t shape
       leaves.stands (omega arith) other own (run t shape leaves.stands) at'')
       (ap (λ l. seen_of_all mode l t.slots then) leaves.banks ∙ ap (λ l. seen_of_all mode s.banks l then) leaves.slots)
       (λ u shape' done. done))
@@ -306,20 +307,20 @@ module _ (o : Parts) (fits : IsInRange o) (f : Setting) (homes : HasHomes o f) (
       (λ t shape done. done)
 
   -- an assignment to an element
-  pub runs-set_element : (mode : Mode) (x : List ℕ) (label : Label) → context_of f.decls x ≡ Some (label, Array)
+  pub runs-set_element : AreWithin f.ranges store → (mode : Mode) (x : List ℕ) (label : Label) → context_of f.decls x ≡ Some (label, Array)
       → (i e : Tree) → TypedTree (context_of f.decls) i → TypedTree (context_of f.decls) e → 1 + height_of i ≤ 17
       → height_of e ≤ 17
       → (s : State) → IsShaped o s → StandsFor f s store → StandsAt o s.place (set_code f mode (SetElement x i e))
       → RunsThrough o s (set_code f mode (SetElement x i e))
       (seen_of_set f mode s.banks s.slots store (SetElement x i e))
       (Assigns f (by_mode mode (assigned f.decls (SetElement x i e) store) store))
-  runs-set_element mode x label known i e typed_index typed room_index room s shaped stands at =
-      let near = compares f mode (home_of f x) i in
-      let q = index_operand f near i in
-      let apart = operand-apart f i q (operand-unless f i near) 1 in
-      runs-set_by mode x label known i e typed_index typed room_index room s shaped stands near (home_of f x).resident
+  runs-set_element in_ranges mode x label known i e typed_index typed room_index room s shaped stands at =
+      let way = numbering f mode (home_of f x) i in
+      let q = index_operand f way i in
+      let apart = operand-apart f i q (operand-unless f i (is_in_place way)) 1 in
+      runs-set_by in_ranges mode x label known i e typed_index typed room_index room s shaped stands way (home_of f x).resident
       (operand_register q 1) (operand_part q (expr_code f mode 1 i)) (apart.apart 2 (omega arith) (omega arith))
-      (λ e. ap (λ b. operand_register (operand_unless b (operand f i)) 1) e)
-      (λ t shape stands'. runs-operand o f store mode i q (operand-unless f i near) 1 t shape stands'
-      (runs-expression o fits f homes store store_fits mode i typed_index 1 room_index t shape stands'))
+      (fits-numbering f store in_ranges mode (home_of f x) i 1)
+      (λ t shape stands'. runs-operand o f store mode i q (operand-unless f i (is_in_place way)) 1 t shape stands'
+      (runs-expression o fits f homes store store_fits in_ranges mode i typed_index 1 room_index t shape stands'))
       refl at

@@ -10,7 +10,7 @@ use Rattle.block_cache_gen.specs.declared.frames.CodeBuf.{CodeBuf}
 use Rattle.block_cache_gen.specs.declared.frames.Mode.{Mode}
 use Rattle.block_cache_gen.specs.declared.frames.Mode.TheVariants.{Public}
 use Rattle.block_cache_gen.specs.Homes.{Home, Setting, home_of, register_for}
-use Rattle.block_cache_gen.specs.Codes.{indexed_code, compares, operand, operand_part, operand_register, expr_code, fixed_index, store_code, stored_code, write_code}
+use Rattle.block_cache_gen.specs.Codes.{indexed_code, numbering, operand, operand_part, operand_register, expr_code, fixed_index, stored_code, write_code}
 use Rattle.block_cache_gen.specs.Notes.{expr_notes, operand_mask, base_mask}
 use Rattle.block_cache_gen.specs.Emitted.{Appended, no_notes, notes_in, access_notes, EmitsOperand, EmitsAccess, EmitsSet}
 use Rattle.block_cache_gen.proofs.Emitting.{silent_behind}
@@ -55,7 +55,7 @@ element_set f mode x y i e h label q value other a b c last same home is_label i
     let own = label_of (context_of f.decls) e in
     let P : Home → Option ℕ → ℕ → ℕ → Type 0 = λ k p v m. Appended a last
     (operand_part p (expr_code f mode 0 e)
-    ++ (indexed_code f (compares f mode k i) mode k 1 i index ++ stored_code f mode k (fixed_index k i) v))
+    ++ (indexed_code f (numbering f mode k i) mode k 1 i index ++ stored_code f mode k (fixed_index k i) v))
     (λ place. notes_in mode
     (operand_part p (expr_notes f (base_mask f) 0 place e)
     ++ access_notes f k m 1 i (place + length (operand_part p (expr_code f Public 0 e))))) in
@@ -64,9 +64,9 @@ element_set f mode x y i e h label q value other a b c last same home is_label i
     (subst (P (home_of f x) q value) (is_other ∙ ap (λ k. operand_mask q k (base_mask f) 0) is_label)
     (subst (λ k. P k q value other) (home ∙ ap (home_of f) same)
     (operand_then f mode (base_mask f) 0 q e
-    (indexed_code f (compares f mode h i) mode h 1 i index ++ stored_code f mode h (fixed_index h i) value)
+    (indexed_code f (numbering f mode h i) mode h 1 i index ++ stored_code f mode h (fixed_index h i) value)
     (λ place. access_notes f h other 1 i place) a b last emits
-    (silent_behind b c last (indexed_code f (compares f mode h i) mode h 1 i index)
+    (silent_behind b c last (indexed_code f (numbering f mode h i) mode h 1 i index)
     (stored_code f mode h (fixed_index h i) value)
     (λ place. notes_in mode (access_notes f h other 1 i place)) access store)))))
 

@@ -8,7 +8,7 @@ use Rattle.lt_isa.specs.Limits.{most_instructions}
 use Rattle.lt_isa.specs.declared.instructions.Instr.{Instr}
 use Rattle.gr_word.specs.declared.operations.Op.TheVariants.{Add, Remu, Shr}
 use Rattle.gr_word.specs.declared.operations.Cmp.TheVariants.{Lt}
-use Rattle.lt_isa.specs.declared.instructions.Instr.TheVariants.{Li, Alu, Ldw, Br}
+use Rattle.lt_isa.specs.declared.instructions.Instr.TheVariants.{Li, Alu, Br}
 use Rattle.lt_isa.specs.declared.symbols.Note.{Note}
 use Rattle.src_tree.specs.Contexts.{context_of}
 use Rattle.src_tree.specs.Labels.{label_of}
@@ -18,9 +18,11 @@ use Rattle.src_tree.specs.Trees.{Tree, Element, Operation}
 use Rattle.src_tree.proofs.TreeHeights.{height-some}
 use Rattle.block_cache_gen.specs.declared.frames.CodeBuf.{CodeBuf}
 use Rattle.block_cache_gen.specs.declared.frames.Mode.{Mode}
+use Rattle.block_cache_gen.specs.declared.indexes.Numbering.{Numbering}
+use Rattle.block_cache_gen.specs.declared.indexes.Numbering.TheVariants.{Reduced}
 use Rattle.block_cache_gen.specs.declared.frames.Mode.TheVariants.{Public, Real, Mirrored}
 use Rattle.block_cache_gen.specs.Homes.{Home, Setting, home_of}
-use Rattle.block_cache_gen.specs.Codes.{access_by, applied_code, found_by, is_cached, compares, compared_code, least_word, numbered_code, offset_code, shift_code, fixed_code, load_code, skips, access_code, indexed_code, index_operand, fixed_index, operand, operand_part, operand_register, left_operand, operation_code, steps_at, expr_code, read_code}
+use Rattle.block_cache_gen.specs.Codes.{access_by, applied_code, found_by, is_cached, is_within_home, numbering, numbering_by, compared_code, least_word, numbered_code, offset_code, shift_code, fixed_code, load_code, skips, access_code, indexed_code, index_operand, fixed_index, operand, operand_part, operand_register, left_operand, operation_code, steps_at, expr_code, read_code}
 use Rattle.strength_reduction.specs.Steps.{Step, code_of}
 use Rattle.block_cache_gen.specs.Notes.{expr_notes, operand_mask, operation_notes, index_notes, compared_notes, loaded_notes, load_notes, access_mask, unmarked, note_of}
 use Rattle.block_cache_gen.specs.Emitted.{Appended, no_notes, notes_in, access_notes, OperationBy, EmitsOperation, EmitsOperand, EmitsExpr, EmitsAccess, EmitsFound}
@@ -29,51 +31,56 @@ use Rattle.block_cache_gen.proofs.HeldOperands.{operand-short}
 use Rattle.block_cache_gen.proofs.Sizes.{expr_code_short}
 
 -- an access, by what is known of its index
-abbrev pub AccessBy : Setting → Mode → (near : Bool) → Home → (mask to : ℕ) → Tree → Option ℤ → CodeBuf → CodeBuf
+abbrev pub AccessBy : Setting → Mode → (way : Numbering) → Home → (mask to : ℕ) → Tree → Option ℤ → CodeBuf → CodeBuf
     → Type 0
-AccessBy f mode near h mask to i fixed a c =
-    let q = index_operand f near i in
+AccessBy f mode way h mask to i fixed a c =
+    let q = index_operand f way i in
     let from = operand_register q to in
-    Appended a c (access_code near f mode h to from fixed (operand_part q (expr_code f mode to i)))
+    Appended a c (access_code way f mode h to from fixed (operand_part q (expr_code f mode to i)))
     (λ place. notes_in mode
     (index_notes fixed (operand_part q (expr_notes f mask to place i))
-    ++ load_notes near fixed f h mask to
+    ++ load_notes way fixed f h mask to
     (place + length
-    (access_code near f Public h to from fixed (operand_part q (expr_code f Public to i))))))
+    (access_code way f Public h to from fixed (operand_part q (expr_code f Public to i))))))
 
 -- secret code has no notes, so that it is no matter what these are
-notes_near : (mode : Mode) (f : Setting) (h : Home) (i : Tree) (notes : Bool → List Note)
-    → notes_in mode (notes (compares f mode h i)) ≡ notes_in mode (notes (compares f Public h i))
+notes_near : (mode : Mode) (f : Setting) (h : Home) (i : Tree) (notes : Numbering → List Note)
+    → notes_in mode (notes (numbering f mode h i)) ≡ notes_in mode (notes (numbering f Public h i))
 notes_near Public f h i notes = refl
 notes_near Real f h i notes = refl
 notes_near Mirrored f h i notes = refl
 
+secret_silent : (within : Bool) (f : Setting) (mask to place : ℕ)
+    → compared_notes (numbering_by within false) None f mask to place ≡ []
+secret_silent true f mask to place = refl
+secret_silent false f mask to place = refl
+
 -- public code has the note of a comparison, and secret code has no comparison
 pub compared_in : (mode : Mode) (f : Setting) (h : Home) (i : Tree) (mask to place : ℕ)
-    → compared_notes (compares f mode h i) None f mask to place
-    ≡ notes_in mode (compared_notes (compares f mode h i) None f mask to place)
+    → compared_notes (numbering f mode h i) None f mask to place
+    ≡ notes_in mode (compared_notes (numbering f mode h i) None f mask to place)
 compared_in Public f h i mask to place = refl
-compared_in Real f h i mask to place = refl
-compared_in Mirrored f h i mask to place = refl
+compared_in Real f h i mask to place = secret_silent (is_within_home f h i) f mask to place
+compared_in Mirrored f h i mask to place = secret_silent (is_within_home f h i) f mask to place
 
 -- so an access is appended with the notes of public code
 access_as : (f : Setting) (mode : Mode) (h : Home) (mask to : ℕ) (i : Tree) (a c : CodeBuf)
-    → AccessBy f mode (compares f mode h i) h mask to i (fixed_index h i) a c → EmitsAccess f mode h mask to i a c
+    → AccessBy f mode (numbering f mode h i) h mask to i (fixed_index h i) a c → EmitsAccess f mode h mask to i a c
 access_as f mode h mask to i a c x =
-    let code : List Instr = indexed_code f (compares f mode h i) mode h to i (expr_code f mode to i) in
-    let notes : ℕ → Bool → List Note = λ place near.
-    index_notes (fixed_index h i) (operand_part (index_operand f near i) (expr_notes f mask to place i))
-    ++ load_notes near (fixed_index h i) f h mask to
-    (place + length (indexed_code f near Public h to i (expr_code f Public to i))) in
-    appended_as a c code code (λ place. notes_in mode (notes place (compares f mode h i)))
-    (λ place. notes_in mode (notes place (compares f Public h i))) refl (λ place. notes_near mode f h i (notes place)) x
+    let code : List Instr = indexed_code f (numbering f mode h i) mode h to i (expr_code f mode to i) in
+    let notes : ℕ → Numbering → List Note = λ place way.
+    index_notes (fixed_index h i) (operand_part (index_operand f way i) (expr_notes f mask to place i))
+    ++ load_notes way (fixed_index h i) f h mask to
+    (place + length (indexed_code f way Public h to i (expr_code f Public to i))) in
+    appended_as a c code code (λ place. notes_in mode (notes place (numbering f mode h i)))
+    (λ place. notes_in mode (notes place (numbering f Public h i))) refl (λ place. notes_near mode f h i (notes place)) x
 
 -- what the load of an access appends
 abbrev pub EmitsLoad : Setting → Mode → Home → (mask to : ℕ) → CodeBuf → CodeBuf → Type 0
 EmitsLoad f mode h mask to a b =
     Appended a b (load_code (skips mode h) h to)
     (λ place. notes_in mode
-    (loaded_notes false false None f h mask to (place + length (load_code (skips Public h) h to))))
+    (loaded_notes false Reduced None f h mask to (place + length (load_code (skips Public h) h to))))
 
 further : (place : ℕ) (xs ys : List Instr) → place + length xs + length ys ≡ place + length (xs ++ ys)
 further place xs ys = add_assoc place (length xs) (length ys) ∙ ap (λ n. place + n) (sym (length-append xs ys))
@@ -81,57 +88,57 @@ further place xs ys = add_assoc place (length xs) (length ys) ∙ ap (λ n. plac
 -- the code of an access by a number
 abbrev pub EmitsFixed : Setting → Mode → Home → (mask to : ℕ) → ℤ → CodeBuf → CodeBuf → Type 0
 EmitsFixed f mode h mask to z a c =
-    Appended a c (access_by h.resident false f mode h to to (Some z) [])
+    Appended a c (access_by h.resident Reduced f mode h to to (Some z) [])
     (λ place. notes_in mode
-    (loaded_notes h.resident false (Some z) f h mask to
-    (place + length (access_by h.resident false f Public h to to (Some z) []))))
+    (loaded_notes h.resident Reduced (Some z) f h mask to
+    (place + length (access_by h.resident Reduced f Public h to to (Some z) []))))
 
 -- the pieces of an access by a number that loads its block
 pub fixed_loaded : (f : Setting) (mode : Mode) (h : Home) (mask to : ℕ) (z : ℤ) (a b c : CodeBuf)
     → h.resident ≡ false → Appended a b (fixed_code f.profile.block_log h to z) no_notes
     → EmitsLoad f mode h mask to b c → EmitsFixed f mode h mask to z a c
 fixed_loaded f mode h mask to z a b c turn x y =
-    let P : Bool → Type 0 = λ r. Appended a c (access_by r false f mode h to to (Some z) [])
+    let P : Bool → Type 0 = λ r. Appended a c (access_by r Reduced f mode h to to (Some z) [])
     (λ place. notes_in mode
-    (loaded_notes r false (Some z) f h mask to (place + length (access_by r false f Public h to to (Some z) [])))) in
+    (loaded_notes r Reduced (Some z) f h mask to (place + length (access_by r Reduced f Public h to to (Some z) [])))) in
     subst P (sym turn)
     (appended_as a c (fixed_code f.profile.block_log h to z ++ load_code (skips mode h) h to)
     (fixed_code f.profile.block_log h to z ++ load_code (skips mode h) h to)
     (λ place. notes_in mode
-    (loaded_notes false false None f h mask to
+    (loaded_notes false Reduced None f h mask to
     (place + length (fixed_code f.profile.block_log h to z) + length (load_code (skips Public h) h to))))
     (λ place. notes_in mode
-    (loaded_notes false false (Some z) f h mask to
+    (loaded_notes false Reduced (Some z) f h mask to
     (place + length (fixed_code f.profile.block_log h to z ++ load_code (skips Public h) h to))))
     refl
-    (λ place. ap (λ n. notes_in mode (loaded_notes false false None f h mask to n))
+    (λ place. ap (λ n. notes_in mode (loaded_notes false Reduced None f h mask to n))
     (further place (fixed_code f.profile.block_log h to z) (load_code (skips Public h) h to)))
     (silent_before a b c (fixed_code f.profile.block_log h to z) (load_code (skips mode h) h to)
     (λ place. notes_in mode
-    (loaded_notes false false None f h mask to (place + length (load_code (skips Public h) h to)))) x y))
+    (loaded_notes false Reduced None f h mask to (place + length (load_code (skips Public h) h to)))) x y))
 
 -- the pieces of an access by a number are its code
 pub access_fixed : (f : Setting) (mode : Mode) (h : Home) (mask to : ℕ) (i : Tree) (z : ℤ) (a c : CodeBuf)
     → fixed_index h i ≡ Some z → EmitsFixed f mode h mask to z a c → EmitsAccess f mode h mask to i a c
 access_fixed f mode h mask to i z a c is x =
-    let P : Option ℤ → Type 0 = λ fixed. AccessBy f mode (compares f mode h i) h mask to i fixed a c in
+    let P : Option ℤ → Type 0 = λ fixed. AccessBy f mode (numbering f mode h i) h mask to i fixed a c in
     access_as f mode h mask to i a c (subst P (sym is) (by h.resident x))
   where
     q : Option ℕ
-    q = index_operand f (compares f mode h i) i
+    q = index_operand f (numbering f mode h i) i
 
     by : (r : Bool)
-        → Appended a c (access_by r false f mode h to to (Some z) [])
+        → Appended a c (access_by r Reduced f mode h to to (Some z) [])
         (λ place. notes_in mode
-        (loaded_notes r false (Some z) f h mask to
-        (place + length (access_by r false f Public h to to (Some z) []))))
+        (loaded_notes r Reduced (Some z) f h mask to
+        (place + length (access_by r Reduced f Public h to to (Some z) []))))
         → Appended a c
-        (access_by r (compares f mode h i) f mode h to (operand_register q to) (Some z)
+        (access_by r (numbering f mode h i) f mode h to (operand_register q to) (Some z)
         (operand_part q (expr_code f mode to i)))
         (λ place. notes_in mode
-        ([] ++ loaded_notes r (compares f mode h i) (Some z) f h mask to
+        ([] ++ loaded_notes r (numbering f mode h i) (Some z) f h mask to
         (place + length
-        (access_by r (compares f mode h i) f Public h to (operand_register q to) (Some z)
+        (access_by r (numbering f mode h i) f Public h to (operand_register q to) (Some z)
         (operand_part q (expr_code f Public to i))))))
     by true y = y
     by false y = y
@@ -158,46 +165,46 @@ operand_then f mode mask to q l code second a b c x y =
 
 -- the pieces of an access by any other index are its code
 pub access_worked : (f : Setting) (mode : Mode) (h : Home) (mask to : ℕ) (i : Tree) (a b c : CodeBuf)
-    → fixed_index h i ≡ None → EmitsOperand f mode mask to (index_operand f (compares f mode h i) i) i a b
+    → fixed_index h i ≡ None → EmitsOperand f mode mask to (index_operand f (numbering f mode h i) i) i a b
     → EmitsFound f mode h mask to i b c → EmitsAccess f mode h mask to i a c
 access_worked f mode h mask to i a b c is x y =
-    let P : Option ℤ → Type 0 = λ fixed. AccessBy f mode (compares f mode h i) h mask to i fixed a c in
+    let P : Option ℤ → Type 0 = λ fixed. AccessBy f mode (numbering f mode h i) h mask to i fixed a c in
     access_as f mode h mask to i a c
-    (subst P (sym is) (by h.resident (compares f mode h i) (index_operand f (compares f mode h i) i) x y))
+    (subst P (sym is) (by h.resident (numbering f mode h i) (index_operand f (numbering f mode h i) i) x y))
   where
-    by : (r near : Bool) (q : Option ℕ) → EmitsOperand f mode mask to q i a b
-        → Appended b c (found_by r near f mode h to (operand_register q to))
+    by : (r : Bool) (way : Numbering) (q : Option ℕ) → EmitsOperand f mode mask to q i a b
+        → Appended b c (found_by r way f mode h to (operand_register q to))
         (λ place. notes_in mode
-        (loaded_notes r near None f h mask to
-        (place + length (found_by r near f Public h to (operand_register q to)))))
+        (loaded_notes r way None f h mask to
+        (place + length (found_by r way f Public h to (operand_register q to)))))
         → Appended a c
-        (access_by r near f mode h to (operand_register q to) None
+        (access_by r way f mode h to (operand_register q to) None
         (operand_part q (expr_code f mode to i)))
         (λ place. notes_in mode
         (operand_part q (expr_notes f mask to place i)
-        ++ loaded_notes r near None f h mask to
+        ++ loaded_notes r way None f h mask to
         (place + length
-        (access_by r near f Public h to (operand_register q to) None
+        (access_by r way f Public h to (operand_register q to) None
         (operand_part q (expr_code f Public to i))))))
-    by true near q x z =
-        let found : List Instr = found_by true near f mode h to (operand_register q to) in
+    by true way q x z =
+        let found : List Instr = found_by true way f mode h to (operand_register q to) in
         let index : Mode → List Instr = λ m. operand_part q (expr_code f m to i) in
         let first : ℕ → List Note = λ place. operand_part q (expr_notes f mask to place i) in
-        let notes : ℕ → List Note = loaded_notes true near None f h mask to in
+        let notes : ℕ → List Note = loaded_notes true way None f h mask to in
         appended_as a c (index mode ++ found) (index mode ++ found)
         (λ place. notes_in mode (first place ++ notes (place + length (index Public) + length found)))
         (λ place. notes_in mode (first place ++ notes (place + length (index Public ++ found))))
         refl
         (λ place. ap (λ n. notes_in mode (first place ++ notes n)) (further place (index Public) found))
         (operand_then f mode mask to q i found (λ place. notes (place + length found)) a b c x z)
-    by false near q x z =
+    by false way q x z =
         let from = operand_register q to in
-        let located : List Instr = numbered_code near f h to from ++ shift_code f h to in
+        let located : List Instr = numbered_code way f h to from ++ shift_code f h to in
         let skipped : List Instr = load_code (skips Public h) h to in
         let index : Mode → List Instr = λ m. operand_part q (expr_code f m to i) in
         let first : ℕ → List Note = λ place. operand_part q (expr_notes f mask to place i) in
-        let notes : ℕ → List Note = loaded_notes false near None f h mask to in
-        appended_as a c (index mode ++ found_by false near f mode h to from)
+        let notes : ℕ → List Note = loaded_notes false way None f h mask to in
+        appended_as a c (index mode ++ found_by false way f mode h to from)
         (index mode ++ located ++ load_code (skips mode h) h to)
         (λ place. notes_in mode (first place ++ notes (place + length (index Public) + length (located ++ skipped))))
         (λ place. notes_in mode (first place ++ notes (place + length (index Public ++ located ++ skipped))))
@@ -205,7 +212,7 @@ access_worked f mode h mask to i a b c is x y =
         (λ place. ap (λ n. notes_in mode (first place ++ notes n))
         (further place (index Public) (located ++ skipped)
         ∙ ap (λ l. place + length l) (sym (append_assoc (index Public) located skipped))))
-        (operand_then f mode mask to q i (found_by false near f mode h to from)
+        (operand_then f mode mask to q i (found_by false way f mode h to from)
         (λ place. notes (place + length (located ++ skipped))) a b c x z)
 
 -- a comparison and its note
@@ -250,30 +257,30 @@ shift_appended f h to log block a b c is_log is_block x y =
 
 -- what follows the code of the index of a resident array
 pub found_placed : (f : Setting) (mode : Mode) (h : Home) (mask to from : ℕ) (i : Tree) (b c : CodeBuf)
-    → from ≡ operand_register (index_operand f (compares f mode h i) i) to → h.resident ≡ true
-    → Appended b c (numbered_code (compares f mode h i) f h to from ++ offset_code f h to)
-    (λ place. compared_notes (compares f mode h i) None f mask to
-    (place + length (numbered_code (compares f mode h i) f h to from)))
+    → from ≡ operand_register (index_operand f (numbering f mode h i) i) to → h.resident ≡ true
+    → Appended b c (numbered_code (numbering f mode h i) f h to from ++ offset_code f h to)
+    (λ place. compared_notes (numbering f mode h i) None f mask to
+    (place + length (numbered_code (numbering f mode h i) f h to from)))
     → EmitsFound f mode h mask to i b c
 found_placed f mode h mask to from i b c same is x =
-    let near = compares f mode h i in
-    let number : List Instr = numbered_code near f h to from in
+    let way = numbering f mode h i in
+    let number : List Instr = numbered_code way f h to from in
     let offset : List Instr = offset_code f h to in
-    let R : ℕ → Type 0 = λ own. Appended b c (found_by h.resident near f mode h to own)
+    let R : ℕ → Type 0 = λ own. Appended b c (found_by h.resident way f mode h to own)
     (λ place. notes_in mode
-    (loaded_notes h.resident near None f h mask to
-    (place + length (found_by h.resident near f Public h to own)))) in
-    let P : Bool → Type 0 = λ r. Appended b c (found_by r near f mode h to from)
+    (loaded_notes h.resident way None f h mask to
+    (place + length (found_by h.resident way f Public h to own)))) in
+    let P : Bool → Type 0 = λ r. Appended b c (found_by r way f mode h to from)
     (λ place. notes_in mode
-    (loaded_notes r near None f h mask to (place + length (found_by r near f Public h to from)))) in
+    (loaded_notes r way None f h mask to (place + length (found_by r way f Public h to from)))) in
     subst R same
     (subst P (sym is)
     (appended_as b c (number ++ offset) (number ++ offset)
-    (λ place. compared_notes near None f mask to (place + length number))
-    (λ place. notes_in mode (compared_notes near None f mask to (place + length (number ++ offset) - length offset)))
+    (λ place. compared_notes way None f mask to (place + length number))
+    (λ place. notes_in mode (compared_notes way None f mask to (place + length (number ++ offset) - length offset)))
     refl
     (λ place.
-    ap (compared_notes near None f mask to) (before place number offset)
+    ap (compared_notes way None f mask to) (before place number offset)
     ∙ compared_in mode f h i mask to (place + length (number ++ offset) - length offset))
     x))
   where
@@ -282,41 +289,41 @@ found_placed f mode h mask to from i b c same is x =
 
 -- what follows the code of any other index
 pub found_loaded : (f : Setting) (mode : Mode) (h : Home) (mask to from : ℕ) (i : Tree) (b c d : CodeBuf)
-    → from ≡ operand_register (index_operand f (compares f mode h i) i) to → h.resident ≡ false
-    → Appended b c (numbered_code (compares f mode h i) f h to from ++ shift_code f h to)
-    (λ place. compared_notes (compares f mode h i) None f mask to
-    (place + length (numbered_code (compares f mode h i) f h to from)))
+    → from ≡ operand_register (index_operand f (numbering f mode h i) i) to → h.resident ≡ false
+    → Appended b c (numbered_code (numbering f mode h i) f h to from ++ shift_code f h to)
+    (λ place. compared_notes (numbering f mode h i) None f mask to
+    (place + length (numbered_code (numbering f mode h i) f h to from)))
     → EmitsLoad f mode h mask to c d
     → EmitsFound f mode h mask to i b d
 found_loaded f mode h mask to from i b c d same turn x y =
-    let near = compares f mode h i in
-    let number : List Instr = numbered_code near f h to from in
+    let way = numbering f mode h i in
+    let number : List Instr = numbered_code way f h to from in
     let located : List Instr = number ++ shift_code f h to in
     let skipped : List Instr = load_code (is_cached h) h to in
     let load : ℕ → List Note = λ behind. if is_cached h then note_of f (access_mask mask to) behind ∷ [] else [] in
-    let R : ℕ → Type 0 = λ own. Appended b d (found_by h.resident near f mode h to own)
+    let R : ℕ → Type 0 = λ own. Appended b d (found_by h.resident way f mode h to own)
     (λ place. notes_in mode
-    (loaded_notes h.resident near None f h mask to (place + length (found_by h.resident near f Public h to own)))) in
-    let P : Bool → Type 0 = λ r. Appended b d (found_by r near f mode h to from)
-    (λ place. notes_in mode (loaded_notes r near None f h mask to
-    (place + length (found_by r near f Public h to from)))) in
+    (loaded_notes h.resident way None f h mask to (place + length (found_by h.resident way f Public h to own)))) in
+    let P : Bool → Type 0 = λ r. Appended b d (found_by r way f mode h to from)
+    (λ place. notes_in mode (loaded_notes r way None f h mask to
+    (place + length (found_by r way f Public h to from)))) in
     subst R same
     (subst P (sym turn)
     (appended_as b d (located ++ load_code (skips mode h) h to) (located ++ load_code (skips mode h) h to)
-    (λ place. compared_notes near None f mask to (place + length number)
+    (λ place. compared_notes way None f mask to (place + length number)
     ++ notes_in mode (load (place + length located + length skipped)))
     (λ place. notes_in mode
-    (compared_notes near None f mask to (place + length (located ++ skipped) - length (shift_code f h to ++ skipped))
+    (compared_notes way None f mask to (place + length (located ++ skipped) - length (shift_code f h to ++ skipped))
     ++ load (place + length (located ++ skipped))))
     refl
     (λ place.
     (λ k. compared_in mode f h i mask to (before place number (shift_code f h to) skipped k) k
     ++ notes_in mode (load (further place located skipped k)))
     ∙ notes_both mode
-    (compared_notes near None f mask to (place + length (located ++ skipped) - length (shift_code f h to ++ skipped)))
+    (compared_notes way None f mask to (place + length (located ++ skipped) - length (shift_code f h to ++ skipped)))
     (load (place + length (located ++ skipped))))
     (appended_then b c d located (load_code (skips mode h) h to)
-    (λ place. compared_notes near None f mask to (place + length number))
+    (λ place. compared_notes way None f mask to (place + length number))
     (λ place. notes_in mode (load (place + length skipped))) x y)))
   where
     before : (place : ℕ) (xs ys zs : List Instr)
@@ -329,10 +336,10 @@ pub element_emitted : (f : Setting) (mode : Mode) (mask to : ℕ) (x : List ℕ)
     → EmitsExpr f mode mask to (Element x i) a c
 element_emitted f mode mask to x i h a b c is y z =
     let P : Home → Type 0 = λ k. Appended a c
-    (indexed_code f (compares f mode k i) mode k to i (expr_code f mode to i) ++ read_code f k (fixed_index k i) to)
+    (indexed_code f (numbering f mode k i) mode k to i (expr_code f mode to i) ++ read_code f k (fixed_index k i) to)
     (λ place. notes_in mode (access_notes f k mask to i place)) in
     subst P is
-    (silent_behind a b c (indexed_code f (compares f mode h i) mode h to i (expr_code f mode to i))
+    (silent_behind a b c (indexed_code f (numbering f mode h i) mode h to i (expr_code f mode to i))
     (read_code f h (fixed_index h i) to) (λ place. notes_in mode (access_notes f h mask to i place)) y z)
 
 -- the steps, or the right side and the operation

@@ -22,9 +22,11 @@ use Rattle.src_tree.specs.Meaning.{Store, variable_number, scalar, element, eval
 use Rattle.src_tree.specs.Trees.{Tree, Number, Variable, Element, Operation}
 use Rattle.src_tree.specs.Typing.{TypedTree}
 use Rattle.src_tree.proofs.TreeHeights.{height-some}
+use Rattle.scalar_ranges.specs.Ranges.{AreWithin}
 use Rattle.block_cache_gen.specs.declared.frames.Mode.{Mode}
+use Rattle.block_cache_gen.specs.declared.indexes.Numbering.{Numbering}
 use Rattle.block_cache_gen.specs.Homes.{Setting, HasHomes, home_of, words_a_block, start_of_home, register_for, further_slots}
-use Rattle.block_cache_gen.specs.Codes.{fixed_index, scalar_code, access_by, placed_code, read_by, index_operand, operand, operand_part, operand_register, operand_unless, left_operand, operation_code, steps_at, expr_code, compares, copy_code}
+use Rattle.block_cache_gen.specs.Codes.{fixed_index, scalar_code, access_by, placed_code, read_by, index_operand, operand, operand_part, operand_register, operand_unless, left_operand, operation_code, steps_at, expr_code, is_in_place, numbering, copy_code}
 use Rattle.gr_word.specs.declared.operations.Op.{Op}
 use Rattle.strength_reduction.specs.Steps.{Step, numbered, words_after, code_of}
 use Rattle.step_code.proofs.StepRuns.{Leaves, runs-steps}
@@ -41,6 +43,7 @@ use Rattle.block_cache_gen.proofs.RegisterWrites.{register-word, zero-word}
 use Rattle.block_cache_gen.proofs.HeldOperands.{IsOperandOf, operand-apart, operand-stays, operand-unless}
 use Rattle.block_cache_gen.proofs.OperandRuns.{LeavesAt, RunsExpr, RunsValue, runs-operand}
 use Rattle.block_cache_gen.proofs.Stands.{stands-like, stands-set}
+use Rattle.block_cache_gen.proofs.IndexRuns.{FitsNumbering, fits-numbering}
 use Rattle.block_cache_gen.proofs.ResidentRuns.{fixed-number, runs-placed, runs-read, resident-within}
 use Rattle.block_cache_gen.proofs.SpreadRuns.{Reads, runs-read_by}
 use Rattle.block_cache_gen.proofs.WordSlots.{single-slot}
@@ -135,25 +138,26 @@ module _ (o : Parts) (fits : IsInRange o) (f : Setting) (homes : HasHomes o f) (
   runs-element : (mode : Mode) (x : List ℕ) (i : Tree) (label : Label) → context_of f.decls x ≡ Some (label, Array)
       → (to from : ℕ) (index : List Instr) → to + 3 < 19 → from ≢ to + 1 → (s : State) → IsShaped o s
       → StandsFor f s store → RunsValue o f store mode to from i index s
-      → (near resident : Bool) → (near ≡ true → from ≡ to) → (home_of f x).resident ≡ resident
+      → (way : Numbering) (resident : Bool)
+      → FitsNumbering way to from (evaluated f.decls store i) (home_of f x).length → (home_of f x).resident ≡ resident
       → StandsAt o s.place
-      (access_by resident near f mode (home_of f x) to from (fixed_index (home_of f x) i) index
+      (access_by resident way f mode (home_of f x) to from (fixed_index (home_of f x) i) index
       ++ read_by resident f (home_of f x) (fixed_index (home_of f x) i) to)
       → RunsThrough o s
-      (access_by resident near f mode (home_of f x) to from (fixed_index (home_of f x) i) index
+      (access_by resident way f mode (home_of f x) to from (fixed_index (home_of f x) i) index
       ++ read_by resident f (home_of f x) (fixed_index (home_of f x) i) to)
       (seen_of_all mode s.banks s.slots
       (accesses f store i ++ accessed_by resident (access_of f store x (evaluated f.decls store i))))
       (LeavesWord f store
       (accesses f store i ++ accessed_by resident (access_of f store x (evaluated f.decls store i))) to
       (element store (variable_number f.decls x) (evaluated f.decls store i)) s)
-  runs-element mode x i label known to from found small other s shaped stands run near true own resident at =
+  runs-element mode x i label known to from found small other s shaped stands run way true own resident at =
       let h = home_of f x in
       let index = evaluated f.decls store i in
       let n = word_number f store x index in
       let value = element store (variable_number f.decls x) index in
       let before = accesses f store i in
-      let code = placed_code near f h to from (fixed_index h i) found in
+      let code = placed_code way f h to from (fixed_index h i) found in
       let load = read_by true f h (fixed_index h i) to in
       let seen = seen_of_all mode s.banks s.slots before in
       let same : before ≡ before ++ [] = sym (append-nil before) in
@@ -164,7 +168,7 @@ module _ (o : Parts) (fits : IsInRange o) (f : Setting) (homes : HasHomes o f) (
       (runs-weaker s (code ++ load) (seen ++ []) seen Done Done
       (runs-append s code load seen [] (LeavesWord f store before to (pos (h.word + n)) s) Done at
       (runs-placed o fits f homes store store_fits x label Array known resident mode to from i found s shaped stands
-      (omega (arith, small)) other run near own (fixed_index h i) refl)
+      (omega (arith, small)) other run way own (fixed_index h i) refl)
       (λ t shape placed at'.
       runs-weaker t load [] [] (Reads to value t) Done
       (runs-read_by o fits f homes store store_fits x label Array known resident (array-free f homes.held x label known) n
@@ -181,20 +185,20 @@ module _ (o : Parts) (fits : IsInRange o) (f : Setting) (homes : HasHomes o f) (
       })))
       (append-nil seen)
       (λ t shape done. done))
-  runs-element mode x i label known to from found small other s shaped stands run near false own turn at =
+  runs-element mode x i label known to from found small other s shaped stands run way false own turn at =
       let h = home_of f x in
       let index = evaluated f.decls store i in
       let n = word_number f store x index in
       let a = access_of f store x index in
       let value = element store (variable_number f.decls x) index in
       let before = accesses f store i in
-      let code = access_by false near f mode h to from (fixed_index h i) found in
+      let code = access_by false way f mode h to from (fixed_index h i) found in
       let load = Ldw to h.slot to in
       let seen = seen_of_all mode s.banks s.slots (before ++ a ∷ []) in
       let Done : State → Type 0 = LeavesWord f store (before ++ a ∷ []) to value s in
       runs-weaker s (code ++ load ∷ []) (seen ++ []) seen Done Done
       (runs-append s code (load ∷ []) seen [] (Accesses f store before a to n s) Done at
-      (runs-access o fits f homes store store_fits x label known turn near mode to from i found s shaped stands
+      (runs-access o fits f homes store store_fits x label known turn way mode to from i found s shaped stands
       (omega (arith, small)) other own run)
       (λ t shape accessed at'.
       let named : word_named o (register t to) ≡ n % words_a_block f =
@@ -360,30 +364,30 @@ module _ (o : Parts) (fits : IsInRange o) (f : Setting) (homes : HasHomes o f) (
       at
 
   -- an expression
-  pub runs-expression : (mode : Mode) (e : Tree) → TypedTree (context_of f.decls) e → (to : ℕ) → to + height_of e ≤ 17
+  pub runs-expression : AreWithin f.ranges store → (mode : Mode) (e : Tree) → TypedTree (context_of f.decls) e → (to : ℕ) → to + height_of e ≤ 17
       → (s : State) → IsShaped o s → StandsFor f s store → StandsAt o s.place (expr_code f mode to e)
       → RunsThrough o s (expr_code f mode to e) (seen_of_all mode s.banks s.slots (accesses f store e))
       (LeavesWord f store (accesses f store e) to (evaluated f.decls store e) s)
-  runs-expression mode (Number z) typed to room s shaped stands at =
+  runs-expression within mode (Number z) typed to room s shaped stands at =
       runs-weaker s (Li to z ∷ []) [] [] (Sets s to z) (LeavesWord f store [] to z s)
       (runs-one s (Li to z) [] (Sets s to z) at (sets-li o fits s shaped to z (omega arith)))
       refl
       (λ t shape sets. leaves-set (omega arith) stands sets)
-  runs-expression mode (Variable x) typed to room s shaped stands at =
+  runs-expression within mode (Variable x) typed to room s shaped stands at =
       runs-scalar x typed.0 typed.1 to (omega arith) s shaped stands (register_for f x) refl at
-  runs-expression mode (Element x i) typed to room s shaped stands at =
-      let near = compares f mode (home_of f x) i in
-      let q = index_operand f near i in
+  runs-expression within mode (Element x i) typed to room s shaped stands at =
+      let way = numbering f mode (home_of f x) i in
+      let q = index_operand f way i in
       let low : to + 3 < 19 = omega (arith, height-some i) in
-      let apart = operand-apart f i q (operand-unless f i near) to in
+      let apart = operand-apart f i q (operand-unless f i (is_in_place way)) to in
       runs-element mode x i typed.0.0 typed.0.1 to (operand_register q to) (operand_part q (expr_code f mode to i)) low
       (apart.apart (to + 1) (omega arith) (omega arith)) s shaped stands
-      (runs-operand o f store mode i q (operand-unless f i near) to s shaped stands
-      (runs-expression mode i typed.1.0 to (omega arith) s shaped stands))
-      near (home_of f x).resident (λ e. ap (λ b. operand_register (operand_unless b (operand f i)) to) e) refl at
-  runs-expression mode (Operation op left right) typed to room s shaped stands at =
+      (runs-operand o f store mode i q (operand-unless f i (is_in_place way)) to s shaped stands
+      (runs-expression within mode i typed.1.0 to (omega arith) s shaped stands))
+      way (home_of f x).resident (fits-numbering f store within mode (home_of f x) i to) refl at
+  runs-expression within mode (Operation op left right) typed to room s shaped stands at =
       runs-either mode op left right to (omega (arith, height-some right)) s shaped stands
       (left_operand f op left right) (operand-unless f left (is_some (steps_at f op right)))
-      (runs-expression mode left typed.0 to (omega arith) s shaped stands)
-      (λ t shape stands'. runs-expression mode right typed.1 (to + 1) (omega arith) t shape stands')
+      (runs-expression within mode left typed.0 to (omega arith) s shaped stands)
+      (λ t shape stands'. runs-expression within mode right typed.1 (to + 1) (omega arith) t shape stands')
       (steps_at f op right) refl (λ steps e. ap (λ g. operand_unless (is_some g) (operand f left)) e) at

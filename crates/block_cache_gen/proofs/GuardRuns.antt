@@ -19,6 +19,7 @@ use Rattle.src_tree.specs.Heights.{height_of}
 use Rattle.src_tree.specs.Meaning.{Store, evaluated}
 use Rattle.src_tree.specs.Trees.{Test}
 use Rattle.src_tree.specs.Typing.{TypedTest}
+use Rattle.scalar_ranges.specs.Ranges.{AreWithin}
 use Rattle.block_cache_gen.specs.declared.frames.Mode.{Mode}
 use Rattle.block_cache_gen.specs.Homes.{Setting, HasHomes}
 use Rattle.block_cache_gen.specs.Codes.{expr_code, guard_code}
@@ -32,13 +33,13 @@ use Rattle.block_cache_gen.proofs.ExpressionRuns.{runs-expression}
 module _ (o : Parts) (fits : IsInRange o) (f : Setting) (homes : HasHomes o f) (store : Store)
     (store_fits : FitsHomes f store) where
   -- the code of a guard leaves its two sides in two registers
-  pub runs-guard : (mode : Mode) (t : Test) → TypedTest (context_of f.decls) t → (to : ℕ) → to + height_of t.left ≤ 17
+  pub runs-guard : AreWithin f.ranges store → (mode : Mode) (t : Test) → TypedTest (context_of f.decls) t → (to : ℕ) → to + height_of t.left ≤ 17
       → (to + 1) + height_of t.right ≤ 17 → (s : State) → IsShaped o s → StandsFor f s store
       → StandsAt o s.place (guard_code f mode to t)
       → RunsThrough o s (guard_code f mode to t) (seen_of_all mode s.banks s.slots (test_accesses f store t))
       (LeavesBoth f store (test_accesses f store t) to (evaluated f.decls store t.left)
       (evaluated f.decls store t.right) s)
-  runs-guard mode t typed to room room' s shaped stands at =
+  runs-guard within mode t typed to room room' s shaped stands at =
       let first = expr_code f mode to t.left in
       let second = expr_code f mode (to + 1) t.right in
       let before = accesses f store t.left in
@@ -51,10 +52,10 @@ module _ (o : Parts) (fits : IsInRange o) (f : Setting) (homes : HasHomes o f) (
       runs-weaker s (first ++ second) (seen_first ++ seen_then)
       (seen_of_all mode s.banks s.slots (before ++ then)) Done Done
       (runs-append s first second seen_first seen_then (LeavesWord f store before to a s) Done at
-      (runs-expression o fits f homes store store_fits mode t.left typed.0 to room s shaped stands)
+      (runs-expression o fits f homes store store_fits within mode t.left typed.0 to room s shaped stands)
       (λ u shape leaves at'.
       runs-weaker u second (seen_of_all mode u.banks u.slots then) seen_then (LeavesWord f store then (to + 1) b u) Done
-      (runs-expression o fits f homes store store_fits mode t.right typed.1 (to + 1) room' u shape leaves.stands at')
+      (runs-expression o fits f homes store store_fits within mode t.right typed.1 (to + 1) room' u shape leaves.stands at')
       (ap (λ l. seen_of_all mode l u.slots then) leaves.banks ∙ ap (λ l. seen_of_all mode s.banks l then) leaves.slots)
       (λ v shape' leaves'. record {
         first = leaves'.below to (omega arith) ∙ leaves.value;

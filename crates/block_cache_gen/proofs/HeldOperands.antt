@@ -1,6 +1,6 @@
 -- An operand in a register that holds its value for the whole run: what the register holds, that it stays, and that the
 -- operand makes no access.
-use Rattle.std.proofs.Common.{◌≡◌, ℕ, ◌+◌, ◌<◌, ◌≤◌, Bool, true, false, List, [], length, Option, Some, None, refl, sym, ◌∙◌, arith, inl, inr}
+use Rattle.std.proofs.Common.{◌≡◌, ℕ, ◌<◌, ◌≤◌, Bool, true, false, List, [], length, Option, Some, None, refl, sym, ◌∙◌, arith, inl, inr}
 use Rattle.lt_isa.specs.Machine.{State, register}
 use Rattle.src_tree.specs.Meaning.{Store, variable_number, evaluated}
 use Rattle.src_tree.specs.Trees.{Tree, Number, Variable, Element, Operation}
@@ -11,7 +11,7 @@ use Rattle.word_selection.specs.SlotSteps.{IsOutside}
 use Rattle.block_cache_gen.specs.Homes.{Held, Setting}
 use Rattle.block_cache_gen.specs.Codes.{operand, operand_part, operand_register, operand_unless}
 use Rattle.block_cache_gen.specs.StandsFor.{StandsFor}
-use Rattle.block_cache_gen.specs.Accesses.{ArrayAccess, accesses}
+use Rattle.block_cache_gen.specs.Accesses.{accesses}
 use Rattle.block_cache_gen.proofs.HeldScalars.{held-inside}
 
 -- a register holds the word of an expression that accesses nothing

@@ -1,5 +1,5 @@
 -- Runs of the code that finds the word of an element and its block.
-use Rattle.std.proofs.Common.{◌≡◌, ◌≢◌, ℕ, zero, suc, ◌+◌, ◌-◌, ◌/◌, ◌%◌, ◌^◌, ◌<◌, ◌≤◌, true, Bool, false, ◌==◌, eqb-true, ℤ, pos, ◌+ℤ◌, [], ◌∷◌, ◌++◌, length, Option, Some, None, refl, sym, ap, ◌∙◌, subst, ⊎_elim, arith}
+use Rattle.std.proofs.Common.{◌≡◌, ◌≢◌, ℕ, zero, suc, ◌+◌, ◌-◌, ◌/◌, ◌%◌, ◌^◌, ◌<◌, ◌≤◌, true, Bool, false, ◌==◌, ◌&&◌, eqb-true, ℤ, pos, ◌+ℤ◌, [], ◌∷◌, ◌++◌, length, Option, Some, None, refl, sym, ap, ◌∙◌, subst, ⊎_elim, arith}
 use Rattle.std.specs.Prelude.{if◌then◌else◌}
 use Rattle.std.specs.List.{range_with_len, list_any}
 use Rattle.std.proofs.lemmas.Bool.{or_cases, and_parts, false≢true}
@@ -19,15 +19,23 @@ use Rattle.stretches.specs.Coming.{RunsThrough, Sets}
 use Rattle.stretches.proofs.Standing.{standing-head}
 use Rattle.stretches.proofs.Coming.{comes-br_taken, comes-br_on, comes-weaker}
 use Rattle.stretches.proofs.RunningThrough.{runs-append, runs-cons, runs-one, runs-weaker, sets-li, sets-alu}
-use Rattle.src_tree.specs.Meaning.{Store}
+use Rattle.src_tree.specs.Meaning.{Store, evaluated}
 use Rattle.held_registers.specs.declared.registers.Held.TheVariants as thing
 use Rattle.held_registers.proofs.Found.{number-held}
+use Rattle.src_tree.specs.Trees.{Tree}
+use Rattle.scalar_ranges.specs.Known.{is_within}
+use Rattle.scalar_ranges.specs.Ranges.{AreWithin}
+use Rattle.scalar_ranges.proofs.Values.{within-below}
+use Rattle.block_cache_gen.specs.declared.frames.Mode.{Mode}
+use Rattle.block_cache_gen.specs.declared.indexes.Numbering.{Numbering}
+use Rattle.block_cache_gen.specs.declared.indexes.Numbering.TheVariants.{Compared, Reduced, Within}
 use Rattle.block_cache_gen.specs.Homes.{Home, Setting}
 use Rattle.block_cache_gen.specs.StandsFor.{StandsFor}
 use Rattle.block_cache_gen.proofs.Stands.{stands-like}
-use Rattle.block_cache_gen.specs.Codes.{is_power, is_masked, is_cached, operand_part, operand_register, held_number, applied_code, reducing, reducer, reduced_code, least_word, compared_code, numbered_code, shift_code, fixed_code, fixed_word}
-use Rattle.block_cache_gen.proofs.NearIndexes.{near-index}
+use Rattle.block_cache_gen.specs.Codes.{is_power, is_masked, is_cached, is_in_place, is_within_home, index_operand, numbering, numbering_by, compares, operand, operand_unless, operand_part, operand_register, held_number, applied_code, reducing, reducer, reduced_code, least_word, compared_code, numbered_code, shift_code, fixed_code, fixed_word}
+use Rattle.block_cache_gen.proofs.NearIndexes.{near-index, own-remainder}
 use Rattle.block_cache_gen.proofs.Kept.{Keeps, keeps-set, keeps-on, keeps-lower}
+use Rattle.block_cache_gen.proofs.OperandRuns.{runs-nothing}
 
 -- The number of a word is in register `to`, and that of its block in the next one; the registers below and those
 -- from 19 on, the slots and the banks are as before.
@@ -40,6 +48,30 @@ pub record Locates (to n a : ℕ) (s t : State) : Type 0 where
 pub record Reduces (to n : ℕ) (s t : State) : Type 0 where
   pub word : register t to ≡ pos n
   pub keeps : Keeps to s t
+
+-- What a numbering asks of an index and its register: unless the index is reduced, it is in register `to`; and it is
+-- below the size of its array if it is the number of the word.
+pub record FitsNumbering (n : Numbering) (to from : ℕ) (index : ℤ) (size : ℕ) : Type 0 where
+  pub own : is_in_place n ≡ true → from ≡ to
+  pub below : n ≡ Within → unsigned_of index < size
+
+within-of : (within compares : Bool) → numbering_by within compares ≡ Within → within ≡ true
+within-of true compares e = refl
+within-of false true e = absurd (let g : ◌≡◌ {A = Numbering} Compared Within = e in cc)
+within-of false false e = absurd (let g : ◌≡◌ {A = Numbering} Reduced Within = e in cc)
+
+-- an index that is known to be below the length of its array is below it in each store that is within what is known
+pub fits-numbering : (f : Setting) (store : Store) → AreWithin f.ranges store → (mode : Mode) (h : Home) (i : Tree)
+    (to : ℕ) → FitsNumbering (numbering f mode h i) to
+    (operand_register (index_operand f (numbering f mode h i) i) to) (evaluated f.decls store i) h.length
+fits-numbering f store within mode h i to = record {
+  own = λ e. ap (λ (b : Bool). operand_register (operand_unless b (operand f i)) to) e;
+  below = λ e.
+      let known : is_within_home f h i ≡ true = within-of (is_within_home f h i) (compares f mode h i) e in
+      let cached = (and_parts f.reduces (is_cached h && is_within f.decls f.ranges i h.length) known).1 in
+      within-below f.decls f.ranges store within i h.length
+      (and_parts (is_cached h) (is_within f.decls f.ranges i h.length) cached).1;
+}
 
 -- the result of an operation is in register `to`
 pub record Computes (to : ℕ) (value : ℤ) (s t : State) : Type 0 where
@@ -226,15 +258,29 @@ module _ (o : Parts) (fits : IsInRange o) (f : Setting) (store : Store) where
       (keeps-on (keeps-set to sets2 (omega arith) (omega arith)) (keeps-set to sets3 (omega arith) (omega arith))))
       below least most (compared Lt sum bound) test (near-index index h.length word (omega arith)) at3)))
 
-  -- with a comparison or without one
-  pub runs-numbered : (near : Bool) (h : Home) (to from : ℕ) (s : State) (index : ℤ) → IsShaped o s
-      → StandsFor f s store → register s from ≡ index → from ≢ to + 1 → (near ≡ true → from ≡ to)
-      → to + 2 < 19 → 1 ≤ h.length → h.length ≤ 1048576 → StandsAt o s.place (numbered_code near f h to from)
-      → RunsThrough o s (numbered_code near f h to from) [] (Reduces to (unsigned_of index % h.length) s)
-  runs-numbered true h to from s index shaped stands has other own below least most at =
-      runs-compared h to s index shaped (ap (register s) (sym (own refl)) ∙ has) below least most at
-  runs-numbered false h to from s index shaped stands has other own below least most at =
+  -- an index that is the number of the word
+  runs-within : (h : Home) (to : ℕ) (s : State) (index : ℤ) → IsShaped o s → register s to ≡ index
+      → h.length ≤ 1048576 → unsigned_of index < h.length
+      → RunsThrough o s [] [] (Reduces to (unsigned_of index % h.length) s)
+  runs-within h to s index shaped has most less =
+      let word : IsWord index = subst IsWord has (IsWord-register o s shaped to) in
+      runs-nothing s (Reduces to (unsigned_of index % h.length) s) shaped
+      (record {
+        word = has ∙ sym (own-remainder index h.length word (omega arith) less);
+        keeps = record { below = λ r under. refl; above = λ r over. refl; slots = refl; banks = refl };
+      })
+
+  -- by each numbering
+  pub runs-numbered : (n : Numbering) (h : Home) (to from : ℕ) (s : State) (index : ℤ) → IsShaped o s
+      → StandsFor f s store → register s from ≡ index → from ≢ to + 1 → FitsNumbering n to from index h.length
+      → to + 2 < 19 → 1 ≤ h.length → h.length ≤ 1048576 → StandsAt o s.place (numbered_code n f h to from)
+      → RunsThrough o s (numbered_code n f h to from) [] (Reduces to (unsigned_of index % h.length) s)
+  runs-numbered Compared h to from s index shaped stands has other by below least most at =
+      runs-compared h to s index shaped (ap (register s) (sym (by.own refl)) ∙ has) below least most at
+  runs-numbered Reduced h to from s index shaped stands has other by below least most at =
       runs-reduced h to from s index shaped stands has other below least most at
+  runs-numbered Within h to from s index shaped stands has other by below least most at =
+      runs-within h to s index shaped (ap (register s) (sym (by.own refl)) ∙ has) most (by.below refl)
 
   -- the block, from the word
   pub runs-block : (h : Home) (to : ℕ) (s : State) (word : ℕ) → IsShaped o s → StandsFor f s store

@@ -44,6 +44,7 @@ pub mod PublicGuards
 pub mod PublicAssignments
 pub mod RangesOfNotes
 pub mod RangesOfCode
+pub mod Ranged
 pub mod ArmInstructions
 pub mod ArmStates
 pub mod PublicTrees

@@ -1,4 +1,4 @@
--- An index that is found to be below a length is its own remainder by that length.
+-- An index that is found or known to be below a length is its own remainder by that length.
 use Rattle.std.proofs.Common.{◌≡◌, ℕ, suc, ◌+◌, ◌-◌, ◌%◌, ◌^◌, ◌<◌, ◌≤◌, true, false, ℤ, pos, negsuc, ◌+ℤ◌, sym, ap, ◌∙◌, arith, w64, int_lt, nat_lt, mod-eq_of_lt}
 use Rattle.std.specs.Int.{cast_signed, int_wrap}
 use Rattle.std.proofs.lemmas.Bool.{ltb-true, false≢true}
@@ -26,6 +26,15 @@ raised m fits =
 
 bound-is : (n : ℕ) → n < 2 ^ 62 → least_word +ℤ pos n ≡ negsuc (9223372036854775807 - n)
 bound-is n small = omega (arith, ints)
+
+-- an index that is known to be below a length
+pub own-remainder : (index : ℤ) (n : ℕ) → IsWord index → n < 2 ^ 62 → unsigned_of index < n
+    → pos (unsigned_of index % n) ≡ index
+own-remainder (pos m) n fits small less = ap pos (mod-eq_of_lt less)
+own-remainder (negsuc m) n fits small less =
+    let few : m < 2 ^ 63 = fits.sfits in
+    let most : 2 ^ 64 - suc m < n = less in
+    absurd (omega (arith, few, most, small))
 
 pub near-index : (index : ℤ) (n : ℕ) → IsWord index → n < 2 ^ 62
     → compared Lt (applied Add least_word index) (least_word +ℤ pos n) ≡ true → pos (unsigned_of index % n) ≡ index

@@ -1,24 +1,24 @@
 -- The places of the notes of public code: after its first instruction, each at one of its instructions.
-use Rattle.std.proofs.Common.{◌≡◌, ℕ, ◌+◌, ◌-◌, ◌<◌, ◌≤◌, Bool, true, false, ℤ, List, [], ◌∷◌, ◌++◌, length, length-append, Option, Some, None, ap, ◌∙◌, arith, pos}
+use Rattle.std.proofs.Common.{◌≡◌, ℕ, ◌+◌, ◌-◌, ◌<◌, ◌≤◌, Bool, true, false, ℤ, List, [], ◌∷◌, ◌++◌, length, length-append, Option, Some, None, refl, ap, ◌∙◌, arith}
 use Rattle.std.specs.Prelude.{if◌then◌else◌, is_some}
 use Rattle.lt_isa.specs.declared.symbols.Note.{Note}
 use Rattle.lt_isa.specs.declared.instructions.Instr.{Instr}
-use Rattle.lt_isa.specs.declared.instructions.Instr.TheVariants.{Li, Alu}
+use Rattle.lt_isa.specs.declared.instructions.Instr.TheVariants.{Alu}
 use Rattle.src_tree.specs.Contexts.{context_of}
 use Rattle.src_tree.specs.Labels.{label_of}
 use Rattle.src_tree.specs.Trees.{Tree, Number, Variable, Element, Operation}
 use Rattle.stretches.proofs.Passed.{LieBetween, lie_wider, lie_both}
 use Rattle.block_cache_gen.specs.declared.frames.Mode.TheVariants.{Public, Real, Mirrored}
 use Rattle.block_cache_gen.specs.Homes.{further_slots, Home, Setting, home_of, register_for}
-use Rattle.block_cache_gen.specs.Codes.{read_by, read_code, stored_among, stored_by, stored_code, is_cached, compares, compared_code, numbered_code, fixed_index, shift_code, offset_code, located_code, load_code, skips, access_by, access_code, operand, operand_part, operand_register, operand_unless, left_operand, index_operand, indexed_code, operation_code, steps_at, expr_code, is_masked, scalar_code, write_code}
+use Rattle.block_cache_gen.specs.declared.indexes.Numbering.{Numbering}
+use Rattle.block_cache_gen.specs.declared.indexes.Numbering.TheVariants.{Compared, Reduced, Within}
+use Rattle.block_cache_gen.specs.Codes.{read_by, read_code, stored_among, stored_by, stored_code, is_cached, numbering, compared_code, numbered_code, fixed_index, shift_code, offset_code, located_code, load_code, skips, access_by, access_code, operand, operand_part, operand_register, operand_unless, left_operand, index_operand, indexed_code, operation_code, steps_at, expr_code, scalar_code, write_code}
 use Rattle.gr_word.specs.declared.variables.Label.{Label}
 use Rattle.block_cache_gen.specs.declared.frames.Mode.{Mode}
 use Rattle.gr_word.specs.declared.operations.Op.{Op}
-use Rattle.gr_word.specs.declared.operations.Op.TheVariants.{And, Remu}
 use Rattle.strength_reduction.specs.Steps.{Step, code_of}
 use Rattle.block_cache_gen.specs.Notes.{operand_mask, access_mask, note_of, compared_notes, loading_code, loaded_notes, load_notes, index_notes, operation_notes, expr_notes}
-use Rattle.block_cache_gen.proofs.Sizes.{numbered_some, shift_some}
-use Rattle.block_cache_gen.proofs.ElementCodes.{read-short}
+use Rattle.block_cache_gen.proofs.Sizes.{shift_some}
 
 -- a located word takes two instructions at least, and more than its index
 abbrev pub index_length : Option ℤ → List Instr → ℕ
@@ -26,7 +26,7 @@ index_length (Some z) index = 0
 index_length None index = length index
 
 -- at least two instructions follow the index
-pub located-longer : (near : Bool) (f : Setting) (h : Home) (to from : ℕ) (fixed : Option ℤ) (index : List Instr)
+pub located-longer : (near : Numbering) (f : Setting) (h : Home) (to from : ℕ) (fixed : Option ℤ) (index : List Instr)
     → index_length fixed index + 2 ≤ length (located_code near f h to from fixed index)
 located-longer near f h to from (Some z) index = omega arith
 located-longer near f h to from None index =
@@ -34,7 +34,6 @@ located-longer near f h to from None index =
       arith,
       length-append index (numbered_code near f h to from ++ shift_code f h to),
       length-append (numbered_code near f h to from) (shift_code f h to),
-      numbered_some near f h to from,
       shift_some f h to,
     )
 
@@ -43,7 +42,7 @@ load_longer true h to = omega arith
 load_longer false h to = omega arith
 
 -- and one more in an access
-pub access-longer : (near : Bool) (f : Setting) (h : Home) (to from : ℕ) (fixed : Option ℤ) (index : List Instr)
+pub access-longer : (near : Numbering) (f : Setting) (h : Home) (to from : ℕ) (fixed : Option ℤ) (index : List Instr)
     → length (located_code near f h to from fixed index) + 1
     ≤ length (located_code near f h to from fixed index ++ load_code (skips Public h) h to)
 access-longer near f h to from fixed index =
@@ -53,17 +52,16 @@ access-longer near f h to from fixed index =
       load_longer (skips Public h) h to,
     )
 
--- an access is longer than its index
-pub access-more : (resident near : Bool) (f : Setting) (h : Home) (to from : ℕ) (fixed : Option ℤ)
+-- an access isn't shorter than its index, and longer if it loads
+pub access-more : (resident : Bool) (near : Numbering) (f : Setting) (h : Home) (to from : ℕ) (fixed : Option ℤ)
     (index : List Instr)
-    → index_length fixed index + 1 ≤ length (access_by resident near f Public h to from fixed index)
+    → index_length fixed index ≤ length (access_by resident near f Public h to from fixed index)
 access-more true near f h to from (Some z) index = omega arith
 access-more true near f h to from None index =
     omega (
       arith,
       length-append index (numbered_code near f h to from ++ offset_code f h to),
       length-append (numbered_code near f h to from) (offset_code f h to),
-      numbered_some near f h to from,
     )
 access-more false near f h to from fixed index =
     let longer = located-longer near f h to from fixed index in
@@ -77,29 +75,32 @@ load-lies f h mask to behind p q true low high = ((low, high), tt)
 load-lies f h mask to behind p q false low high = tt
 
 -- the note of a comparison
-pub compared-lie : (near : Bool) (f : Setting) (mask to place p q : ℕ) → p < place → place < q
-    → LieBetween p q (compared_notes near None f mask to place)
-compared-lie true f mask to place p q low high = ((low, high), tt)
-compared-lie false f mask to place p q low high = tt
+pub compared-lie : (near : Numbering) (f : Setting) (mask to place p q : ℕ) → (near ≡ Compared → p < place)
+    → place < q → LieBetween p q (compared_notes near None f mask to place)
+compared-lie Compared f mask to place p q low high = ((low refl, high), tt)
+compared-lie Reduced f mask to place p q low high = tt
+compared-lie Within f mask to place p q low high = tt
 
 -- before the number of the block is computed there is at most the note of a comparison
-pub located-lie : (f : Setting) (h : Home) (mask to from p : ℕ) (near : Bool) (fixed : Option ℤ) (index : List Instr)
+pub located-lie : (f : Setting) (h : Home) (mask to from p : ℕ) (near : Numbering) (fixed : Option ℤ)
+    (index : List Instr)
     → LieBetween p (p + length (located_code near f h to from fixed index))
     (compared_notes near fixed f mask to
     (p + length (located_code near f h to from fixed index)
     - length (shift_code f h to)))
 located-lie f h mask to from p near (Some z) index = tt
-located-lie f h mask to from p false None index = tt
-located-lie f h mask to from p true None index =
+located-lie f h mask to from p Reduced None index = tt
+located-lie f h mask to from p Within None index = tt
+located-lie f h mask to from p Compared None index =
     let shift = shift_code f h to in
     let whole = length-append index (compared_code h to ++ shift) in
     let rest = length-append (compared_code h to) shift in
     let some = shift_some f h to in
-    compared-lie true f mask to _ p _ (omega arith) (omega arith)
+    compared-lie Compared f mask to _ p _ (λ is. omega arith) (omega arith)
 
 -- the place of the note of a comparison in the code of an access that loads
 pub loading-behind : (f : Setting) (h : Home) (to from p : ℕ) (index : List Instr)
-    → p + length (access_by false true f Public h to from None index) - length (loading_code f h to)
+    → p + length (access_by false Compared f Public h to from None index) - length (loading_code f h to)
     ≡ p + length index + 6
 loading-behind f h to from p index =
     let load = load_code (is_cached h) h to in
@@ -111,35 +112,38 @@ loading-behind f h to from p index =
     )
 
 -- the note of a comparison, or of a load
-pub loaded-lie : (f : Setting) (h : Home) (mask to from p : ℕ) (resident near : Bool) (fixed : Option ℤ)
+pub loaded-lie : (f : Setting) (h : Home) (mask to from p : ℕ) (resident : Bool) (near : Numbering) (fixed : Option ℤ)
     (index : List Instr)
     → LieBetween p (p + length (access_by resident near f Public h to from fixed index) + 1)
     (loaded_notes resident near fixed f h mask to
     (p + length (access_by resident near f Public h to from fixed index)))
 loaded-lie f h mask to from p true near (Some z) index = tt
-loaded-lie f h mask to from p true true None index =
+loaded-lie f h mask to from p true Compared None index =
     let size = length-append index (compared_code h to ++ offset_code f h to) in
     let rest = length-append (compared_code h to) (offset_code f h to) in
     ((omega (arith, size, rest), omega (arith, size, rest)), tt)
-loaded-lie f h mask to from p true false None index = tt
+loaded-lie f h mask to from p true Reduced None index = tt
+loaded-lie f h mask to from p true Within None index = tt
 loaded-lie f h mask to from p false near fixed index =
     let code = access_by false near f Public h to from fixed index in
-    let more = access-more false near f h to from fixed index in
+    let longer = located-longer near f h to from fixed index in
+    let more = access-longer near f h to from fixed index in
     lie_both p (p + length code + 1) (compared_notes near fixed f mask to
     (p + length code - length (loading_code f h to)))
     (if is_cached h then note_of f (access_mask mask to) (p + length code) ∷ [] else []) (compared near fixed)
     (load-lies f h mask to (p + length code) p (p + length code + 1) (is_cached h) (omega arith) (omega arith))
   where
-    compared : (near : Bool) (fixed : Option ℤ)
+    compared : (near : Numbering) (fixed : Option ℤ)
         → LieBetween p (p + length (access_by false near f Public h to from fixed index) + 1)
         (compared_notes near fixed f mask to
         (p + length (access_by false near f Public h to from fixed index)
         - length (loading_code f h to)))
     compared near (Some z) = tt
-    compared false None = tt
-    compared true None =
+    compared Reduced None = tt
+    compared Within None = tt
+    compared Compared None =
         let size = loading-behind f h to from p index in
-        compared-lie true f mask to _ p _ (omega (arith, size)) (omega (arith, size))
+        compared-lie Compared f mask to _ p _ (λ is. omega (arith, size)) (omega (arith, size))
 
 -- the notes of an index
 pub index-lie : (fixed : Option ℤ) (p : ℕ) (index : List Instr) (notes : List Note)
@@ -148,7 +152,8 @@ index-lie (Some z) p index notes lie = tt
 index-lie None p index notes lie = lie
 
 -- the notes of an access
-pub access-lie : (f : Setting) (near : Bool) (h : Home) (mask to from p : ℕ) (fixed : Option ℤ) (index : List Instr)
+pub access-lie : (f : Setting) (near : Numbering) (h : Home) (mask to from p : ℕ) (fixed : Option ℤ)
+    (index : List Instr)
     (notes : List Note) → LieBetween p (p + length index) notes
     → LieBetween p (p + length (access_code near f Public h to from fixed index) + 1)
     (index_notes fixed notes
@@ -204,7 +209,7 @@ expression-longer f (Element x i) to =
     let read = read_code f h (fixed_index h i) to in
     omega (
       arith,
-      length-append (indexed_code f (compares f Public h i) Public h to i (expr_code f Public to i)) read,
+      length-append (indexed_code f (numbering f Public h i) Public h to i (expr_code f Public to i)) read,
       read-longer f h (fixed_index h i) to,
     )
 expression-longer f (Operation op a b) to =
@@ -256,11 +261,12 @@ operation-lie f op to left right p first before second later (Some steps) one tw
 pub array-lie : (f : Setting) (x : List ℕ) (i : Tree) (mask to p : ℕ)
     → LieBetween p (p + length (expr_code f Public to i)) (expr_notes f mask to p i)
     → LieBetween p
-    (p + length (indexed_code f (compares f Public (home_of f x) i) Public (home_of f x) to i (expr_code f Public to i)) + 1)
+    (p + length (indexed_code f (numbering f Public (home_of f x) i) Public (home_of f x) to i
+    (expr_code f Public to i)) + 1)
     (expr_notes f mask to p (Element x i))
 array-lie f x i mask to p lie =
     let h = home_of f x in
-    let near = compares f Public h i in
+    let near = numbering f Public h i in
     let q = index_operand f near i in
     access-lie f near h mask to (operand_register q to) p (fixed_index h i) (operand_part q (expr_code f Public to i))
     (operand_part q (expr_notes f mask to p i))
@@ -273,7 +279,7 @@ expression-lies f (Number z) mask to p = tt
 expression-lies f (Variable x) mask to p = tt
 expression-lies f (Element x i) mask to p =
     let h = home_of f x in
-    let code = indexed_code f (compares f Public h i) Public h to i (expr_code f Public to i) in
+    let code = indexed_code f (numbering f Public h i) Public h to i (expr_code f Public to i) in
     let read = read_code f h (fixed_index h i) to in
     let some = read-longer f h (fixed_index h i) to in
     let notes = expr_notes f mask to p (Element x i) in

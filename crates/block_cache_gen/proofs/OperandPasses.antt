@@ -18,7 +18,7 @@ use Rattle.stretches.specs.Passing.{HoldsAt, AsItComes, Passes, Done, NotesBetwe
 use Rattle.stretches.proofs.Passed.{GoesOn, passes-noted, notes-before, no_note-there, LieBetween}
 use Rattle.block_cache_gen.specs.declared.frames.Mode.TheVariants.{Public}
 use Rattle.block_cache_gen.specs.Homes.{Setting, HasHomes}
-use Rattle.block_cache_gen.specs.Codes.{operand, operand_part, operand_register, expr_code}
+use Rattle.block_cache_gen.specs.Codes.{operand_part, operand_register, expr_code}
 use Rattle.block_cache_gen.specs.Notes.{marked_by, operand_mask, expr_notes}
 use Rattle.block_cache_gen.specs.Carries.{Carries}
 use Rattle.block_cache_gen.specs.PublicCode.{HasLabel, StandsNoted}

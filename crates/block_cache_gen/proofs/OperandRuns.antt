@@ -1,5 +1,5 @@
 -- Runs of the code of an operand: afterwards its register has its value.
-use Rattle.std.proofs.Common.{◌≡◌, ℕ, ◌+◌, ◌<◌, ℤ, List, [], Option, Some, None, refl, sym, ap, ◌∙◌, subst, arith}
+use Rattle.std.proofs.Common.{◌≡◌, ℕ, ◌+◌, ◌<◌, ℤ, List, [], Option, Some, None, refl, sym, ◌∙◌, subst, arith}
 use Rattle.lt_isa.specs.declared.instructions.Instr.{Instr}
 use Rattle.lt_isa.specs.Object.{Parts}
 use Rattle.lt_isa.specs.Machine.{State, register}
@@ -12,7 +12,7 @@ use Rattle.src_tree.specs.Meaning.{Store, evaluated}
 use Rattle.src_tree.specs.Trees.{Tree}
 use Rattle.block_cache_gen.specs.declared.frames.Mode.{Mode}
 use Rattle.block_cache_gen.specs.Homes.{Setting}
-use Rattle.block_cache_gen.specs.Codes.{operand, operand_part, operand_register, expr_code}
+use Rattle.block_cache_gen.specs.Codes.{operand_part, operand_register, expr_code}
 use Rattle.block_cache_gen.specs.StandsFor.{StandsFor}
 use Rattle.block_cache_gen.specs.Accesses.{ArrayAccess, accesses, slots_after, seen_of_all}
 use Rattle.block_cache_gen.specs.LeavesWord.{LeavesWord}

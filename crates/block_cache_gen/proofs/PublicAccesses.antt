@@ -1,7 +1,6 @@
 -- The public code of an access is passed: the word of an array, with its block in the array's slot.
 use Rattle.std.proofs.Common.{pos, ◌==◌, ◌≡◌, ◌≢◌, ℕ, ◌+◌, ◌-◌, ◌<◌, ◌≤◌, Bool, true, false, not, ◌&&◌, ℤ, List, [], ◌∷◌, ◌++◌, length, length-append, append_assoc, Option, Some, None, refl, sym, ap, ◌∙◌, subst, ⊎_elim, arith}
 use Rattle.std.specs.Prelude.{if◌then◌else◌}
-use Rattle.lt_isa.specs.declared.instructions.Instr.TheVariants.{Li, Alu}
 use Rattle.gr_word.specs.declared.operations.Op.TheVariants.{Add}
 use Rattle.std.specs.Option.{option_map}
 use Rattle.std.proofs.lemmas.Bool.{cases_lt, ltb-true, ltb-false, and_parts, false≢true}
@@ -24,10 +23,12 @@ use Rattle.stretches.proofs.Standing.{standing-first, standing-rest}
 use Rattle.stretches.proofs.Passed.{passes-then, passes-to, passes-goes, passes-noted, no_note-before, no_note-behind, notes-before, notes-behind, no_note-there, notes-within, noted, bank-same, secret-same, rules-li, One, NoMore, LieBetween, lie_wider, lie_both}
 use Rattle.block_cache_gen.specs.declared.frames.Mode.TheVariants.{Public}
 use Rattle.block_cache_gen.specs.Homes.{Home, Setting, HasHomes, Serves, home_of, pin_of}
-use Rattle.block_cache_gen.specs.Codes.{is_cached, is_masked, compares, compared_code, numbered_code, applied_code, fixed_index, reduced_code, shift_code, offset_code, placed_code, located_code, load_code, access_by, operand, operand_part, operand_register, operand_unless, index_operand, indexed_code, expr_code}
+use Rattle.block_cache_gen.specs.declared.indexes.Numbering.{Numbering}
+use Rattle.block_cache_gen.specs.declared.indexes.Numbering.TheVariants.{Compared, Reduced, Within}
+use Rattle.block_cache_gen.specs.Codes.{is_cached, is_masked, compares, is_within_home, numbering_by, is_in_place, numbering, reducing, reducer, compared_code, numbered_code, applied_code, fixed_index, reduced_code, shift_code, offset_code, placed_code, located_code, load_code, access_by, operand, operand_part, operand_register, operand_unless, index_operand, indexed_code, expr_code}
 use Rattle.block_cache_gen.specs.Notes.{unmarked, access_mask, note_of, compared_notes, loading_code, loaded_notes, load_notes, index_notes, expr_notes}
 use Rattle.block_cache_gen.specs.Carries.{Carries}
-use Rattle.block_cache_gen.specs.PublicCode.{StandsNoted, HasLabel}
+use Rattle.block_cache_gen.specs.PublicCode.{HasLabel}
 use Rattle.block_cache_gen.specs.PublicIndexes.{shows_index, IndexIsPublic}
 use Rattle.block_cache_gen.proofs.HeldOperands.{IsOperandOf, operand-unless, operand-apart}
 use Rattle.block_cache_gen.proofs.OperandPasses.{ExprPasses, kept-here, passes-here, operand-passes}
@@ -37,20 +38,20 @@ use Rattle.block_cache_gen.proofs.NotesOfCode.{compared-lie, located-lie, index_
 use Rattle.block_cache_gen.proofs.BaseMarks.{unmarked-same, unmarked-other}
 use Rattle.block_cache_gen.proofs.KeptRegisters.{SameBelow, same-itself, same-set, same-bound, carries-same, kept-same}
 use Rattle.block_cache_gen.proofs.AccessLabels.{shifted-numbered, reduced-numbered, offset_by, compared_known, compared_same, compared_word, divided_known, divided_same, divided_word, compared-by, fixed-numbered, asked_known, asked_same, asked_block, skipped_by, loaded-by}
-use Rattle.block_cache_gen.proofs.Sizes.{applied_some, numbered_some, shift_some}
+use Rattle.block_cache_gen.proofs.Sizes.{applied_some, compared_some, shift_some}
 use Rattle.block_cache_gen.proofs.HomeFacts.{serves-oblivious, serves-cached, shows-cached, shown-low}
 
 -- the code of an access, and its notes
 abbrev pub array_code : Setting → ℕ → List ℕ → Tree → List Instr
 array_code f to x i =
-    indexed_code f (compares f Public (home_of f x) i) Public (home_of f x) to i (expr_code f Public to i)
+    indexed_code f (numbering f Public (home_of f x) i) Public (home_of f x) to i (expr_code f Public to i)
 
 -- the notes of an access to an array
 abbrev pub array_notes : Setting → (mask to p : ℕ) → List ℕ → Tree → List Note
 array_notes f mask to p x i =
     index_notes (fixed_index (home_of f x) i)
-    (operand_part (index_operand f (compares f Public (home_of f x) i) i) (expr_notes f mask to p i))
-    ++ load_notes (compares f Public (home_of f x) i) (fixed_index (home_of f x) i) f (home_of f x) mask to
+    (operand_part (index_operand f (numbering f Public (home_of f x) i) i) (expr_notes f mask to p i))
+    ++ load_notes (numbering f Public (home_of f x) i) (fixed_index (home_of f x) i) f (home_of f x) mask to
     (p + length (array_code f to x i))
 
 -- the word is located: where its memory shows addresses, its number and that of its block are public
@@ -149,21 +150,21 @@ module _ (o : Parts) (f : Setting) (homes : HasHomes o f) (once : DeclaredOnce f
           word = λ e. claimed-register f (unmarked mask to) r to (omega arith) ∙ unmarked-same mask to (omega arith);
         }
 
-    -- an index that is compared isn't in a register that holds it for the whole run
+    -- an index that is compared, or taken as it is, isn't in a register that holds it for the whole run
     numbered_at : (q : Option ℕ) → operand_register q to ≢ to + 1 → HasLabel k (operand_register q to) l
-        → (near : Bool) → (near ≡ true → q ≡ None) → (near ≡ true → l ≡ label.Public)
+        → (near : Numbering) → (is_in_place near ≡ true → q ≡ None) → (near ≡ Compared → l ≡ label.Public)
         → StandsAt o p (numbered_code near f h to (operand_register q to))
         → NotesBetween o p (p + length (numbered_code near f h to (operand_register q to)) + 1)
         (compared_notes near None f mask to (p + length (numbered_code near f h to (operand_register q to))))
         → p + length (numbered_code near f h to (operand_register q to)) < length o.code
         → NumberedAt o f l mask to p comes holds (p + length (numbered_code near f h to (operand_register q to)))
-    numbered_at q apart labelled true own public stands between inside =
+    numbered_at q apart labelled Compared own public stands between inside =
         compared_at (ap (λ (r : Option ℕ). is_secret k (operand_register r to)) (sym (own refl)) ∙ labelled)
         (public refl) stands between inside
-    numbered_at q apart labelled false own public stands between inside =
+    numbered_at q apart labelled Reduced own public stands between inside =
         let from = operand_register q to in
         let found = reduced-numbered o f homes.held to low h from apart p k kept.carries in
-        let some = numbered_some false f h to from in
+        let some = applied_some f (reducing h) to from (to + 1) (reducer h) in
         record {
           last = found.after;
           held = found.after;
@@ -174,6 +175,18 @@ module _ (o : Parts) (f : Setting) (homes : HasHomes o f) (once : DeclaredOnce f
           kept = kept-same f mask to holds k found.after kept found.same;
           word = λ e. found.word_is ∙ labelled ∙ ap secret_label e;
         }
+    numbered_at q apart labelled Within own public stands between inside =
+        let empty : p ≡ p + 0 = omega arith in
+        subst (NumberedAt o f l mask to p comes holds) empty
+        (record {
+          last = comes;
+          held = k;
+          passes = Done p comes;
+          here = here;
+          kept = kept;
+          word = λ e. ap (λ (r : Option ℕ). is_secret k (operand_register r to)) (sym (own refl)) ∙ labelled
+              ∙ ap secret_label e;
+        })
 
   module _ (h : Home) (i : Tree) (typed : TypedTree (context_of f.decls) i) (mask to : ℕ) (low : to + 2 < 19) (p : ℕ)
       (k holds : Known) (here : HoldsAt o p k holds) (carries : Carries f holds)
@@ -196,8 +209,8 @@ module _ (o : Parts) (f : Setting) (homes : HasHomes o f) (once : DeclaredOnce f
     apart_of q is = let apart = operand-apart f i q is to in apart.apart (to + 1) (omega arith) (omega arith)
 
     -- by the code of the index, or as a number
-    located_by : (q : Option ℕ) → IsOperandOf f i q → (near : Bool) → (near ≡ true → q ≡ None)
-        → (near ≡ true → label_of (context_of f.decls) i ≡ label.Public) → (fixed : Option ℤ)
+    located_by : (q : Option ℕ) → IsOperandOf f i q → (near : Numbering) → (is_in_place near ≡ true → q ≡ None)
+        → (near ≡ Compared → label_of (context_of f.decls) i ≡ label.Public) → (fixed : Option ℤ)
         → StandsAt o p (located_code near f h to (operand_register q to) fixed (index_code q))
         → NotesBetween o p (p + length (located_code near f h to (operand_register q to) fixed (index_code q)))
         (index_notes fixed (notes_of_index q)
@@ -228,7 +241,7 @@ module _ (o : Parts) (f : Setting) (homes : HasHomes o f) (once : DeclaredOnce f
         let last = p + length (code ++ rest) in
         let size : length (code ++ rest) ≡ length code + length rest = length-append code rest in
         let rest_size : length rest ≡ length number + length shift = length-append number shift in
-        let some_number = numbered_some near f h to from in
+        let some_number = compared_some near f h to from in
         let more = shift_some f h to in
         let before = notes_of_index q in
         let behind = compared_notes near None f mask to next in
@@ -237,9 +250,9 @@ module _ (o : Parts) (f : Setting) (homes : HasHomes o f) (once : DeclaredOnce f
         subst (λ (n : ℕ). NotesBetween o p last (before ++ compared_notes near None f mask to n)) place between in
         let lie_before : LieBetween p mid before = index_notes-lie q in
         let lie_behind : LieBetween mid (next + 1) behind =
-        compared-lie near f mask to next mid (next + 1) (omega arith) (omega arith) in
+        compared-lie near f mask to next mid (next + 1) (λ is. omega (arith, some_number is)) (omega arith) in
         let lie_wide : LieBetween mid last behind =
-        compared-lie near f mask to next mid last (omega arith) (omega arith) in
+        compared-lie near f mask to next mid last (λ is. omega (arith, some_number is)) (omega arith) in
         let later : NotesBetween o mid last behind =
         notes-behind o p mid last before behind lie_before lie_wide all (omega arith) in
         let first = operand-passes o f homes i typed q is index mask to p k holds high (omega arith) last behind
@@ -255,7 +268,8 @@ module _ (o : Parts) (f : Setting) (homes : HasHomes o f) (once : DeclaredOnce f
         ∙ ap (option_map note_known) (no_note-behind mid (next + 1) r behind lie_behind (omega arith))) in
         let third : Passes o next second.last (next + length shift) l.after =
         passes-here o next shift second.last second.held l.after second.here l.goes
-        (standing-rest number shift stands_rest) more (λ r above below. quiet_after r above (omega arith)) (omega arith) in
+        (standing-rest number shift stands_rest) (omega (arith, more))
+        (λ r above below. quiet_after r above (omega arith)) (omega arith) in
         record {
           last = l.after;
           passes
@@ -411,8 +425,8 @@ module _ (o : Parts) (f : Setting) (homes : HasHomes o f) (once : DeclaredOnce f
           word = λ shows. l.word_is ∙ word shows;
         }
 
-    placed_by : (q : Option ℕ) → IsOperandOf f i q → (near : Bool) → (near ≡ true → q ≡ None)
-        → (near ≡ true → label_of (context_of f.decls) i ≡ label.Public) → (fixed : Option ℤ)
+    placed_by : (q : Option ℕ) → IsOperandOf f i q → (near : Numbering) → (is_in_place near ≡ true → q ≡ None)
+        → (near ≡ Compared → label_of (context_of f.decls) i ≡ label.Public) → (fixed : Option ℤ)
         → StandsAt o p (placed_code near f h to (operand_register q to) fixed (index_code q))
         → NotesBetween o p (p + length (placed_code near f h to (operand_register q to) fixed (index_code q)) + 1)
         (index_notes fixed (notes_of_index q)
@@ -447,7 +461,7 @@ module _ (o : Parts) (f : Setting) (homes : HasHomes o f) (once : DeclaredOnce f
         let last = p + length (code ++ rest) in
         let size : length (code ++ rest) ≡ length code + length rest = length-append code rest in
         let rest_size : length rest ≡ length number + length offset = length-append number offset in
-        let some_number = numbered_some near f h to from in
+        let some_number = compared_some near f h to from in
         let before = notes_of_index q in
         let behind = compared_notes near None f mask to next in
         let place : last - length offset ≡ next = omega arith in
@@ -455,9 +469,9 @@ module _ (o : Parts) (f : Setting) (homes : HasHomes o f) (once : DeclaredOnce f
         subst (λ (n : ℕ). NotesBetween o p (last + 1) (before ++ compared_notes near None f mask to n)) place between in
         let lie_before : LieBetween p mid before = index_notes-lie q in
         let lie_behind : LieBetween mid (next + 1) behind =
-        compared-lie near f mask to next mid (next + 1) (omega arith) (omega arith) in
+        compared-lie near f mask to next mid (next + 1) (λ is. omega (arith, some_number is)) (omega arith) in
         let lie_wide : LieBetween mid (last + 1) behind =
-        compared-lie near f mask to next mid (last + 1) (omega arith) (omega arith) in
+        compared-lie near f mask to next mid (last + 1) (λ is. omega (arith, some_number is)) (omega arith) in
         let later : NotesBetween o mid (last + 1) behind =
         notes-behind o p mid (last + 1) before behind lie_before lie_wide all (omega arith) in
         let first = operand-passes o f homes i typed q is index mask to p k holds high (omega arith) (last + 1) behind
@@ -488,18 +502,18 @@ module _ (o : Parts) (f : Setting) (homes : HasHomes o f) (once : DeclaredOnce f
         })
 
   -- a whole access, of an array that is resident or isn't
-  abbrev code_by : (resident near : Bool) → ℕ → List ℕ → Tree → List Instr
+  abbrev code_by : (resident : Bool) → (near : Numbering) → ℕ → List ℕ → Tree → List Instr
   code_by b near to x i =
       access_by b near f Public (home_of f x) to (operand_register (index_operand f near i) to)
       (fixed_index (home_of f x) i) (operand_part (index_operand f near i) (expr_code f Public to i))
 
-  -- an index that is compared is copied
-  compared_own : (i : Tree) (near : Bool) → near ≡ true → index_operand f near i ≡ None
-  compared_own i near e = ap (λ (b : Bool). operand_unless b (operand f i)) e
+  -- an index that is copied is an operand in no register that holds it for the whole run
+  copied_own : (i : Tree) (near : Numbering) → is_in_place near ≡ true → index_operand f near i ≡ None
+  copied_own i near e = ap (λ (b : Bool). operand_unless b (operand f i)) e
 
   passes_by : (x : List ℕ) (l : Label) (i : Tree) → TypedTree (context_of f.decls) i → (mask to p : ℕ) (k holds : Known)
-      → context_of f.decls x ≡ Some (l, Array) → (b near : Bool) → (home_of f x).resident ≡ b
-      → (near ≡ true → label_of (context_of f.decls) i ≡ label.Public)
+      → context_of f.decls x ≡ Some (l, Array) → (b : Bool) (near : Numbering) → (home_of f x).resident ≡ b
+      → (near ≡ Compared → label_of (context_of f.decls) i ≡ label.Public)
       → (shows_index (home_of f x) ≡ true → label_of (context_of f.decls) i ≡ label.Public)
       → ExprPasses o f i → to + height_of i ≤ 17 → to + 2 < 19
       → StandsAt o p (code_by b near to x i)
@@ -513,7 +527,7 @@ module _ (o : Parts) (f : Setting) (homes : HasHomes o f) (once : DeclaredOnce f
       carries leaves =
       let h = home_of f x in
       let found = placed_by h i typed mask to low p k holds here carries leaves (index_operand f near i)
-      (operand-unless f i near) near (compared_own i near) open_index (fixed_index h i) stands between
+      (operand-unless f i (is_in_place near)) near (copied_own i near) open_index (fixed_index h i) stands between
       inside high index public in
       let home = homes.residents x l Array declared is in
       let pin = homes.pins h.slot (pin_of h) home.pinned in
@@ -559,8 +573,9 @@ module _ (o : Parts) (f : Setting) (homes : HasHomes o f) (once : DeclaredOnce f
       (located-lie f h mask to from p near fixed code) in
       let lie_behind : LieBetween q (r + 1) behind = load-lies f h mask to r q (r + 1) (is_cached h) (omega arith)
       (omega arith) in
-      let found = located_by h i typed mask to low p k holds here carries leaves q_of_index (operand-unless f i near) near
-      (compared_own i near) open_index fixed
+      let found = located_by h i typed mask to low p k holds here carries leaves
+      q_of_index (operand-unless f i (is_in_place near)) near
+      (copied_own i near) open_index fixed
       (standing-first first load stands)
       (notes-before o p q (r + 1) before behind lie_before lie_behind all (omega arith))
       (omega arith) high index (λ low_bank. public (shows-cached h turn low_bank)) in
@@ -592,6 +607,16 @@ module _ (o : Parts) (f : Setting) (homes : HasHomes o f) (once : DeclaredOnce f
       let label = and_parts (not (is_masked h)) secret part.1 in
       label_public (label_of (context_of f.decls) i) label.1
 
+  numbering-public : (h : Home) (i : Tree) → numbering f Public h i ≡ Compared
+      → label_of (context_of f.decls) i ≡ label.Public
+  numbering-public h i is = by (is_within_home f h i) (compares f Public h i) refl is
+    where
+      by : (near compared : Bool) → compares f Public h i ≡ compared → numbering_by near compared ≡ Compared
+          → label_of (context_of f.decls) i ≡ label.Public
+      by true compared e is = absurd (cc)
+      by false true e is = compares-public h i e
+      by false false e is = absurd (cc)
+
   pub access-passes : (x : List ℕ) (l : Label) (i : Tree) → TypedTree (context_of f.decls) i → (mask to p : ℕ)
       (k holds : Known) → context_of f.decls x ≡ Some (l, Array) → IndexIsPublic f x i
       → ExprPasses o f i → to + height_of i ≤ 17 → to + 2 < 19
@@ -601,5 +626,5 @@ module _ (o : Parts) (f : Setting) (homes : HasHomes o f) (once : DeclaredOnce f
       → LeavesPublic f mask to holds
       → AccessPassed o f (home_of f x) mask to p k holds (p + length (array_code f to x i))
   access-passes x l i typed mask to p k holds declared public index high low stands between inside here carries leaves =
-      passes_by x l i typed mask to p k holds declared (home_of f x).resident (compares f Public (home_of f x) i) refl
-      (compares-public (home_of f x) i) public index high low stands between inside here carries leaves
+      passes_by x l i typed mask to p k holds declared (home_of f x).resident (numbering f Public (home_of f x) i) refl
+      (numbering-public (home_of f x) i) public index high low stands between inside here carries leaves

@@ -1,15 +1,13 @@
 -- The public code of an assignment is passed, at any place.
-use Rattle.std.proofs.Common.{◌≡◌, ◌≢◌, ℕ, ◌+◌, ◌<◌, ◌≤◌, Bool, true, false, ◌||◌, ◌&&◌, pos, List, [], ◌∷◌, ◌++◌, length, length-append, Option, Some, None, refl, sym, ap, ◌∙◌, subst, arith}
+use Rattle.std.proofs.Common.{◌≡◌, ◌≢◌, ℕ, ◌+◌, ◌<◌, ◌≤◌, Bool, false, ◌||◌, pos, List, [], ◌++◌, length, length-append, Option, Some, None, refl, sym, ap, ◌∙◌, subst, arith}
 use Rattle.std.specs.Option.{option_map}
-use Rattle.std.proofs.lemmas.Bool.{eqb-true}
 use Rattle.std.proofs.lemmas.List.{append-nil}
 use Rattle.gr_word.specs.declared.variables.Label.{Label}
 use Rattle.gr_word.specs.declared.variables.Label.TheVariants as label
 use Rattle.gr_word.specs.declared.variables.Shape.TheVariants.{Scalar, Array}
 use Rattle.gr_word.specs.declared.operations.Op.TheVariants.{Add}
 use Rattle.lt_isa.specs.declared.instructions.Instr.{Instr}
-use Rattle.lt_isa.specs.declared.instructions.Instr.TheVariants.{Stw}
-use Rattle.lt_isa.specs.Object.{Parts, is_ram}
+use Rattle.lt_isa.specs.Object.{Parts}
 use Rattle.src_tree.specs.Contexts.{context_of}
 use Rattle.src_tree.specs.Heights.{height_of}
 use Rattle.src_tree.specs.Labels.{higher, label_or_public, label_at, label_of, secret_label}
@@ -20,10 +18,10 @@ use Rattle.trace_patterns.specs.Known.{Known, is_secret, bank_known, set_secret,
 use Rattle.trace_patterns.specs.Rules.{claimed_at}
 use Rattle.stretches.specs.Passing.{HoldsAt, NotesBetween, Passes}
 use Rattle.stretches.proofs.Standing.{standing-first, standing-rest}
-use Rattle.stretches.proofs.Passed.{passes-then, passes-to, passes-noted, GoesOn, NoMore, One, rules-li, rules-alu, rules-stw, rules-stb, secret-same, secret-other, notes-behind, notes-within, no_note-behind, LieBetween, lie_wider, lie_both}
+use Rattle.stretches.proofs.Passed.{passes-then, passes-to, GoesOn, NoMore, One, rules-li, rules-alu, rules-stw, secret-same, secret-other, notes-behind, notes-within, no_note-behind, LieBetween, lie_wider, lie_both}
 use Rattle.block_cache_gen.specs.declared.frames.Mode.TheVariants.{Public}
 use Rattle.block_cache_gen.specs.Homes.{Setting, HasHomes, home_of, register_for}
-use Rattle.block_cache_gen.specs.Codes.{fixed_index, compares, operand, operand_part, operand_register, index_operand, stored_code, expr_code, set_code, zero_of, write_code}
+use Rattle.block_cache_gen.specs.Codes.{fixed_index, numbering, operand, operand_part, operand_register, index_operand, stored_code, expr_code, set_code, zero_of, write_code}
 use Rattle.block_cache_gen.specs.Notes.{operand_mask, expr_notes, set_notes, base_mask}
 use Rattle.block_cache_gen.specs.Carries.{Carries}
 use Rattle.block_cache_gen.specs.PublicIndexes.{SetHasPublicIndexes}
@@ -178,7 +176,7 @@ module _ (o : Parts) (f : Setting) (homes : HasHomes o f) (once : DeclaredOnce f
   set_element-passes code x i e typed public low_index low p k holds stands here carries =
       let known = context_of f.decls in
       let h = home_of f x in
-      let near = compares f Public h i in
+      let near = numbering f Public h i in
       let l = typed.0.0.0 in
       let declared : known x ≡ Some (l, Array) = typed.0.0.1 in
       let plain = plain-array o f homes x l declared in

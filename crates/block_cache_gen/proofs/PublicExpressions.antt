@@ -18,7 +18,7 @@ use Rattle.src_tree.specs.Labels.{higher, label_or_public, label_of, secret_labe
 use Rattle.src_tree.specs.Trees.{Tree, Number, Variable, Element, Operation}
 use Rattle.src_tree.specs.Typing.{TypedTree, DeclaredOnce}
 use Rattle.bank_alloc.specs.Apart.{scalar_bank}
-use Rattle.trace_patterns.specs.Known.{Known, is_secret, bank_known, is_marked, set_secret, note_known}
+use Rattle.trace_patterns.specs.Known.{Known, is_secret, bank_known, set_secret, note_known}
 use Rattle.trace_patterns.specs.Rules.{claimed_at}
 use Rattle.lt_isa.specs.declared.symbols.Note.{Note}
 use Rattle.stretches.specs.Passing.{HoldsAt, NotesBetween, Passes}

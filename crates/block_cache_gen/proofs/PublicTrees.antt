@@ -1,8 +1,8 @@
 -- A public expression has a tree.
-use Rattle.std.proofs.Common.{◌≡◌, ℕ, ◌+◌, ◌-◌, ◌<◌, ◌/◌, ℤ, pos, Bool, true, false, ◌&&◌, ◌==◌, cond, List, [], ◌∷◌, Option, Some, None, refl, sym, ap, ◌∙◌, subst, arith}
+use Rattle.std.proofs.Common.{◌≡◌, ℕ, ◌+◌, ◌<◌, ◌/◌, ℤ, pos, Bool, true, false, ◌&&◌, ◌==◌, cond, List, [], ◌∷◌, Option, Some, None, refl, sym, ap, ◌∙◌, subst, arith}
 use Rattle.std.specs.Prelude.{if◌then◌else◌, is_some, IsTrue}
 use Rattle.gr_word.specs.declared.operations.Op.{Op}
-use Rattle.gr_word.specs.declared.operations.Op.TheVariants.{Add, Remu, And, Shr}
+use Rattle.gr_word.specs.declared.operations.Op.TheVariants.{Add, Shr}
 use Rattle.gr_word.specs.declared.variables.Label.{Label}
 use Rattle.gr_word.specs.declared.variables.Label.TheVariants.{Public, Secret}
 use Rattle.gr_word.specs.declared.variables.Shape.TheVariants.{Scalar}
@@ -15,12 +15,12 @@ use Rattle.src_tree.specs.Typing.{TypedTree}
 use Rattle.trace_patterns.specs.SymStates.{SymSlot, AnySlot, RamSlot, Entry, Loaded}
 use Rattle.trace_patterns.specs.Single.{applied_trees, word_tree}
 use Rattle.block_cache_gen.specs.Homes.{Held, Home, Setting, held_label, label_by, home_of, register_for, words_a_block, HasHomes}
-use Rattle.block_cache_gen.specs.Codes.{held_number, reducer, reducing, fixed_index, fixed_word, operand, operand_unless, steps_at}
+use Rattle.block_cache_gen.specs.Codes.{held_number, is_in_place, is_within_home, numbering_by, reducer, reducing, fixed_index, fixed_word, operand, operand_unless, steps_at}
 use Rattle.strength_reduction.specs.Steps.{Step, Constant, Compute, left_by, reads_known, replaced}
-use Rattle.block_cache_gen.specs.PatternsOf.{number_in, word_named_by, word_read, tree_by, scalar_tree, operand_tree, pinned_slot, placed_tree, element_by, block_named_by, number_tree, reduced_tree, block_tree, block_loaded, element_slot, steps_tree, operation_tree, tree_of_expr}
+use Rattle.block_cache_gen.specs.PatternsOf.{number_in, word_named_by, word_read, tree_by, scalar_tree, operand_tree, pinned_slot, placed_tree, element_by, block_named_by, index_by, numbered_tree, number_tree, reduced_tree, block_tree, block_loaded, element_slot, steps_tree, operation_tree, tree_of_expr}
 use Rattle.block_cache_gen.proofs.StepsAt.{steps-of}
 use Rattle.held_registers.specs.Held.{public_zero}
-use Rattle.block_cache_gen.proofs.HeldOperands.{IsOperandOf}
+use Rattle.block_cache_gen.proofs.HeldOperands.{IsOperandOf, operand-unless}
 use Rattle.block_cache_gen.proofs.OperandLabels.{is-operand, operand-label}
 use Rattle.held_registers.proofs.Found.{number-held}
 use Rattle.block_cache_gen.proofs.HeldLabels.{register-label}
@@ -54,21 +54,27 @@ reduced-known : (f : Setting) (h : Home) (index : Option Value) → IsKnown inde
 reduced-known f h index known =
     applied-known (reducing h) index (number_in f (reducer h)) known (number-in f (reducer h))
 
+numbered-known : (within : Bool) (f : Setting) (h : Home) (index : Option Value) → IsKnown index
+    → IsKnown (numbered_tree within f h index)
+numbered-known true f h index known = known
+numbered-known false f h index known = reduced-known f h index known
+
 -- the number of an element's word and that of its block are known where its index is
-pub number-known : (f : Setting) (h : Home) (fixed : Option ℤ) (index : Option Value) → IsKnown index
-    → IsKnown (number_tree f h fixed index)
-number-known f h (Some z) index known = const-known (pos (fixed_word h z))
-number-known f h None index known = reduced-known f h index known
+pub number-known : (within : Bool) (f : Setting) (h : Home) (fixed : Option ℤ) (index : Option Value) → IsKnown index
+    → IsKnown (number_tree within f h fixed index)
+number-known within f h (Some z) index known = const-known (pos (fixed_word h z))
+number-known within f h None index known = numbered-known within f h index known
 
 -- so is the place of a resident array's word
-pub placed-known : (f : Setting) (h : Home) (fixed : Option ℤ) (index : Option Value) → IsKnown index
-    → IsKnown (placed_tree f h fixed index)
-placed-known f h (Some z) index known = const-known (pos (h.word + fixed_word h z))
-placed-known f h None index known =
-    let first = reduced-known f h index known in
+pub placed-known : (within : Bool) (f : Setting) (h : Home) (fixed : Option ℤ) (index : Option Value) → IsKnown index
+    → IsKnown (placed_tree within f h fixed index)
+placed-known within f h (Some z) index known = const-known (pos (h.word + fixed_word h z))
+placed-known within f h None index known =
+    let number = numbered_tree within f h index in
+    let first = numbered-known within f h index known in
     let word : Option Value = number_in f (pos h.word) in
-    either-known (h.word == 0) (reduced_tree f h index) (applied_trees Add (reduced_tree f h index) word) first
-    (applied-known Add (reduced_tree f h index) word first (number-in f (pos h.word)))
+    either-known (h.word == 0) number (applied_trees Add number word) first
+    (applied-known Add number word first (number-in f (pos h.word)))
 
 -- a slot of plain memory holds what it held at the entry
 pub pinned-ram : (h : Home) → h.bank ≡ 0 → pinned_slot h ≡ RamSlot (SlotAt h.slot) (Entry h.slot)
@@ -84,13 +90,14 @@ read-known f h n at known = (
 )
 
 -- the block of an access is seen only where it is known
-pub block-seen : (f : Setting) (h : Home) (fixed : Option ℤ) (index : Option Value) → (h.bank < 2 → IsKnown index)
-    → IsSeen h.bank (block_tree f h fixed index)
-block-seen f h (Some z) index known = λ cached. const-known (pos (h.block + fixed_word h z / words_a_block f))
-block-seen f h None index known = λ cached.
+pub block-seen : (within : Bool) (f : Setting) (h : Home) (fixed : Option ℤ) (index : Option Value)
+    → (h.bank < 2 → IsKnown index) → IsSeen h.bank (block_tree within f h fixed index)
+block-seen within f h (Some z) index known = λ cached. const-known (pos (h.block + fixed_word h z / words_a_block f))
+block-seen within f h None index known = λ cached.
+    let number = numbered_tree within f h index in
     let shift : Option Value = number_in f (pos f.profile.block_log) in
-    applied-known Add (applied_trees Shr (reduced_tree f h index) shift) (number_in f (pos h.block))
-    (applied-known Shr (reduced_tree f h index) shift (reduced-known f h index (known cached))
+    applied-known Add (applied_trees Shr number shift) (number_in f (pos h.block))
+    (applied-known Shr number shift (numbered-known within f h index (known cached))
     (number-in f (pos f.profile.block_log)))
     (number-in f (pos h.block))
 
@@ -150,6 +157,10 @@ steps-known steps value reads known =
     at : (i : ℕ) → (i == 0) ≡ true → IsKnown (if i == 0 then value else None)
     at i e = subst (λ (c : Bool). IsKnown (if c then value else None)) (sym e) known
 
+-- the register of an index is the index's
+pub is-index : (f : Setting) (within : Bool) (i : Tree) → IsOperandOf f i (index_by within f i)
+is-index f within i = operand-unless f i (is_in_place (numbering_by within false))
+
 module _ (o : Parts) (f : Setting) (homes : HasHomes o f) where
   -- a scalar that is public, by the register that holds it
   scalar-known : (x : List ℕ) → context_of f.decls x ≡ Some (Public, Scalar) → (found : Option ℕ)
@@ -172,22 +183,22 @@ module _ (o : Parts) (f : Setting) (homes : HasHomes o f) where
       (Reg r, ap (tree_by r) (operand-label f homes.held e typed r (is r refl) ∙ ap Some public))
 
   -- an element of plain memory
-  element-known : (h : Home) (fixed : Option ℤ) (index : Option Value) → h.bank ≡ 0 → IsKnown index
-      → IsKnown (word_read f (element_slot f h fixed index) (number_tree f h fixed index))
-  element-known h fixed index at known =
-      let number = number-known f h fixed index known in
-      let block = block-seen f h fixed index (λ cached. known) (omega arith) in
-      let bound : element_slot f h fixed index ≡ RamSlot (block_named_by f 0 block.0) Loaded =
+  element-known : (within : Bool) (h : Home) (fixed : Option ℤ) (index : Option Value) → h.bank ≡ 0 → IsKnown index
+      → IsKnown (word_read f (element_slot within f h fixed index) (number_tree within f h fixed index))
+  element-known within h fixed index at known =
+      let number = number-known within f h fixed index known in
+      let block = block-seen within f h fixed index (λ cached. known) (omega arith) in
+      let bound : element_slot within f h fixed index ≡ RamSlot (block_named_by f 0 block.0) Loaded =
       (λ i. block_loaded f (at i) (block.1 i)) in (
         word_tree Loaded (block_named_by f 0 block.0) (word_named_by f number.0),
         λ i. word_read f (bound i) (number.1 i),
       )
 
-  element_by-known : (b : Bool) (h : Home) (fixed : Option ℤ) (index : Option Value) → h.bank ≡ 0 → IsKnown index
-      → IsKnown (element_by b f h fixed index)
-  element_by-known true h fixed index at known =
-      read-known f h (placed_tree f h fixed index) at (placed-known f h fixed index known)
-  element_by-known false h fixed index at known = element-known h fixed index at known
+  element_by-known : (b within : Bool) (h : Home) (fixed : Option ℤ) (index : Option Value) → h.bank ≡ 0
+      → IsKnown index → IsKnown (element_by b within f h fixed index)
+  element_by-known true within h fixed index at known =
+      read-known f h (placed_tree within f h fixed index) at (placed-known within f h fixed index known)
+  element_by-known false within h fixed index at known = element-known within h fixed index at known
 
   -- the value of a public expression is known
   pub public-tree : (e : Tree) → TypedTree (context_of f.decls) e → label_of (context_of f.decls) e ≡ Public
@@ -203,9 +214,11 @@ module _ (o : Parts) (f : Setting) (homes : HasHomes o f) where
       let array = public-left (label_at known x) (label_of known i) public in
       let index = public-right (label_at known x) (label_of known i) public in
       let plain = plain-array o f homes x typed.0.0 typed.0.1 in
-      element_by-known (home_of f x).resident (home_of f x) (fixed_index (home_of f x) i)
-      (operand_tree f (operand f i) (tree_of_expr f i)) (plain.1 (sym same ∙ array))
-      (operand-known i typed.1.0 (operand f i) (is-operand f i) index (public-tree i typed.1.0 index))
+      let within = is_within_home f (home_of f x) i in
+      let q = index_by within f i in
+      element_by-known (home_of f x).resident within (home_of f x) (fixed_index (home_of f x) i)
+      (operand_tree f q (tree_of_expr f i)) (plain.1 (sym same ∙ array))
+      (operand-known i typed.1.0 q (is-index f within i) index (public-tree i typed.1.0 index))
   public-tree (Operation op a b) typed public =
       by (steps_at f op b) refl (public-tree a typed.0 public_left) (public-tree b typed.1 public_right)
     where
@@ -230,8 +243,8 @@ module _ (o : Parts) (f : Setting) (homes : HasHomes o f) where
           let replaces = of.replaces in
           steps-known steps (tree_of_expr f a) replaces.reads left
 
-  -- so is that of a public operand
-  pub public-operand : (e : Tree) → TypedTree (context_of f.decls) e → label_of (context_of f.decls) e ≡ Public
-      → IsKnown (operand_tree f (operand f e) (tree_of_expr f e))
-  public-operand e typed public =
-      operand-known e typed (operand f e) (is-operand f e) public (public-tree e typed public)
+  -- so is that of a public index
+  pub public-index : (within : Bool) (i : Tree) → TypedTree (context_of f.decls) i
+      → label_of (context_of f.decls) i ≡ Public → IsKnown (operand_tree f (index_by within f i) (tree_of_expr f i))
+  public-index within i typed public =
+      operand-known i typed (index_by within f i) (is-index f within i) public (public-tree i typed public)

@@ -31,7 +31,9 @@ use Rattle.block_cache_gen.specs.declared.frames.Mode.TheVariants.{Public, Real,
 use Rattle.block_cache_gen.specs.Homes.{Pin, pin_at, Home, Setting, home_of, register_for, words_a_block, further_slots, slots_of_home, slot_of_word}
 use Rattle.held_registers.specs.Held.{secret_zero, public_zero, IsSoundHeld}
 use Rattle.block_cache_gen.specs.TreeWords.{HasWords}
-use Rattle.block_cache_gen.specs.Codes.{is_masked, held_number, applied_code, reducing, reducer, compares, least_word, numbered_code, fixed_index, fixed_word, shift_code, fixed_code, located_code, load_code, skips, access_by, placed_code, offset_code, stored_code, access_code, index_operand, indexed_code, operand, operand_part, operand_register, left_operand, expr_code, guard_code, store_code, set_code, operation_code, steps_at, copy_code, scalar_code, copied_from, write_code, read_by, read_code, stored_among, stored_by, effect_of}
+use Rattle.block_cache_gen.specs.declared.indexes.Numbering.{Numbering}
+use Rattle.block_cache_gen.specs.declared.indexes.Numbering.TheVariants as numbers
+use Rattle.block_cache_gen.specs.Codes.{is_masked, held_number, applied_code, reducing, reducer, is_in_place, numbering, least_word, numbered_code, fixed_index, fixed_word, shift_code, fixed_code, located_code, load_code, skips, access_by, placed_code, offset_code, stored_code, access_code, index_operand, indexed_code, operand, operand_part, operand_register, left_operand, expr_code, guard_code, store_code, set_code, operation_code, steps_at, copy_code, scalar_code, copied_from, write_code, read_by, read_code, stored_among, stored_by, effect_of}
 use Rattle.strength_reduction.specs.Steps.{Step, Constant, Compute, StepFits, numbered, code_of}
 use Rattle.step_code.proofs.Registers.{numbered-low}
 use Rattle.word_selection.specs.SlotSteps.{IsOutside}
@@ -209,8 +211,8 @@ module _ (banks : ℕ) where
         let is : least_word +ℤ pos n ≡ negsuc (9223372036854775807 - n) = omega (arith, ints) in
         subst IsWord (sym is) (record { sfits = omega arith })
 
-    numbered_by : (near : Bool) (from : ℕ) → from < 32 → CodeFits banks (numbered_code near f h to from)
-    numbered_by true from inside =
+    numbered_by : (near : Numbering) (from : ℕ) → from < 32 → CodeFits banks (numbered_code near f h to from)
+    numbered_by numbers.Compared from inside =
         let most = home.length.1 in
         li (to + 1) least_word _ (omega arith) (record { sfits = omega arith })
         (alu Add (to + 1) (to + 1) to _ (omega arith) (omega arith) (omega arith)
@@ -218,10 +220,11 @@ module _ (banks : ℕ) where
         (Before (Br Lt (to + 1) (to + 2) (pos 3)) _ (omega arith, omega arith, small_offset_three)
         (li (to + 1) (pos h.length) _ (omega arith) (small-word h.length (omega arith))
         (alu Remu to to (to + 1) [] (omega arith) (omega arith) (omega arith) none)))))
-    numbered_by false from inside =
+    numbered_by numbers.Reduced from inside =
         applied_by (reducing h) to from (to + 1) (reducer h) (omega arith) inside (omega arith) reducer-word
+    numbered_by numbers.Within from inside = none
 
-    located_by : (near : Bool) (from : ℕ) (fixed : Option ℤ) (index : List Instr) → from < 32
+    located_by : (near : Numbering) (from : ℕ) (fixed : Option ℤ) (index : List Instr) → from < 32
         → CodeFits banks index → CodeFits banks (located_code near f h to from fixed index)
     located_by near from (Some z) index inside fit = fixed_by f.profile.block_log z
     located_by near from None index inside fit =
@@ -235,7 +238,7 @@ module _ (banks : ℕ) where
         applied_by Add to to (to + 1) (pos h.word) (omega arith) (omega arith) (omega arith)
         (small-word h.word (omega arith))
 
-    placed_by : (near : Bool) (from : ℕ) (fixed : Option ℤ) (index : List Instr) → from < 32 → CodeFits banks index
+    placed_by : (near : Numbering) (from : ℕ) (fixed : Option ℤ) (index : List Instr) → from < 32 → CodeFits banks index
         → CodeFits banks (placed_code near f h to from fixed index)
     placed_by near from (Some z) index inside fit =
         let small = home.word in
@@ -247,7 +250,7 @@ module _ (banks : ℕ) where
         both index (numbered_code near f h to from ++ offset_code f h to) fit
         (both (numbered_code near f h to from) (offset_code f h to) (numbered_by near from inside) (offset_by (h.word == 0)))
 
-    pub access-fits : (near : Bool) (mode : Mode) (from : ℕ) (fixed : Option ℤ) (index : List Instr) → from < 32
+    pub access-fits : (near : Numbering) (mode : Mode) (from : ℕ) (fixed : Option ℤ) (index : List Instr) → from < 32
         → CodeFits banks index → CodeFits banks (access_code near f mode h to from fixed index)
     access-fits near mode from fixed index inside fit = by h.resident
       where
@@ -325,12 +328,12 @@ module _ (banks : ℕ) where
       (operand-low f homes.held (Variable x))
   expression-fits f mode homes to (Element x i) typed words high =
       let home = homes.homes x typed.0.0 _ typed.0.1 in
-      let near = compares f mode (home_of f x) i in
+      let near = numbering f mode (home_of f x) i in
       let q = index_operand f near i in
       both (indexed_code f near mode (home_of f x) to i (expr_code f mode to i)) _
       (access-fits f homes (home_of f x) home to (omega (arith, height-some i)) near mode
       (operand_register q to) (fixed_index (home_of f x) i) (operand_part q (expr_code f mode to i))
-      (operand-inside f homes.held i q (operand-unless f i near) to (omega arith))
+      (operand-inside f homes.held i q (operand-unless f i (is_in_place near)) to (omega arith))
       (operand-fits q (expr_code f mode to i) (expression-fits f mode homes to i typed.1.0 words (omega arith))))
       (read-fits f (home_of f x) home homes.block_log to (omega (arith, height-some i)) (fixed_index (home_of f x) i))
   expression-fits f mode homes to (Operation op a b) typed words high =
@@ -416,7 +419,7 @@ module _ (banks : ℕ) where
       → height_of i ≤ 16 → height_of e ≤ 17 → CodeFits banks (set_code f mode (SetElement x i e))
   set_element-fits f mode homes x i e typed value index words low_index low =
       let home = homes.homes x typed.0.0 _ typed.0.1 in
-      let near = compares f mode (home_of f x) i in
+      let near = numbering f mode (home_of f x) i in
       let q = operand f e in
       let p = index_operand f near i in
       both (operand_part q (expr_code f mode 0 e)) _
@@ -424,7 +427,7 @@ module _ (banks : ℕ) where
       (both (indexed_code f near mode (home_of f x) 1 i (expr_code f mode 1 i)) _
       (access-fits f homes (home_of f x) home 1 (omega arith) near mode (operand_register p 1)
       (fixed_index (home_of f x) i) (operand_part p (expr_code f mode 1 i))
-      (operand-inside f homes.held i p (operand-unless f i near) 1 (omega arith))
+      (operand-inside f homes.held i p (operand-unless f i (is_in_place near)) 1 (omega arith))
       (operand-fits p (expr_code f mode 1 i) (expression-fits f mode homes 1 i typed.1.0 index (omega arith))))
       (element-fits f mode (home_of f x) home homes.block_log (operand_register q 0)
       (operand-inside f homes.held e q (λ r held. held) 0 (omega arith)) (operand-outside f e q (λ r held. held))

@@ -12,7 +12,7 @@ use Rattle.gr_word.specs.declared.variables.Label.{Label}
 use Rattle.gr_word.specs.declared.variables.Label.TheVariants as label
 use Rattle.lt_isa.specs.declared.symbols.Note.{Note}
 use Rattle.lt_isa.specs.declared.instructions.Instr.{Instr}
-use Rattle.lt_isa.specs.declared.instructions.Instr.TheVariants.{Alu, Ldw, Stw}
+use Rattle.lt_isa.specs.declared.instructions.Instr.TheVariants.{Alu}
 use Rattle.lt_isa.specs.Ranges.{NoteFits, next_place, is_slot_claim}
 use Rattle.held_registers.specs.Held.{held_at}
 use Rattle.src_tree.specs.declared.trees.Decl.{Decl}
@@ -22,7 +22,9 @@ use Rattle.src_tree.specs.Limits.{tree_weight, test_weight}
 use Rattle.src_tree.specs.Trees.{Tree, Number, Variable, Element, Operation, Test, Statement, SetVariable, SetElement, Choice, Loop}
 use Rattle.block_cache_gen.specs.declared.frames.Mode.TheVariants.{Public}
 use Rattle.block_cache_gen.specs.Homes.{Pin, pin_at, Home, Setting, home_of, Held, label_by, register_for}
-use Rattle.block_cache_gen.specs.Codes.{is_cached, compares, compared_code, shift_code, load_code, offset_code, access_by, fixed_index, stored_code, access_code, operand, operand_part, operand_register, left_operand, index_operand, operation_code, steps_at, expr_code, guard_code, set_code, write_code, read_code}
+use Rattle.block_cache_gen.specs.declared.indexes.Numbering.{Numbering}
+use Rattle.block_cache_gen.specs.declared.indexes.Numbering.TheVariants.{Compared, Reduced, Within}
+use Rattle.block_cache_gen.specs.Codes.{is_cached, numbering, compared_code, shift_code, load_code, offset_code, access_by, fixed_index, stored_code, access_code, operand, operand_part, operand_register, left_operand, index_operand, operation_code, steps_at, expr_code, guard_code, set_code, write_code, read_code}
 use Rattle.gr_word.specs.declared.operations.Op.{Op}
 use Rattle.strength_reduction.specs.Steps.{Step, code_of}
 use Rattle.block_cache_gen.specs.Notes.{unmarked, marked_by, operand_mask, is_used, claimed_where_used, claim_by, slot_claims, note_of, access_mask, compared_notes, loading_code, loaded_notes, load_notes, index_notes, operation_notes, expr_notes, guard_notes, set_notes, is_public, mask_to, base_mask}
@@ -84,21 +86,22 @@ load_rises : (f : Setting) (mask to behind low high : ℕ) (cached : Bool) → m
 load_rises f mask to behind low high true small le lt = ((le, lt), (access_mask-below mask to small, refl), tt)
 load_rises f mask to behind low high false small le lt = tt
 
-loaded_rises : (f : Setting) (h : Home) (mask to from p : ℕ) (b near : Bool) (fixed : Option ℤ) (index : List Instr)
-    → mask < 2 ^ 32
+loaded_rises : (f : Setting) (h : Home) (mask to from p : ℕ) (b : Bool) (near : Numbering) (fixed : Option ℤ)
+    (index : List Instr) → mask < 2 ^ 32
     → NotesRise f (p + index_length fixed index + 1)
     (p + length (access_by b near f Public h to from fixed index) + 1)
     (loaded_notes b near fixed f h mask to
     (p + length (access_by b near f Public h to from fixed index)))
 loaded_rises f h mask to from p true near (Some z) index small = tt
-loaded_rises f h mask to from p true true None index small =
+loaded_rises f h mask to from p true Compared None index small =
     let size = length-append index (compared_code h to ++ offset_code f h to) in
     let rest = length-append (compared_code h to) (offset_code f h to) in
     ((omega (arith, size, rest), omega (arith, size, rest)), (unmarked_below mask to small, refl), tt)
-loaded_rises f h mask to from p true false None index small = tt
+loaded_rises f h mask to from p true Reduced None index small = tt
+loaded_rises f h mask to from p true Within None index small = tt
 loaded_rises f h mask to from p false near fixed index small = compared near fixed
   where
-    load : (near : Bool) (fixed : Option ℤ) (low : ℕ)
+    load : (near : Numbering) (fixed : Option ℤ) (low : ℕ)
         → low ≤ p + length (access_by false near f Public h to from fixed index)
         → NotesRise f low (p + length (access_by false near f Public h to from fixed index) + 1)
         (if is_cached h then note_of f (access_mask mask to)
@@ -107,25 +110,32 @@ loaded_rises f h mask to from p false near fixed index small = compared near fix
         load_rises f mask to (p + length (access_by false near f Public h to from fixed index)) low _
         (is_cached h) small le (omega arith)
 
-    compared : (near : Bool) (fixed : Option ℤ)
+    compared : (near : Numbering) (fixed : Option ℤ)
         → NotesRise f (p + index_length fixed index + 1)
         (p + length (access_by false near f Public h to from fixed index) + 1)
         (loaded_notes false near fixed f h mask to
         (p + length (access_by false near f Public h to from fixed index)))
     compared near (Some z) =
-        let more = access-more false near f h to from (Some z) index in
+        let longer = located-longer near f h to from (Some z) index in
+        let more = access-longer near f h to from (Some z) index in
         load near (Some z) _ (omega arith)
-    compared false None =
-        let more = access-more false false f h to from None index in load false None _ (omega arith)
-    compared true None =
+    compared Reduced None =
+        let longer = located-longer Reduced f h to from None index in
+        let more = access-longer Reduced f h to from None index in
+        load Reduced None _ (omega arith)
+    compared Within None =
+        let longer = located-longer Within f h to from None index in
+        let more = access-longer Within f h to from None index in
+        load Within None _ (omega arith)
+    compared Compared None =
         let place = loading-behind f h to from p index in
-        let more = access-longer true f h to from None index in
+        let more = access-longer Compared f h to from None index in
         let some = shift_some f h to in
         let loading = length-append (shift_code f h to) (load_code (is_cached h) h to) in
-        let longer = located-longer true f h to from None index in (
+        let longer = located-longer Compared f h to from None index in (
           (omega (arith, place), omega (arith, place)),
           (unmarked_below mask to small, refl),
-          load true None _ (omega (arith, place, some, loading)),
+          load Compared None _ (omega (arith, place, some, loading)),
         )
 
 index_rises : (f : Setting) (fixed : Option ℤ) (p : ℕ) (index : List Instr) (notes : List Note)
@@ -134,7 +144,8 @@ index_rises : (f : Setting) (fixed : Option ℤ) (p : ℕ) (index : List Instr) 
 index_rises f (Some z) p index notes rise = tt
 index_rises f None p index notes rise = rise
 
-pub access-rises : (f : Setting) (near : Bool) (h : Home) (mask to from p : ℕ) (fixed : Option ℤ) (index : List Instr)
+pub access-rises : (f : Setting) (near : Numbering) (h : Home) (mask to from p : ℕ) (fixed : Option ℤ)
+    (index : List Instr)
     (notes : List Note) → mask < 2 ^ 32 → NotesRise f (p + 1) (p + length index) notes
     → NotesRise f (p + 1) (p + length (access_code near f Public h to from fixed index) + 1)
     (index_notes fixed notes
@@ -185,7 +196,7 @@ expression-rises f (Number z) mask to p small = tt
 expression-rises f (Variable x) mask to p small = tt
 expression-rises f (Element x i) mask to p small =
     let h = home_of f x in
-    let near = compares f Public h i in
+    let near = numbering f Public h i in
     let q = index_operand f near i in
     let code = array_code f to x i in
     let notes = expr_notes f mask to p (Element x i) in
@@ -259,7 +270,7 @@ set-rises f p (SetVariable x e) =
     (expression-rises f e (base_mask f) 0 p (base_mask-below f)))
 set-rises f p (SetElement x i e) =
     let h = home_of f x in
-    let near = compares f Public h i in
+    let near = numbering f Public h i in
     let q = operand f e in
     let q_of_index = index_operand f near i in
     let first = operand_part q (expr_code f Public 0 e) in
@@ -366,13 +377,14 @@ load_count : (f : Setting) (mask to behind : ℕ) (cached : Bool)
 load_count f mask to behind true = omega arith
 load_count f mask to behind false = omega arith
 
-compared_count : (near : Bool) (fixed : Option ℤ) (f : Setting) (mask to place : ℕ)
+compared_count : (near : Numbering) (fixed : Option ℤ) (f : Setting) (mask to place : ℕ)
     → length (compared_notes near fixed f mask to place) ≤ 1
 compared_count near (Some z) f mask to place = omega arith
-compared_count true None f mask to place = omega arith
-compared_count false None f mask to place = omega arith
+compared_count Compared None f mask to place = omega arith
+compared_count Reduced None f mask to place = omega arith
+compared_count Within None f mask to place = omega arith
 
-loaded_count : (f : Setting) (h : Home) (mask to behind : ℕ) (b near : Bool) (fixed : Option ℤ)
+loaded_count : (f : Setting) (h : Home) (mask to behind : ℕ) (b : Bool) (near : Numbering) (fixed : Option ℤ)
     → length (loaded_notes b near fixed f h mask to behind) ≤ 2
 loaded_count f h mask to behind true near fixed =
     let count = compared_count near fixed f mask to (behind - length (offset_code f h to)) in omega arith
@@ -390,7 +402,8 @@ index_count : (fixed : Option ℤ) (notes : List Note) → length (index_notes f
 index_count (Some z) notes = omega arith
 index_count None notes = omega arith
 
-pub access-count : (f : Setting) (near : Bool) (h : Home) (mask to behind : ℕ) (fixed : Option ℤ) (notes : List Note)
+pub access-count : (f : Setting) (near : Numbering) (h : Home) (mask to behind : ℕ) (fixed : Option ℤ)
+    (notes : List Note)
     → length (index_notes fixed notes ++ load_notes near fixed f h mask to behind) ≤ length notes + 2
 access-count f near h mask to behind fixed notes =
     omega (
@@ -409,7 +422,7 @@ pub expression-count : (f : Setting) (e : Tree) (mask to p : ℕ) → length (ex
 expression-count f (Number z) mask to p = omega arith
 expression-count f (Variable x) mask to p = omega arith
 expression-count f (Element x i) mask to p =
-    let near = compares f Public (home_of f x) i in
+    let near = numbering f Public (home_of f x) i in
     let q = index_operand f near i in
     let notes = expr_notes f mask to p i in
     let count = access-count f near (home_of f x) mask to (p + length (array_code f to x i))
@@ -455,7 +468,7 @@ set_variable-count f p x e =
 pub set_element-count : (f : Setting) (p : ℕ) (x : List ℕ) (i e : Tree)
     → length (set_notes f p (SetElement x i e)) ≤ 2 * (1 + (tree_weight i + tree_weight e))
 set_element-count f p x i e =
-    let near = compares f Public (home_of f x) i in
+    let near = numbering f Public (home_of f x) i in
     let q = operand f e in
     let q_of_index = index_operand f near i in
     let mid = p + length (operand_part q (expr_code f Public 0 e)) in

@@ -1,14 +1,14 @@
 -- Runs of the code that finds the place of a resident variable's word in its block, and that reads it there.
-use Rattle.std.proofs.Common.{◌≡◌, ◌≢◌, ℕ, ◌+◌, ◌/◌, ◌%◌, ◌^◌, ◌<◌, Bool, true, ℤ, pos, List, [], ◌∷◌, ◌++◌, get_or, append-nil, Option, Some, None, refl, sym, ap, ◌∙◌, subst, arith, mod-lt, pow_pos, ◌==◌, eqb-true}
+use Rattle.std.proofs.Common.{◌≡◌, ◌≢◌, ℕ, ◌+◌, ◌/◌, ◌%◌, ◌^◌, ◌<◌, true, ℤ, pos, List, [], ◌∷◌, ◌++◌, get_or, append-nil, Option, Some, None, refl, sym, ap, ◌∙◌, subst, arith, mod-lt, pow_pos, ◌==◌, eqb-true}
 use Rattle.std.proofs.lemmas.Bool.{cond_both}
 use Rattle.std.proofs.lemmas.Nat.{pow_below}
-use Rattle.gr_word.specs.Words.{applied, unsigned_of}
+use Rattle.gr_word.specs.Words.{unsigned_of}
 use Rattle.gr_word.proofs.SmallNumbers.{add_small}
 use Rattle.gr_word.specs.declared.operations.Op.TheVariants.{Add}
 use Rattle.gr_word.specs.declared.variables.Label.{Label}
 use Rattle.gr_word.specs.declared.variables.Shape.{Shape}
 use Rattle.lt_isa.specs.declared.instructions.Instr.{Instr}
-use Rattle.lt_isa.specs.declared.instructions.Instr.TheVariants.{Li, Alu, Ldw}
+use Rattle.lt_isa.specs.declared.instructions.Instr.TheVariants.{Li, Ldw}
 use Rattle.lt_isa.specs.Object.{Parts, block_words}
 use Rattle.lt_isa.specs.Ranges.{IsInRange}
 use Rattle.lt_isa.specs.Machine.{State, register, slot, word_in, slot_words}
@@ -16,12 +16,13 @@ use Rattle.lt_isa.specs.Shape.{IsShaped}
 use Rattle.lt_isa.specs.Step.{word_named}
 use Rattle.stretches.specs.Standing.{StandsAt}
 use Rattle.stretches.specs.Coming.{RunsThrough, Sets}
-use Rattle.stretches.proofs.RunningThrough.{runs-cons, runs-one, runs-append, runs-weaker, sets-li, sets-alu, sets-ldw}
+use Rattle.stretches.proofs.RunningThrough.{runs-one, runs-append, runs-weaker, sets-li, sets-ldw}
 use Rattle.src_tree.specs.Contexts.{context_of}
 use Rattle.src_tree.specs.Meaning.{Store, variable_number, words_of_number, evaluated}
 use Rattle.src_tree.specs.Trees.{Tree}
 use Rattle.block_cache_gen.specs.declared.frames.Mode.{Mode}
-use Rattle.block_cache_gen.specs.Homes.{pin_at, slot_of_word, words_a_block, Home, Setting, HasHomes, home_of, pin_of, register_for}
+use Rattle.block_cache_gen.specs.declared.indexes.Numbering.{Numbering}
+use Rattle.block_cache_gen.specs.Homes.{pin_at, slot_of_word, words_a_block, Home, Setting, HasHomes, home_of, register_for}
 use Rattle.block_cache_gen.specs.Codes.{applied_code, fixed_index, fixed_word, numbered_code, offset_code, placed_code}
 use Rattle.scratch_alloc.specs.Plans.{pin_to}
 use Rattle.block_cache_gen.specs.StandsFor.{StandsFor, FitsHomes, HoldsBlock}
@@ -30,8 +31,7 @@ use Rattle.block_cache_gen.specs.LeavesWord.{LeavesWord}
 use Rattle.block_cache_gen.proofs.HomeFacts.{block_words-is}
 use Rattle.block_cache_gen.proofs.WordSlots.{word-pinned, words-few}
 use Rattle.block_cache_gen.proofs.Stands.{stands-like, stands-set}
-use Rattle.block_cache_gen.proofs.IndexRuns.{Reduces, Computes, runs-applied, runs-numbered}
-use Rattle.block_cache_gen.proofs.Kept.{keeps-set, keeps-on}
+use Rattle.block_cache_gen.proofs.IndexRuns.{FitsNumbering, Reduces, Computes, runs-applied, runs-numbered}
 use Rattle.block_cache_gen.proofs.OperandRuns.{LeavesAt, RunsValue, runs-nothing}
 use Rattle.block_cache_gen.proofs.AccessRuns.{fixed-is}
 
@@ -122,13 +122,14 @@ module _ (o : Parts) (fits : IsInRange o) (f : Setting) (homes : HasHomes o f) (
   -- the place of the word is found, after the code of the index
   pub runs-placed : (mode : Mode) (to from : ℕ) (i : Tree) (code : List Instr) (s : State) → IsShaped o s
       → StandsFor f s store → to + 2 < 19 → from ≢ to + 1 → RunsValue o f store mode to from i code s
-      → (near : Bool) → (near ≡ true → from ≡ to) → (fixed : Option ℤ) → fixed_index (home_of f x) i ≡ fixed
-      → StandsAt o s.place (placed_code near f (home_of f x) to from fixed code)
-      → RunsThrough o s (placed_code near f (home_of f x) to from fixed code)
+      → (way : Numbering) → FitsNumbering way to from (evaluated f.decls store i) (home_of f x).length
+      → (fixed : Option ℤ) → fixed_index (home_of f x) i ≡ fixed
+      → StandsAt o s.place (placed_code way f (home_of f x) to from fixed code)
+      → RunsThrough o s (placed_code way f (home_of f x) to from fixed code)
       (seen_of_all mode s.banks s.slots (accesses f store i))
       (LeavesWord f store (accesses f store i) to
       (pos ((home_of f x).word + word_number f store x (evaluated f.decls store i))) s)
-  runs-placed mode to from i code s shaped stands small other run near own (Some z) is at =
+  runs-placed mode to from i code s shaped stands small other run way own (Some z) is at =
       let h = home_of f x in
       let place = pos (h.word + fixed_word h z) in
       subst
@@ -148,14 +149,14 @@ module _ (o : Parts) (fits : IsInRange o) (f : Setting) (homes : HasHomes o f) (
         slots = sets.slots;
         stands = stands-set sets (omega arith) stands;
       }))
-  runs-placed mode to from i code s shaped stands small other run near own None is at =
+  runs-placed mode to from i code s shaped stands small other run way own None is at =
       let h = home_of f x in
       let home = homes.residents x label shape known resident in
       let index = evaluated f.decls store i in
       let n = word_number f store x index in
       let before = accesses f store i in
       let seen = seen_of_all mode s.banks s.slots before in
-      let number = numbered_code near f h to from in
+      let number = numbered_code way f h to from in
       let Done : State → Type 0 = LeavesWord f store before to (pos (h.word + n)) s in
       let small_place : h.word + n < 2 ^ 63 =
       let most = pow_below o.profile.block_log 10 (omega (arith, fits.profile.block_log)) in
@@ -167,7 +168,7 @@ module _ (o : Parts) (fits : IsInRange o) (f : Setting) (homes : HasHomes o f) (
       (λ t shape leaves at'.
       runs-append t number (offset_code f h to) [] []
       (Reduces to (unsigned_of index % h.length) t) Done at'
-      (runs-numbered o fits f store near h to from t index shape leaves.stands leaves.value other own small home.length.0 home.length.1)
+      (runs-numbered o fits f store way h to from t index shape leaves.stands leaves.value other own small home.length.0 home.length.1)
       (λ u shape' reduces at''.
       let word : register u to ≡ pos n = reduces.word ∙ ap pos (resident_number-is index) in
       let stands' = stands-like f t u store reduces.keeps.slots reduces.keeps.banks reduces.keeps.above leaves.stands in

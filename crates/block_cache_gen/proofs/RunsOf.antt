@@ -20,7 +20,7 @@ pub expression-evaluates : (f : Setting) (mode : Mode) (to : ℕ) (e : Tree) →
     → to + height_of e ≤ 17 → Evaluates f mode to e (expr_code f mode to e)
 expression-evaluates f mode to e typed room = record {
   runs = λ o store s b.
-      runs-expression o b.in_range f b.homes store b.fits mode e typed to room s b.shaped b.stands b.code_stands;
+      runs-expression o b.in_range f b.homes store b.fits b.within mode e typed to room s b.shaped b.stands b.code_stands;
 }
 
 -- the code of a guard leaves its two sides in two registers
@@ -29,7 +29,7 @@ pub guard-evaluates : (f : Setting) (mode : Mode) (to : ℕ) (t : Test) → Type
     → EvaluatesTest f mode to t (guard_code f mode to t)
 guard-evaluates f mode to t typed room room' = record {
   runs = λ o store s b.
-      runs-guard o b.in_range f b.homes store b.fits mode t typed to room room' s b.shaped b.stands b.code_stands;
+      runs-guard o b.in_range f b.homes store b.fits b.within mode t typed to room room' s b.shaped b.stands b.code_stands;
 }
 
 -- the code of an assignment leaves the store of it, or without effect the store as it was
@@ -37,12 +37,12 @@ pub assignment-performs : (f : Setting) (mode : Mode) (code : Label) (s : Statem
     → TypedStatement (context_of f.decls) code s → LowStatement s → Performs f mode s (set_code f mode s)
 assignment-performs f mode code (SetVariable x e) is typed low = record {
   runs = λ o store s b.
-      runs-set_variable o b.in_range f b.homes store b.fits mode x typed.0.0 typed.0.1 e typed.1.0
+      runs-set_variable o b.in_range f b.homes store b.fits b.within mode x typed.0.0 typed.0.1 e typed.1.0
       (omega (arith, low)) s b.shaped b.stands b.code_stands;
 }
 assignment-performs f mode code (SetElement x i e) is typed low = record {
   runs = λ o store s b.
-      runs-set_element o b.in_range f b.homes store b.fits mode x typed.0.0.0 typed.0.0.1 i e typed.0.1.0 typed.1.0
+      runs-set_element o b.in_range f b.homes store b.fits b.within mode x typed.0.0.0 typed.0.0.1 i e typed.0.1.0 typed.1.0
       (omega (arith, low.0)) (omega (arith, low.1)) s b.shaped b.stands b.code_stands;
 }
 assignment-performs f mode code (Choice t a b) is typed low = absurd is

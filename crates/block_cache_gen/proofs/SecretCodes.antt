@@ -1,6 +1,6 @@
 -- The codes of the two secret modes: the same but for the register that a store or a copy to a scalar takes, with at most
 -- one store in an assignment and none in an expression.
-use Rattle.std.proofs.Common.{◌≡◌, ℕ, ◌+◌, ◌-◌, ◌==◌, Bool, true, false, not, ◌&&◌, ℤ, pos, List, [], ◌∷◌, ◌++◌, Option, Some, None, refl, sym, ap, ◌∙◌, arith}
+use Rattle.std.proofs.Common.{◌≡◌, ℕ, ◌+◌, ◌==◌, Bool, true, false, not, ◌&&◌, ℤ, pos, List, [], ◌∷◌, ◌++◌, Option, Some, None, refl, sym, ap, ◌∙◌, arith}
 use Rattle.std.specs.Prelude.{cond, is_some, if◌then◌else◌}
 use Rattle.std.proofs.lemmas.Bool.{lt-ltb}
 use Rattle.std.proofs.lemmas.List.{map-append}
@@ -17,7 +17,9 @@ use Rattle.src_tree.specs.Trees.{Tree, Number, Variable, Element, Operation, Tes
 use Rattle.block_cache_gen.specs.declared.frames.Mode.{Mode}
 use Rattle.block_cache_gen.specs.declared.frames.Mode.TheVariants.{Public, Real, Mirrored}
 use Rattle.block_cache_gen.specs.Homes.{Home, Setting, home_of, register_for}
-use Rattle.block_cache_gen.specs.Codes.{read_code, may_skip_loads, is_cached, is_masked, fixed_index, held_number, applied_code, reducing, reducer, shift_code, located_code, offset_code, placed_code, stored_code, access_by, load_code, skips, access_code, operand, operand_part, operand_register, left_operand, index_operand, indexed_code, expr_code, guard_code, store_code, set_code, operation_code, steps_at, compares, numbered_code, zero_of, scalar_code, write_code}
+use Rattle.block_cache_gen.specs.declared.indexes.Numbering.{Numbering}
+use Rattle.block_cache_gen.specs.declared.indexes.Numbering.TheVariants.{Compared, Reduced, Within}
+use Rattle.block_cache_gen.specs.Codes.{read_code, may_skip_loads, is_cached, is_masked, fixed_index, held_number, applied_code, reducing, reducer, shift_code, located_code, offset_code, placed_code, stored_code, access_by, load_code, skips, access_code, operand, operand_part, operand_register, left_operand, index_operand, indexed_code, expr_code, guard_code, set_code, operation_code, steps_at, is_within_home, numbering_by, numbering, numbered_code, zero_of, scalar_code, write_code}
 use Rattle.gr_word.specs.declared.operations.Op.{Op}
 use Rattle.strength_reduction.specs.Steps.{Step}
 use Rattle.block_cache_gen.proofs.SpreadWrites.{read-stores, stored-stores, stored-aside}
@@ -25,7 +27,7 @@ use Rattle.block_cache_gen.proofs.StepsAt.{steps-stores}
 use Rattle.block_cache_gen.specs.StoredWords.{is_held_register, set_stores, is_stw, stored_words, register_aside, registers_aside}
 
 -- an expression's code depends on the mode only in being public or secret
-indexed_code-mode : (f : Setting) (m n : Mode) (near far : Bool) (h : Home) (to : ℕ) (i : Tree)
+indexed_code-mode : (f : Setting) (m n : Mode) (near far : Numbering) (h : Home) (to : ℕ) (i : Tree)
     (one other : List Instr) → may_skip_loads m ≡ may_skip_loads n → near ≡ far → one ≡ other
     → indexed_code f near m h to i one ≡ indexed_code f far n h to i other
 indexed_code-mode f m n near far h to i one other same alike index = by h.resident
@@ -43,10 +45,11 @@ indexed_code-mode f m n near far h to i one other same alike index = by h.reside
         (fixed_index h i) (operand_part (index_operand f (alike k) i) (index k))
         ++ load_code (same k && is_cached h) h to
 
-compares-mode : (f : Setting) (m n : Mode) (h : Home) (i : Tree) → may_skip_loads m ≡ may_skip_loads n
-    → compares f m h i ≡ compares f n h i
-compares-mode f m n h i same =
-    ap (λ (b : Bool). b && (f.reduces && (not (is_masked h) && not (secret_label (label_of (context_of f.decls) i)))))
+numbering-mode : (f : Setting) (m n : Mode) (h : Home) (i : Tree) → may_skip_loads m ≡ may_skip_loads n
+    → numbering f m h i ≡ numbering f n h i
+numbering-mode f m n h i same =
+    ap (λ (b : Bool). numbering_by (is_within_home f h i)
+    (b && (f.reduces && (not (is_masked h) && not (secret_label (label_of (context_of f.decls) i))))))
     same
 
 pub expr_code-mode : (f : Setting) (m n : Mode) (to : ℕ) (e : Tree) → may_skip_loads m ≡ may_skip_loads n
@@ -55,9 +58,9 @@ expr_code-mode f m n to (Number z) same = refl
 expr_code-mode f m n to (Variable x) same = refl
 expr_code-mode f m n to (Element x i) same =
     ap (λ (code : List Instr). code ++ read_code f (home_of f x) (fixed_index (home_of f x) i) to)
-    (indexed_code-mode f m n (compares f m (home_of f x) i) (compares f n (home_of f x) i) (home_of f x) to i
+    (indexed_code-mode f m n (numbering f m (home_of f x) i) (numbering f n (home_of f x) i) (home_of f x) to i
     (expr_code f m to i) (expr_code f n to i) same
-    (compares-mode f m n (home_of f x) i same) (expr_code-mode f m n to i same))
+    (numbering-mode f m n (home_of f x) i same) (expr_code-mode f m n to i same))
 expr_code-mode f m n to (Operation op a b) same =
     let left = expr_code-mode f m n to a same in
     let right = expr_code-mode f m n (to + 1) b same in
@@ -112,10 +115,11 @@ set_code-aside f sound (SetElement x i e) =
     let q = operand f e in
     let from = operand_register q 0 in
     let value = ap (operand_part q) (expr_code-mode f Real Mirrored 0 e refl) in
-    let access = indexed_code-mode f Real Mirrored false false h 1 i (expr_code f Real 1 i)
+    let near = numbering f Real h i in
+    let access = indexed_code-mode f Real Mirrored near near h 1 i (expr_code f Real 1 i)
     (expr_code f Mirrored 1 i) refl refl
     (expr_code-mode f Real Mirrored 1 i refl) in
-    element_aside (operand_part q (expr_code f Real 0 e)) (indexed_code f false Real h 1 i (expr_code f Real 1 i))
+    element_aside (operand_part q (expr_code f Real 0 e)) (indexed_code f near Real h 1 i (expr_code f Real 1 i))
     (stored_code f Real h (fixed_index h i) from) (stored_code f Mirrored h (fixed_index h i) from)
     (stored-aside f h (fixed_index h i) from)
     ∙ λ k. registers_aside (value k ++ (access k ++ stored_code f Mirrored h (fixed_index h i) from))
@@ -146,12 +150,13 @@ offset-stores f h to = by (h.word == 0)
     by true = refl
     by false = applied-stores f Add to to (to + 1) (pos h.word)
 
-numbered-stores : (near : Bool) (f : Setting) (h : Home) (to from : ℕ)
+numbered-stores : (near : Numbering) (f : Setting) (h : Home) (to from : ℕ)
     → stored_words (numbered_code near f h to from) ≡ 0
-numbered-stores true f h to from = refl
-numbered-stores false f h to from = applied-stores f (reducing h) to from (to + 1) (reducer h)
+numbered-stores Compared f h to from = refl
+numbered-stores Within f h to from = refl
+numbered-stores Reduced f h to from = applied-stores f (reducing h) to from (to + 1) (reducer h)
 
-located-stores : (near : Bool) (f : Setting) (h : Home) (to from : ℕ) (fixed : Option ℤ) (index : List Instr)
+located-stores : (near : Numbering) (f : Setting) (h : Home) (to from : ℕ) (fixed : Option ℤ) (index : List Instr)
     → stored_words index ≡ 0 → stored_words (located_code near f h to from fixed index) ≡ 0
 located-stores near f h to from (Some z) index none = refl
 located-stores near f h to from None index none =
@@ -179,7 +184,7 @@ load-stores : (skips_load : Bool) (h : Home) (to : ℕ) → stored_words (load_c
 load-stores true h to = refl
 load-stores false h to = refl
 
-access-stores : (f : Setting) (mode : Mode) (near : Bool) (h : Home) (to from : ℕ) (fixed : Option ℤ)
+access-stores : (f : Setting) (mode : Mode) (near : Numbering) (h : Home) (to from : ℕ) (fixed : Option ℤ)
     (index : List Instr) → stored_words index ≡ 0
     → stored_words (access_code near f mode h to from fixed index) ≡ 0
 access-stores f mode near h to from fixed index none = by h.resident
@@ -223,7 +228,7 @@ expr-stores f mode to (Number z) = refl
 expr-stores f mode to (Variable x) = scalar-stores (register_for f x) (home_of f x) to
 expr-stores f mode to (Element x i) =
     let h = home_of f x in
-    let near = compares f mode h i in
+    let near = numbering f mode h i in
     let q = index_operand f near i in
     let index = operand_part q (expr_code f mode to i) in
     stored-append (indexed_code f near mode h to i (expr_code f mode to i)) (read_code f h (fixed_index h i) to)
@@ -275,7 +280,7 @@ pub element-stores : (f : Setting) (mode : Mode) (x : List ℕ) (i e : Tree)
     → stored_words (set_code f mode (SetElement x i e)) ≡ set_stores f (SetElement x i e)
 element-stores f mode x i e =
     let h = home_of f x in
-    let near = compares f mode h i in
+    let near = numbering f mode h i in
     let q = operand f e in
     let value = operand_part q (expr_code f mode 0 e) in
     let q_of_index = index_operand f near i in

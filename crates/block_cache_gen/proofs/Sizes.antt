@@ -1,9 +1,9 @@
 -- How long the code of expressions, guards and assignments is, and how many notes it has.
-use Rattle.std.proofs.Common.{◌≡◌, ℕ, ◌+◌, ◌*◌, ◌≤◌, Bool, true, false, List, [], ◌∷◌, ◌++◌, length, Option, Some, None, ℤ, pos, refl, arith, length-append}
+use Rattle.std.proofs.Common.{◌≡◌, ℕ, ◌+◌, ◌*◌, ◌≤◌, Bool, true, false, List, [], ◌∷◌, ◌++◌, length, Option, Some, None, ℤ, pos, arith, length-append}
 use Rattle.std.specs.Prelude.{if◌then◌else◌, ◌==◌}
 use Rattle.gr_word.specs.declared.variables.Label.{Label}
 use Rattle.lt_isa.specs.declared.instructions.Instr.{Instr}
-use Rattle.lt_isa.specs.declared.instructions.Instr.TheVariants.{Li, Alu, Ldw}
+use Rattle.lt_isa.specs.declared.instructions.Instr.TheVariants.{Li, Alu}
 use Rattle.gr_word.specs.declared.operations.Op.{Op}
 use Rattle.gr_word.specs.declared.operations.Op.TheVariants.{Add, Shr}
 use Rattle.src_tree.specs.Contexts.{Context, context_of}
@@ -11,10 +11,11 @@ use Rattle.src_tree.specs.Labels.{label_of}
 use Rattle.src_tree.specs.Trees.{Tree, Number, Variable, Element, Operation, Test, Statement, SetVariable, SetElement, Choice, Loop}
 use Rattle.src_tree.specs.Limits.{tree_weight, test_weight, statement_weight}
 use Rattle.block_cache_gen.specs.declared.frames.Mode.{Mode}
-use Rattle.block_cache_gen.specs.declared.frames.Mode.TheVariants.{Public, Real, Mirrored}
 use Rattle.block_cache_gen.specs.Assignments.{IsAssignment}
 use Rattle.block_cache_gen.specs.Homes.{Home, Setting, home_of, register_for}
-use Rattle.block_cache_gen.specs.Codes.{read_code, held_number, applied_code, reducing, reducer, compares, numbered_code, shift_code, offset_code, placed_code, stored_code, located_code, load_code, skips, access_by, access_code, index_operand, indexed_code, fixed_index, operand, operand_part, operand_register, left_operand, operation_code, steps_at, expr_code, guard_code, store_code, set_code, scalar_code, write_code}
+use Rattle.block_cache_gen.specs.declared.indexes.Numbering.{Numbering}
+use Rattle.block_cache_gen.specs.declared.indexes.Numbering.TheVariants.{Compared, Reduced, Within}
+use Rattle.block_cache_gen.specs.Codes.{read_code, held_number, applied_code, reducing, reducer, numbering, numbered_code, shift_code, offset_code, placed_code, stored_code, located_code, load_code, skips, access_by, access_code, index_operand, indexed_code, fixed_index, operand, operand_part, operand_register, left_operand, operation_code, steps_at, expr_code, guard_code, set_code, scalar_code, write_code}
 use Rattle.block_cache_gen.proofs.HeldOperands.{operand-short}
 use Rattle.block_cache_gen.proofs.ElementCodes.{read-short, store_short, stored-short}
 use Rattle.block_cache_gen.proofs.StepsAt.{operation-short}
@@ -34,16 +35,19 @@ applied_some f op to from own z =
     let q = held_number f z in
     omega (arith, length-append (operand_part q (Li own z ∷ [])) (Alu op to from (operand_register q own) ∷ []))
 
--- a number of a word takes six instructions at most, and one at least
-numbered_short : (near : Bool) (f : Setting) (h : Home) (to from : ℕ) → length (numbered_code near f h to from) ≤ 6
-numbered_short true f h to from = omega arith
-numbered_short false f h to from = omega (arith, applied_short f (reducing h) to from (to + 1) (reducer h))
+-- a number of a word takes six instructions at most, and six if the index is compared
+numbered_short : (near : Numbering) (f : Setting) (h : Home) (to from : ℕ) → length (numbered_code near f h to from) ≤ 6
+numbered_short Compared f h to from = omega arith
+numbered_short Reduced f h to from = omega (arith, applied_short f (reducing h) to from (to + 1) (reducer h))
+numbered_short Within f h to from = omega arith
 
-pub numbered_some : (near : Bool) (f : Setting) (h : Home) (to from : ℕ) → 1 ≤ length (numbered_code near f h to from)
-numbered_some true f h to from = omega arith
-numbered_some false f h to from = applied_some f (reducing h) to from (to + 1) (reducer h)
+pub compared_some : (near : Numbering) (f : Setting) (h : Home) (to from : ℕ) → near ≡ Compared
+    → 6 ≤ length (numbered_code near f h to from)
+compared_some Compared f h to from is = omega arith
+compared_some Reduced f h to from is = absurd (cc)
+compared_some Within f h to from is = absurd (cc)
 
--- that of a block four, and one at least
+-- that of a block four, and two at least
 shift_short : (f : Setting) (h : Home) (to : ℕ) → length (shift_code f h to) ≤ 4
 shift_short f h to =
     let log = pos f.profile.block_log in
@@ -55,7 +59,7 @@ shift_short f h to =
       applied_short f Add (to + 1) (to + 1) (to + 2) block,
     )
 
-pub shift_some : (f : Setting) (h : Home) (to : ℕ) → 1 ≤ length (shift_code f h to)
+pub shift_some : (f : Setting) (h : Home) (to : ℕ) → 2 ≤ length (shift_code f h to)
 shift_some f h to =
     let log = pos f.profile.block_log in
     let block = pos h.block in
@@ -63,6 +67,7 @@ shift_some f h to =
       arith,
       length-append (applied_code f Shr (to + 1) to (to + 1) log) (applied_code f Add (to + 1) (to + 1) (to + 2) block),
       applied_some f Shr (to + 1) to (to + 1) log,
+      applied_some f Add (to + 1) (to + 1) (to + 2) block,
     )
 
 pub load_short : (skipped : Bool) (h : Home) (to : ℕ) → length (load_code skipped h to) ≤ 3
@@ -70,7 +75,7 @@ load_short true h to = omega arith
 load_short false h to = omega arith
 
 -- ten instructions at most make of an index the numbers of a word and a block
-pub located_short : (near : Bool) (f : Setting) (h : Home) (to from : ℕ) (fixed : Option ℤ) (index : List Instr)
+pub located_short : (near : Numbering) (f : Setting) (h : Home) (to from : ℕ) (fixed : Option ℤ) (index : List Instr)
     → length (located_code near f h to from fixed index) ≤ length index + 10
 located_short near f h to from (Some z) index = omega arith
 located_short near f h to from None index =
@@ -94,7 +99,7 @@ scalar_short None h to = omega arith
 scalar_short (Some r) h to = omega arith
 
 -- an access takes at most 13 instructions after the index
-pub access_short : (near : Bool) (f : Setting) (mode : Mode) (h : Home) (to from : ℕ) (fixed : Option ℤ)
+pub access_short : (near : Numbering) (f : Setting) (mode : Mode) (h : Home) (to from : ℕ) (fixed : Option ℤ)
     (index : List Instr) → length (access_code near f mode h to from fixed index) ≤ length index + 13
 access_short near f mode h to from fixed index = by h.resident
   where
@@ -118,7 +123,7 @@ access_short near f mode h to from fixed index = by h.resident
         omega arith
 
 -- so of an index that a register may hold
-pub indexed_short : (f : Setting) (near : Bool) (mode : Mode) (h : Home) (to : ℕ) (i : Tree) (index : List Instr)
+pub indexed_short : (f : Setting) (near : Numbering) (mode : Mode) (h : Home) (to : ℕ) (i : Tree) (index : List Instr)
     → length (indexed_code f near mode h to i index) ≤ length index + 13
 indexed_short f near mode h to i index =
     let q = index_operand f near i in
@@ -134,7 +139,7 @@ expr_code_short f mode to (Number z) = omega arith
 expr_code_short f mode to (Variable x) = omega (arith, scalar_short (register_for f x) (home_of f x) to)
 expr_code_short f mode to (Element x i) =
     let h = home_of f x in
-    let near = compares f mode h i in
+    let near = numbering f mode h i in
     let code = indexed_code f near mode h to i (expr_code f mode to i) in
     let e = length-append code (read_code f h (fixed_index h i) to) in
     let r = (read-short f h (fixed_index h i) to).1 in
@@ -185,12 +190,12 @@ set_code_short f mode known code (SetVariable x e) is =
 set_code_short f mode known code (SetElement x i e) is =
     let h = home_of f x in
     let index = expr_code f mode 1 i in
-    let access = indexed_code f (compares f mode h i) mode h 1 i index in
+    let access = indexed_code f (numbering f mode h i) mode h 1 i index in
     let value = operand_register (operand f e) 0 in
     let last = stored_code f mode h (fixed_index h i) value in
     let l = length-append (operand_part (operand f e) (expr_code f mode 0 e)) (access ++ last) in
     let m = length-append access last in
-    let a = indexed_short f (compares f mode h i) mode h 1 i index in
+    let a = indexed_short f (numbering f mode h i) mode h 1 i index in
     let k = expr_code_short f mode 0 e in
     let p = operand-short (operand f e) (expr_code f mode 0 e) in
     let j = expr_code_short f mode 1 i in

@@ -4,18 +4,17 @@ use Rattle.std.specs.Prelude.{is_some}
 use Rattle.std.proofs.lemmas.List.{length-append}
 use Rattle.gr_word.specs.declared.operations.Op.{Op}
 use Rattle.lt_isa.specs.declared.instructions.Instr.{Instr}
-use Rattle.lt_isa.specs.declared.instructions.Instr.TheVariants.{Alu, Ldw}
+use Rattle.lt_isa.specs.declared.instructions.Instr.TheVariants.{Alu}
 use Rattle.strength_reduction.specs.Steps.{Step}
 use Rattle.src_tree.specs.Contexts.{context_of}
 use Rattle.src_tree.specs.Labels.{label_of, secret_label}
 use Rattle.src_tree.specs.Trees.{Tree, Number, Variable, Element, Operation, Test, Statement, SetVariable, SetElement, Choice, Loop}
 use Rattle.gr_word.specs.declared.variables.Label.{Label}
 use Rattle.block_cache_gen.specs.declared.frames.Mode.{Mode}
-use Rattle.block_cache_gen.specs.declared.frames.Mode.TheVariants.{Public, Real, Mirrored}
 use Rattle.block_cache_gen.specs.Assignments.{IsAssignment}
 use Rattle.block_cache_gen.specs.Homes.{Home, Setting, home_of, register_for}
 use Rattle.block_cache_gen.proofs.ElementCodes.{read-short, stored-short}
-use Rattle.block_cache_gen.specs.Codes.{may_skip_loads, is_masked, compares, scalar_code, expr_code, fixed_index, guard_code, read_code, set_code, stored_code, write_code, indexed_code, operand, operand_part, operand_register, operand_unless, left_operand, operation_code, steps_at}
+use Rattle.block_cache_gen.specs.Codes.{may_skip_loads, is_masked, is_within_home, numbering_by, numbering, scalar_code, expr_code, fixed_index, guard_code, read_code, set_code, stored_code, write_code, indexed_code, operand, operand_part, operand_register, operand_unless, left_operand, operation_code, steps_at}
 
 scalar_code-some : (r : Option ℕ) (h : Home) (to : ℕ) → 1 ≤ length (scalar_code r h to)
 scalar_code-some (Some r) h to = omega arith
@@ -40,7 +39,7 @@ expr_code-some f m to (Variable x) = scalar_code-some (register_for f x) (home_o
 expr_code-some f m to (Element x i) =
     omega (
       arith,
-      length-append (indexed_code f (compares f m (home_of f x) i) m (home_of f x) to i (expr_code f m to i))
+      length-append (indexed_code f (numbering f m (home_of f x) i) m (home_of f x) to i (expr_code f m to i))
           (read_code f (home_of f x) (fixed_index (home_of f x) i) to),
       (read-short f (home_of f x) (fixed_index (home_of f x) i) to).0,
     )
@@ -74,7 +73,7 @@ set_code-some f m (SetVariable x e) is =
 set_code-some f m (SetElement x i e) is =
     let h = home_of f x in
     let store = stored_code f m h (fixed_index h i) (operand_register (operand f e) 0) in
-    let access = indexed_code f (compares f m h i) m h 1 i (expr_code f m 1 i) in
+    let access = indexed_code f (numbering f m h i) m h 1 i (expr_code f m 1 i) in
     omega (
       arith,
       (stored-short f m h (fixed_index h i) (operand_register (operand f e) 0)).0,
@@ -85,8 +84,9 @@ set_code-some f m (Choice t a b) is = absurd is
 set_code-some f m (Loop t a) is = absurd is
 
 -- secret code compares no index with a length
-pub compares-secret : (f : Setting) (m : Mode) (h : Home) (i : Tree) → may_skip_loads m ≡ false
-    → compares f m h i ≡ false
-compares-secret f m h i secret =
-    ap (λ (b : Bool). b && (f.reduces && (not (is_masked h) && not (secret_label (label_of (context_of f.decls) i)))))
+pub numbering-secret : (f : Setting) (m : Mode) (h : Home) (i : Tree) → may_skip_loads m ≡ false
+    → numbering f m h i ≡ numbering_by (is_within_home f h i) false
+numbering-secret f m h i secret =
+    ap (λ (b : Bool). numbering_by (is_within_home f h i)
+    (b && (f.reduces && (not (is_masked h) && not (secret_label (label_of (context_of f.decls) i))))))
     secret

@@ -1,10 +1,9 @@
 -- The code that reads or writes a word of an array is passed in public code, whether the words are in one slot or in
 -- several.
-use Rattle.std.proofs.Common.{◌≡◌, ◌≢◌, ℕ, ◌+◌, ◌/◌, ◌<◌, ◌≤◌, Bool, true, false, not, ◌&&◌, ◌||◌, ℤ, List, [], ◌∷◌, ◌++◌, length, get_or, Option, Some, None, ◌⊎◌, inl, inr, refl, sym, ap, ◌∙◌, subst, arith, pow_pos}
+use Rattle.std.proofs.Common.{◌≡◌, ℕ, ◌+◌, ◌/◌, ◌<◌, ◌≤◌, Bool, true, false, not, ◌&&◌, ◌||◌, ℤ, List, [], ◌∷◌, length, get_or, Option, Some, None, refl, ap, ◌∙◌, arith, pow_pos}
 use Rattle.std.specs.List.{slice_get}
 use Rattle.std.proofs.lemmas.Bool.{eqb-true}
 use Rattle.gr_word.specs.declared.variables.Label.{Label}
-use Rattle.gr_word.specs.declared.variables.Label.TheVariants.{Secret}
 use Rattle.gr_word.specs.declared.variables.Shape.TheVariants.{Array}
 use Rattle.lt_isa.specs.declared.instructions.Instr.{Instr}
 use Rattle.lt_isa.specs.declared.instructions.Instr.TheVariants.{Ldw, Stw, Stb}
@@ -14,13 +13,13 @@ use Rattle.scratch_alloc.specs.Plans.{pin_to}
 use Rattle.trace_patterns.specs.Known.{Known, is_secret, bank_known, set_secret}
 use Rattle.stretches.proofs.Passed.{GoesOn, NoMore, One, rules-ldw, rules-stw, rules-stb, secret-same}
 use Rattle.word_selection.specs.declared.effects.Effect.TheVariants.{Stores}
-use Rattle.word_selection.specs.Selection.{selected_read, selected_write}
+use Rattle.word_selection.specs.Selection.{selected_read}
 use Rattle.word_selection.specs.SlotSteps.{IsOutside}
 use Rattle.word_selection.proofs.ReadLaws.{passes-read}
 use Rattle.word_selection.proofs.WriteLaws.{passes-write}
 use Rattle.block_cache_gen.specs.declared.frames.Mode.TheVariants.{Public}
 use Rattle.block_cache_gen.specs.Homes.{further_slots, Pin, Setting, HasHomes, IsResidentHome, home_of, pin_at, slots_of_home, slot_of_word, words_a_block}
-use Rattle.block_cache_gen.specs.Codes.{fixed_word, read_by, read_code, store_code, stored_among, stored_by, stored_code}
+use Rattle.block_cache_gen.specs.Codes.{fixed_word, read_by, read_code, stored_among, stored_by, stored_code}
 use Rattle.block_cache_gen.specs.Carries.{Carries}
 use Rattle.block_cache_gen.proofs.HomeFacts.{block_words-is}
 use Rattle.block_cache_gen.proofs.WordSlots.{word-pinned, slot-pinned, several}

@@ -1,5 +1,5 @@
 -- The instructions that write a scalar or an element: none in an expression's code, and one in an assignment's.
-use Rattle.std.proofs.Common.{◌≡◌, ℕ, ◌+◌, ◌-◌, ◌<◌, ◌≤◌, ◌==◌, Bool, true, false, ℤ, pos, ◌+ℤ◌, List, [], ◌∷◌, ◌++◌, Option, Some, None, refl, ap, ◌∙◌, arith}
+use Rattle.std.proofs.Common.{◌≡◌, ℕ, ◌+◌, ◌<◌, ◌≤◌, ◌==◌, Bool, true, false, ℤ, pos, ◌+ℤ◌, List, [], ◌∷◌, ◌++◌, Option, Some, None, refl, ap, ◌∙◌, arith}
 use Rattle.std.specs.Prelude.{All, cond, if◌then◌else◌}
 use Rattle.std.proofs.lemmas.Bool.{le-ltb, lt-ltb}
 use Rattle.std.proofs.lemmas.List.Elements.{All-head, All-tail}
@@ -23,7 +23,9 @@ use Rattle.block_cache_gen.specs.declared.frames.Mode.{Mode}
 use Rattle.block_cache_gen.specs.declared.frames.Mode.TheVariants.{Public, Real, Mirrored}
 use Rattle.block_cache_gen.specs.Assignments.{IsAssignment}
 use Rattle.block_cache_gen.specs.Homes.{Home, Setting, home_of, register_for}
-use Rattle.block_cache_gen.specs.Codes.{read_code, zero_of, copied_from, held_number, applied_code, reducing, reducer, fixed_index, scalar_code, compares, least_word, numbered_code, shift_code, offset_code, placed_code, located_code, load_code, skips, access_by, access_code, operand, operand_part, operand_register, left_operand, index_operand, indexed_code, stored_code, operation_code, steps_at, expr_code, store_code, write_code, set_code}
+use Rattle.block_cache_gen.specs.declared.indexes.Numbering.{Numbering}
+use Rattle.block_cache_gen.specs.declared.indexes.Numbering.TheVariants.{Compared, Reduced, Within}
+use Rattle.block_cache_gen.specs.Codes.{read_code, zero_of, copied_from, held_number, applied_code, reducing, reducer, fixed_index, scalar_code, numbering, least_word, numbered_code, shift_code, offset_code, placed_code, located_code, load_code, skips, access_by, access_code, operand, operand_part, operand_register, left_operand, index_operand, indexed_code, stored_code, operation_code, steps_at, expr_code, write_code, set_code}
 use Rattle.block_cache_gen.specs.StoredWords.{set_writes, is_held_register, is_write, written_words}
 use Rattle.block_cache_gen.proofs.HeldLabels.{register-own}
 use Rattle.block_cache_gen.proofs.HeldOperands.{operand-outside}
@@ -83,9 +85,11 @@ module _ (to : ℕ) (low : to + 2 < 21) where
   load-writes true h = refl
   load-writes false h = refl
 
-  numbered-writes : (near : Bool) (f : Setting) (h : Home) (from : ℕ) → written_words (numbered_code near f h to from) ≡ 0
-  numbered-writes false f h from = applied-writes f (reducing h) to from (to + 1) (reducer h) (omega arith)
-  numbered-writes true f h from =
+  numbered-writes : (near : Numbering) (f : Setting) (h : Home) (from : ℕ)
+      → written_words (numbered_code near f h to from) ≡ 0
+  numbered-writes Within f h from = refl
+  numbered-writes Reduced f h from = applied-writes f (reducing h) to from (to + 1) (reducer h) (omega arith)
+  numbered-writes Compared f h from =
       let one = Alu Remu to to (to + 1) in
       let two = Li (to + 1) (pos h.length) in
       let three = Br Lt (to + 1) (to + 2) (pos 3) in
@@ -97,7 +101,7 @@ module _ (to : ℕ) (low : to + 2 < 21) where
       (none-more three (two ∷ one ∷ []) refl
       (none-more two (one ∷ []) refl (none-more one [] (low-plain to (omega arith)) refl)))))
 
-  located-writes : (near : Bool) (f : Setting) (h : Home) (from : ℕ) (fixed : Option ℤ) (index : List Instr)
+  located-writes : (near : Numbering) (f : Setting) (h : Home) (from : ℕ) (fixed : Option ℤ) (index : List Instr)
       → written_words index ≡ 0 → written_words (located_code near f h to from fixed index) ≡ 0
   located-writes near f h from (Some z) index none = refl
   located-writes near f h from None index none =
@@ -105,14 +109,14 @@ module _ (to : ℕ) (low : to + 2 < 21) where
       (none-then (numbered_code near f h to from) (shift_code f h to) (numbered-writes near f h from)
       (shift-writes f h))
 
-  placed-writes : (near : Bool) (f : Setting) (h : Home) (from : ℕ) (fixed : Option ℤ) (index : List Instr)
+  placed-writes : (near : Numbering) (f : Setting) (h : Home) (from : ℕ) (fixed : Option ℤ) (index : List Instr)
       → written_words index ≡ 0 → written_words (placed_code near f h to from fixed index) ≡ 0
   placed-writes near f h from (Some z) index none = refl
   placed-writes near f h from None index none =
       none-then index (numbered_code near f h to from ++ offset_code f h to) none
       (none-then (numbered_code near f h to from) (offset_code f h to) (numbered-writes near f h from) (offset-writes f h))
 
-  access-writes : (f : Setting) (mode : Mode) (near : Bool) (h : Home) (from : ℕ) (fixed : Option ℤ)
+  access-writes : (f : Setting) (mode : Mode) (near : Numbering) (h : Home) (from : ℕ) (fixed : Option ℤ)
       (index : List Instr) → written_words index ≡ 0
       → written_words (access_code near f mode h to from fixed index) ≡ 0
   access-writes f mode near h from fixed index none = by h.resident
@@ -159,7 +163,7 @@ expr-writes f mode to (Number z) low = refl
 expr-writes f mode to (Variable x) low = scalar-writes to (omega arith) (register_for f x) (home_of f x)
 expr-writes f mode to (Element x i) low =
     let h = home_of f x in
-    let near = compares f mode h i in
+    let near = numbering f mode h i in
     let q = index_operand f near i in
     none-then (indexed_code f near mode h to i (expr_code f mode to i)) (read_code f h (fixed_index h i) to)
     (access-writes to (omega (arith, height-some i)) f mode near h (operand_register q to) (fixed_index h i)
@@ -202,7 +206,7 @@ set-writes f sound mode (SetVariable x e) is low =
     )
 set-writes f sound mode (SetElement x i e) is low =
     let h = home_of f x in
-    let near = compares f mode h i in
+    let near = numbering f mode h i in
     let q = operand f e in
     let q_of_index = index_operand f near i in
     let value = operand_part q (expr_code f mode 0 e) in

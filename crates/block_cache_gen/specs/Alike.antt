@@ -5,8 +5,8 @@ use Rattle.std.specs.Ordering.{int_eq}
 use Rattle.gr_word.specs.declared.operations.Op.{Op}
 use Rattle.symbolic_values.specs.Sameness.{same_op}
 use Rattle.src_tree.specs.Trees.{Tree, Number, Variable, Element, Operation, Statement, SetVariable, SetElement, Block, Then}
-use Rattle.block_cache_gen.specs.Homes.{further_slots, Setting, home_of}
-use Rattle.block_cache_gen.specs.Codes.{is_cached, is_masked, may_step, operand, held_number, reducer}
+use Rattle.block_cache_gen.specs.Homes.{further_slots, Home, Setting, home_of}
+use Rattle.block_cache_gen.specs.Codes.{is_cached, is_masked, is_within_home, may_step, operand, held_number, reducer}
 pub use Rattle.block_cache_gen.specs.Codes.{is_product}
 
 -- registers hold two numbers for the whole run, or neither
@@ -24,14 +24,26 @@ pub record InOneBank (f : Setting) (x y : List ℕ) : Type 0 where
 abbrev pub AreHeldAlike : Setting → Tree → Tree → Type 0
 AreHeldAlike f a b = is_some (operand f a) ≡ is_some (operand f b)
 
+-- Two indexes of arrays are known to be below the lengths; or neither is, and the operations that reduce them and the
+-- numbers of these are alike.
+pub record AreBothReduced (f : Setting) (x y : List ℕ) (i j : Tree) : Type 0 where
+  pub first : is_within_home f (home_of f x) i ≡ false
+  pub second : is_within_home f (home_of f y) j ≡ false
+  pub masked : is_masked (home_of f x) ≡ is_masked (home_of f y)
+  pub reduced : AreNumbersAlike f (reducer (home_of f x)) (reducer (home_of f y))
+
+pub data AreNumberedAlike (f : Setting) (x y : List ℕ) (i j : Tree) : Type 0 where
+  BothWithin : is_within_home f (home_of f x) i ≡ true → is_within_home f (home_of f y) j ≡ true
+      → AreNumberedAlike f x y i j
+  BothReduced : AreBothReduced f x y i j → AreNumberedAlike f x y i j
+
 -- two resident arrays of as many blocks, whose indexes are reduced alike, and whose first words both are 0, or neither is
-pub record AreReducedAlike (f : Setting) (x y : List ℕ) : Type 0 where
+pub record AreReducedAlike (f : Setting) (x y : List ℕ) (i j : Tree) : Type 0 where
   pub first : (home_of f x).resident ≡ true
   pub second : (home_of f y).resident ≡ true
   pub low : is_cached (home_of f x) ≡ is_cached (home_of f y)
-  pub masked : is_masked (home_of f x) ≡ is_masked (home_of f y)
   pub offset : ((home_of f x).word == 0) ≡ ((home_of f y).word == 0)
-  pub reduced : AreNumbersAlike f (reducer (home_of f x)) (reducer (home_of f y))
+  pub numbered : AreNumberedAlike f x y i j
   pub words : AreNumbersAlike f (pos (home_of f x).word) (pos (home_of f y).word)
   pub blocks : length (further_slots (home_of f x)) ≡ length (further_slots (home_of f y))
 
@@ -43,7 +55,8 @@ pub data Alike (f : Setting) : Tree → Tree → Type 0 where
   Numbers : (y z : ℤ) → AreHeldAlike f (Number y) (Number z) → Alike f (Number y) (Number z)
   Scalars : (x y : List ℕ) → AreHeldAlike f (Variable x) (Variable y) → Alike f (Variable x) (Variable y)
   Oblivious : (x y : List ℕ) (i j : Tree) → InOneBank f x y → Alike f i j → Alike f (Element x i) (Element y j)
-  Residents : (x y : List ℕ) (i j : Tree) → AreReducedAlike f x y → Alike f i j → Alike f (Element x i) (Element y j)
+  Residents : (x y : List ℕ) (i j : Tree) → AreReducedAlike f x y i j → Alike f i j
+      → Alike f (Element x i) (Element y j)
   Same : (x : List ℕ) (i : Tree) → (home_of f x).bank < 2 → Alike f (Element x i) (Element x i)
   Operations : (op oq : Op) (a b c d : Tree) → may_step f op b ≡ false → may_step f oq d ≡ false
       → is_product op ≡ is_product oq → Alike f a c → Alike f b d → Alike f (Operation op a b) (Operation oq c d)
@@ -58,7 +71,7 @@ pub data Pair (f : Setting) : Statement → Statement → Type 0 where
       → AreHeldAlike f (Variable x) (Variable y) → Alike f e g → Pair f (SetVariable x e) (SetVariable y g)
   ToOblivious : (x y : List ℕ) (i j e g : Tree) → InOneBank f x y → Alike f i j → Alike f e g
       → Pair f (SetElement x i e) (SetElement y j g)
-  ToResidents : (x y : List ℕ) (i j e g : Tree) → AreReducedAlike f x y → Alike f i j → Alike f e g
+  ToResidents : (x y : List ℕ) (i j e g : Tree) → AreReducedAlike f x y i j → Alike f i j → Alike f e g
       → Pair f (SetElement x i e) (SetElement y j g)
   ToSame : (x : List ℕ) (i e g : Tree) → (home_of f x).bank ≡ 1 → Alike f e g
       → Pair f (SetElement x i e) (SetElement x i g)
@@ -102,16 +115,21 @@ in_one_bank f x y =
 abbrev pub both_products : Op → Op → Bool
 both_products op oq = if is_product op then is_product oq else not (is_product oq)
 
-abbrev pub reduced_alike : Setting → List ℕ → List ℕ → Bool
-reduced_alike f x y =
+abbrev pub numbered_alike : Setting → Home → Home → (within other : Bool) → Bool
+numbered_alike f g h true other = other
+numbered_alike f g h false true = false
+numbered_alike f g h false false = same_flag (is_masked g) (is_masked h) && numbers_alike f (reducer g) (reducer h)
+
+abbrev pub reduced_alike : Setting → List ℕ → List ℕ → Tree → Tree → Bool
+reduced_alike f x y i j =
     (home_of f x).resident
     && ((home_of f y).resident
     && (same_flag (is_cached (home_of f x)) (is_cached (home_of f y))
-    && (same_flag (is_masked (home_of f x)) (is_masked (home_of f y))
     && (same_flag ((home_of f x).word == 0) ((home_of f y).word == 0)
-    && (numbers_alike f (reducer (home_of f x)) (reducer (home_of f y))
+    && (numbered_alike f (home_of f x) (home_of f y) (is_within_home f (home_of f x) i)
+    (is_within_home f (home_of f y) j)
     && (numbers_alike f (pos (home_of f x).word) (pos (home_of f y).word)
-    && (length (further_slots (home_of f x)) == length (further_slots (home_of f y)))))))))
+    && (length (further_slots (home_of f x)) == length (further_slots (home_of f y))))))))
 
 -- no steps replace either of two operations
 abbrev pub are_plain : Setting → Op → Tree → Op → Tree → Bool
@@ -129,7 +147,7 @@ abbrev pub is_alike : Setting → Tree → Tree → Bool
 is_alike f (Number y) (Number z) = held_alike f (Number y) (Number z)
 is_alike f (Variable x) (Variable y) = held_alike f (Variable x) (Variable y)
 is_alike f (Element x i) (Element y j) =
-    ((in_one_bank f x y || reduced_alike f x y) && is_alike f i j)
+    ((in_one_bank f x y || reduced_alike f x y i j) && is_alike f i j)
     || (nat_lt (home_of f x).bank 2 && (bytes_eq x y && is_same i j))
 is_alike f (Operation op a b) (Operation oq c d) =
     is_alike f a c
@@ -140,7 +158,7 @@ abbrev pub is_pair : Setting → Statement → Statement → Bool
 is_pair f (SetVariable x e) (SetVariable y g) = held_alike f (Variable x) (Variable y) && is_alike f e g
 is_pair f (SetElement x i e) (SetElement y j g) =
     is_alike f e g
-    && (((in_one_bank f x y || reduced_alike f x y) && is_alike f i j)
+    && (((in_one_bank f x y || reduced_alike f x y i j) && is_alike f i j)
     || (((home_of f x).bank == 1) && (bytes_eq x y && is_same i j)))
 is_pair f _ _ = false
 

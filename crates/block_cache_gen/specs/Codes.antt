@@ -14,8 +14,11 @@ use Rattle.strength_reduction.specs.Steps.{Step, code_of}
 use Rattle.src_tree.specs.Contexts.{context_of}
 use Rattle.src_tree.specs.Labels.{label_of, secret_label}
 use Rattle.src_tree.specs.Trees.{Tree, Number, Variable, Element, Operation, Test, Statement, SetVariable, SetElement, Choice, Loop}
+use Rattle.scalar_ranges.specs.Known.{is_within}
 use Rattle.block_cache_gen.specs.declared.frames.Mode.{Mode}
 use Rattle.block_cache_gen.specs.declared.frames.Mode.TheVariants.{Public, Real, Mirrored}
+use Rattle.block_cache_gen.specs.declared.indexes.Numbering.{Numbering}
+use Rattle.block_cache_gen.specs.declared.indexes.Numbering.TheVariants.{Compared, Reduced, Within}
 use Rattle.gr_word.specs.declared.variables.Label.{Label}
 use Rattle.gr_word.specs.declared.variables.Label.TheVariants as label
 use Rattle.src_tree.specs.Contexts.{context_of}
@@ -111,6 +114,19 @@ abbrev pub compares : Setting → Mode → Home → Tree → Bool
 compares f mode h i =
     may_skip_loads mode && (f.reduces && (not (is_masked h) && not (secret_label (label_of (context_of f.decls) i))))
 
+-- an index is known to be below the length of an array of plain or encrypted memory
+abbrev pub is_within_home : Setting → Home → Tree → Bool
+is_within_home f h i = f.reduces && (is_cached h && is_within f.decls f.ranges i h.length)
+
+-- how the number of a word is found of an index
+abbrev pub numbering_by : (within compared : Bool) → Numbering
+numbering_by true compared = Within
+numbering_by false true = Compared
+numbering_by false false = Reduced
+
+abbrev pub numbering : Setting → Mode → Home → Tree → Numbering
+numbering f mode h i = numbering_by (is_within_home f h i) (compares f mode h i)
+
 -- The order of unsigned words is the order of the signed words that are 2^63 less.
 abbrev pub least_word : ℤ
 least_word = negsuc 9223372036854775807
@@ -127,10 +143,11 @@ compared_code h to =
     ∷ Alu Remu to to (to + 1)
     ∷ []
 
--- the same, with a comparison or without one
-abbrev pub numbered_code : Bool → Setting → Home → (to from : ℕ) → List Instr
-numbered_code true f h to from = compared_code h to
-numbered_code false f h to from = reduced_code f h to from
+-- the same by each numbering: an index that is known to be below the length is the number of the word
+abbrev pub numbered_code : Numbering → Setting → Home → (to from : ℕ) → List Instr
+numbered_code Compared f h to from = compared_code h to
+numbered_code Reduced f h to from = reduced_code f h to from
+numbered_code Within f h to from = []
 
 -- the number of its block in register to + 1, by a shift
 abbrev pub shift_code : Setting → Home → ℕ → List Instr
@@ -147,9 +164,9 @@ fixed_code block_log h to z =
     Li to (pos (fixed_word h z)) ∷ Li (to + 1) (pos (h.block + fixed_word h z / 2 ^ block_log)) ∷ []
 
 -- both, by the code of the index
-abbrev pub located_code : Bool → Setting → Home → (to from : ℕ) → Option ℤ → List Instr → List Instr
-located_code compared f h to from (Some z) index = fixed_code f.profile.block_log h to z
-located_code compared f h to from None index = index ++ (numbered_code compared f h to from ++ shift_code f h to)
+abbrev pub located_code : Numbering → Setting → Home → (to from : ℕ) → Option ℤ → List Instr → List Instr
+located_code n f h to from (Some z) index = fixed_code f.profile.block_log h to z
+located_code n f h to from None index = index ++ (numbered_code n f h to from ++ shift_code f h to)
 
 -- the block that register to + 1 names is in the home's slot; where loads are skipped, it is loaded only where it isn't
 abbrev pub load_code : Bool → Home → ℕ → List Instr
@@ -166,37 +183,42 @@ abbrev pub offset_code : Setting → Home → ℕ → List Instr
 offset_code f h to = if h.word == 0 then [] else applied_code f Add to to (to + 1) (pos h.word)
 
 -- the number of a word of a resident array in its block, in register `to`
-abbrev pub placed_code : Bool → Setting → Home → (to from : ℕ) → Option ℤ → List Instr → List Instr
-placed_code compared f h to from (Some z) index = Li to (pos (h.word + fixed_word h z)) ∷ []
-placed_code compared f h to from None index = index ++ (numbered_code compared f h to from ++ offset_code f h to)
+abbrev pub placed_code : Numbering → Setting → Home → (to from : ℕ) → Option ℤ → List Instr → List Instr
+placed_code n f h to from (Some z) index = Li to (pos (h.word + fixed_word h z)) ∷ []
+placed_code n f h to from None index = index ++ (numbered_code n f h to from ++ offset_code f h to)
 
 -- the number of the word in its block in register `to`, with the block in the home's slot
-abbrev pub access_by : (resident compared : Bool) → Setting → Mode → Home → (to from : ℕ) → Option ℤ → List Instr
+abbrev pub access_by : (resident : Bool) → Numbering → Setting → Mode → Home → (to from : ℕ) → Option ℤ → List Instr
     → List Instr
-access_by true compared f mode h to from fixed index = placed_code compared f h to from fixed index
-access_by false compared f mode h to from fixed index =
-    located_code compared f h to from fixed index ++ load_code (skips mode h) h to
+access_by true n f mode h to from fixed index = placed_code n f h to from fixed index
+access_by false n f mode h to from fixed index =
+    located_code n f h to from fixed index ++ load_code (skips mode h) h to
 
 -- the part of it that follows the code of the index
-abbrev pub found_by : (resident compared : Bool) → Setting → Mode → Home → (to from : ℕ) → List Instr
-found_by true compared f mode h to from = numbered_code compared f h to from ++ offset_code f h to
-found_by false compared f mode h to from =
-    numbered_code compared f h to from ++ shift_code f h to ++ load_code (skips mode h) h to
+abbrev pub found_by : (resident : Bool) → Numbering → Setting → Mode → Home → (to from : ℕ) → List Instr
+found_by true n f mode h to from = numbered_code n f h to from ++ offset_code f h to
+found_by false n f mode h to from =
+    numbered_code n f h to from ++ shift_code f h to ++ load_code (skips mode h) h to
 
-abbrev pub access_code : Bool → Setting → Mode → Home → (to from : ℕ) → Option ℤ → List Instr → List Instr
-access_code compared f mode h to from fixed index = access_by h.resident compared f mode h to from fixed index
+abbrev pub access_code : Numbering → Setting → Mode → Home → (to from : ℕ) → Option ℤ → List Instr → List Instr
+access_code n f mode h to from fixed index = access_by h.resident n f mode h to from fixed index
 
--- An index that is compared with the length must be in register `to`.
-abbrev pub index_operand : Setting → Bool → Tree → Option ℕ
-index_operand f compared i = operand_unless compared (operand f i)
+-- An index that is compared with the length, or is the number of the word, must be in register `to`.
+abbrev pub is_in_place : Numbering → Bool
+is_in_place Compared = true
+is_in_place Reduced = false
+is_in_place Within = true
 
-abbrev pub indexed_code : Setting → Bool → Mode → Home → ℕ → Tree → List Instr → List Instr
-indexed_code f compared mode h to i index =
-    access_code compared f mode h to (operand_register (index_operand f compared i) to)
-    (fixed_index h i) (operand_part (index_operand f compared i) index)
+abbrev pub index_operand : Setting → Numbering → Tree → Option ℕ
+index_operand f n i = operand_unless (is_in_place n) (operand f i)
+
+abbrev pub indexed_code : Setting → Numbering → Mode → Home → ℕ → Tree → List Instr → List Instr
+indexed_code f n mode h to i index =
+    access_code n f mode h to (operand_register (index_operand f n i) to)
+    (fixed_index h i) (operand_part (index_operand f n i) index)
 
 -- Register `to` has the number of an element's word, and becomes that word. If slots hold the array for the whole run, an
--- index that is a number tells the slot; otherwise the word is selected among those of all its slots.
+-- index that is a number names the slot; otherwise the word is selected among those of all its slots.
 abbrev pub read_by : (resident : Bool) → Setting → Home → Option ℤ → (to : ℕ) → List Instr
 read_by false f h fixed to = Ldw to h.slot to ∷ []
 read_by true f h (Some z) to = Ldw to (slot_of_word f h (h.word + fixed_word h z)) to ∷ []
@@ -247,7 +269,7 @@ abbrev pub expr_code : Setting → Mode → ℕ → Tree → List Instr
 expr_code f mode to (Number z) = Li to z ∷ []
 expr_code f mode to (Variable x) = scalar_code (register_for f x) (home_of f x) to
 expr_code f mode to (Element x i) =
-    indexed_code f (compares f mode (home_of f x) i) mode (home_of f x) to i (expr_code f mode to i)
+    indexed_code f (numbering f mode (home_of f x) i) mode (home_of f x) to i (expr_code f mode to i)
     ++ read_code f (home_of f x) (fixed_index (home_of f x) i) to
 expr_code f mode to (Operation op a b) =
     operand_part (left_operand f op a b) (expr_code f mode to a)
@@ -305,7 +327,7 @@ set_code f mode (SetVariable x e) =
     (operand_register (operand f e) 0)
 set_code f mode (SetElement x i e) =
     operand_part (operand f e) (expr_code f mode 0 e)
-    ++ (indexed_code f (compares f mode (home_of f x) i) mode (home_of f x) 1 i (expr_code f mode 1 i)
+    ++ (indexed_code f (numbering f mode (home_of f x) i) mode (home_of f x) 1 i (expr_code f mode 1 i)
     ++ stored_code f mode (home_of f x) (fixed_index (home_of f x) i) (operand_register (operand f e) 0))
 set_code f mode (Choice t a b) = []
 set_code f mode (Loop t a) = []

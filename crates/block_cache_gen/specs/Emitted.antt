@@ -11,7 +11,7 @@ use Rattle.block_cache_gen.specs.declared.frames.Mode.{Mode}
 use Rattle.block_cache_gen.specs.declared.frames.Mode.TheVariants.{Public, Real, Mirrored}
 pub use Rattle.block_cache_gen.specs.Behind.{CodeGrows}
 use Rattle.block_cache_gen.specs.Homes.{Home, Setting}
-use Rattle.block_cache_gen.specs.Codes.{operand, operand_part, operand_register, operation_code, steps_at, expr_code, guard_code, set_code, index_operand, indexed_code, found_by, fixed_index, compares}
+use Rattle.block_cache_gen.specs.Codes.{operand, operand_part, operand_register, operation_code, steps_at, expr_code, guard_code, set_code, index_operand, indexed_code, found_by, fixed_index, numbering}
 use Rattle.block_cache_gen.specs.Notes.{operation_notes, expr_notes, guard_notes, set_notes, index_notes, loaded_notes, load_notes}
 
 -- code was appended, and notes that go by the place where that code begins
@@ -32,9 +32,9 @@ notes_in Mirrored notes = []
 abbrev pub access_notes : Setting → Home → (mask to : ℕ) → Tree → ℕ → List Note
 access_notes f h mask to i place =
     index_notes (fixed_index h i)
-    (operand_part (index_operand f (compares f Public h i) i) (expr_notes f mask to place i))
-    ++ load_notes (compares f Public h i) (fixed_index h i) f h mask to
-    (place + length (indexed_code f (compares f Public h i) Public h to i (expr_code f Public to i)))
+    (operand_part (index_operand f (numbering f Public h i) i) (expr_notes f mask to place i))
+    ++ load_notes (numbering f Public h i) (fixed_index h i) f h mask to
+    (place + length (indexed_code f (numbering f Public h i) Public h to i (expr_code f Public to i)))
 
 -- what is appended for the part of an operation that follows its left side
 abbrev pub OperationBy : Setting → Mode → (mask to left : ℕ) → Op → Tree → Option (List Step) → CodeBuf → CodeBuf
@@ -62,17 +62,17 @@ EmitsExpr f mode mask to e before after =
 
 abbrev pub EmitsAccess : Setting → Mode → Home → (mask to : ℕ) → Tree → CodeBuf → CodeBuf → Type 0
 EmitsAccess f mode h mask to i before after =
-    Appended before after (indexed_code f (compares f mode h i) mode h to i (expr_code f mode to i))
+    Appended before after (indexed_code f (numbering f mode h i) mode h to i (expr_code f mode to i))
     (λ place. notes_in mode (access_notes f h mask to i place))
 
 -- the part of an access that follows the code of its index, where the index is no number that needs no code
 abbrev pub EmitsFound : Setting → Mode → Home → (mask to : ℕ) → Tree → CodeBuf → CodeBuf → Type 0
 EmitsFound f mode h mask to i before after =
-    let from = operand_register (index_operand f (compares f mode h i) i) to in
-    Appended before after (found_by h.resident (compares f mode h i) f mode h to from)
+    let from = operand_register (index_operand f (numbering f mode h i) i) to in
+    Appended before after (found_by h.resident (numbering f mode h i) f mode h to from)
     (λ place. notes_in mode
-    (loaded_notes h.resident (compares f mode h i) None f h mask to
-    (place + length (found_by h.resident (compares f mode h i) f Public h to from))))
+    (loaded_notes h.resident (numbering f mode h i) None f h mask to
+    (place + length (found_by h.resident (numbering f mode h i) f Public h to from))))
 
 abbrev pub EmitsGuard : Setting → Mode → ℕ → Test → CodeBuf → CodeBuf → Type 0
 EmitsGuard f mode to t before after =

@@ -15,6 +15,7 @@ use Rattle.src_tree.specs.Meaning.{variable_number}
 use Rattle.bank_alloc.specs.Apart.{scalar_bank}
 use Rattle.held_registers.specs.Held.{held_at, label_held, register_of_scalar, IsSoundHeld}
 pub use Rattle.held_registers.specs.declared.registers.Held.{Held}
+use Rattle.scalar_ranges.specs.Ranges.{Ranges}
 pub use Rattle.scratch_alloc.specs.declared.plans.Pin.{Pin}
 pub use Rattle.scratch_alloc.specs.Plans.{pin_to, Serves, PlainSlot, EncryptedSlot, ObliviousSlot}
 
@@ -30,7 +31,8 @@ pub record Home : Type 0 where
   pub more : List ℕ
 
 -- The declarations with a home for each, in order; the number of blocks of each bank; the pin of each slot, none where
--- it holds other blocks in turn; the machine's profile; and whether an operation by a number is replaced by steps.
+-- it holds other blocks in turn; the machine's profile; whether an operation by a number is replaced by steps; and what
+-- is known of the store at the place of the code.
 pub record Setting : Type 0 where
   pub decls : List Decl
   pub homes : List Home
@@ -39,6 +41,20 @@ pub record Setting : Type 0 where
   pub held : List Held
   pub profile : Profile
   pub reduces : Bool
+  pub ranges : Ranges
+
+-- the same for code at a place where other ranges are known
+abbrev pub ranged : Setting → Ranges → Setting
+ranged f known = record {
+  decls = f.decls;
+  homes = f.homes;
+  blocks = f.blocks;
+  pins = f.pins;
+  held = f.held;
+  profile = f.profile;
+  reduces = f.reduces;
+  ranges = known;
+}
 
 -- the default home, of a name that isn't declared
 abbrev pub no_home : Home

@@ -16,8 +16,10 @@ use Rattle.src_tree.specs.Contexts.{context_of}
 use Rattle.src_tree.specs.Labels.{label_of}
 use Rattle.src_tree.specs.Trees.{Tree, Number, Variable, Element, Operation, Test, Statement, SetVariable, SetElement, Choice, Loop}
 use Rattle.block_cache_gen.specs.declared.frames.Mode.TheVariants as mode
+use Rattle.block_cache_gen.specs.declared.indexes.Numbering.{Numbering}
+use Rattle.block_cache_gen.specs.declared.indexes.Numbering.TheVariants.{Compared, Reduced, Within}
 use Rattle.block_cache_gen.specs.Homes.{Home, Pin, Setting, pin_at, home_of, Held, label_by}
-use Rattle.block_cache_gen.specs.Codes.{is_cached, fixed_index, compares, offset_code, shift_code, load_code, operand, operand_part, left_operand, index_operand, steps_at, expr_code, indexed_code}
+use Rattle.block_cache_gen.specs.Codes.{is_cached, fixed_index, numbering, offset_code, shift_code, load_code, operand, operand_part, left_operand, index_operand, steps_at, expr_code, indexed_code}
 use Rattle.strength_reduction.specs.Steps.{Step}
 
 -- every register may hold a secret
@@ -87,10 +89,11 @@ abbrev pub access_mask : ℕ → ℕ → ℕ
 access_mask mask to = unmarked (unmarked (unmarked mask to) (to + 1)) (to + 2)
 
 -- The note that follows a comparison of an index with a length: the number of the word is public.
-abbrev pub compared_notes : Bool → Option ℤ → Setting → (mask to place : ℕ) → List Note
-compared_notes compared (Some z) f mask to place = []
-compared_notes true None f mask to place = note_of f (unmarked mask to) place ∷ []
-compared_notes false None f mask to place = []
+abbrev pub compared_notes : Numbering → Option ℤ → Setting → (mask to place : ℕ) → List Note
+compared_notes n (Some z) f mask to place = []
+compared_notes Compared None f mask to place = note_of f (unmarked mask to) place ∷ []
+compared_notes Reduced None f mask to place = []
+compared_notes Within None f mask to place = []
 
 -- the code of public code that follows the number of a word of an array that isn't resident
 abbrev pub loading_code : Setting → Home → ℕ → List Instr
@@ -98,15 +101,15 @@ loading_code f h to = shift_code f h to ++ load_code (is_cached h) h to
 
 -- The notes of an access apart from those of its index, by the place after its code: the note that follows a
 -- comparison, and if the array isn't resident the one that follows the load.
-abbrev pub loaded_notes : (resident compared : Bool) → Option ℤ → Setting → Home → (mask to behind : ℕ) → List Note
-loaded_notes true compared fixed f h mask to behind =
-    compared_notes compared fixed f mask to (behind - length (offset_code f h to))
-loaded_notes false compared fixed f h mask to behind =
-    compared_notes compared fixed f mask to (behind - length (loading_code f h to))
+abbrev pub loaded_notes : (resident : Bool) → Numbering → Option ℤ → Setting → Home → (mask to behind : ℕ) → List Note
+loaded_notes true n fixed f h mask to behind =
+    compared_notes n fixed f mask to (behind - length (offset_code f h to))
+loaded_notes false n fixed f h mask to behind =
+    compared_notes n fixed f mask to (behind - length (loading_code f h to))
     ++ (if is_cached h then note_of f (access_mask mask to) behind ∷ [] else [])
 
-abbrev pub load_notes : Bool → Option ℤ → Setting → Home → (mask to behind : ℕ) → List Note
-load_notes compared fixed f h mask to behind = loaded_notes h.resident compared fixed f h mask to behind
+abbrev pub load_notes : Numbering → Option ℤ → Setting → Home → (mask to behind : ℕ) → List Note
+load_notes n fixed f h mask to behind = loaded_notes h.resident n fixed f h mask to behind
 
 abbrev pub index_notes : Option ℤ → List Note → List Note
 index_notes (Some z) notes = []
@@ -123,9 +126,9 @@ expr_notes f mask to place (Number z) = []
 expr_notes f mask to place (Variable x) = []
 expr_notes f mask to place (Element x i) =
     index_notes (fixed_index (home_of f x) i)
-    (operand_part (index_operand f (compares f mode.Public (home_of f x) i) i) (expr_notes f mask to place i))
-    ++ load_notes (compares f mode.Public (home_of f x) i) (fixed_index (home_of f x) i) f (home_of f x) mask to
-    (place + length (indexed_code f (compares f mode.Public (home_of f x) i) mode.Public (home_of f x) to i
+    (operand_part (index_operand f (numbering f mode.Public (home_of f x) i) i) (expr_notes f mask to place i))
+    ++ load_notes (numbering f mode.Public (home_of f x) i) (fixed_index (home_of f x) i) f (home_of f x) mask to
+    (place + length (indexed_code f (numbering f mode.Public (home_of f x) i) mode.Public (home_of f x) to i
     (expr_code f mode.Public to i)))
 expr_notes f mask to place (Operation op a b) =
     operand_part (left_operand f op a b) (expr_notes f mask to place a)
@@ -149,13 +152,13 @@ set_notes f place (SetVariable x e) = operand_part (operand f e) (expr_notes f (
 set_notes f place (SetElement x i e) =
     operand_part (operand f e) (expr_notes f (base_mask f) 0 place e)
     ++ (index_notes (fixed_index (home_of f x) i)
-    (operand_part (index_operand f (compares f mode.Public (home_of f x) i) i)
+    (operand_part (index_operand f (numbering f mode.Public (home_of f x) i) i)
     (expr_notes f (operand_mask (operand f e) (label_of (context_of f.decls) e) (base_mask f) 0) 1
     (place + length (operand_part (operand f e) (expr_code f mode.Public 0 e))) i))
-    ++ load_notes (compares f mode.Public (home_of f x) i) (fixed_index (home_of f x) i) f (home_of f x)
+    ++ load_notes (numbering f mode.Public (home_of f x) i) (fixed_index (home_of f x) i) f (home_of f x)
     (operand_mask (operand f e) (label_of (context_of f.decls) e) (base_mask f) 0) 1
     ((place + length (operand_part (operand f e) (expr_code f mode.Public 0 e)))
-    + length (indexed_code f (compares f mode.Public (home_of f x) i) mode.Public (home_of f x) 1 i
+    + length (indexed_code f (numbering f mode.Public (home_of f x) i) mode.Public (home_of f x) 1 i
     (expr_code f mode.Public 1 i))))
 set_notes f place (Choice t a b) = []
 set_notes f place (Loop t a) = []

@@ -2,10 +2,10 @@
 -- secret: what is shown, the tree that is left of a public expression, and what the loads leave in the slots. All of it
 -- is told by the setting and the part alone. (GhostRider, ASPLOS 2015: the trace patterns of the type system of L_T;
 -- which code is made is this project's own choice.)
-use Rattle.std.specs.Prelude.{ℕ, zero, suc, ◌+◌, ◌-◌, ◌/◌, ◌==◌, Bool, true, false, ℤ, pos, if◌then◌else◌, List, [], ◌∷◌, ◌++◌, length, map, Option, Some, None}
+use Rattle.std.specs.Prelude.{ℕ, zero, suc, ◌+◌, ◌/◌, ◌==◌, Bool, true, false, ℤ, pos, if◌then◌else◌, List, [], ◌∷◌, ◌++◌, length, map, Option, Some, None}
 use Rattle.std.specs.Option.{option_or}
 use Rattle.gr_word.specs.declared.operations.Op.{Op}
-use Rattle.gr_word.specs.declared.operations.Op.TheVariants.{Add, Remu, And, Shr}
+use Rattle.gr_word.specs.declared.operations.Op.TheVariants.{Add, Remu, Shr}
 use Rattle.lt_isa.specs.Object.{is_ram, is_eram}
 use Rattle.lt_isa.specs.Costs.{operation_cost}
 use Rattle.gr_word.specs.declared.variables.Label.{Label}
@@ -20,7 +20,7 @@ use Rattle.held_registers.specs.Held.{public_zero}
 use Rattle.word_selection.specs.Selection as selection
 use Rattle.block_cache_gen.specs.Homes.{Home, Setting, held_label, home_of, register_for, words_a_block, blocks_set, slots_of_home, further_slots}
 use Rattle.block_cache_gen.specs.Carries.{held_tree}
-use Rattle.block_cache_gen.specs.Codes.{fixed_index, fixed_word, held_number, reducer, reducing, operand, operand_part, left_operand, steps_at}
+use Rattle.block_cache_gen.specs.Codes.{fixed_index, fixed_word, held_number, is_within_home, numbering_by, reducer, reducing, operand, operand_part, index_operand, left_operand, steps_at}
 use Rattle.strength_reduction.specs.Steps.{Step, Constant, Compute, left_by}
 
 -- the cycles of an operation, and of a word that is read or written in a slot
@@ -67,29 +67,33 @@ number_in f z = operand_tree f (held_number f z) (Some (Const z))
 abbrev pub applied_shows : Setting → Op → ℤ → List Show
 applied_shows f op z = operand_part (held_number f z) (Gap 1 ∷ []) ++ operation_gap f op ∷ []
 
--- The number of an element's word in its array: the index taken modulo the length, or what an index that is a number
--- comes to. Then the number of its block in the bank.
+-- The number of an element's word in its array: an index that is known to be below the length, the index taken modulo
+-- the length, or the same of an index that is a number. Then the number of its block in the bank.
 abbrev pub reduced_tree : Setting → Home → Option Value → Option Value
 reduced_tree f h index = applied_trees (reducing h) index (number_in f (reducer h))
 
-abbrev pub number_tree : Setting → Home → Option ℤ → Option Value → Option Value
-number_tree f h (Some z) index = Some (Const (pos (fixed_word h z)))
-number_tree f h None index = reduced_tree f h index
+abbrev pub numbered_tree : (within : Bool) → Setting → Home → Option Value → Option Value
+numbered_tree true f h index = index
+numbered_tree false f h index = reduced_tree f h index
+
+abbrev pub number_tree : (within : Bool) → Setting → Home → Option ℤ → Option Value → Option Value
+number_tree within f h (Some z) index = Some (Const (pos (fixed_word h z)))
+number_tree within f h None index = numbered_tree within f h index
 
 -- the number of a resident array's word in its block
-abbrev pub placed_tree : Setting → Home → Option ℤ → Option Value → Option Value
-placed_tree f h (Some z) index = Some (Const (pos (h.word + fixed_word h z)))
-placed_tree f h None index =
-    if h.word == 0 then reduced_tree f h index
-    else applied_trees Add (reduced_tree f h index) (number_in f (pos h.word))
+abbrev pub placed_tree : (within : Bool) → Setting → Home → Option ℤ → Option Value → Option Value
+placed_tree within f h (Some z) index = Some (Const (pos (h.word + fixed_word h z)))
+placed_tree within f h None index =
+    if h.word == 0 then numbered_tree within f h index
+    else applied_trees Add (numbered_tree within f h index) (number_in f (pos h.word))
 
 abbrev pub shifted_tree : Setting → Home → Option Value → Option Value
 shifted_tree f h number =
     applied_trees Add (applied_trees Shr number (number_in f (pos f.profile.block_log))) (number_in f (pos h.block))
 
-abbrev pub block_tree : Setting → Home → Option ℤ → Option Value → Option Value
-block_tree f h (Some z) index = Some (Const (pos (h.block + fixed_word h z / words_a_block f)))
-block_tree f h None index = shifted_tree f h (reduced_tree f h index)
+abbrev pub block_tree : (within : Bool) → Setting → Home → Option ℤ → Option Value → Option Value
+block_tree within f h (Some z) index = Some (Const (pos (h.block + fixed_word h z / words_a_block f)))
+block_tree within f h None index = shifted_tree f h (numbered_tree within f h index)
 
 -- the cycles of finding both
 abbrev pub shifted_shows : Setting → Home → List Show
@@ -98,16 +102,20 @@ shifted_shows f h = applied_shows f Shr (pos f.profile.block_log) ++ applied_sho
 abbrev pub reduced_shows : Setting → Home → List Show
 reduced_shows f h = applied_shows f (reducing h) (reducer h)
 
-abbrev pub found_shows : Setting → Home → Option ℤ → List Show → List Show
-found_shows f h (Some z) index = Gap 1 ∷ Gap 1 ∷ []
-found_shows f h None index = index ++ (reduced_shows f h ++ shifted_shows f h)
+abbrev pub numbered_shows : (within : Bool) → Setting → Home → List Show
+numbered_shows true f h = []
+numbered_shows false f h = reduced_shows f h
+
+abbrev pub found_shows : (within : Bool) → Setting → Home → Option ℤ → List Show → List Show
+found_shows within f h (Some z) index = Gap 1 ∷ Gap 1 ∷ []
+found_shows within f h None index = index ++ (numbered_shows within f h ++ shifted_shows f h)
 
 abbrev pub offset_shows : Setting → Home → List Show
 offset_shows f h = if h.word == 0 then [] else applied_shows f Add (pos h.word)
 
-abbrev pub placed_shows : Setting → Home → Option ℤ → List Show → List Show
-placed_shows f h (Some z) index = Gap 1 ∷ []
-placed_shows f h None index = index ++ (reduced_shows f h ++ offset_shows f h)
+abbrev pub placed_shows : (within : Bool) → Setting → Home → Option ℤ → List Show → List Show
+placed_shows within f h (Some z) index = Gap 1 ∷ []
+placed_shows within f h None index = index ++ (numbered_shows within f h ++ offset_shows f h)
 
 -- what a slot holds once a block of a bank is loaded; in plain and encrypted memory its number must be known
 abbrev pub plain_loaded : Setting → Option Value → SymSlot
@@ -155,29 +163,35 @@ index_loads (Some z) loads = no_loads
 index_loads None loads = loads
 
 -- the block of an element of an array, loaded to the array's slot
-abbrev pub element_slot : Setting → Home → Option ℤ → Option Value → SymSlot
-element_slot f h fixed index = block_loaded f h.bank (block_tree f h fixed index)
+abbrev pub element_slot : (within : Bool) → Setting → Home → Option ℤ → Option Value → SymSlot
+element_slot within f h fixed index = block_loaded f h.bank (block_tree within f h fixed index)
 
 -- an access: a resident array's loads nothing
-abbrev pub shows_by : Bool → Setting → Home → Option ℤ → Option Value → List Show → List Show
-shows_by true f h fixed index shows = placed_shows f h fixed shows
-shows_by false f h fixed index shows = found_shows f h fixed shows ++ load_shows (element_slot f h fixed index)
+abbrev pub shows_by : (resident within : Bool) → Setting → Home → Option ℤ → Option Value → List Show → List Show
+shows_by true within f h fixed index shows = placed_shows within f h fixed shows
+shows_by false within f h fixed index shows =
+    found_shows within f h fixed shows ++ load_shows (element_slot within f h fixed index)
 
-abbrev pub access_shows : Setting → Home → Option ℤ → Option Value → List Show → List Show
-access_shows f h fixed index shows = shows_by h.resident f h fixed index shows
+abbrev pub access_shows : (within : Bool) → Setting → Home → Option ℤ → Option Value → List Show → List Show
+access_shows within f h fixed index shows = shows_by h.resident within f h fixed index shows
 
-abbrev pub loads_by : Bool → Setting → Home → Option ℤ → Option Value → Loads → Loads
-loads_by true f h fixed index loads = index_loads fixed loads
-loads_by false f h fixed index loads =
-    then_loads (index_loads fixed loads) (one_load h.slot (element_slot f h fixed index))
+abbrev pub loads_by : (resident within : Bool) → Setting → Home → Option ℤ → Option Value → Loads → Loads
+loads_by true within f h fixed index loads = index_loads fixed loads
+loads_by false within f h fixed index loads =
+    then_loads (index_loads fixed loads) (one_load h.slot (element_slot within f h fixed index))
 
-abbrev pub access_loads : Setting → Home → Option ℤ → Option Value → Loads → Loads
-access_loads f h fixed index loads = loads_by h.resident f h fixed index loads
+abbrev pub access_loads : (within : Bool) → Setting → Home → Option ℤ → Option Value → Loads → Loads
+access_loads within f h fixed index loads = loads_by h.resident within f h fixed index loads
 
 -- the word that is read
-abbrev pub element_by : Bool → Setting → Home → Option ℤ → Option Value → Option Value
-element_by true f h fixed index = word_read f (pinned_slot h) (placed_tree f h fixed index)
-element_by false f h fixed index = word_read f (element_slot f h fixed index) (number_tree f h fixed index)
+abbrev pub element_by : (resident within : Bool) → Setting → Home → Option ℤ → Option Value → Option Value
+element_by true within f h fixed index = word_read f (pinned_slot h) (placed_tree within f h fixed index)
+element_by false within f h fixed index =
+    word_read f (element_slot within f h fixed index) (number_tree within f h fixed index)
+
+-- the register of an index that is held for the whole run, unless the index is the number of the word
+abbrev pub index_by : (within : Bool) → Setting → Tree → Option ℕ
+index_by within f i = index_operand f (numbering_by within false) i
 
 -- the cycles of reading it
 abbrev pub read_shows_by : (resident : Bool) → Setting → Home → Option ℤ → List Show
@@ -227,8 +241,9 @@ abbrev pub tree_of_expr : Setting → Tree → Option Value
 tree_of_expr f (Number z) = Some (Const z)
 tree_of_expr f (Variable x) = scalar_tree f (register_for f x) (home_of f x)
 tree_of_expr f (Element x i) =
-    element_by (home_of f x).resident f (home_of f x) (fixed_index (home_of f x) i)
-    (operand_tree f (operand f i) (tree_of_expr f i))
+    let within = is_within_home f (home_of f x) i in
+    element_by (home_of f x).resident within f (home_of f x) (fixed_index (home_of f x) i)
+    (operand_tree f (index_by within f i) (tree_of_expr f i))
 tree_of_expr f (Operation op a b) =
     operation_tree op (steps_at f op b) (operand_tree f (left_operand f op a b) (tree_of_expr f a))
     (operand_tree f (operand f b) (tree_of_expr f b))
@@ -247,8 +262,10 @@ abbrev pub shows_of_expr : Setting → Tree → List Show
 shows_of_expr f (Number z) = Gap 1 ∷ []
 shows_of_expr f (Variable x) = scalar_shows f (register_for f x)
 shows_of_expr f (Element x i) =
-    access_shows f (home_of f x) (fixed_index (home_of f x) i) (operand_tree f (operand f i) (tree_of_expr f i))
-    (operand_part (operand f i) (shows_of_expr f i))
+    let within = is_within_home f (home_of f x) i in
+    access_shows within f (home_of f x) (fixed_index (home_of f x) i)
+    (operand_tree f (index_by within f i) (tree_of_expr f i))
+    (operand_part (index_by within f i) (shows_of_expr f i))
     ++ read_shows f (home_of f x) (fixed_index (home_of f x) i)
 shows_of_expr f (Operation op a b) =
     operand_part (left_operand f op a b) (shows_of_expr f a)
@@ -259,7 +276,9 @@ abbrev pub slots_of_expr : Setting → Tree → Loads
 slots_of_expr f (Number z) = no_loads
 slots_of_expr f (Variable x) = no_loads
 slots_of_expr f (Element x i) =
-    access_loads f (home_of f x) (fixed_index (home_of f x) i) (operand_tree f (operand f i) (tree_of_expr f i))
+    let within = is_within_home f (home_of f x) i in
+    access_loads within f (home_of f x) (fixed_index (home_of f x) i)
+    (operand_tree f (index_by within f i) (tree_of_expr f i))
     (slots_of_expr f i)
 slots_of_expr f (Operation op a b) =
     then_loads (slots_of_expr f a) (operation_loads (steps_at f op b) (slots_of_expr f b))
@@ -276,19 +295,24 @@ abbrev pub shows_of_set : Setting → Statement → List Show
 shows_of_set f (SetVariable x e) =
     operand_part (operand f e) (shows_of_expr f e) ++ write_shows f (register_for f x)
 shows_of_set f (SetElement x i e) =
+    let within = is_within_home f (home_of f x) i in
     operand_part (operand f e) (shows_of_expr f e)
-    ++ (access_shows f (home_of f x) (fixed_index (home_of f x) i) (operand_tree f (operand f i) (tree_of_expr f i))
-    (operand_part (operand f i) (shows_of_expr f i))
+    ++ (access_shows within f (home_of f x) (fixed_index (home_of f x) i)
+    (operand_tree f (index_by within f i) (tree_of_expr f i))
+    (operand_part (index_by within f i) (shows_of_expr f i))
     ++ stored_shows f (home_of f x) (fixed_index (home_of f x) i)
-    (element_slot f (home_of f x) (fixed_index (home_of f x) i) (operand_tree f (operand f i) (tree_of_expr f i))))
+    (element_slot within f (home_of f x) (fixed_index (home_of f x) i)
+    (operand_tree f (index_by within f i) (tree_of_expr f i))))
 shows_of_set f (Choice t a b) = []
 shows_of_set f (Loop t a) = []
 
 abbrev pub slots_of_set : Setting → Statement → Loads
 slots_of_set f (SetVariable x e) = slots_of_expr f e
 slots_of_set f (SetElement x i e) =
+    let within = is_within_home f (home_of f x) i in
     then_loads (slots_of_expr f e)
-    (access_loads f (home_of f x) (fixed_index (home_of f x) i) (operand_tree f (operand f i) (tree_of_expr f i))
+    (access_loads within f (home_of f x) (fixed_index (home_of f x) i)
+    (operand_tree f (index_by within f i) (tree_of_expr f i))
     (slots_of_expr f i))
 slots_of_set f (Choice t a b) = no_loads
 slots_of_set f (Loop t a) = no_loads

@@ -11,6 +11,7 @@ use Rattle.stretches.specs.Standing.{StandsAt}
 use Rattle.stretches.specs.Coming.{RunsThrough}
 use Rattle.src_tree.specs.Meaning.{Store, evaluated}
 use Rattle.src_tree.specs.Trees.{Tree, Test, Statement}
+use Rattle.scalar_ranges.specs.Ranges.{AreWithin}
 use Rattle.block_cache_gen.specs.declared.frames.Mode.{Mode}
 use Rattle.block_cache_gen.specs.Homes.{Setting, HasHomes}
 use Rattle.block_cache_gen.specs.StandsFor.{StandsFor, FitsHomes}
@@ -18,11 +19,13 @@ use Rattle.block_cache_gen.specs.Accesses.{accesses, test_accesses, seen_of_all}
 use Rattle.block_cache_gen.specs.LeavesWord.{LeavesWord, LeavesBoth}
 use Rattle.block_cache_gen.specs.Assignments.{Assigns, assigned, by_mode, seen_of_set}
 
--- a state at the first instruction of code, of an object that has the homes, represents a store
+-- a state at the first instruction of code, of an object that has the homes, represents a store that is within what is
+-- known there
 pub record BeginsCode (o : Parts) (f : Setting) (store : Store) (s : State) (code : List Instr) : Type 0 where
   pub in_range : IsInRange o
   pub homes : HasHomes o f
   pub fits : FitsHomes f store
+  pub within : AreWithin f.ranges store
   pub shaped : IsShaped o s
   pub stands : StandsFor f s store
   pub code_stands : StandsAt o s.place code

@@ -1,6 +1,6 @@
 -- What a frame of the compiler's calls is made for: the homes of its program's variables, and when its parts belong
 -- together. (This project's layout of compiled code.)
-use Rattle.std.specs.Prelude.{ℕ, ◌+◌, ◌-◌, ◌^◌, ◌==◌, ◌&&◌, min, Bool, false, is_some, if◌then◌else◌, slice_index_or, take, List, [], ◌∷◌, Option, Some, None}
+use Rattle.std.specs.Prelude.{ℕ, ◌+◌, ◌-◌, ◌^◌, ◌==◌, ◌&&◌, min, Bool, false, is_some, if◌then◌else◌, slice_index_or, take, length, List, [], ◌∷◌, Option, Some, None}
 use Rattle.lt_isa.specs.declared.profiles.Profile.{Profile}
 use Rattle.lt_isa.specs.Ranges.{ProfileFits}
 use Rattle.src_tree.specs.Trees.{Source, source_of}
@@ -11,6 +11,7 @@ use Rattle.bank_alloc.specs.Places.{blocks_for}
 use Rattle.scratch_alloc.specs.Plans.{Plan, IsSoundPlan, plan_from}
 use Rattle.block_cache_gen.specs.declared.frames.Frame.{Frame}
 use Rattle.held_registers.specs.Held.{IsSoundHeld}
+use Rattle.scalar_ranges.specs.Known.{nothing_known}
 use Rattle.block_cache_gen.specs.Homes.{Held, Home, Pin, Setting}
 
 -- whether a slot holds one block for the whole run
@@ -57,7 +58,8 @@ homes_at pins w (q ∷ places) [] = []
 homes_at pins w (q ∷ places) (slot ∷ slots) = home_at pins w q slot ∷ homes_at pins w places slots
 
 -- what the code of a program is made for: by a plan of its memory, on a machine, and with or without steps in the place
--- of operations by numbers and comparisons before remainders, with what registers hold for the whole run
+-- of operations by numbers and comparisons before remainders, with what registers hold for the whole run. Nothing is
+-- known of the store.
 abbrev pub setting_for : Source → Plan → Profile → Bool → List Held → Setting
 setting_for p plan profile reduces held = record {
   decls = p.decls;
@@ -67,6 +69,7 @@ setting_for p plan profile reduces held = record {
   held = held;
   profile = profile;
   reduces = reduces;
+  ranges = nothing_known (length p.decls);
 }
 
 -- the plan of a frame

@@ -29,7 +29,7 @@ abbrev pub written_words : List Instr → ℕ
 written_words code = count_by is_write code
 
 -- how many words of an element's array are stored: one of each of its slots if they hold it for the whole run, and the
--- index doesn't tell the slot
+-- index isn't a number that names the slot
 abbrev pub stores_by : (resident : Bool) → Home → Option ℤ → ℕ
 stores_by false h fixed = 1
 stores_by true h (Some z) = 1

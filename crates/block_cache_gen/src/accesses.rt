@@ -3,7 +3,8 @@ ghost use Rattle.std.specs.List.{list_any, range_with_len};
 ghost use Rattle.gr_word.specs.Words.{unsigned_of};
 ghost use Rattle.src_tree.specs.Labels.{secret_label};
 ghost use Rattle.src_tree.specs.Trees.{expr_tree};
-ghost use Rattle.block_cache_gen.specs.Codes.{access_by, copy_code, compares, numbered_code, placed_code, offset_code, shift_code, fixed_code, fixed_index, fixed_word, index_operand, is_cached, is_masked, is_power, may_skip_loads, literal, load_code, operand_register, scalar_code, skips};
+ghost use Rattle.block_cache_gen.specs.Codes.{access_by, copy_code, compares, is_within_home, numbering, numbered_code, placed_code, offset_code, shift_code, fixed_code, fixed_index, fixed_word, index_operand, is_cached, is_masked, is_power, may_skip_loads, literal, load_code, operand_register, scalar_code, skips};
+ghost use Rattle.block_cache_gen.specs.declared.indexes.Numbering.TheVariants.{Reduced};
 ghost use Rattle.block_cache_gen.specs.Notes.{access_mask, compared_notes, loaded_notes, marked_by, unmarked};
 ghost use Rattle.block_cache_gen.specs.Emitted.{Appended, CodeGrows, EmitsFound, no_notes, notes_in};
 ghost use Rattle.block_cache_gen.specs.TreeWords.{HasWords};
@@ -11,7 +12,7 @@ ghost use Rattle.block_cache_gen.specs.Variables.{home_in};
 
 use crate::emitter::{Emitter, label_of};
 use crate::frames::{CodeBuf, Mode};
-use crate::indexes::{put_applied, put_note_behind, put_numbered};
+use crate::indexes::{Numbering, put_applied, put_note_behind, put_numbered};
 use crate::variables::Variable;
 use gr_base::Memory;
 use gr_word::{Cmp, Label, Op};
@@ -105,19 +106,40 @@ fn is_public_label(label: Label) -> bool
     }
 }
 
-/// Whether an index is compared with the length before the remainder is taken.
-pub(crate) fn compares<'a>(
-    emitter: &Emitter<'a>,
-    mode: Mode,
-    array: Variable,
-    index: &'a Expr,
-) -> bool
+/// Whether an index is known to be below the length of an array of plain or encrypted memory.
+pub(crate) fn is_within_home(emitter: &Emitter<'_, '_, '_>, array: Variable, index: &Expr) -> bool
+    ensures { result ≡ is_within_home emitter.now (home_in array) (expr_tree index.now) }
+{
+    emitter.reduces()
+        && (is_cached(array) && emitter.is_within(index, u64::from(array.place.length)))
+}
+
+// Whether an index is compared with the length before the remainder is taken, if it may not be below it.
+fn compares<'a>(emitter: &Emitter<'a, '_, '_>, mode: Mode, array: Variable, index: &'a Expr) -> bool
     ensures { result ≡ compares emitter.now mode (home_in array) (expr_tree index.now) }
 {
     is_public(mode)
         && emitter.reduces()
         && !is_masked(array)
         && is_public_label(label_of(emitter, index))
+}
+
+/// How the number of a word is found of an index.
+pub(crate) fn numbering<'a>(
+    emitter: &Emitter<'a, '_, '_>,
+    mode: Mode,
+    array: Variable,
+    index: &'a Expr,
+) -> Numbering
+    ensures { result ≡ numbering emitter.now mode (home_in array) (expr_tree index.now) }
+{
+    if is_within_home(emitter, array, index) {
+        Numbering::Within
+    } else if compares(emitter, mode, array, index) {
+        Numbering::Compared
+    } else {
+        Numbering::Reduced
+    }
 }
 
 // The number that an expression is, if it is one.
@@ -195,7 +217,7 @@ pub(crate) fn put_scalar(out: &mut CodeBuf, scalar: Variable, to: u8) -> Result<
 /// Appends code for an element whose index is a number: it leaves the number of the word in register `to` and that of
 /// its block in the next register. The only error is want of memory.
 pub(crate) fn put_fixed(
-    emitter: &Emitter<'_>,
+    emitter: &Emitter<'_, '_, '_>,
     out: &mut CodeBuf,
     array: Variable,
     index: i64,
@@ -230,7 +252,7 @@ pub(crate) fn is_resident(variable: Variable) -> bool
 
 // The number of a resident array's word in its block, where the index is a number.
 fn put_placed_word(
-    emitter: &Emitter<'_>,
+    emitter: &Emitter<'_, '_, '_>,
     out: &mut CodeBuf,
     array: Variable,
     index: i64,
@@ -238,7 +260,7 @@ fn put_placed_word(
 ) -> Result<(), Memory>
     requires length { 1 ≤ array.place.length }
     ensures appended { OnOk result
-        (Appended out.old out.new (placed_code false emitter.now (home_in array) to to (Some index) []) no_notes) }
+        (Appended out.old out.new (placed_code Reduced emitter.now (home_in array) to to (Some index) []) no_notes) }
     ensures grows { CodeGrows out.old out.new }
 {
     let place = u64::from(array.place.word) + fixed_word(array, index);
@@ -250,7 +272,7 @@ fn put_placed_word(
 
 // The number of a resident array's first word is added to that of a word.
 fn put_offset(
-    emitter: &Emitter<'_>,
+    emitter: &Emitter<'_, '_, '_>,
     out: &mut CodeBuf,
     array: Variable,
     to: u8,
@@ -275,29 +297,29 @@ fn put_offset(
 
 // The number of the resident array's word that the index in register `from` names in its block, in register `to`.
 fn put_placed(
-    emitter: &Emitter<'_>,
+    emitter: &Emitter<'_, '_, '_>,
     out: &mut CodeBuf,
     array: Variable,
     to: u8,
     from: u8,
-    compared: bool,
+    numbering: Numbering,
     mask: u32,
 ) -> Result<(), Memory>
     requires registers { to + 2 < 19 }
     requires room { length out.old.code.items + 6 < 2 ^ 32 }
     ensures appended { OnOk result (Appended out.old out.new
-        (numbered_code compared emitter.now (home_in array) to from ++ offset_code emitter.now (home_in array) to)
-        (λ place. compared_notes compared None emitter.now mask to
-        (place + length (numbered_code compared emitter.now (home_in array) to from)))) }
+        (numbered_code numbering emitter.now (home_in array) to from ++ offset_code emitter.now (home_in array) to)
+        (λ place. compared_notes numbering None emitter.now mask to
+        (place + length (numbered_code numbering emitter.now (home_in array) to from)))) }
     ensures grows { CodeGrows out.old out.new }
 {
-    put_numbered(emitter, out, array, to, from, compared, mask)?;
+    put_numbered(emitter, out, array, to, from, numbering, mask)?;
     put_offset(emitter, out, array, to)
 }
 
 // The number of the block of the word that a register names, in the next register.
 fn put_block(
-    emitter: &Emitter<'_>,
+    emitter: &Emitter<'_, '_, '_>,
     out: &mut CodeBuf,
     array: Variable,
     to: u8,
@@ -330,31 +352,31 @@ fn put_block(
 /// Appends what leaves the number of the word that the index in register `from` names in register `to`, and that of its
 /// block in the next. The only error is want of memory.
 pub(crate) fn put_located(
-    emitter: &Emitter<'_>,
+    emitter: &Emitter<'_, '_, '_>,
     out: &mut CodeBuf,
     array: Variable,
     to: u8,
     from: u8,
-    compared: bool,
+    numbering: Numbering,
     mask: u32,
 ) -> Result<(), Memory>
     requires registers { to + 2 < 19 }
     requires room { length out.old.code.items + 6 < 2 ^ 32 }
     ensures appended { OnOk result (Appended out.old out.new
-        (numbered_code compared emitter.now (home_in array) to from
+        (numbered_code numbering emitter.now (home_in array) to from
         ++ shift_code emitter.now (home_in array) to)
-        (λ place. compared_notes compared None emitter.now mask to
-        (place + length (numbered_code compared emitter.now (home_in array) to from)))) }
+        (λ place. compared_notes numbering None emitter.now mask to
+        (place + length (numbered_code numbering emitter.now (home_in array) to from)))) }
     ensures grows { CodeGrows out.old out.new }
 {
-    put_numbered(emitter, out, array, to, from, compared, mask)?;
+    put_numbered(emitter, out, array, to, from, numbering, mask)?;
     put_block(emitter, out, array, to)
 }
 
 // Appends the load of the block that the next register names into the array's slot: in public code only where it isn't
 // there, with a note. The only error is want of memory.
 fn put_load(
-    emitter: &Emitter<'_>,
+    emitter: &Emitter<'_, '_, '_>,
     out: &mut CodeBuf,
     array: Variable,
     to: u8,
@@ -364,7 +386,7 @@ fn put_load(
     requires registers { to + 2 < 19 }
     requires room { length out.old.code.items + 3 < 2 ^ 32 }
     ensures appended { OnOk result (Appended out.old out.new (load_code (skips mode (home_in array)) (home_in array) to)
-        (λ place. notes_in mode (loaded_notes false false None emitter.now (home_in array) mask to
+        (λ place. notes_in mode (loaded_notes false Reduced None emitter.now (home_in array) mask to
         (place + length (load_code (skips Mode.Public (home_in array)) (home_in array) to))))) }
     ensures grows { CodeGrows out.old out.new }
 {
@@ -394,7 +416,7 @@ fn put_load(
 
 /// Appends the code of an access whose index is a number. The only error is want of memory.
 pub(crate) fn put_fixed_access(
-    emitter: &Emitter<'_>,
+    emitter: &Emitter<'_, '_, '_>,
     out: &mut CodeBuf,
     array: Variable,
     index: i64,
@@ -406,10 +428,10 @@ pub(crate) fn put_fixed_access(
     requires registers { to + 2 < 19 }
     requires room { length out.old.code.items + 6 < 2 ^ 32 }
     ensures appended { OnOk result (Appended out.old out.new
-        (access_by (home_in array).resident false emitter.now mode (home_in array) to to (Some index) [])
+        (access_by (home_in array).resident Reduced emitter.now mode (home_in array) to to (Some index) [])
         (λ place. notes_in mode
-        (loaded_notes (home_in array).resident false (Some index) emitter.now (home_in array) mask to
-        (place + length (access_by (home_in array).resident false emitter.now Mode.Public
+        (loaded_notes (home_in array).resident Reduced (Some index) emitter.now (home_in array) mask to
+        (place + length (access_by (home_in array).resident Reduced emitter.now Mode.Public
         (home_in array) to to (Some index) []))))) }
     ensures grows { CodeGrows out.old out.new }
 {
@@ -423,7 +445,7 @@ pub(crate) fn put_fixed_access(
 /// Appends the part of the code of an access that follows the code of its index, which is in register `from`. The only
 /// error is want of memory.
 pub(crate) fn put_found_access<'a>(
-    emitter: &Emitter<'a>,
+    emitter: &Emitter<'a, '_, '_>,
     out: &mut CodeBuf,
     array: Variable,
     index: &'a Expr,
@@ -434,16 +456,16 @@ pub(crate) fn put_found_access<'a>(
 ) -> Result<(), Memory>
     requires registers { to + 2 < 19 }
     requires from { from ≡ operand_register (index_operand emitter.now
-        (compares emitter.now mode (home_in array) (expr_tree index.now)) (expr_tree index.now)) to }
+        (numbering emitter.now mode (home_in array) (expr_tree index.now)) (expr_tree index.now)) to }
     requires room { length out.old.code.items + 16 < 2 ^ 32 }
     ensures appended { OnOk result
         (EmitsFound emitter.now mode (home_in array) mask to (expr_tree index.now) out.old out.new) }
     ensures grows { CodeGrows out.old out.new }
 {
-    let compared = compares(emitter, mode, array, index);
+    let numbering = numbering(emitter, mode, array, index);
     if is_resident(array) {
-        return put_placed(emitter, out, array, to, from, compared, mask);
+        return put_placed(emitter, out, array, to, from, numbering, mask);
     }
-    put_located(emitter, out, array, to, from, compared, mask)?;
+    put_located(emitter, out, array, to, from, numbering, mask)?;
     put_load(emitter, out, array, to, mode, mask)
 }

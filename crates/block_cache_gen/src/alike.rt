@@ -6,12 +6,12 @@ ghost use Rattle.src_tree.specs.Trees.{block_of_all, statement_of, expr_tree};
 ghost use Rattle.src_tree.specs.Trees as trees;
 ghost use Rattle.src_tree.specs.Typing.{TypedBlock, TypedStatement, TypedTree};
 ghost use Rattle.symbolic_values.specs.Sameness.{same_op};
-ghost use Rattle.block_cache_gen.specs.Alike.{held_alike, numbers_alike, are_plain, by_same_number, is_same_number, same_flag, reduced_alike, both_products, in_one_bank, is_alike, is_pair, is_product, is_same, pair_count};
-ghost use Rattle.block_cache_gen.specs.Codes.{is_cached, is_masked, reducer};
+ghost use Rattle.block_cache_gen.specs.Alike.{held_alike, numbers_alike, are_plain, by_same_number, is_same_number, same_flag, numbered_alike, reduced_alike, both_products, in_one_bank, is_alike, is_pair, is_product, is_same, pair_count};
+ghost use Rattle.block_cache_gen.specs.Codes.{is_cached, is_masked, is_within_home, reducer};
 ghost use Rattle.block_cache_gen.specs.Variables.{home_in};
 ghost use Rattle.block_cache_gen.specs.Homes.{further_slots, home_of};
 
-use crate::accesses::{is_cached, is_masked, is_resident};
+use crate::accesses::{is_cached, is_masked, is_resident, is_within_home};
 use crate::emitter::Emitter;
 use crate::indexes::reducer;
 use crate::operands::operand;
@@ -79,7 +79,7 @@ fn is_same(e: &Expr, other: &Expr) -> bool
 }
 
 // The bank of a variable.
-fn bank_of<'a>(emitter: &Emitter<'a>, name: &'a Name) -> u8
+fn bank_of<'a>(emitter: &Emitter<'a, '_, '_>, name: &'a Name) -> u8
     requires { is_some (context_of emitter.now.decls name.now) ≡ true }
     ensures { result ≡ (home_of emitter.now name.now).bank }
 {
@@ -87,7 +87,7 @@ fn bank_of<'a>(emitter: &Emitter<'a>, name: &'a Name) -> u8
 }
 
 // Its kind.
-fn kind_of<'a>(emitter: &Emitter<'a>, name: &'a Name) -> BankKind
+fn kind_of<'a>(emitter: &Emitter<'a, '_, '_>, name: &'a Name) -> BankKind
     requires { is_some (context_of emitter.now.decls name.now) ≡ true }
     ensures { result ≡ bank_kind (home_of emitter.now name.now).bank }
 {
@@ -101,7 +101,7 @@ fn same_flag(one: bool, other: bool) -> bool
 }
 
 // Whether registers hold two numbers for the whole run, or neither.
-fn numbers_alike(emitter: &Emitter<'_>, one: i64, other: i64) -> bool
+fn numbers_alike(emitter: &Emitter<'_, '_, '_>, one: i64, other: i64) -> bool
     ensures { result ≡ numbers_alike emitter.now one other }
 {
     same_flag(
@@ -111,14 +111,14 @@ fn numbers_alike(emitter: &Emitter<'_>, one: i64, other: i64) -> bool
 }
 
 // The same of the numbers by which the indexes of two arrays are reduced.
-fn reducers_alike(emitter: &Emitter<'_>, one: Variable, other: Variable) -> bool
+fn reducers_alike(emitter: &Emitter<'_, '_, '_>, one: Variable, other: Variable) -> bool
     ensures { result ≡ numbers_alike emitter.now (reducer (home_in one)) (reducer (home_in other)) }
 {
     numbers_alike(emitter, reducer(one), reducer(other))
 }
 
 // The same of their first blocks.
-fn blocks_alike(emitter: &Emitter<'_>, one: Variable, other: Variable) -> bool
+fn blocks_alike(emitter: &Emitter<'_, '_, '_>, one: Variable, other: Variable) -> bool
     ensures { result ≡ numbers_alike emitter.now (pos (home_in one).block) (pos (home_in other).block) }
 {
     numbers_alike(
@@ -129,7 +129,7 @@ fn blocks_alike(emitter: &Emitter<'_>, one: Variable, other: Variable) -> bool
 }
 
 // The same of their first words.
-fn words_alike(emitter: &Emitter<'_>, one: Variable, other: Variable) -> bool
+fn words_alike(emitter: &Emitter<'_, '_, '_>, one: Variable, other: Variable) -> bool
     ensures { result ≡ numbers_alike emitter.now (pos (home_in one).word) (pos (home_in other).word) }
 {
     numbers_alike(
@@ -140,14 +140,14 @@ fn words_alike(emitter: &Emitter<'_>, one: Variable, other: Variable) -> bool
 }
 
 // The same of both numbers of two arrays of oblivious banks.
-fn are_found_alike(emitter: &Emitter<'_>, one: Variable, other: Variable) -> bool
+fn are_found_alike(emitter: &Emitter<'_, '_, '_>, one: Variable, other: Variable) -> bool
     ensures { result ≡ (numbers_alike emitter.now (reducer (home_in one)) (reducer (home_in other))
         && numbers_alike emitter.now (pos (home_in one).block) (pos (home_in other).block)) }
 {
     reducers_alike(emitter, one, other) && blocks_alike(emitter, one, other)
 }
 
-fn found_alike<'a>(emitter: &Emitter<'a>, x: &'a Name, y: &'a Name) -> bool
+fn found_alike<'a>(emitter: &Emitter<'a, '_, '_>, x: &'a Name, y: &'a Name) -> bool
     requires first { is_some (context_of emitter.now.decls x.now) ≡ true }
     requires second { is_some (context_of emitter.now.decls y.now) ≡ true }
     ensures { result ≡ (numbers_alike emitter.now (reducer (home_of emitter.now x.now)) (reducer (home_of emitter.now y.now))
@@ -161,7 +161,7 @@ fn found_alike<'a>(emitter: &Emitter<'a>, x: &'a Name, y: &'a Name) -> bool
 }
 
 // Whether two arrays are in one oblivious bank, and registers hold the numbers of their code alike.
-fn in_one_bank<'a>(emitter: &Emitter<'a>, x: &'a Name, y: &'a Name) -> bool
+fn in_one_bank<'a>(emitter: &Emitter<'a, '_, '_>, x: &'a Name, y: &'a Name) -> bool
     requires first { is_some (context_of emitter.now.decls x.now) ≡ true }
     requires second { is_some (context_of emitter.now.decls y.now) ≡ true }
     ensures { result ≡ in_one_bank emitter.now x.now y.now }
@@ -179,47 +179,105 @@ fn as_many_blocks(one: Variable, other: Variable) -> bool
     one.further == other.further
 }
 
+// Whether indexes of two arrays are both known to be below the lengths, or neither is and they are reduced alike.
+fn numbered_alike(
+    emitter: &Emitter<'_, '_, '_>,
+    one: Variable,
+    other: Variable,
+    one_within: bool,
+    other_within: bool,
+) -> bool
+    ensures { result ≡ numbered_alike emitter.now (home_in one) (home_in other) one_within other_within }
+{
+    if one_within {
+        return other_within;
+    }
+    !other_within
+        && (same_flag(is_masked(one), is_masked(other)) && reducers_alike(emitter, one, other))
+}
+
+fn indexes_alike(
+    emitter: &Emitter<'_, '_, '_>,
+    one: Variable,
+    other: Variable,
+    index: &Expr,
+    place: &Expr,
+) -> bool
+    ensures { result ≡ numbered_alike emitter.now (home_in one) (home_in other)
+        (is_within_home emitter.now (home_in one) (expr_tree index.now))
+        (is_within_home emitter.now (home_in other) (expr_tree place.now)) }
+{
+    numbered_alike(
+        emitter,
+        one,
+        other,
+        is_within_home(emitter, one, index),
+        is_within_home(emitter, other, place),
+    )
+}
+
 // Whether two variables are resident arrays of as many blocks whose indexes are reduced alike.
-fn are_reduced_alike(emitter: &Emitter<'_>, one: Variable, other: Variable) -> bool
+fn are_reduced_alike(
+    emitter: &Emitter<'_, '_, '_>,
+    one: Variable,
+    other: Variable,
+    index: &Expr,
+    place: &Expr,
+) -> bool
     requires first { one.further ≤ 4 }
     requires second { other.further ≤ 4 }
     ensures { result ≡ ((home_in one).resident
         && ((home_in other).resident
         && (same_flag (is_cached (home_in one)) (is_cached (home_in other))
-        && (same_flag (is_masked (home_in one)) (is_masked (home_in other))
         && (same_flag ((home_in one).word == 0) ((home_in other).word == 0)
-        && (numbers_alike emitter.now (reducer (home_in one)) (reducer (home_in other))
+        && (numbered_alike emitter.now (home_in one) (home_in other)
+        (is_within_home emitter.now (home_in one) (expr_tree index.now))
+        (is_within_home emitter.now (home_in other) (expr_tree place.now))
         && (numbers_alike emitter.now (pos (home_in one).word) (pos (home_in other).word)
-        && (length (further_slots (home_in one)) == length (further_slots (home_in other)))))))))) }
+        && (length (further_slots (home_in one)) == length (further_slots (home_in other))))))))) }
 {
     is_resident(one)
         && (is_resident(other)
             && (same_flag(is_cached(one), is_cached(other))
-                && (same_flag(is_masked(one), is_masked(other))
-                    && (same_flag(one.place.word == 0, other.place.word == 0)
-                        && (reducers_alike(emitter, one, other)
-                            && (words_alike(emitter, one, other) && as_many_blocks(one, other)))))))
+                && (same_flag(one.place.word == 0, other.place.word == 0)
+                    && (indexes_alike(emitter, one, other, index, place)
+                        && (words_alike(emitter, one, other) && as_many_blocks(one, other))))))
 }
 
-fn reduced_alike<'a>(emitter: &Emitter<'a>, x: &'a Name, y: &'a Name) -> bool
+fn reduced_alike<'a>(
+    emitter: &Emitter<'a, '_, '_>,
+    x: &'a Name,
+    y: &'a Name,
+    index: &'a Expr,
+    place: &'a Expr,
+) -> bool
     requires first { is_some (context_of emitter.now.decls x.now) ≡ true }
     requires second { is_some (context_of emitter.now.decls y.now) ≡ true }
-    ensures { result ≡ reduced_alike emitter.now x.now y.now }
+    ensures { result ≡ reduced_alike emitter.now x.now y.now (expr_tree index.now) (expr_tree place.now) }
 {
     are_reduced_alike(
         emitter,
         emitter.variable(x.bytes()),
         emitter.variable(y.bytes()),
+        index,
+        place,
     )
 }
 
 // Whether elements of two arrays with alike indexes are alike.
-fn in_step<'a>(emitter: &Emitter<'a>, x: &'a Name, y: &'a Name) -> bool
+fn in_step<'a>(
+    emitter: &Emitter<'a, '_, '_>,
+    x: &'a Name,
+    y: &'a Name,
+    index: &'a Expr,
+    place: &'a Expr,
+) -> bool
     requires first { is_some (context_of emitter.now.decls x.now) ≡ true }
     requires second { is_some (context_of emitter.now.decls y.now) ≡ true }
-    ensures { result ≡ (in_one_bank emitter.now x.now y.now || reduced_alike emitter.now x.now y.now) }
+    ensures { result ≡ (in_one_bank emitter.now x.now y.now
+        || reduced_alike emitter.now x.now y.now (expr_tree index.now) (expr_tree place.now)) }
 {
-    in_one_bank(emitter, x, y) || reduced_alike(emitter, x, y)
+    in_one_bank(emitter, x, y) || reduced_alike(emitter, x, y, index, place)
 }
 
 // The same number.
@@ -247,14 +305,20 @@ fn by_same_number(op: Op, right: &Expr, by: Op, second: &Expr) -> bool
 }
 
 // Whether steps may replace neither of two operations.
-fn are_plain<'a>(emitter: &Emitter<'a>, op: Op, right: &'a Expr, by: Op, second: &'a Expr) -> bool
+fn are_plain<'a>(
+    emitter: &Emitter<'a, '_, '_>,
+    op: Op,
+    right: &'a Expr,
+    by: Op,
+    second: &'a Expr,
+) -> bool
     ensures { result ≡ are_plain emitter.now op (expr_tree right.now) by (expr_tree second.now) }
 {
     !may_step(emitter, op, right) && !may_step(emitter, by, second)
 }
 
 // Whether registers hold two numbers or scalars for the whole run, or neither.
-fn held_alike<'a>(emitter: &Emitter<'a>, e: &'a Expr, other: &'a Expr) -> bool
+fn held_alike<'a>(emitter: &Emitter<'a, '_, '_>, e: &'a Expr, other: &'a Expr) -> bool
     requires first { TypedTree (context_of emitter.now.decls) (expr_tree e.now) }
     requires second { TypedTree (context_of emitter.now.decls) (expr_tree other.now) }
     ensures { result ≡ held_alike emitter.now (expr_tree e.now) (expr_tree other.now) }
@@ -266,7 +330,7 @@ fn held_alike<'a>(emitter: &Emitter<'a>, e: &'a Expr, other: &'a Expr) -> bool
 }
 
 // The same of the targets of two assignments.
-fn targets_alike<'a>(emitter: &Emitter<'a>, x: &'a Name, y: &'a Name) -> bool
+fn targets_alike<'a>(emitter: &Emitter<'a, '_, '_>, x: &'a Name, y: &'a Name) -> bool
     requires first { is_some (context_of emitter.now.decls x.now) ≡ true }
     requires second { is_some (context_of emitter.now.decls y.now) ≡ true }
     ensures { result ≡ held_alike emitter.now (trees.Variable x.now) (trees.Variable y.now) }
@@ -277,7 +341,7 @@ fn targets_alike<'a>(emitter: &Emitter<'a>, x: &'a Name, y: &'a Name) -> bool
 }
 
 // Whether two expressions show the same in secret code.
-fn is_alike<'a>(emitter: &Emitter<'a>, e: &'a Expr, other: &'a Expr) -> bool
+fn is_alike<'a>(emitter: &Emitter<'a, '_, '_>, e: &'a Expr, other: &'a Expr) -> bool
     requires first { TypedTree (context_of emitter.now.decls) (expr_tree e.now) }
     requires second { TypedTree (context_of emitter.now.decls) (expr_tree other.now) }
     ensures { result ≡ is_alike emitter.now (expr_tree e.now) (expr_tree other.now) }
@@ -299,7 +363,7 @@ fn is_alike<'a>(emitter: &Emitter<'a>, e: &'a Expr, other: &'a Expr) -> bool
             Expr::Num(_) => false,
             Expr::Var(_) => false,
             Expr::Item(y, place) => {
-                (in_step(emitter, x, y) && is_alike(emitter, index, place))
+                (in_step(emitter, x, y, index, place) && is_alike(emitter, index, place))
                     || (kind_of(emitter, x) != BankKind::Oblivious
                         && (same_name(x, y) && is_same(index, place)))
             }
@@ -320,7 +384,7 @@ fn is_alike<'a>(emitter: &Emitter<'a>, e: &'a Expr, other: &'a Expr) -> bool
 }
 
 // Whether two assignments show the same in secret code.
-fn is_pair<'a>(emitter: &Emitter<'a>, s: &'a Stmt, other: &'a Stmt) -> bool
+fn is_pair<'a>(emitter: &Emitter<'a, '_, '_>, s: &'a Stmt, other: &'a Stmt) -> bool
     requires first { (code : Label) × TypedStatement (context_of emitter.now.decls) code (statement_of s.now) }
     requires second { (code : Label) × TypedStatement (context_of emitter.now.decls) code (statement_of other.now) }
     ensures { result ≡ is_pair emitter.now (statement_of s.now) (statement_of other.now) }
@@ -336,7 +400,7 @@ fn is_pair<'a>(emitter: &Emitter<'a>, s: &'a Stmt, other: &'a Stmt) -> bool
             Stmt::Set(_, _) => false,
             Stmt::Put(y, j, g) => {
                 is_alike(emitter, e, g)
-                    && ((in_step(emitter, x, y) && is_alike(emitter, i, j))
+                    && ((in_step(emitter, x, y, i, j) && is_alike(emitter, i, j))
                         || (kind_of(emitter, x) == BankKind::Encrypted
                             && (same_name(x, y) && is_same(i, j))))
             }
@@ -350,7 +414,7 @@ fn is_pair<'a>(emitter: &Emitter<'a>, s: &'a Stmt, other: &'a Stmt) -> bool
 
 /// How many statements of two parts of a branch on a secret pair, from the first of each on: each such two show the
 /// same in secret code.
-pub fn pair_count<'a>(emitter: &Emitter<'a>, first: &'a [Stmt], second: &'a [Stmt]) -> usize
+pub fn pair_count<'a>(emitter: &Emitter<'a, '_, '_>, first: &'a [Stmt], second: &'a [Stmt]) -> usize
     requires first { (code : Label) × TypedBlock (context_of emitter.now.decls) code (block_of_all first.now) }
     requires second { (code : Label) × TypedBlock (context_of emitter.now.decls) code (block_of_all second.now) }
     ensures { result ≡ pair_count emitter.now (block_of_all first.now) (block_of_all second.now) }

@@ -24,6 +24,7 @@ ghost use Rattle.block_cache_gen.specs.Twins.{HasTwin};
 use crate::emitter::Emitter;
 use crate::expressions::put_expr;
 use crate::frames::{CodeBuf, Frame, Mode};
+use crate::prepared::Prepared;
 use crate::statements::{put_guard, put_set};
 use gr_base::Memory;
 use src_tree::{Expr, Guard, Stmt};
@@ -57,7 +58,8 @@ pub fn emit_expr<'a>(
         (Extends (length f.now.places.now.blocks.items) mode (tree_weight (expr_tree e.now)) out.old out.new) }
     ensures grows { CodeGrows out.old out.new }
 {
-    let emitter = Emitter::new(alloc, f)?;
+    let prepared = Prepared::new(alloc, f)?;
+    let emitter = Emitter::new(&prepared);
     put_expr(&emitter, out, e, to, mode, emitter.base_mask())
 }
 
@@ -90,7 +92,8 @@ pub fn emit_guard<'a>(
         (Extends (length f.now.places.now.blocks.items) mode (test_weight (test_of g.now)) out.old out.new) }
     ensures grows { CodeGrows out.old out.new }
 {
-    let emitter = Emitter::new(alloc, f)?;
+    let prepared = Prepared::new(alloc, f)?;
+    let emitter = Emitter::new(&prepared);
     put_guard(&emitter, out, g, to, mode)
 }
 
@@ -134,6 +137,7 @@ pub fn emit_set<'a>(
         out.old out.new) }
     ensures grows { CodeGrows out.old out.new }
 {
-    let emitter = Emitter::new(alloc, f)?;
+    let prepared = Prepared::new(alloc, f)?;
+    let emitter = Emitter::new(&prepared);
     put_set(&emitter, out, s, mode)
 }

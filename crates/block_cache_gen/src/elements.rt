@@ -24,7 +24,7 @@ fn slots_of(array: Variable) -> [u8; 5]
 }
 
 // The slot that has a word of a resident array, by the word's number from the first word of the first block on.
-fn slot_of_word(emitter: &Emitter<'_>, array: Variable, number: u64) -> u8
+fn slot_of_word(emitter: &Emitter<'_, '_, '_>, array: Variable, number: u64) -> u8
     requires { array.further ≤ 4 }
     ensures { result ≡ slot_of_word emitter.now (home_in array) number }
 {
@@ -47,7 +47,7 @@ fn fixed_number(array: Variable, index: i64) -> u64
 
 // Appends the code that selects a word of a resident array among those of its slots.
 fn put_selected_read(
-    emitter: &Emitter<'_>,
+    emitter: &Emitter<'_, '_, '_>,
     out: &mut CodeBuf,
     array: Variable,
     to: u8,
@@ -67,7 +67,7 @@ fn put_selected_read(
 
 /// Appends the code that reads the word of an array whose number is in register `to`. The only error is want of memory.
 pub(crate) fn put_element<'a>(
-    emitter: &Emitter<'a>,
+    emitter: &Emitter<'a, '_, '_>,
     out: &mut CodeBuf,
     array: Variable,
     index: &'a Expr,
@@ -136,9 +136,9 @@ pub(crate) fn put_store(out: &mut CodeBuf, slot: u8, value: u8, mode: Mode) -> R
     }
 }
 
-// Appends the store of a word of a resident array whose index is no number.
+// Appends the store of a word of a resident array whose index isn't a number.
 fn put_stored_among(
-    emitter: &Emitter<'_>,
+    emitter: &Emitter<'_, '_, '_>,
     out: &mut CodeBuf,
     array: Variable,
     value: u8,
@@ -169,7 +169,7 @@ fn put_stored_among(
 /// Appends the store of the word in register `value`, where register 1 has the number of the word of an array, and the
 /// store of its block, unless slots hold the array for the whole run. The only error is want of memory.
 pub(crate) fn put_stored<'a>(
-    emitter: &Emitter<'a>,
+    emitter: &Emitter<'a, '_, '_>,
     out: &mut CodeBuf,
     array: Variable,
     index: &'a Expr,

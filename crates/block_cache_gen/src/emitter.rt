@@ -1,147 +1,69 @@
-ghost use Rattle.std.specs.Prelude.{◌≡◌, ℕ, ◌≤◌, ◌^◌, ◌==◌, true, List, Option, IfOk, find, is_some, length, position};
-ghost use Rattle.std.specs.Option.{option_map};
+ghost use Rattle.std.specs.Prelude.{◌≡◌, ◌≤◌, ◌^◌, true, is_some};
 ghost use Rattle.src_tree.specs.Contexts.{context_of};
 ghost use Rattle.src_tree.specs.Labels.{label_at, label_of};
 ghost use Rattle.src_tree.specs.Trees.{expr_tree};
-ghost use Rattle.held_registers.specs.Held.{held_at, register_of_number};
-ghost use Rattle.block_cache_gen.specs.Homes.{Pin, label_by};
-ghost use Rattle.block_cache_gen.specs.Notes.{is_public, mask_to};
-ghost use Rattle.block_cache_gen.specs.Settings.{IsFrame, homes_at, setting_of};
+ghost use Rattle.held_registers.specs.Held.{register_of_number};
+ghost use Rattle.scalar_ranges.specs.Known.{is_within};
+ghost use Rattle.block_cache_gen.specs.Homes.{ranged};
 
-use crate::accesses::unmarked;
-use crate::frames::Frame;
-use crate::pins::{claims_in, pin_at, pin_in, pin_or};
-use crate::variables::{Variable, Variables, gather, variable_at};
-use bank_alloc::Place;
-use gr_base::Memory;
+use crate::prepared::Prepared;
+use crate::variables::Variable;
 use gr_word::Label;
-use held_registers::{Held, register_of_number};
+use held_registers::Held;
+use lt_isa::Profile;
+use scalar_ranges::{Range, is_within};
 use scratch_alloc::Pin;
 use src_tree::{Decl, Expr, higher};
 use std::alloc::Global;
 use std::marker::Model;
 
-/// A frame with a map of its names, made once for many calls, so that no call goes through the declarations. Contracts
-/// see it as the frame's setting.
+/// A frame that is ready for calls, with what is known of the store at the place of the code. Contracts see it as a
+/// setting.
 #[derive(Drop)]
-pub struct Emitter<'a> {
-    alloc: Global,
-    frame: Frame<'a>,
-    variables: Variables<'a>,
-    claims: [u8; 8],
-    mask: u32,
+pub struct Emitter<'a, 'p, 'k> {
+    prepared: &'p Prepared<'a>,
+    known: &'k [Option<Range>],
 }
 
-impl<'a> Model for Emitter<'a> {
-    ghost use Rattle.std.specs.Prelude.{◌≡◌, ℕ, List};
-    ghost use Rattle.block_cache_gen.specs.Homes.{Setting};
-    ghost use Rattle.block_cache_gen.specs.Notes.{base_mask, slot_claims};
-    ghost use Rattle.block_cache_gen.specs.Settings.{IsFrame, setting_of};
-    ghost use Rattle.gr_base.specs.NameMaps.{found_under};
-    ghost use Rattle.block_cache_gen.specs.Variables.{variable_of};
+impl<'a, 'p, 'k> Model for Emitter<'a, 'p, 'k> {
+    ghost use Rattle.block_cache_gen.specs.Homes.{Setting, ranged};
 
     ghost Value = { Setting };
 
-    ghost view = { λ e. setting_of e.frame };
-
-    ghost invariant = { λ e. IsFrame e.frame
-        × ((e.claims ≡ slot_claims (setting_of e.frame)) × ((e.mask ≡ base_mask (setting_of e.frame))
-        × ((x : List ℕ) → found_under e.variables x ≡ variable_of
-        e.frame.slots.now.pins e.frame.profile.now.block_log e.frame.held.now 0 e.frame.program.now.decls.items e.frame.places.now.of_var.items
-        e.frame.slots.now.of_var.items x))) };
+    ghost view = { λ e. ranged e.prepared.now e.known.now };
 }
 
-// The label that a register has for the whole run, `None` if it holds nothing for the whole run.
-fn label_of_register(decls: &[Decl], held: &[Held], register: usize) -> Option<Label>
-    ensures { result ≡ label_by decls.now (held_at held.now register) }
-{
-    if register < 19 {
-        return None;
-    }
-    match held.get(register - 19) {
-        None => None,
-        Some(Held::SecretZero) => Some(Label::Secret),
-        Some(Held::Number(_)) => Some(Label::Public),
-        Some(Held::Scalar(number)) => match decls.get(*number as usize) {
-            None => None,
-            Some(decl) => Some(decl.label),
-        },
-    }
-}
-
-// Whether a register holds something public for the whole run.
-fn is_public(label: Option<Label>) -> bool
-    ensures { result ≡ is_public label }
-{
-    match label {
-        None => false,
-        Some(Label::Public) => true,
-        Some(Label::Secret) => false,
-    }
-}
-
-// Every register, but for those that hold something public for the whole run.
-fn mask_of_held(decls: &[Decl], held: &[Held]) -> u32
-    ensures { result ≡ mask_to decls.now held.now 32 }
-{
-    let mut mask = u32::MAX;
-    for register in 0..32 {
-        if is_public(label_of_register(decls, held, register)) {
-            mask = unmarked(mask, register as u8);
-        }
-    }
-    mask
-}
-
-// The number of the first variable that a slot serves.
-fn first_served(slots: &[u8], slot: u8) -> Option<usize>
-    ensures { result ≡ position (λ s. s == slot) slots.now }
-{
-    slots.iter().position(|used| *used == slot)
-}
-
-// The first block of that variable.
-fn block_of_first(places: &[Place], slots: &[u8], slot: u8) -> Option<u32>
-    requires { length places.now ≡ length slots.now }
-    ensures { (pins : List (Option Pin)) (w : ℕ)
-        → result ≡ option_map (λ h. h.block) (find (λ h. h.slot == slot) (homes_at pins w places.now slots.now)) }
-{
-    match first_served(slots, slot) {
-        Some(number) => Some(places[number].block),
-        None => None,
-    }
-}
-
-impl<'a> Emitter<'a> {
+impl<'a, 'p, 'k> Emitter<'a, 'p, 'k> {
     ghost use Rattle.block_cache_gen.specs.Notes.{base_mask, slot_claims};
-    ghost use Rattle.block_cache_gen.specs.ServedBlocks.{block_served, first_blocks};
+    ghost use Rattle.block_cache_gen.specs.ServedBlocks.{first_blocks};
     ghost use Rattle.block_cache_gen.specs.Variables.{home_in};
     ghost use Rattle.block_cache_gen.specs.Homes.{home_of, register_for};
 
-    /// Makes a frame ready.
-    pub fn new(alloc: Global, f: &Frame<'a>) -> Result<Emitter<'a>, Memory>
-        requires { IsFrame f.now }
-        ensures { IfOk result (λ emitter. emitter ≡ setting_of f.now) }
+    /// Makes an emitter for code at the beginning of a program, where nothing is known.
+    pub fn new(prepared: &'p Prepared<'a>) -> Emitter<'a, 'p, 'p>
+        ensures { result ≡ prepared.now }
     {
-        let slots = f.slots.of_var.as_slice();
-        let variables = gather(
-            alloc,
-            f.program.decls.as_slice(),
-            f.places.of_var.as_slice(),
-            slots,
-            &f.slots.pins,
-            f.profile.block_log,
-            f.held,
-        )?;
-        let claims = claims_in(&f.slots.pins, slots);
-        let mask = mask_of_held(f.program.decls.as_slice(), f.held);
-        Ok(Emitter {
-            alloc,
-            frame: *f,
-            variables,
-            claims,
-            mask,
-        })
+        Emitter {
+            prepared,
+            known: prepared.known(),
+        }
+    }
+
+    /// The same for code at a place where other ranges are known.
+    pub fn at<'q>(&self, known: &'q [Option<Range>]) -> Emitter<'a, 'p, 'q>
+        ensures { result ≡ ranged self.now known.now }
+    {
+        Emitter {
+            prepared: self.prepared,
+            known,
+        }
+    }
+
+    /// Whether an index is known to be below a length.
+    pub(crate) fn is_within(&self, index: &Expr, length: u64) -> bool
+        ensures { result ≡ is_within self.now.decls self.now.ranges (expr_tree index.now) length }
+    {
+        is_within(self.prepared.decls(), self.known, index, length)
     }
 
     /// What a declared name refers to.
@@ -153,60 +75,35 @@ impl<'a> Emitter<'a> {
         ensures length { 1 ≤ result.place.length }
         ensures few { result.further ≤ 4 }
     {
-        match variable_at(&self.variables, name) {
-            Some(variable) => variable,
-            None => unreachable!(),
-        }
+        self.prepared.variable(name)
     }
 
-    // The label of a name, public where it isn't declared.
+    // The label of a name, public if it isn't declared.
     fn label_at(&self, name: &'a [u8]) -> Label
         ensures { result ≡ label_at (context_of self.now.decls) name.now }
     {
-        match variable_at(&self.variables, name) {
-            Some(variable) => variable.label,
-            None => Label::Public,
-        }
+        self.prepared.label_at(name)
     }
 
     /// What each note claims about the slots. It serves `code_gen`, which makes notes of its own.
     pub fn claims(&self) -> [u8; 8]
         ensures { result ≡ slot_claims self.now }
     {
-        self.claims
+        self.prepared.claims()
     }
 
     /// The block that each slot holds for the whole run. It serves `code_gen`, which stores these blocks at the end.
     pub fn pins(&self) -> [Option<Pin>; 8]
         ensures { result ≡ self.now.pins }
     {
-        self.frame.pins()
-    }
-
-    // The first block of the first variable that a slot serves, `None` if it serves no variable.
-    fn block_served(&self, slot: u8) -> Option<u32>
-        ensures { result ≡ block_served self.now slot }
-    {
-        let places = self.frame.places.of_var.as_slice();
-        let slots = self.frame.slots.of_var.as_slice();
-        block_of_first(places, slots, slot)
+        self.prepared.pins()
     }
 
     /// The block that each slot begins with. It serves `code_gen`, which loads these blocks before any access.
     pub fn first_blocks(&self) -> [Option<Pin>; 8]
         ensures { result ≡ first_blocks self.now }
     {
-        let pins = self.pins();
-        [
-            pin_at(&pins, 0),
-            pin_at(&pins, 1),
-            pin_or(pin_at(&pins, 2), pin_in(0, self.block_served(2))),
-            pin_or(pin_at(&pins, 3), pin_in(0, self.block_served(3))),
-            pin_or(pin_at(&pins, 4), pin_in(1, self.block_served(4))),
-            pin_or(pin_at(&pins, 5), pin_in(1, self.block_served(5))),
-            None,
-            pin_at(&pins, 7),
-        ]
+        self.prepared.first_blocks()
     }
 
     /// The cycles of a jump or a branch that is taken.
@@ -215,40 +112,62 @@ impl<'a> Emitter<'a> {
         ensures some { 1 ≤ result }
         ensures most { result ≤ 32 }
     {
-        self.frame.profile.taken
+        self.prepared.taken()
     }
 
-    /// The allocator for short lists of instructions.
-    pub(crate) fn alloc(&self) -> Global {
-        self.alloc
+    /// The cycles of instructions, and the size of blocks. It serves `branch_padding`, which lets quiet branches idle.
+    pub fn profile(&self) -> &'a Profile
+        ensures { result.now ≡ self.now.profile }
+    {
+        self.prepared.profile()
+    }
+
+    /// What is known of the store at the place of the code. It serves `code_gen`, which follows what is known.
+    pub fn known(&self) -> &'k [Option<Range>]
+        ensures { result.now ≡ self.now.ranges }
+    {
+        self.known
+    }
+
+    /// The allocator for short lists. It serves `code_gen` too.
+    pub fn alloc(&self) -> Global {
+        self.prepared.alloc()
     }
 
     /// What the mask of a note between statements says. It serves `code_gen`, which makes notes of its own.
     pub fn base_mask(&self) -> u32
         ensures { result ≡ base_mask self.now }
     {
-        self.mask
+        self.prepared.base_mask()
     }
 
     /// What the registers from 19 on hold for the whole run. It serves `code_gen`, which gives them their first words.
     pub fn held(&self) -> &'a [Held]
         ensures { result.now ≡ self.now.held }
     {
-        self.frame.held
+        self.prepared.held()
     }
 
     /// The register that holds a number for the whole run; `None` if no register does.
     pub(crate) fn number_held(&self, number: i64) -> Option<u8>
         ensures { result ≡ register_of_number self.now.held number }
     {
-        register_of_number(self.frame.held, number)
+        self.prepared.number_held(number)
     }
 
-    /// Whether operations by numbers are replaced by steps.
-    pub(crate) fn reduces(&self) -> bool
+    /// Whether operations by numbers are replaced by steps, and ranges are used. It serves `code_gen`, which follows what
+    /// is known.
+    pub fn reduces(&self) -> bool
         ensures { result ≡ self.now.reduces }
     {
-        self.frame.reduces
+        self.prepared.reduces()
+    }
+
+    /// The declarations of the program. It serves `code_gen`, which follows what is known of scalars.
+    pub fn decls(&self) -> &'a [Decl]
+        ensures { result.now ≡ self.now.decls }
+    {
+        self.prepared.decls()
     }
 
     /// The number of words of a block, as its logarithm.
@@ -256,7 +175,7 @@ impl<'a> Emitter<'a> {
         ensures value { result ≡ self.now.profile.block_log }
         ensures most { result ≤ 9 }
     {
-        self.frame.profile.block_log
+        self.prepared.block_log()
     }
 
     /// The number of words of a block.
@@ -265,13 +184,13 @@ impl<'a> Emitter<'a> {
         ensures some { 1 ≤ result }
         ensures most { result ≤ 512 }
     {
-        self.frame.profile.block_words()
+        self.prepared.block_words()
     }
 }
 
 /// The label of an expression: secret if it contains a secret name, otherwise public. A name that isn't declared is
 /// public.
-pub fn label_of<'a>(emitter: &Emitter<'a>, e: &'a Expr) -> Label
+pub fn label_of<'a>(emitter: &Emitter<'a, '_, '_>, e: &'a Expr) -> Label
     ensures { result ≡ label_of (context_of emitter.now.decls) (expr_tree e.now) }
 {
     match e {

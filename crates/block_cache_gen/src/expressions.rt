@@ -27,7 +27,7 @@ use src_tree::Expr;
 /// notes. The only error is want of memory.
 #[cycle(expressions)]
 pub(crate) fn put_expr<'a>(
-    emitter: &Emitter<'a>,
+    emitter: &Emitter<'a, '_, '_>,
     out: &mut CodeBuf,
     e: &'a Expr,
     to: u8,
@@ -67,7 +67,7 @@ pub(crate) fn put_expr<'a>(
 /// want of memory.
 #[cycle(expressions)]
 pub(crate) fn put_operand<'a>(
-    emitter: &Emitter<'a>,
+    emitter: &Emitter<'a, '_, '_>,
     out: &mut CodeBuf,
     e: &'a Expr,
     held: Option<u8>,
@@ -93,7 +93,7 @@ pub(crate) fn put_operand<'a>(
 /// replace the operation, or the code of the right side and the operation. The only error is want of memory.
 #[cycle(expressions)]
 pub(crate) fn put_operation<'a>(
-    emitter: &Emitter<'a>,
+    emitter: &Emitter<'a, '_, '_>,
     out: &mut CodeBuf,
     op: Op,
     right: &'a Expr,
@@ -132,7 +132,7 @@ pub(crate) fn put_operation<'a>(
 /// array's slot. The only error is want of memory.
 #[cycle(expressions)]
 pub(crate) fn put_access<'a>(
-    emitter: &Emitter<'a>,
+    emitter: &Emitter<'a, '_, '_>,
     out: &mut CodeBuf,
     array: Variable,
     index: &'a Expr,

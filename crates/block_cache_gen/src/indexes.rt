@@ -15,9 +15,20 @@ use gr_base::Memory;
 use gr_word::{Cmp, Label, Op};
 use lt_isa::{Instr, Note};
 
+/// How the number of a word is found of an index.
+#[derive(Clone, Copy, Debug, PartialEq, Eq)]
+pub(crate) enum Numbering {
+    /// The index is compared with the length, and reduced if it isn't below it.
+    Compared,
+    /// The index is reduced.
+    Reduced,
+    /// The index is known to be below the length, so it is the number of the word.
+    Within,
+}
+
 /// Appends a note after the code so far. The only error is want of memory.
 pub(crate) fn put_note_behind(
-    emitter: &Emitter<'_>,
+    emitter: &Emitter<'_, '_, '_>,
     out: &mut CodeBuf,
     secrets: u32,
 ) -> Result<(), Memory>
@@ -32,28 +43,29 @@ pub(crate) fn put_note_behind(
     })
 }
 
-/// Appends what leaves the number of the word that the index in register `from` names in register `to`, with a
-/// comparison first or without one. For a comparison both are one register. The only error is want of memory.
+/// Appends what leaves the number of the word that the index in register `from` names in register `to`. Unless the index
+/// is reduced, both are one register. The only error is want of memory.
 pub(crate) fn put_numbered(
-    emitter: &Emitter<'_>,
+    emitter: &Emitter<'_, '_, '_>,
     out: &mut CodeBuf,
     array: Variable,
     to: u8,
     from: u8,
-    compared: bool,
+    numbering: Numbering,
     mask: u32,
 ) -> Result<(), Memory>
     requires registers { to + 2 < 19 }
     requires room { length out.old.code.items + 6 < 2 ^ 32 }
-    ensures appended { OnOk result (Appended out.old out.new (numbered_code compared emitter.now (home_in array) to from)
-        (λ place. compared_notes compared None emitter.now mask to
-        (place + length (numbered_code compared emitter.now (home_in array) to from)))) }
+    ensures appended { OnOk result (Appended out.old out.new (numbered_code numbering emitter.now (home_in array) to from)
+        (λ place. compared_notes numbering None emitter.now mask to
+        (place + length (numbered_code numbering emitter.now (home_in array) to from)))) }
     ensures grows { CodeGrows out.old out.new }
 {
-    if compared {
-        return put_compared(emitter, out, array, to, mask);
+    match numbering {
+        Numbering::Compared => put_compared(emitter, out, array, to, mask),
+        Numbering::Reduced => put_reduced(emitter, out, array, to, from),
+        Numbering::Within => out.put(&[]),
     }
-    put_reduced(emitter, out, array, to, from)
 }
 
 // An array's length less 2^63.
@@ -65,7 +77,7 @@ fn lowered_length(array: Variable) -> i64
 
 // Appends the same, where the remainder is taken only of an index that isn't below the length, and a note after it.
 fn put_compared(
-    emitter: &Emitter<'_>,
+    emitter: &Emitter<'_, '_, '_>,
     out: &mut CodeBuf,
     array: Variable,
     to: u8,
@@ -115,7 +127,7 @@ fn put_compared(
 /// Appends an operation on a register and a number, whose result is in register `to`. If no register holds the number
 /// for the whole run, it is loaded into register `own` first. The only error is want of memory.
 pub(crate) fn put_applied(
-    emitter: &Emitter<'_>,
+    emitter: &Emitter<'_, '_, '_>,
     out: &mut CodeBuf,
     op: Op,
     to: u8,
@@ -180,7 +192,7 @@ pub fn reducer_at(place: Place) -> i64
 
 // The index in a register becomes the number of the word.
 fn put_reduced(
-    emitter: &Emitter<'_>,
+    emitter: &Emitter<'_, '_, '_>,
     out: &mut CodeBuf,
     array: Variable,
     to: u8,

@@ -5,8 +5,9 @@
 //! has the frame's layout ([`home_laws`]), the code leaves the value, the sides or the store that it means, within its
 //! greatest costs, and shows the accesses of `specs/Accesses` (`runs`). The check passes it in public code (`passes`)
 //! and walks it in an arm (`walked`), where it shows the same in every state. It is short and in its ranges
-//! (`extends`). An [`Emitter`] is a [`Frame`] made ready for many such calls. [`pair_count`] is the number of first
-//! statements of two parts that show the same ([`pair_laws`]).
+//! (`extends`). A [`Prepared`] is a [`Frame`] made ready for many such calls, and an [`Emitter`] has with it what is known of
+//! scalars at the place of the code. [`pair_count`] is the number of first statements of two parts that show the same
+//! ([`pair_laws`]).
 #![tactic(auto)]
 
 mod accesses;
@@ -20,6 +21,7 @@ mod indexes;
 mod laws;
 mod operands;
 mod pins;
+mod prepared;
 mod statements;
 mod steps;
 mod variables;
@@ -30,4 +32,5 @@ pub use emitter::{Emitter, label_of};
 pub use frames::{CodeBuf, Frame, Mode};
 pub use indexes::reducer_at;
 pub use laws::{home_laws, pair_laws, twin_laws};
+pub use prepared::Prepared;
 pub use statements::{put_guard, put_set_element, put_set_variable};

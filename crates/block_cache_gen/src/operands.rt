@@ -3,21 +3,22 @@ ghost use Rattle.src_tree.specs.Contexts.{context_of};
 ghost use Rattle.src_tree.specs.Trees.{expr_tree};
 ghost use Rattle.src_tree.specs.Typing.{TypedTree};
 ghost use Rattle.strength_reduction.specs.Steps.{code_of};
-ghost use Rattle.block_cache_gen.specs.Codes.{compares, index_operand, left_operand, operand, operand_register, steps_at};
+ghost use Rattle.block_cache_gen.specs.Codes.{numbering, index_operand, left_operand, operand, operand_register, steps_at};
 ghost use Rattle.block_cache_gen.specs.Notes.{operand_mask};
 ghost use Rattle.block_cache_gen.specs.TreeWords.{HasWords};
 ghost use Rattle.block_cache_gen.specs.Variables.{home_in};
 
-use crate::accesses::{compares, marked_by};
+use crate::accesses::{marked_by, numbering};
 use crate::emitter::Emitter;
 use crate::frames::Mode;
+use crate::indexes::Numbering;
 use crate::variables::Variable;
 use gr_word::{Label, Op};
 use lt_isa::Instr;
 use src_tree::Expr;
 
 /// The register that holds the value of an expression for the whole run; `None` if no register does.
-pub(crate) fn operand<'a>(emitter: &Emitter<'a>, e: &'a Expr) -> Option<u8>
+pub(crate) fn operand<'a>(emitter: &Emitter<'a, '_, '_>, e: &'a Expr) -> Option<u8>
     requires { TypedTree (context_of emitter.now.decls) (expr_tree e.now) }
     ensures register { result ≡ operand emitter.now (expr_tree e.now) }
     ensures words { OnSome result (HasWords (expr_tree e.now)) }
@@ -33,7 +34,7 @@ pub(crate) fn operand<'a>(emitter: &Emitter<'a>, e: &'a Expr) -> Option<u8>
 /// The same of the left side of an operation; `None` if steps replace the operation, which begin with the left side in
 /// their own register.
 pub(crate) fn left_operand<'a>(
-    emitter: &Emitter<'a>,
+    emitter: &Emitter<'a, '_, '_>,
     op: Op,
     left: &'a Expr,
     right: &'a Expr,
@@ -51,22 +52,22 @@ pub(crate) fn left_operand<'a>(
     }
 }
 
-/// The same of the index of an element; `None` if it is compared with the length, which needs it in its own register.
+/// The same of the index of an element; `None` unless it is reduced, since otherwise it must be in its own register.
 pub(crate) fn index_operand<'a>(
-    emitter: &Emitter<'a>,
+    emitter: &Emitter<'a, '_, '_>,
     mode: Mode,
     array: Variable,
     index: &'a Expr,
 ) -> Option<u8>
     requires { TypedTree (context_of emitter.now.decls) (expr_tree index.now) }
     ensures register { result ≡ index_operand emitter.now
-        (compares emitter.now mode (home_in array) (expr_tree index.now)) (expr_tree index.now) }
+        (numbering emitter.now mode (home_in array) (expr_tree index.now)) (expr_tree index.now) }
     ensures words { OnSome result (HasWords (expr_tree index.now)) }
 {
-    if compares(emitter, mode, array, index) {
-        None
-    } else {
-        operand(emitter, index)
+    match numbering(emitter, mode, array, index) {
+        Numbering::Compared => None,
+        Numbering::Reduced => operand(emitter, index),
+        Numbering::Within => None,
     }
 }
 

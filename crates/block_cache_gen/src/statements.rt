@@ -27,7 +27,7 @@ use src_tree::{Expr, Guard, Stmt};
 /// Appends code that leaves the two sides of a guard in a register and the next. It serves `branch_padding` and
 /// `code_gen`: its clause names the code, and [`emit_guard`](crate::emit_guard) states what that code does.
 pub fn put_guard<'a>(
-    emitter: &Emitter<'a>,
+    emitter: &Emitter<'a, '_, '_>,
     out: &mut CodeBuf,
     g: &'a Guard,
     to: u8,
@@ -78,7 +78,7 @@ fn put_write(out: &mut CodeBuf, scalar: Variable, value: u8, mode: Mode) -> Resu
 /// Appends the code of an assignment to a variable. It serves `branch_padding` and `code_gen`: its clause names the
 /// code, and [`emit_set`](crate::emit_set) states what that code does.
 pub fn put_set_variable<'a>(
-    emitter: &Emitter<'a>,
+    emitter: &Emitter<'a, '_, '_>,
     out: &mut CodeBuf,
     name: &'a Name,
     value: &'a Expr,
@@ -103,7 +103,7 @@ pub fn put_set_variable<'a>(
 /// Appends the code of an assignment to an element. The block is stored at once. It serves `branch_padding` and
 /// `code_gen`: its clause names the code, and [`emit_set`](crate::emit_set) states what that code does.
 pub fn put_set_element<'a>(
-    emitter: &Emitter<'a>,
+    emitter: &Emitter<'a, '_, '_>,
     out: &mut CodeBuf,
     name: &'a Name,
     index: &'a Expr,
@@ -131,7 +131,7 @@ pub fn put_set_element<'a>(
 
 /// Appends the code of an assignment, to a variable or to an element. The only error is want of memory.
 pub(crate) fn put_set<'a>(
-    emitter: &Emitter<'a>,
+    emitter: &Emitter<'a, '_, '_>,
     out: &mut CodeBuf,
     s: &'a Stmt,
     mode: Mode,

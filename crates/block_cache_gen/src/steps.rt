@@ -31,7 +31,7 @@ pub(crate) fn is_product(op: Op) -> bool
 }
 
 /// Whether steps may replace an operation with this right side.
-pub(crate) fn may_step<'a>(emitter: &Emitter<'a>, op: Op, right: &'a Expr) -> bool
+pub(crate) fn may_step<'a>(emitter: &Emitter<'a, '_, '_>, op: Op, right: &'a Expr) -> bool
     ensures { result ≡ may_step emitter.now op (expr_tree right.now) }
 {
     match right {
@@ -45,7 +45,7 @@ pub(crate) fn may_step<'a>(emitter: &Emitter<'a>, op: Op, right: &'a Expr) -> bo
 /// The code of the steps that replace an operation with this right side, if there are any. The only error is want of
 /// memory.
 pub(crate) fn steps_code<'a>(
-    emitter: &Emitter<'a>,
+    emitter: &Emitter<'a, '_, '_>,
     op: Op,
     right: &'a Expr,
     to: u8,

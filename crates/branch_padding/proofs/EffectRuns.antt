@@ -1,11 +1,10 @@
 -- Runs of the code of a branch on a secret, and of all secret code: a run turns a store into the one that the statement
 -- leaves, or leaves it as it was in a mirrored arm.
-use Rattle.std.proofs.Common.{◌≡◌, ℕ, zero, suc, ◌+◌, ◌-◌, Bool, true, false, pos, List, [], ◌∷◌, ◌++◌, length, take, drop, refl, sym, ap, ◌∙◌, subst, arith}
+use Rattle.std.proofs.Common.{◌≡◌, ℕ, zero, suc, ◌+◌, ◌-◌, Bool, true, false, pos, List, [], ◌∷◌, ◌++◌, length, take, drop, Option, Some, None, refl, sym, ap, ◌∙◌, subst, arith}
 use Rattle.std.specs.Prelude.{if◌then◌else◌}
 use Rattle.std.proofs.lemmas.List.{length-append}
 use Rattle.gr_word.specs.Words.{compared}
 use Rattle.gr_word.specs.declared.operations.Cmp.{Cmp}
-use Rattle.gr_word.specs.declared.variables.Label.{Label}
 use Rattle.gr_word.specs.declared.variables.Label.TheVariants as label
 use Rattle.lt_isa.specs.declared.instructions.Instr.{Instr}
 use Rattle.lt_isa.specs.declared.instructions.Instr.TheVariants.{Jmp, Br}
@@ -20,11 +19,14 @@ use Rattle.stretches.proofs.Standing.{standing-first, standing-rest, standing-he
 use Rattle.stretches.proofs.Coming.{comes-both, comes-weaker, comes-jmp, comes-br_taken, comes-br_on}
 use Rattle.src_tree.specs.declared.trees.Decl.{Decl}
 use Rattle.src_tree.specs.Contexts.{context_of}
-use Rattle.src_tree.specs.Labels.{inside}
+use Rattle.src_tree.specs.Labels.{label_of_test}
 use Rattle.src_tree.specs.Limits.{LowStatement, LowBlock}
 use Rattle.src_tree.specs.Meaning.{Store, evaluated, guard_holds}
 use Rattle.src_tree.specs.Trees.{Test, Statement, SetVariable, SetElement, Choice, Loop, Block, Nothing, Then}
 use Rattle.src_tree.specs.Typing.{TypedTest, TypedStatement, TypedBlock}
+use Rattle.src_tree.proofs.Loops.{left}
+use Rattle.scalar_ranges.specs.Ranges.{AreWithin, AreOfPublic}
+use Rattle.scalar_ranges.proofs.SecretCode.{secret-within, secret-within_block}
 use Rattle.block_cache_gen.specs.declared.frames.Mode.{Mode}
 use Rattle.block_cache_gen.specs.declared.frames.Mode.TheVariants.{Public, Real, Mirrored}
 use Rattle.block_cache_gen.specs.Homes.{Setting, HasHomes}
@@ -39,8 +41,11 @@ use Rattle.block_cache_gen.proofs.Stands.{stands-like}
 use Rattle.block_cache_gen.proofs.RunsOf.{guard-evaluates, assignment-performs}
 use Rattle.branch_padding.specs.Effects.{effect_of, effect_of_block}
 use Rattle.branch_padding.specs.Makes.{Makes}
-use Rattle.branch_padding.specs.Padded.{idle, arm_mode, in_a_row, untaken_arm, taken_arm, first_padded, second_padded, region_code, padded_code, padded_codes}
-use Rattle.branch_padding.proofs.Making.{begins-at, begun, makes-none, makes-same, makes-append, makes-idle, one_by_one, rest-behind, EachMakes, NoneMakes, OneMakes, row-makes, take-makes, drop-makes}
+use Rattle.branch_padding.specs.Padded.{idle, arm_mode, in_a_row, untaken_arm, taken_arm, first_arm, second_arm, first_of, second_of, region_code, padded_code, padded_codes}
+use Rattle.branch_padding.specs.declared.cycles.Slack.{Slack}
+use Rattle.branch_padding.specs.Cycles.{slack_of}
+use Rattle.branch_padding.proofs.EffectsMean.{secret-typed, effect-means, effect_of_block-means}
+use Rattle.branch_padding.proofs.Making.{KeepsWithin, each-keeps, begins-at, begun, makes-none, makes-same, makes-append, makes-idle, one_by_one, rest-behind, EachMakes, NoneMakes, OneMakes, row-makes, take-makes, drop-makes}
 
 -- what each statement of a block makes of a store, in code of a mode
 abbrev pub effects_of : List Decl → Mode → Block → List (Store → Store)
@@ -82,15 +87,9 @@ by-either mode true x y store = refl
 by-either mode false x y store = refl
 
 -- The region of two arms, from a state whose registers 0 and 1 compare so.
-module _ (o : Parts) (f : Setting) (taken : ℕ) (cmp : Cmp) (untaken code : List Instr) (g h : Store → Store)
-    (one : Makes f untaken g) (two : Makes f code h) (store : Store) (s : State)
-    (b : BeginsCode o f store s (region_code taken cmp untaken code)) where
-  abbrev first : List Instr
-  first = first_padded taken untaken
-
-  abbrev second : List Instr
-  second = second_padded taken code
-
+module _ (o : Parts) (f : Setting) (cmp : Cmp) (first second : List Instr) (g h : Store → Store)
+    (one : Makes f first g) (two : Makes f second h) (store : Store) (s : State)
+    (b : BeginsCode o f store s (region_code cmp first second)) where
   abbrev over : Instr
   over = Br cmp 0 1 (pos (length first + 2))
 
@@ -98,13 +97,7 @@ module _ (o : Parts) (f : Setting) (taken : ℕ) (cmp : Cmp) (untaken code : Lis
   jump = Jmp (pos (length second + 1))
 
   abbrev whole : List Instr
-  whole = region_code taken cmp untaken code
-
-  first-makes : Makes f first g
-  first-makes = makes-append f (idle (taken - 1)) untaken (λ store. store) g (makes-idle f (taken - 1)) one
-
-  second-makes : Makes f second h
-  second-makes = makes-append f code (idle taken) h (λ store. store) two (makes-idle f taken)
+  whole = region_code cmp first second
 
   arms_at : StandsAt o (s.place + 1) (first ++ (jump ∷ second))
   arms_at = standing-tail over (first ++ (jump ∷ second)) b.code_stands
@@ -132,8 +125,8 @@ module _ (o : Parts) (f : Setting) (taken : ℕ) (cmp : Cmp) (untaken code : Lis
       let there : s.place + 1 + length first + 1 ≡ jumped.end.place = omega (arith, jumped.comes) in
       let at : StandsAt o jumped.end.place second =
       subst (λ (p : ℕ). StandsAt o p second) there (standing-tail jump second jump_at) in
-      let arm = second-makes.runs o store jumped.end
-      (begins-at store jumped.end second b jumped.shaped jumped.holds at) in (
+      let arm = two.runs o store jumped.end
+      (begins-at store jumped.end second b b.within jumped.shaped jumped.holds at) in (
         arm.0,
         comes-weaker arm.0 (s.place + length whole) (greatest_costs o whole) (Assigns f (h store))
             (comes-both arm.0 jumped arm.1) refl
@@ -147,7 +140,7 @@ module _ (o : Parts) (f : Setting) (taken : ℕ) (cmp : Cmp) (untaken code : Lis
       (standing-head over (first ++ (jump ∷ second)) b.code_stands) fails (moved s _ store refl refl (λ r. refl) (begun b)) in
       let at : StandsAt o on.end.place first =
       subst (λ (p : ℕ). StandsAt o p first) (sym on.comes) (standing-first first (jump ∷ second) arms_at) in
-      let arm = first-makes.runs o store on.end (begins-at store on.end first b on.shaped on.holds at) in
+      let arm = one.runs o store on.end (begins-at store on.end first b b.within on.shaped on.holds at) in
       let u = arm.1.end in
       let there : s.place + 1 + length first ≡ u.place = omega (arith, on.comes, arm.1.comes) in
       let jump_there : StandsAt o u.place (jump ∷ second) =
@@ -168,21 +161,21 @@ module _ (o : Parts) (f : Setting) (taken : ℕ) (cmp : Cmp) (untaken code : Lis
 
 module _ (f : Setting) where
   -- a guard and the region after it
-  pub guarded-makes : (mode : Mode) (t : Test) (untaken code : List Instr) (g h : Store → Store)
+  pub guarded-makes : (mode : Mode) (t : Test) (before behind : List Instr) (g h : Store → Store)
       → TypedTest (context_of f.decls) t
-      → LowStatement (Choice t Nothing Nothing) → Makes f untaken g → Makes f code h
-      → Makes f (guard_code f mode 0 t ++ region_code f.profile.taken t.cmp untaken code)
+      → LowStatement (Choice t Nothing Nothing) → Makes f before g → Makes f behind h
+      → Makes f (guard_code f mode 0 t ++ region_code t.cmp before behind)
       (λ store. if guard_holds f.decls store t then h store else g store)
-  guarded-makes mode t untaken code g h typed low one two = record {
+  guarded-makes mode t before behind g h typed low one two = record {
     runs = λ o store s b.
         let guard = guard_code f mode 0 t in
-        let region = region_code f.profile.taken t.cmp untaken code in
+        let region = region_code t.cmp before behind in
         let shown = seen_of_all mode s.banks s.slots (test_accesses f store t) in
         let first : RunsThrough o s guard shown
         (LeavesBoth f store (test_accesses f store t) 0 (evaluated f.decls store t.left)
         (evaluated f.decls store t.right) s) =
         (guard-evaluates f mode 0 t typed (omega (arith, low.0.0)) (omega (arith, low.0.1))).runs o store s
-        (begins-at store s guard b b.shaped (begun b) (standing-first guard region b.code_stands)) in
+        (begins-at store s guard b b.within b.shaped (begun b) (standing-first guard region b.code_stands)) in
         let u = first.end in
         let at : StandsAt o u.place region =
         subst (λ (p : ℕ). StandsAt o p region) (sym first.comes) (standing-rest guard region b.code_stands) in
@@ -190,8 +183,8 @@ module _ (f : Setting) where
         ap (λ v. compared t.cmp v (register u 1)) first.holds.first
         ∙ ap (λ v. compared t.cmp (evaluated f.decls store t.left) v) first.holds.second in
         let made : Assigns f store u = record { stands = first.holds.stands; fits = b.fits } in
-        let rest = region-makes o f f.profile.taken t.cmp untaken code g h one two store u
-        (begins-at store u region b first.shaped made at) (guard_holds f.decls store t) is in
+        let rest = region-makes o f t.cmp before behind g h one two store u
+        (begins-at store u region b b.within first.shaped made at) (guard_holds f.decls store t) is in
         let after = if guard_holds f.decls store t then h store else g store in (
           shown ++ rest.0,
           comes-weaker (shown ++ rest.0) (s.place + length (guard ++ region)) (greatest_costs o (guard ++ region))
@@ -210,13 +203,13 @@ module _ (f : Setting) where
       makes-same f (in_a_row xs ++ (in_a_row ys ++ in_a_row zs))
       (λ store. one_by_one k (one_by_one h (one_by_one g store))) after
       (makes-append f (in_a_row xs) (in_a_row ys ++ in_a_row zs) (one_by_one g)
-      (λ store. one_by_one k (one_by_one h store)) (row-makes f xs g first)
+      (λ store. one_by_one k (one_by_one h store)) (row-makes f xs g first) (each-keeps f xs g first)
       (makes-append f (in_a_row ys) (in_a_row zs) (one_by_one h) (one_by_one k) (row-makes f ys h second)
-      (row-makes f zs k third)))
+      (each-keeps f ys h second) (row-makes f zs k third)))
 
   -- the arms of a branch, of parts whose statements make stores
   module _ (mode : Mode) (a b : Block) (k : ℕ) where
-    pub untaken-makes : (second first_mirrored : List (List Instr))
+    untaken-makes : (second first_mirrored : List (List Instr))
         → EachMakes f second (effects_of f.decls (arm_mode mode) b)
         → EachMakes f first_mirrored (effects_of f.decls Mirrored a)
         → Makes f (untaken_arm k second first_mirrored)
@@ -233,7 +226,7 @@ module _ (f : Setting) where
         ∙ effects-all f.decls (arm_mode mode) b store
         ∙ by-arm_mode mode (effect_of_block f.decls b store) store)
 
-    pub taken-makes : (first second_mirrored : List (List Instr))
+    taken-makes : (first second_mirrored : List (List Instr))
         → EachMakes f first (effects_of f.decls (arm_mode mode) a)
         → EachMakes f second_mirrored (effects_of f.decls Mirrored b)
         → Makes f (taken_arm k first second_mirrored) (λ store. by_mode mode (effect_of_block f.decls a store) store)
@@ -249,6 +242,47 @@ module _ (f : Setting) where
         ∙ effects-all f.decls (arm_mode mode) a store
         ∙ by-arm_mode mode (effect_of_block f.decls a store) store)
 
+    -- the row of a part makes what the part does
+    row-own : (part : Block) (codes : List (List Instr)) → EachMakes f codes (effects_of f.decls (arm_mode mode) part)
+        → Makes f (in_a_row codes) (λ store. by_mode mode (effect_of_block f.decls part store) store)
+    row-own part codes each =
+        makes-same f (in_a_row codes) (one_by_one (effects_of f.decls (arm_mode mode) part))
+        (λ store. by_mode mode (effect_of_block f.decls part store) store)
+        (row-makes f codes (effects_of f.decls (arm_mode mode) part) each)
+        (λ store.
+        effects-all f.decls (arm_mode mode) part store ∙ by-arm_mode mode (effect_of_block f.decls part store) store)
+
+    -- both arms, mirrored or idling
+    pub first_arm-makes : (slack : Option Slack) (taken : ℕ) (second first_mirrored : List (List Instr))
+        → KeepsWithin f (λ store. by_mode mode (effect_of_block f.decls b store) store)
+        → EachMakes f second (effects_of f.decls (arm_mode mode) b)
+        → EachMakes f first_mirrored (effects_of f.decls Mirrored a)
+        → Makes f (first_arm slack taken k second first_mirrored)
+        (λ store. by_mode mode (effect_of_block f.decls b store) store)
+    first_arm-makes None taken second first_mirrored kept behind before =
+        makes-append f (idle (taken - 1)) (untaken_arm k second first_mirrored) (λ store. store)
+        (λ store. by_mode mode (effect_of_block f.decls b store) store) (makes-idle f (taken - 1)) (λ store are. are)
+        (untaken-makes second first_mirrored behind before)
+    first_arm-makes (Some w) taken second first_mirrored kept behind before =
+        makes-append f (in_a_row second) (idle w.untaken)
+        (λ store. by_mode mode (effect_of_block f.decls b store) store) (λ store. store) (row-own b second behind)
+        kept (makes-idle f w.untaken)
+
+    pub second_arm-makes : (slack : Option Slack) (taken : ℕ) (first second_mirrored : List (List Instr))
+        → KeepsWithin f (λ store. by_mode mode (effect_of_block f.decls a store) store)
+        → EachMakes f first (effects_of f.decls (arm_mode mode) a)
+        → EachMakes f second_mirrored (effects_of f.decls Mirrored b)
+        → Makes f (second_arm slack taken k first second_mirrored)
+        (λ store. by_mode mode (effect_of_block f.decls a store) store)
+    second_arm-makes None taken first second_mirrored kept before behind =
+        makes-append f (taken_arm k first second_mirrored) (idle taken)
+        (λ store. by_mode mode (effect_of_block f.decls a store) store) (λ store. store)
+        (taken-makes first second_mirrored before behind) kept (makes-idle f taken)
+    second_arm-makes (Some w) taken first second_mirrored kept before behind =
+        makes-append f (in_a_row first) (idle w.taken)
+        (λ store. by_mode mode (effect_of_block f.decls a store) store) (λ store. store) (row-own a first before)
+        kept (makes-idle f w.taken)
+
   -- an assignment
   set-makes : (mode : Mode) (s : Statement) (after : Store → Store) → Performs f mode s (set_code f mode s)
       → ((store : Store) → by_mode mode (assigned f.decls s store) store ≡ after store)
@@ -262,20 +296,52 @@ module _ (f : Setting) where
     );
   }
 
+module _ (f : Setting) (only : AreOfPublic f.decls f.ranges) where
+  -- secret code assigns nothing of which a range is known
+  statement-keeps : (s : Statement) → TypedStatement (context_of f.decls) label.Secret s → (mode : Mode)
+      → KeepsWithin f (λ store. by_mode mode (effect_of f.decls s store) store)
+  statement-keeps s typed mode store are = by mode
+    where
+      after : AreWithin f.ranges (effect_of f.decls s store)
+      after =
+          secret-within f.decls f.ranges only s (left store 0) (left (effect_of f.decls s store) 0) typed are
+          (effect-means f.decls s typed store 0)
+
+      by : (mode : Mode) → AreWithin f.ranges (by_mode mode (effect_of f.decls s store) store)
+      by Public = after
+      by Real = after
+      by Mirrored = are
+
+  block-keeps : (b : Block) → TypedBlock (context_of f.decls) label.Secret b → (mode : Mode)
+      → KeepsWithin f (λ store. by_mode mode (effect_of_block f.decls b store) store)
+  block-keeps b typed mode store are = by mode
+    where
+      after : AreWithin f.ranges (effect_of_block f.decls b store)
+      after =
+          secret-within_block f.decls f.ranges only b (left store 0) (left (effect_of_block f.decls b store) 0)
+          typed are
+          (effect_of_block-means f.decls b typed store 0)
+
+      by : (mode : Mode) → AreWithin f.ranges (by_mode mode (effect_of_block f.decls b store) store)
+      by Public = after
+      by Real = after
+      by Mirrored = are
+
   mutual
     -- the code of a statement leaves the store of its effect, or without effect the store as it was
-    pub statement-makes : (s : Statement) (mode : Mode) (code : Label) → TypedStatement (context_of f.decls) code s
+    pub statement-makes : (s : Statement) (mode : Mode) → TypedStatement (context_of f.decls) label.Secret s
         → LowStatement s
         → Makes f (padded_code f mode s) (λ store. by_mode mode (effect_of f.decls s store) store)
-    statement-makes (SetVariable x e) mode code typed low =
-        set-makes mode (SetVariable x e) (λ store. by_mode mode (effect_of f.decls (SetVariable x e) store) store)
-        (assignment-performs f mode code (SetVariable x e) tt typed low) (λ store. refl)
-    statement-makes (SetElement x i e) mode code typed low =
-        set-makes mode (SetElement x i e) (λ store. by_mode mode (effect_of f.decls (SetElement x i e) store) store)
-        (assignment-performs f mode code (SetElement x i e) tt typed low) (λ store. refl)
-    statement-makes (Choice t a b) mode code typed low =
+    statement-makes (SetVariable x e) mode typed low =
+        set-makes f mode (SetVariable x e) (λ store. by_mode mode (effect_of f.decls (SetVariable x e) store) store)
+        (assignment-performs f mode label.Secret (SetVariable x e) tt typed low) (λ store. refl)
+    statement-makes (SetElement x i e) mode typed low =
+        set-makes f mode (SetElement x i e) (λ store. by_mode mode (effect_of f.decls (SetElement x i e) store) store)
+        (assignment-performs f mode label.Secret (SetElement x i e) tt typed low) (λ store. refl)
+    statement-makes (Choice t a b) mode typed low =
         let k = pair_count f a b in
-        let arms = inside (context_of f.decls) code t in
+        let slack = slack_of f a b in
+        let taken = f.profile.taken in
         let second = padded_codes f (arm_mode mode) b in
         let first_mirrored = padded_codes f Mirrored a in
         let first = padded_codes f (arm_mode mode) a in
@@ -285,47 +351,50 @@ module _ (f : Setting) where
         if guard_holds f.decls store t then by_mode mode (effect_of_block f.decls a store) store
         else by_mode mode (effect_of_block f.decls b store) store)
         (λ store. by_mode mode (effect_of f.decls (Choice t a b) store) store)
-        (guarded-makes mode t (untaken_arm k second first_mirrored) (taken_arm k first second_mirrored)
+        (guarded-makes f mode t (first_of f mode a b) (second_of f mode a b)
         (λ store. by_mode mode (effect_of_block f.decls b store) store)
         (λ store. by_mode mode (effect_of_block f.decls a store) store)
         typed.0 (low.0, (tt, tt))
-        (untaken-makes mode a b k second first_mirrored
-        (each-makes b (arm_mode mode) arms typed.1.1 low.1.1) (each-makes a Mirrored arms typed.1.0 low.1.0))
-        (taken-makes mode a b k first second_mirrored
-        (each-makes a (arm_mode mode) arms typed.1.0 low.1.0) (each-makes b Mirrored arms typed.1.1 low.1.1)))
+        (first_arm-makes f mode a b k slack taken second first_mirrored (block-keeps b typed.1.1 mode)
+        (each-makes b (arm_mode mode) typed.1.1 low.1.1) (each-makes a Mirrored typed.1.0 low.1.0))
+        (second_arm-makes f mode a b k slack taken first second_mirrored (block-keeps a typed.1.0 mode)
+        (each-makes a (arm_mode mode) typed.1.0 low.1.0) (each-makes b Mirrored typed.1.1 low.1.1)))
         (λ store. by-either mode (guard_holds f.decls store t) (effect_of_block f.decls a store)
         (effect_of_block f.decls b store) store)
-    statement-makes (Loop t a) mode code typed low =
+    statement-makes (Loop t a) mode typed low =
         makes-same f [] (λ store. store) (λ store. by_mode mode store store) (makes-none f) (by-same mode)
 
-    pub each-makes : (b : Block) (mode : Mode) (code : Label) → TypedBlock (context_of f.decls) code b → LowBlock b
+    pub each-makes : (b : Block) (mode : Mode) → TypedBlock (context_of f.decls) label.Secret b → LowBlock b
         → EachMakes f (padded_codes f mode b) (effects_of f.decls mode b)
-    each-makes Nothing mode code typed low = NoneMakes
-    each-makes (Then s rest) mode code typed low =
+    each-makes Nothing mode typed low = NoneMakes
+    each-makes (Then s rest) mode typed low =
         OneMakes (padded_code f mode s) (λ store. by_mode mode (effect_of f.decls s store) store)
         (padded_codes f mode rest)
-        (effects_of f.decls mode rest) (statement-makes s mode code typed.0 low.0)
-        (each-makes rest mode code typed.1 low.1)
+        (effects_of f.decls mode rest) (statement-makes s mode typed.0 low.0) (statement-keeps s typed.0 mode)
+        (each-makes rest mode typed.1 low.1)
 
   -- a choice by a secret in public code, at the place of its code
   pub choice-changes : (o : Parts) → IsInRange o → HasHomes o f → (t : Test) (a b : Block) (place : ℕ)
-      → TypedStatement (context_of f.decls) label.Public (Choice t a b) → LowStatement (Choice t a b)
+      → TypedStatement (context_of f.decls) label.Public (Choice t a b)
+      → label_of_test (context_of f.decls) t ≡ label.Secret → LowStatement (Choice t a b)
       → StandsAt o place (padded_code f Public (Choice t a b)) → (s : State) (store : Store) → IsShaped o s
       → s.place ≡ place
-      → StandsFor f s store → FitsHomes f store
+      → StandsFor f s store → FitsHomes f store → AreWithin f.ranges store
       → (shown : List Observed) × Comes o s shown (place + length (padded_code f Public (Choice t a b)))
       (greatest_costs o (padded_code f Public (Choice t a b))) (Assigns f (effect_of f.decls (Choice t a b) store))
-  choice-changes o in_range homes t a b place typed low at s store shaped there stands fits =
+  choice-changes o in_range homes t a b place typed secret low at s store shaped there stands fits within =
       let code = padded_code f Public (Choice t a b) in
       let begins : BeginsCode o f store s code = record {
         in_range = in_range;
         homes = homes;
         fits = fits;
+        within = within;
         shaped = shaped;
         stands = stands;
         code_stands = subst (λ (p : ℕ). StandsAt o p code) (sym there) at;
       } in
-      let run = (statement-makes (Choice t a b) Public label.Public typed low).runs o store s begins in (
+      let inner = secret-typed (context_of f.decls) label.Public t a b secret typed in
+      let run = (statement-makes (Choice t a b) Public inner low).runs o store s begins in (
         run.0,
         comes-weaker run.0 (place + length code) (greatest_costs o code)
             (Assigns f (effect_of f.decls (Choice t a b) store)) run.1 refl

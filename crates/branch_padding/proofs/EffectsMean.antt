@@ -4,8 +4,9 @@ use Rattle.std.specs.Prelude.{if◌then◌else◌}
 use Rattle.std.specs.Option.{option_and_then}
 use Rattle.gr_word.specs.declared.variables.Label.TheVariants.{Public, Secret}
 use Rattle.src_tree.specs.declared.trees.Decl.{Decl}
-use Rattle.src_tree.specs.Contexts.{context_of}
-use Rattle.src_tree.specs.Labels.{label_of_test}
+use Rattle.gr_word.specs.declared.variables.Label.{Label}
+use Rattle.src_tree.specs.Contexts.{Context, context_of}
+use Rattle.src_tree.specs.Labels.{inside, label_of_test}
 use Rattle.src_tree.specs.Meaning.{Store, Left, guard_holds, run_of, run_of_block}
 use Rattle.src_tree.specs.Trees.{Test, Statement, SetVariable, SetElement, Choice, Loop, Block, Nothing, Then}
 use Rattle.src_tree.specs.Typing.{TypedStatement, TypedBlock}
@@ -20,6 +21,17 @@ either-means false one two x y turns is other = other
 
 public-secret : {X : Type 0} → Secret ≡ Public → X
 public-secret e = absurd (cc)
+
+-- where the parts are secret code, the choice is typed as in secret code
+pub secret-typed : (known : Context) (code : Label) (t : Test) (a b : Block) → inside known code t ≡ Secret
+    → TypedStatement known code (Choice t a b) → TypedStatement known Secret (Choice t a b)
+secret-typed known code t a b secret typed = (
+  typed.0,
+  (
+    subst (λ (l : Label). TypedBlock known l a) secret typed.1.0,
+    subst (λ (l : Label). TypedBlock known l b) secret typed.1.1,
+  ),
+)
 
 module _ (decls : List Decl) where
   mutual

@@ -1,5 +1,5 @@
 -- What is appended for statements of secret code: part by part, and how much room they take.
-use Rattle.std.proofs.Common.{◌≡◌, ℕ, Bool, true, false, cond, zero, suc, ◌+◌, ◌-◌, ◌*◌, ◌<◌, ◌≤◌, pos, List, [], ◌∷◌, ◌++◌, length, take, drop, get_or, set, refl, sym, ap, ◌∙◌, arith, append_assoc, length-append, append-nil}
+use Rattle.std.proofs.Common.{◌≡◌, ℕ, Bool, true, false, cond, zero, suc, ◌+◌, ◌-◌, ◌*◌, ◌<◌, ◌≤◌, pos, List, [], ◌∷◌, ◌++◌, length, take, drop, get_or, set, Option, Some, None, refl, sym, ap, ◌∙◌, subst, arith, append_assoc, length-append, append-nil}
 use Rattle.std.proofs.lemmas.List.{take_more, take_all, take-append-drop, length-set, length-replicate, length-drop, get_or-drop}
 use Rattle.std.proofs.Math.Seq.{set-append_seam}
 use Rattle.gr_word.specs.declared.operations.Cmp.{Cmp}
@@ -22,9 +22,12 @@ use Rattle.block_cache_gen.specs.Notes.{guard_notes}
 use Rattle.block_cache_gen.specs.Alike.{is_pair, pair_count}
 use Rattle.block_cache_gen.specs.Emitted.{Appended, EmitsGuard, no_notes, notes_in}
 use Rattle.block_cache_gen.proofs.Emitting.{appended_as, appended_length, silent_behind}
-use Rattle.branch_padding.specs.Padded.{idle, in_a_row, arm_mode, untaken_arm, taken_arm, first_padded, second_padded, region_code, padded_code, padded_codes}
+use Rattle.branch_padding.specs.declared.cycles.Slack.{Slack}
+use Rattle.branch_padding.specs.Cycles.{cycles_of_all, slack_of}
+use Rattle.branch_padding.specs.Padded.{idle, in_a_row, arm_mode, untaken_arm, taken_arm, first_padded, second_padded, first_arm, second_arm, region_code, padded_code, padded_codes, first_of, second_of}
 use Rattle.branch_padding.specs.EmittedBranches.{both_weights}
 use Rattle.branch_padding.specs.Rows.{row_between}
+use Rattle.branch_padding.proofs.QuietStatements.{slack-between}
 use Rattle.branch_padding.proofs.Lengths.{guard-short, row-append, first-short, second-short, untaken-short, taken-short, statement-short, row-short}
 
 -- an arm in an arm, and an arm's code has no notes
@@ -196,30 +199,45 @@ region-made front untaken other cmp code behind is then =
     ∙ set-append_seam head Nop other jump
     ∙ append_assoc front (branch ∷ untaken) (jump ∷ other)
 
+-- an arm as its pieces were found
+pub first-made : (f : Setting) (mode arm : Mode) (first second : Block) (slack : Option Slack) (k : ℕ) (a b : CodeBuf)
+    → slack ≡ slack_of f first second → k ≡ pair_count f first second → arm ≡ arm_mode mode
+    → Appended a b (first_arm slack f.profile.taken k (padded_codes f arm second) (padded_codes f modes.Mirrored first))
+    no_notes
+    → Appended a b (first_of f mode first second) no_notes
+first-made f mode arm first second slack k a b is_slack is_k is_arm x =
+    subst (λ (code : List Instr). Appended a b code no_notes)
+    (λ i. first_arm (is_slack i) f.profile.taken (is_k i) (padded_codes f (is_arm i) second)
+    (padded_codes f modes.Mirrored first)) x
+
+pub second-made : (f : Setting) (mode arm : Mode) (first second : Block) (slack : Option Slack) (k : ℕ) (a b : CodeBuf)
+    → slack ≡ slack_of f first second → k ≡ pair_count f first second → arm ≡ arm_mode mode
+    → Appended a b (second_arm slack f.profile.taken k (padded_codes f arm first) (padded_codes f modes.Mirrored second))
+    no_notes
+    → Appended a b (second_of f mode first second) no_notes
+second-made f mode arm first second slack k a b is_slack is_k is_arm x =
+    subst (λ (code : List Instr). Appended a b code no_notes)
+    (λ i. second_arm (is_slack i) f.profile.taken (is_k i) (padded_codes f (is_arm i) first)
+    (padded_codes f modes.Mirrored second)) x
+
 -- the pieces of a branch are its code
-pub choice-appended : (f : Setting) (mode : Mode) (t : Test) (first second : Block) (k branch jump : ℕ)
+pub choice-appended : (f : Setting) (mode : Mode) (t : Test) (first second : Block) (branch jump : ℕ)
     (a b c d e g h i : CodeBuf)
-    → k ≡ pair_count f first second → branch ≡ length b.code.items → jump ≡ length d.code.items
+    → branch ≡ length b.code.items → jump ≡ length d.code.items
     → EmitsGuard f mode 0 t a b → Appended b c (Nop ∷ []) no_notes
-    → Appended c d (first_padded f.profile.taken
-    (untaken_arm k (padded_codes f (arm_mode mode) second) (padded_codes f modes.Mirrored first))) no_notes
+    → Appended c d (first_of f mode first second) no_notes
     → Appended d e (Nop ∷ []) no_notes
     → g.code.items ≡ set e.code.items branch (Br t.cmp 0 1 (pos (length e.code.items - branch)))
     → g.notes.items ≡ e.notes.items
-    → Appended g h (second_padded f.profile.taken
-    (taken_arm k (padded_codes f (arm_mode mode) first) (padded_codes f modes.Mirrored second))) no_notes
+    → Appended g h (second_of f mode first second) no_notes
     → i.code.items ≡ set h.code.items jump (Jmp (pos (length h.code.items - jump)))
     → i.notes.items ≡ h.notes.items
     → Appended a i (padded_code f mode (Choice t first second)) (λ place. notes_in mode (guard_notes f 0 place t))
-choice-appended f mode t first second k branch jump a b c d e g h i is_k is_branch is_jump x y z w set_b same_b v set_j
+choice-appended f mode t first second branch jump a b c d e g h i is_branch is_jump x y z w set_b same_b v set_j
     same_j =
     let guard = guard_code f mode 0 t in
-    let untaken =
-    first_padded f.profile.taken (untaken_arm k (padded_codes f (arm_mode mode) second)
-    (padded_codes f modes.Mirrored first)) in
-    let other =
-    second_padded f.profile.taken (taken_arm k (padded_codes f (arm_mode mode) first)
-    (padded_codes f modes.Mirrored second)) in
+    let untaken = first_of f mode first second in
+    let other = second_of f mode first second in
     let front = b.code.items in
     let is_d : d.code.items ≡ front ++ (Nop ∷ untaken) =
     z.code ∙ ap (λ l. l ++ untaken) y.code ∙ append_assoc front (Nop ∷ []) untaken in
@@ -236,14 +254,8 @@ choice-appended f mode t first second k branch jump a b c d e g h i is_k is_bran
       code =
           set_j ∙ ap (λ n. set h.code.items n (Jmp (pos (length h.code.items - n)))) at_jump
           ∙ made
-          ∙ ap (λ l. l ++ (Br t.cmp 0 1 (pos
-          (length untaken + 2)) ∷ (untaken ++ (Jmp (pos (length other + 1)) ∷ other)))) x.code
-          ∙ append_assoc a.code.items guard
-          (Br t.cmp 0 1 (pos (length untaken + 2)) ∷ (untaken ++ (Jmp (pos (length other + 1)) ∷ other)))
-          ∙ ap (λ n. a.code.items
-          ++ (guard ++ region_code f.profile.taken t.cmp
-          (untaken_arm n (padded_codes f (arm_mode mode) second) (padded_codes f modes.Mirrored first))
-          (taken_arm n (padded_codes f (arm_mode mode) first) (padded_codes f modes.Mirrored second)))) is_k;
+          ∙ ap (λ l. l ++ region_code t.cmp untaken other) x.code
+          ∙ append_assoc a.code.items guard (region_code t.cmp untaken other);
       notes =
           same_j ∙ v.notes ∙ append-nil g.notes.items ∙ same_b ∙ w.notes ∙ append-nil d.notes.items
           ∙ z.notes ∙ append-nil c.notes.items ∙ y.notes ∙ append-nil b.notes.items ∙ x.notes;
@@ -375,6 +387,16 @@ taken-appended_whole f mode first second k taken one two a b c d is_one is_two x
     (rest-appended f modes.Mirrored second b c k two is_two z)))
     w
 
+-- an arm of a quiet branch
+pub idling-appended : (f : Setting) (mode : Mode) (part : List Stmt) (all cycles : ℕ) (a b c : CodeBuf)
+    → all ≡ length part
+    → Appended a b (row_between 0 all (padded_codes f mode (block_of_all part))) no_notes
+    → Appended b c (idle cycles) no_notes
+    → Appended a c (in_a_row (padded_codes f mode (block_of_all part)) ++ idle cycles) no_notes
+idling-appended f mode part all cycles a b c is x y =
+    silent_behind a b c (in_a_row (padded_codes f mode (block_of_all part))) (idle cycles) no_notes
+    (rest-appended f mode part a b 0 all is x) y
+
 -- how far the code reaches after each part of a branch
 pub guard-behind : (f : Setting) (mode : Mode) (t : Test) (a b : CodeBuf) → EmitsGuard f mode 0 t a b
     → length b.code.items ≤ length a.code.items + 48 * test_weight t
@@ -416,32 +438,58 @@ module _ (f : Setting) (few : f.profile.taken ≤ 32) (mode : Mode) (first secon
       )
 
   -- the arm that isn't taken
-  pub untaken-behind : Appended a b
-      (first_padded f.profile.taken (untaken_arm k (padded_codes f mode second) (padded_codes f modes.Mirrored first)))
-      no_notes
-      → length b.code.items ≤ length a.code.items + 32 + 120 * both_weights f first second
-  untaken-behind =
+  pub untaken-behind : (slack : Option Slack) → slack ≡ slack_of f first second → Appended a b
+      (first_arm slack f.profile.taken k (padded_codes f mode second) (padded_codes f modes.Mirrored first)) no_notes
+      → length b.code.items ≤ length a.code.items + 50 + 120 * both_weights f first second
+  untaken-behind None is x =
       let arm = untaken_arm k (padded_codes f mode second) (padded_codes f modes.Mirrored first) in
-      arm-behind (first_padded f.profile.taken arm) modes.Mirrored mode
-      (omega (
+      omega (
         arith,
-        first-short f.profile.taken arm,
-        untaken-short k (padded_codes f mode second) (padded_codes f modes.Mirrored first),
-      ))
+        arm-behind (first_padded f.profile.taken arm) modes.Mirrored mode
+            (omega (
+              arith,
+              first-short f.profile.taken arm,
+              untaken-short k (padded_codes f mode second) (padded_codes f modes.Mirrored first),
+            )) x,
+      )
+  untaken-behind (Some slack) is x =
+      let even = slack-between f.reduces (cycles_of_all f first) (cycles_of_all f second) slack (sym is) in
+      let row = in_a_row (padded_codes f mode second) in
+      omega (
+        arith,
+        appended_length a b (row ++ idle slack.untaken) no_notes x,
+        length-append row (idle slack.untaken),
+        length-replicate slack.untaken Nop,
+        even.untaken_few,
+        row-short f few second mode,
+      )
 
   -- and the one that is
-  pub taken-behind : Appended a b
-      (second_padded f.profile.taken (taken_arm k (padded_codes f mode first) (padded_codes f modes.Mirrored second)))
-      no_notes
-      → length b.code.items ≤ length a.code.items + 32 + 120 * both_weights f first second
-  taken-behind =
+  pub taken-behind : (slack : Option Slack) → slack ≡ slack_of f first second → Appended a b
+      (second_arm slack f.profile.taken k (padded_codes f mode first) (padded_codes f modes.Mirrored second)) no_notes
+      → length b.code.items ≤ length a.code.items + 50 + 120 * both_weights f first second
+  taken-behind None is x =
       let arm = taken_arm k (padded_codes f mode first) (padded_codes f modes.Mirrored second) in
-      arm-behind (second_padded f.profile.taken arm) mode modes.Mirrored
-      (omega (
+      omega (
         arith,
-        second-short f.profile.taken arm,
-        taken-short k (padded_codes f mode first) (padded_codes f modes.Mirrored second),
-      ))
+        arm-behind (second_padded f.profile.taken arm) mode modes.Mirrored
+            (omega (
+              arith,
+              second-short f.profile.taken arm,
+              taken-short k (padded_codes f mode first) (padded_codes f modes.Mirrored second),
+            )) x,
+      )
+  taken-behind (Some slack) is x =
+      let even = slack-between f.reduces (cycles_of_all f first) (cycles_of_all f second) slack (sym is) in
+      let row = in_a_row (padded_codes f mode first) in
+      omega (
+        arith,
+        appended_length a b (row ++ idle slack.taken) no_notes x,
+        length-append row (idle slack.taken),
+        length-replicate slack.taken Nop,
+        even.taken_few,
+        row-short f few first mode,
+      )
 
 -- a statement of a part weighs no more than the part
 pub weight-at : (known : Context) (part : List Stmt) (i : ℕ) (d : Stmt) → i < length part

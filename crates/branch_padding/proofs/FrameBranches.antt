@@ -1,5 +1,5 @@
 -- What the code that the call over a frame appends for a branch does, and how the check passes and walks it.
-use Rattle.std.proofs.Common.{◌≡◌, ℕ, ◌+◌, ◌*◌, ◌≤◌, pos, ◌++◌, [], ◌∷◌, List, length, refl, sym, ap, subst, arith, length-append}
+use Rattle.std.proofs.Common.{◌≡◌, ℕ, ◌+◌, ◌*◌, ◌≤◌, pos, ◌++◌, [], ◌∷◌, List, length, refl, sym, ap, ◌∙◌, subst, arith, length-append}
 use Rattle.std.specs.List.{All}
 use Rattle.std.proofs.lemmas.List.Elements.{All-append, All-cons, All-contains, All-nil}
 use Rattle.gr_word.specs.declared.variables.Label.{Label}
@@ -13,7 +13,13 @@ use Rattle.src_tree.specs.Labels.{inside}
 use Rattle.src_tree.specs.Limits.{IsWithinLimits, LowStatement, max_weight, parts_weight, statement_weight, block_weight, test_weight}
 use Rattle.src_tree.specs.Statements.{with_parts, in_order}
 use Rattle.src_tree.specs.Trees.{Test, Statement, SetVariable, SetElement, Choice, Loop, Block, Nothing, Then, Source, source_of}
-use Rattle.src_tree.specs.Typing.{TypedStatement, TypedBlock}
+use Rattle.src_tree.specs.Typing.{TypedStatement}
+use Rattle.src_tree.specs.declared.trees.Decl.{Decl}
+use Rattle.src_tree.specs.Meaning.{variable_number}
+use Rattle.scalar_ranges.specs.Known.{nothing_known}
+use Rattle.scalar_ranges.specs.Ranges.{AreOfPublic}
+use Rattle.scalar_ranges.proofs.Coming.{none-at}
+use Rattle.scalar_ranges.proofs.Results.{no-range}
 use Rattle.block_cache_gen.specs.declared.frames.CodeBuf.{CodeBuf}
 use Rattle.block_cache_gen.specs.declared.frames.Frame.{Frame}
 use Rattle.block_cache_gen.specs.declared.frames.Mode.{Mode}
@@ -41,13 +47,12 @@ use Rattle.branch_padding.specs.Branches.{code_for, IsBranchFor, IsPassedAsBranc
 use Rattle.branch_padding.specs.EmittedBranches.{IsChoice, EmitsChoice, EmitsBranch}
 use Rattle.branch_padding.specs.Effects.{effect_of}
 use Rattle.branch_padding.specs.Makes.{Makes}
-use Rattle.branch_padding.specs.Padded.{arm_mode, first_padded, second_padded, padded_code, padded_codes, region_code, untaken_arm, taken_arm}
+use Rattle.branch_padding.specs.Padded.{padded_code, region_code, first_of, second_of}
 use Rattle.branch_padding.specs.Regions.{IsRegionOf}
 use Rattle.branch_padding.specs.SecretChoices.{IsWalkedAsStatement}
 use Rattle.branch_padding.specs.Stores.{stores_of}
-use Rattle.block_cache_gen.specs.Alike.{pair_count}
 use Rattle.branch_padding.proofs.EffectRuns.{statement-makes}
-use Rattle.branch_padding.proofs.EffectsMean.{effect-means}
+use Rattle.branch_padding.proofs.EffectsMean.{secret-typed, effect-means}
 use Rattle.branch_padding.proofs.Lengths.{statement-short}
 use Rattle.branch_padding.proofs.NestingWeights.{choice-nesting}
 use Rattle.branch_padding.proofs.PaddedRanges.{padded-fits}
@@ -96,21 +101,16 @@ statement_light p code s within stands =
     All-contains (WeighsIn known max_weight) (in_order known label.Public p.body) (code, s)
     (block_weighs known max_weight label.Public p.body within.weight) stands
 
--- where the parts are secret code, the choice weighs as in secret code, and is typed as in secret code
+-- where the parts are secret code, the choice weighs as in secret code
 pub secret-weight : (known : Context) (code : Label) (t : Test) (a b : Block) → inside known code t ≡ label.Secret
     → statement_weight known code (Choice t a b) ≡ statement_weight known label.Secret (Choice t a b)
 secret-weight known code t a b secret =
     ap (λ (l : Label). 1 + (test_weight t + parts_weight l (block_weight known l a + block_weight known l b))) secret
 
-pub secret-typed : (known : Context) (code : Label) (t : Test) (a b : Block) → inside known code t ≡ label.Secret
-    → TypedStatement known code (Choice t a b) → TypedStatement known label.Secret (Choice t a b)
-secret-typed known code t a b secret typed = (
-  typed.0,
-  (
-    subst (λ (l : Label). TypedBlock known l a) secret typed.1.0,
-    subst (λ (l : Label). TypedBlock known l b) secret typed.1.1,
-  ),
-)
+-- before a program runs no range is known
+pub nothing-public : (decls : List Decl) (count : ℕ) → AreOfPublic decls (nothing_known count)
+nothing-public decls count =
+    record { public = λ x r found. no-range r (sym (none-at count (variable_number decls x)) ∙ found) }
 
 -- The clauses for the code and the notes that a call made of a branch, with `place` instructions before them.
 pub record BranchPromises (f : Setting) (mode : Mode) (s : Statement) (place : ℕ) (code : List Instr)
@@ -157,9 +157,7 @@ module _ (f : Frame) (is : IsFrame f) (mode : Mode) (t : Test) (a b : Block)
       let short = statement-short g few (Choice t a b) mode in
       let count = guard-count g 0 place t in
       let longer = length-append (guard_code g Public 0 t)
-      (region_code g.profile.taken t.cmp
-      (untaken_arm (pair_count g a b) (padded_codes g Real b) (padded_codes g Mirrored a))
-      (taken_arm (pair_count g a b) (padded_codes g Real a) (padded_codes g Mirrored b))) in
+      (region_code t.cmp (first_of g Public a b) (second_of g Public a b)) in
       let heavier : test_weight t ≤ statement_weight known label.Secret (Choice t a b) = omega arith in
       extends g banks mode weight (λ m. padded_code g m (Choice t a b)) (λ p. guard_notes g 0 p t) c d
       (frame_banks f is) (let fit = homes_fit f is in fit.pins) x
@@ -181,12 +179,6 @@ frame-branch_means f is mode (Choice t a b) branch = λ store turns.
     effect-means f.program.now.decls.items (Choice t a b) (typed_secret f is mode t a b branch) store turns
 frame-branch_means f is mode (Loop t a) branch = absurd branch.secret
 
--- the arm that is taken, as it is in a branch
-abbrev second_arm : Setting → Mode → Block → Block → List Instr
-second_arm f mode a b =
-    second_padded f.profile.taken
-    (taken_arm (pair_count f a b) (padded_codes f (arm_mode mode) a) (padded_codes f Mirrored b))
-
 choice-promises : (f : Frame) (is : IsFrame f) (mode : Mode) (t : Test) (a b : Block)
     → IsBranchFor (source_of f.program.now) mode (Choice t a b) → (place : ℕ)
     → BranchPromises (setting_of f) mode (Choice t a b) place (padded_code (setting_of f) mode (Choice t a b))
@@ -201,7 +193,7 @@ choice-promises f is mode t a b branch place =
     let low = low f is mode t a b branch in
     let public = frame_public f is (code_for mode) s branch.stands in
     record {
-      runs = statement-makes g s mode label.Secret typed low;
+      runs = statement-makes g (nothing-public g.decls (length g.decls)) s mode typed low;
       passes = λ same o comes holds homes stands here carries.
           region-passes o g a b place guard code offset comes
           (passed mode branch same o comes holds homes stands here carries);
@@ -210,9 +202,8 @@ choice-promises f is mode t a b branch place =
       region = record {
         guard = guard;
         offset = offset;
-        arms = first_padded g.profile.taken
-            (untaken_arm (pair_count g a b) (padded_codes g (arm_mode mode) b) (padded_codes g Mirrored a))
-            ++ (Jmp (pos (length (second_arm g mode a b) + 1)) ∷ second_arm g mode a b);
+        arms = first_of g mode a b
+            ++ (Jmp (pos (length (second_of g mode a b) + 1)) ∷ second_of g mode a b);
         splits = refl;
         evaluates = guard-evaluates g mode 0 t typed.0 (omega (arith, low.0.0)) (omega (arith, low.0.1));
         opens = λ same o comes holds homes stands here carries.

@@ -1,5 +1,5 @@
 -- How long the code of statements in secret code is.
-use Rattle.std.proofs.Common.{◌≡◌, ℕ, ◌+◌, ◌-◌, ◌*◌, ◌≤◌, pos, List, [], ◌∷◌, ◌++◌, length, take, drop, refl, sym, ap, ◌∙◌, subst, arith, append_assoc, length-append}
+use Rattle.std.proofs.Common.{◌≡◌, ℕ, ◌+◌, ◌-◌, ◌*◌, ◌≤◌, pos, List, [], ◌∷◌, ◌++◌, length, take, drop, Option, Some, None, refl, sym, ap, ◌∙◌, subst, arith, append_assoc, length-append}
 use Rattle.std.proofs.lemmas.List.{take-append-drop, length-replicate}
 use Rattle.gr_word.specs.declared.operations.Cmp.{Cmp}
 use Rattle.gr_word.specs.declared.variables.Label.{Label}
@@ -16,7 +16,10 @@ use Rattle.block_cache_gen.specs.Homes.{Setting}
 use Rattle.block_cache_gen.specs.Codes.{expr_code, guard_code, set_code}
 use Rattle.block_cache_gen.specs.Alike.{pair_count}
 use Rattle.block_cache_gen.proofs.Sizes.{expr_code_short, set_code_short}
-use Rattle.branch_padding.specs.Padded.{idle, in_a_row, arm_mode, untaken_arm, taken_arm, first_padded, second_padded, region_code, padded_code, padded_codes}
+use Rattle.branch_padding.specs.Padded.{idle, in_a_row, arm_mode, untaken_arm, taken_arm, first_padded, second_padded, first_arm, second_arm, first_of, second_of, region_code, padded_code, padded_codes}
+use Rattle.branch_padding.specs.declared.cycles.Slack.{Slack}
+use Rattle.branch_padding.specs.Cycles.{most_slack, cycles_of_all, slack_of}
+use Rattle.branch_padding.proofs.QuietStatements.{slack-between}
 
 -- an assignment
 variable-short : (f : Setting) (mode : Mode) (x : List ℕ) (e : Tree)
@@ -80,18 +83,48 @@ first-short taken code =
 pub second-short : (taken : ℕ) (code : List Instr) → length (second_padded taken code) ≤ taken + length code
 second-short taken code = omega (arith, length-append code (idle taken), length-replicate taken Nop)
 
--- a region: two more instructions, and less than twice the cycles of a taken branch
-region-short : (taken : ℕ) (cmp : Cmp) (untaken other : List Instr)
-    → length (region_code taken cmp untaken other) ≤ 2 + taken + taken + (length untaken + length other)
-region-short taken cmp untaken other =
-    let first = first_padded taken untaken in
-    let second = second_padded taken other in
+-- The arms of a branch, both mirrored or idling, where a taken branch takes no longer than a way may idle.
+pub first_arm-short : (slack : Option Slack) (taken k : ℕ) (second first : List (List Instr)) → taken ≤ most_slack
+    → ((w : Slack) → slack ≡ Some w → w.untaken ≤ most_slack)
+    → length (first_arm slack taken k second first)
+    ≤ most_slack + (length (in_a_row second) + length (in_a_row first))
+first_arm-short None taken k second first few idles =
+    omega (arith, few, first-short taken (untaken_arm k second first), untaken-short k second first)
+first_arm-short (Some w) taken k second first few idles =
     omega (
       arith,
-      length-append first (Jmp (pos (length second + 1)) ∷ second),
-      first-short taken untaken,
-      second-short taken other,
+      length-append (in_a_row second) (idle w.untaken),
+      length-replicate w.untaken Nop,
+      idles w refl,
     )
+
+pub second_arm-short : (slack : Option Slack) (taken k : ℕ) (first second : List (List Instr)) → taken ≤ most_slack
+    → ((w : Slack) → slack ≡ Some w → w.taken ≤ most_slack)
+    → length (second_arm slack taken k first second)
+    ≤ most_slack + (length (in_a_row first) + length (in_a_row second))
+second_arm-short None taken k first second few idles =
+    omega (arith, few, second-short taken (taken_arm k first second), taken-short k first second)
+second_arm-short (Some w) taken k first second few idles =
+    omega (
+      arith,
+      length-append (in_a_row first) (idle w.taken),
+      length-replicate w.taken Nop,
+      idles w refl,
+    )
+
+-- a region has two more instructions
+region-long : (cmp : Cmp) (first second : List Instr)
+    → length (region_code cmp first second) ≡ 2 + (length first + length second)
+region-long cmp first second = omega (arith, length-append first (Jmp (pos (length second + 1)) ∷ second))
+
+-- no way of a branch idles long
+pub untaken-few : (f : Setting) (a b : Block) (w : Slack) → slack_of f a b ≡ Some w → w.untaken ≤ most_slack
+untaken-few f a b w is =
+    let slack = slack-between f.reduces (cycles_of_all f a) (cycles_of_all f b) w is in slack.untaken_few
+
+pub taken-few : (f : Setting) (a b : Block) (w : Slack) → slack_of f a b ≡ Some w → w.taken ≤ most_slack
+taken-few f a b w is =
+    let slack = slack-between f.reduces (cycles_of_all f a) (cycles_of_all f b) w is in slack.taken_few
 
 module _ (f : Setting) (few : f.profile.taken ≤ 32) where
   -- a branch whose parts are short
@@ -103,17 +136,25 @@ module _ (f : Setting) (few : f.profile.taken ≤ 32) where
       → length (padded_code f mode (Choice t a b)) ≤ 120 * (1 + (test_weight t + ((one + two) + (one + two))))
   choice-short mode t a b one two first first_mirrored second second_mirrored =
       let k = pair_count f a b in
+      let slack = slack_of f a b in
+      let taken = f.profile.taken in
       let guard = guard_code f mode 0 t in
-      let untaken = untaken_arm k (padded_codes f (arm_mode mode) b) (padded_codes f modes.Mirrored a) in
-      let other = taken_arm k (padded_codes f (arm_mode mode) a) (padded_codes f modes.Mirrored b) in
-      let region = region_code f.profile.taken t.cmp untaken other in
+      let before = first_of f mode a b in
+      let behind = second_of f mode a b in
+      let small : taken ≤ most_slack = omega arith in
       omega (
         arith,
-        length-append guard region,
+        length-append guard (region_code t.cmp before behind),
         guard-short f mode t,
-        region-short f.profile.taken t.cmp untaken other,
-        untaken-short k (padded_codes f (arm_mode mode) b) (padded_codes f modes.Mirrored a),
-        taken-short k (padded_codes f (arm_mode mode) a) (padded_codes f modes.Mirrored b),
+        region-long t.cmp before behind,
+        first_arm-short slack taken k (padded_codes f (arm_mode mode) b) (padded_codes f modes.Mirrored a) small
+            (untaken-few f a b),
+        second_arm-short slack taken k (padded_codes f (arm_mode mode) a) (padded_codes f modes.Mirrored b) small
+            (taken-few f a b),
+        first,
+        first_mirrored,
+        second,
+        second_mirrored,
       )
 
   mutual

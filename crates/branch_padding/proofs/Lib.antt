@@ -1,4 +1,7 @@
 pub mod SecretRows
+pub mod RegionWays
+pub mod QuietCode
+pub mod QuietStatements
 pub mod SecretStatements
 pub mod PublicRegions
 pub mod NestedRegions

@@ -12,6 +12,7 @@ use Rattle.stretches.specs.Coming.{RunsThrough}
 use Rattle.stretches.proofs.Standing.{standing-first, standing-rest, standing-head, greatest_costs-append}
 use Rattle.stretches.proofs.Coming.{comes-here, comes-step, comes-both, comes-weaker}
 use Rattle.src_tree.specs.Meaning.{Store}
+use Rattle.scalar_ranges.specs.Ranges.{AreWithin}
 use Rattle.block_cache_gen.specs.Homes.{Setting}
 use Rattle.block_cache_gen.specs.Assignments.{Assigns}
 use Rattle.block_cache_gen.specs.RunsOf.{BeginsCode}
@@ -19,15 +20,21 @@ use Rattle.block_cache_gen.proofs.Stands.{stands-like}
 use Rattle.branch_padding.specs.Makes.{Makes}
 use Rattle.branch_padding.specs.Padded.{idle, in_a_row}
 
+-- a change of a store keeps it within what is known
+abbrev pub KeepsWithin : Setting → (Store → Store) → Type 0
+KeepsWithin f after = (store : Store) → AreWithin f.ranges store → AreWithin f.ranges (after store)
+
 -- the same object and the same homes, from another state on
 pub begins-at : {o : Parts} {f : Setting} {store : Store} {s : State} {code : List Instr} (after : Store)
     (t : State) (more : List Instr)
-    → BeginsCode o f store s code → IsShaped o t → Assigns f after t → StandsAt o t.place more
+    → BeginsCode o f store s code → AreWithin f.ranges after → IsShaped o t → Assigns f after t
+    → StandsAt o t.place more
     → BeginsCode o f after t more
-begins-at after t more b shaped made at = record {
+begins-at after t more b within shaped made at = record {
   in_range = b.in_range;
   homes = b.homes;
   fits = made.fits;
+  within = within;
   shaped = shaped;
   stands = made.stands;
   code_stands = at;
@@ -60,16 +67,17 @@ module _ (f : Setting) where
   }
 
   -- one piece and then another
-  pub makes-append : (xs ys : List Instr) (g h : Store → Store) → Makes f xs g → Makes f ys h
+  pub makes-append : (xs ys : List Instr) (g h : Store → Store) → Makes f xs g → KeepsWithin f g → Makes f ys h
       → Makes f (xs ++ ys) (λ store. h (g store))
-  makes-append xs ys g h one two = record {
+  makes-append xs ys g h one kept two = record {
     runs = λ o store s b.
         let first = one.runs o store s
-        (begins-at store s xs b b.shaped (begun b) (standing-first xs ys b.code_stands)) in
+        (begins-at store s xs b b.within b.shaped (begun b) (standing-first xs ys b.code_stands)) in
         let t = first.1.end in
         let at : StandsAt o t.place ys =
         subst (λ (p : ℕ). StandsAt o p ys) (sym first.1.comes) (standing-rest xs ys b.code_stands) in
-        let second = two.runs o (g store) t (begins-at (g store) t ys b first.1.shaped first.1.holds at) in (
+        let second = two.runs o (g store) t
+        (begins-at (g store) t ys b (kept store b.within) first.1.shaped first.1.holds at) in (
           first.0 ++ second.0,
           comes-weaker (first.0 ++ second.0) (s.place + length (xs ++ ys)) (greatest_costs o (xs ++ ys))
               (Assigns f (h (g store)))
@@ -95,7 +103,8 @@ module _ (f : Setting) where
   pub makes-idle : (cycles : ℕ) → Makes f (idle cycles) (λ store. store)
   makes-idle zero = makes-none
   makes-idle (suc cycles) =
-      makes-append (Nop ∷ []) (idle cycles) (λ store. store) (λ store. store) makes-nop (makes-idle cycles)
+      makes-append (Nop ∷ []) (idle cycles) (λ store. store) (λ store. store) makes-nop (λ store are. are)
+      (makes-idle cycles)
 
 -- what is made of a store by one function after another
 abbrev pub one_by_one : List (Store → Store) → Store → Store
@@ -109,31 +118,39 @@ rest-behind zero afters store = refl
 rest-behind (suc k) [] store = refl
 rest-behind (suc k) (after ∷ afters) store = rest-behind k afters (after store)
 
--- each piece makes one store of another
+-- each piece makes one store of another, and keeps it within what is known
 pub data EachMakes (f : Setting) : List (List Instr) → List (Store → Store) → Type 0 where
   NoneMakes : EachMakes f [] []
   OneMakes : (code : List Instr) (after : Store → Store) (codes : List (List Instr)) (afters : List (Store → Store))
-      → Makes f code after → EachMakes f codes afters → EachMakes f (code ∷ codes) (after ∷ afters)
+      → Makes f code after → KeepsWithin f after → EachMakes f codes afters
+      → EachMakes f (code ∷ codes) (after ∷ afters)
 
 module _ (f : Setting) where
+  -- so do all of them
+  pub each-keeps : (codes : List (List Instr)) (afters : List (Store → Store)) → EachMakes f codes afters
+      → KeepsWithin f (one_by_one afters)
+  each-keeps codes afters NoneMakes store are = are
+  each-keeps codes afters (OneMakes code after rest more one kept each) store are =
+      each-keeps rest more each (after store) (kept store are)
+
   -- pieces in a row do one effect after another
   pub row-makes : (codes : List (List Instr)) (afters : List (Store → Store)) → EachMakes f codes afters
       → Makes f (in_a_row codes) (one_by_one afters)
   row-makes codes afters NoneMakes = makes-none f
-  row-makes codes afters (OneMakes code after rest more one each) =
-      makes-append f code (in_a_row rest) after (one_by_one more) one (row-makes rest more each)
+  row-makes codes afters (OneMakes code after rest more one kept each) =
+      makes-append f code (in_a_row rest) after (one_by_one more) one kept (row-makes rest more each)
 
   -- the first pieces do the first effects
   pub take-makes : (k : ℕ) (codes : List (List Instr)) (afters : List (Store → Store)) → EachMakes f codes afters
       → EachMakes f (take k codes) (take k afters)
   take-makes zero codes afters each = NoneMakes
   take-makes (suc k) codes afters NoneMakes = NoneMakes
-  take-makes (suc k) codes afters (OneMakes code after rest more one each) =
-      OneMakes code after (take k rest) (take k more) one (take-makes k rest more each)
+  take-makes (suc k) codes afters (OneMakes code after rest more one kept each) =
+      OneMakes code after (take k rest) (take k more) one kept (take-makes k rest more each)
 
   -- and the rest the rest
   pub drop-makes : (k : ℕ) (codes : List (List Instr)) (afters : List (Store → Store)) → EachMakes f codes afters
       → EachMakes f (drop k codes) (drop k afters)
   drop-makes zero codes afters each = each
   drop-makes (suc k) codes afters NoneMakes = NoneMakes
-  drop-makes (suc k) codes afters (OneMakes code after rest more one each) = drop-makes k rest more each
+  drop-makes (suc k) codes afters (OneMakes code after rest more one kept each) = drop-makes k rest more each

@@ -12,18 +12,16 @@ use Rattle.trace_patterns.specs.Walk.{CrossesTo}
 use Rattle.stretches.specs.InArms.{StandsInArm}
 use Rattle.stretches.proofs.ArmCode.{stands-first, stands-rest}
 use Rattle.block_cache_gen.specs.declared.frames.Mode.{Mode}
-use Rattle.block_cache_gen.specs.declared.frames.Mode.TheVariants as modes
-use Rattle.block_cache_gen.specs.Alike.{pair_count}
 use Rattle.block_cache_gen.specs.Carries.{CarriesInArm}
 use Rattle.block_cache_gen.specs.Codes.{may_skip_loads, guard_code}
 use Rattle.block_cache_gen.specs.Homes.{Setting, HasHomes}
 use Rattle.block_cache_gen.specs.PublicIndexes.{StatementHasPublicIndexes}
 use Rattle.block_cache_gen.proofs.ArmExpressions.{guard-leaves}
-use Rattle.block_cache_gen.proofs.SecretRegions.{region-crossed, joined-slots}
 use Rattle.branch_padding.specs.Nesting.{nesting_of}
-use Rattle.branch_padding.specs.Padded.{arm_mode, untaken_arm, taken_arm, region_code, padded_code, padded_codes}
-use Rattle.branch_padding.specs.PatternsOfChoices.{shows_of_arms, slots_of_arms, pattern_of_region}
+use Rattle.branch_padding.specs.Padded.{region_code, padded_code, first_of, second_of}
+use Rattle.branch_padding.specs.PatternsOfChoices.{shows_of_region, slots_of_arms, pattern_of_region}
 use Rattle.branch_padding.specs.Regions.{NestsRegion}
+use Rattle.branch_padding.proofs.RegionWays.{ways-crossed, ways-slots}
 use Rattle.branch_padding.proofs.PublicRegions.{branch_offset}
 use Rattle.branch_padding.proofs.SecretStatements.{arms-go, each-goes}
 
@@ -36,30 +34,29 @@ pub choice-nests : (o : Parts) (f : Setting) → HasHomes o f → 1 ≤ f.profil
     (branch_offset f mode a b)
 choice-nests o f homes some mode secret t a b typed public low depth p from stands carries around =
     let guard = guard_code f mode 0 t in
-    let untaken = untaken_arm (pair_count f a b) (padded_codes f (arm_mode mode) b) (padded_codes f modes.Mirrored a) in
-    let other = taken_arm (pair_count f a b) (padded_codes f (arm_mode mode) a) (padded_codes f modes.Mirrored b) in
-    let region = region_code f.profile.taken t.cmp untaken other in
+    let first = first_of f mode a b in
+    let second = second_of f mode a b in
+    let region = region_code t.cmp first second in
     let both = (guard-leaves o f homes depth mode secret t from 0 typed.0 public.0 (omega arith) (omega arith)
     carries).leaves in
-    let arms = arms-go o f homes mode depth a b typed.1.0 typed.1.1
+    let arms = arms-go o f homes some mode depth a b typed.1.0 typed.1.1
     (each-goes o f homes some a (depth + 1) typed.1.0 public.1.0 low.1.0 (omega arith))
-    (each-goes o f homes some b (depth + 1) typed.1.1 public.1.1 low.1.1 (omega arith)) in
-    let one = arms.untaken both.state both.carries in
-    let two = arms.taken both.state both.carries in
+    (each-goes o f homes some b (depth + 1) typed.1.1 public.1.1 low.1.1 (omega arith)) both.state both.carries
+    public.1.0 public.1.1 low.1.0 low.1.1 in
     let mid = p + length guard in
     let same : mid + length region ≡ p + length (guard ++ region) = omega (arith, length-append guard region) in
-    let shows = shows_of_arms f a b in
+    let shows = shows_of_region f a b in
     let loads = slots_of_arms f a b in
     record {
       there = both.state;
       walks = both.walked.walks p (stands-first o p guard region stands);
       loaded = both.slots;
-      state = common one.state two.state;
+      state = common arms.untaken.state arms.taken.state;
       crosses = subst (λ (q : ℕ).
           CrossesTo o depth q mid (branch_offset f mode a b) both.state (pattern_of_region f a b) q
-          (common one.state two.state)) same
-          (region-crossed o f homes.profile depth both.state t.cmp 0 1 untaken other shows loads some (omega arith) one
-          two mid (stands-rest o p guard region stands));
-      slots = joined-slots o f homes.profile depth both.state t.cmp 0 1 untaken other shows loads some (omega arith) one
-          two;
+          (common arms.untaken.state arms.taken.state)) same
+          (ways-crossed o f depth both.state t.cmp first second arms.xs arms.ys shows loads (omega arith)
+          arms.untaken arms.taken arms.one_way arms.other_way mid (stands-rest o p guard region stands));
+      slots = ways-slots o f depth both.state t.cmp first second arms.xs arms.ys shows loads (omega arith)
+          arms.untaken arms.taken arms.one_way arms.other_way;
     }

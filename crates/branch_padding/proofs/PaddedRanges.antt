@@ -1,5 +1,5 @@
 -- The code of statements of secret code, and of a branch on a secret in public code, is in its ranges.
-use Rattle.std.proofs.Common.{◌≡◌, ℕ, zero, suc, ◌+◌, ◌-◌, ◌*◌, ◌^◌, ◌<◌, ◌≤◌, pos, List, [], ◌∷◌, ◌++◌, length, length-append, take, drop, ap, ◌∙◌, subst, arith}
+use Rattle.std.proofs.Common.{◌≡◌, ℕ, zero, suc, ◌+◌, ◌-◌, ◌*◌, ◌^◌, ◌<◌, ◌≤◌, pos, List, [], ◌∷◌, ◌++◌, length, length-append, take, drop, Option, Some, None, ap, ◌∙◌, subst, arith}
 use Rattle.std.specs.Int.{w32}
 use Rattle.std.specs.Prelude.{FitsSigned}
 use Rattle.std.proofs.lemmas.Int.{fits_signed_from_abs}
@@ -20,7 +20,9 @@ use Rattle.block_cache_gen.specs.Codes.{guard_code}
 use Rattle.block_cache_gen.specs.Alike.{pair_count}
 use Rattle.block_cache_gen.specs.ProgramWords.{StatementHasWords, BlockHasWords}
 use Rattle.block_cache_gen.proofs.RangesOfCode.{HomesFit, CodeFits, NoCode, Before, code-both, guard-fits, set_variable-fits, set_element-fits}
-use Rattle.branch_padding.specs.Padded.{idle, arm_mode, in_a_row, untaken_arm, taken_arm, first_padded, second_padded, region_code, padded_code, padded_codes}
+use Rattle.branch_padding.specs.Padded.{idle, arm_mode, in_a_row, untaken_arm, taken_arm, first_arm, second_arm, first_of, second_of, region_code, padded_code, padded_codes}
+use Rattle.branch_padding.specs.declared.cycles.Slack.{Slack}
+use Rattle.branch_padding.specs.Cycles.{slack_of}
 use Rattle.branch_padding.proofs.Lengths.{statement-short}
 
 -- pieces of code in their ranges
@@ -59,19 +61,32 @@ module _ (banks : ℕ) where
       (code-both banks (in_a_row (drop k first)) (in_a_row (drop k second))
       (row-fits (drop k first) (row-drop k first two)) (row-fits (drop k second) (row-drop k second three)))
 
-  region-fits : (taken : ℕ) (cmp : Cmp) (untaken other : List Instr) → CodeFits banks untaken → CodeFits banks other
-      → length (region_code taken cmp untaken other) < 2 ^ 31 → CodeFits banks (region_code taken cmp untaken other)
-  region-fits taken cmp untaken other first second short =
-      let one = first_padded taken untaken in
-      let two = second_padded taken other in
+  -- both arms, mirrored or idling
+  first_arm-fits : (slack : Option Slack) (taken k : ℕ) (second first : List (List Instr)) → RowFits banks second
+      → RowFits banks first → CodeFits banks (first_arm slack taken k second first)
+  first_arm-fits None taken k second first one two =
+      code-both banks (idle (taken - 1)) (untaken_arm k second first) (idle-fits (taken - 1))
+      (arm-fits k second first second one two one)
+  first_arm-fits (Some w) taken k second first one two =
+      code-both banks (in_a_row second) (idle w.untaken) (row-fits second one) (idle-fits w.untaken)
+
+  second_arm-fits : (slack : Option Slack) (taken k : ℕ) (first second : List (List Instr)) → RowFits banks first
+      → RowFits banks second → CodeFits banks (second_arm slack taken k first second)
+  second_arm-fits None taken k first second one two =
+      code-both banks (taken_arm k first second) (idle taken) (arm-fits k first first second one one two)
+      (idle-fits taken)
+  second_arm-fits (Some w) taken k first second one two =
+      code-both banks (in_a_row first) (idle w.taken) (row-fits first one) (idle-fits w.taken)
+
+  region-fits : (cmp : Cmp) (one two : List Instr) → CodeFits banks one → CodeFits banks two
+      → length (region_code cmp one two) < 2 ^ 31 → CodeFits banks (region_code cmp one two)
+  region-fits cmp one two first second short =
       let jump : List Instr = Jmp (pos (length two + 1)) ∷ two in
       let size : length (one ++ jump) ≡ length one + (length two + 1) = length-append one jump ∙ omega arith in
       Before (Br cmp 0 1 (pos (length one + 2))) (one ++ jump)
       (omega arith, omega arith, offset-fits (length one + 2) (omega arith))
-      (code-both banks one jump
-      (code-both banks (idle (taken - 1)) untaken (idle-fits (taken - 1)) first)
-      (Before (Jmp (pos (length two + 1))) two (offset-fits (length two + 1) (omega arith))
-      (code-both banks other (idle taken) second (idle-fits taken))))
+      (code-both banks one jump first
+      (Before (Jmp (pos (length two + 1))) two (offset-fits (length two + 1) (omega arith)) second))
 
   module _ (f : Setting) (few : f.profile.taken ≤ 32) (homes : HomesFit banks f) where
     choice-by : (mode : Mode) (t : Test) (a b : Block) → TypedTest (context_of f.decls) t
@@ -83,9 +98,11 @@ module _ (banks : ℕ) where
     choice-by mode t a b typed words low light first first_mirrored second second_mirrored =
         let k = pair_count f a b in
         let guard = guard_code f mode 0 t in
-        let untaken = untaken_arm k (padded_codes f (arm_mode mode) b) (padded_codes f modes.Mirrored a) in
-        let other = taken_arm k (padded_codes f (arm_mode mode) a) (padded_codes f modes.Mirrored b) in
-        let region = region_code f.profile.taken t.cmp untaken other in
+        let slack = slack_of f a b in
+        let taken = f.profile.taken in
+        let before = first_of f mode a b in
+        let behind = second_of f mode a b in
+        let region = region_code t.cmp before behind in
         let left = low.0.0 in
         let right = low.0.1 in
         let short = statement-short f few (Choice t a b) mode in
@@ -93,13 +110,11 @@ module _ (banks : ℕ) where
         let least : 120 * statement_weight (context_of f.decls) Secret (Choice t a b) ≤ 983040 = omega arith in
         code-both banks guard region
         (guard-fits banks f mode homes 0 t typed words.0.0 words.0.1 (omega arith) (omega arith))
-        (region-fits f.profile.taken t.cmp untaken other
-        (arm-fits k (padded_codes f (arm_mode mode) b) (padded_codes f modes.Mirrored a) (padded_codes f
-        (arm_mode mode) b)
-        second first_mirrored second)
-        (arm-fits k (padded_codes f (arm_mode mode) a) (padded_codes f (arm_mode mode) a)
-        (padded_codes f modes.Mirrored b)
-        first first second_mirrored)
+        (region-fits t.cmp before behind
+        (first_arm-fits slack taken k (padded_codes f (arm_mode mode) b) (padded_codes f modes.Mirrored a) second
+        first_mirrored)
+        (second_arm-fits slack taken k (padded_codes f (arm_mode mode) a) (padded_codes f modes.Mirrored b) first
+        second_mirrored)
         (omega arith))
 
     mutual

@@ -41,14 +41,14 @@ use Rattle.block_cache_gen.specs.PublicIndexes.{StatementHasPublicIndexes}
 use Rattle.held_registers.specs.Held.{IsSoundHeld}
 use Rattle.block_cache_gen.proofs.HeldLabels.{label-low}
 use Rattle.block_cache_gen.proofs.NotesOfCode.{expression-longer}
-use Rattle.block_cache_gen.proofs.SecretRegions.{region-crossed, joined-slots, joined-carries}
 use Rattle.block_cache_gen.proofs.PublicGuards.{guard-lie, guard-passes}
 use Rattle.branch_padding.specs.Nesting.{nesting_of}
-use Rattle.branch_padding.specs.Padded.{arm_mode, first_padded, second_padded, untaken_arm, taken_arm, region_code, padded_code, padded_codes}
-use Rattle.branch_padding.specs.PatternsOfChoices.{shows_of_arms, slots_of_arms, pattern_of_region}
+use Rattle.branch_padding.specs.Cycles.{slack_of}
+use Rattle.branch_padding.specs.Padded.{region_code, padded_code, first_of, second_of}
+use Rattle.branch_padding.specs.PatternsOfChoices.{shows_of_region, slots_of_arms, pattern_of_region}
 use Rattle.branch_padding.specs.Regions.{OpensRegion}
 use Rattle.branch_padding.specs.SecretChoices.{PassedCode, IsPassedAnywhere}
-use Rattle.block_cache_gen.specs.Alike.{pair_count}
+use Rattle.branch_padding.proofs.RegionWays.{ways-crossed, ways-slots, ways-carry}
 use Rattle.branch_padding.proofs.SecretStatements.{ArmsGo, arms-go, each-goes}
 
 -- at the entry, and back in public code, a setting is carried
@@ -124,11 +124,7 @@ opens-region o p k cmp ra rb offset held =
 
 -- how far the branch after the guard jumps
 abbrev pub branch_offset : Setting → Mode → Block → Block → ℤ
-branch_offset f mode a b =
-    pos
-    (length (first_padded f.profile.taken (untaken_arm (pair_count f a b) (padded_codes f (arm_mode mode) b)
-    (padded_codes f modes.Mirrored a)))
-    + 2)
+branch_offset f mode a b = pos (length (first_of f mode a b) + 2)
 
 -- After the guard, if no note is there, the region is opened, and the setting is carried at its join.
 pub record PassedRegion (o : Parts) (f : Setting) (a b : Block) (p : ℕ) (guard code : List Instr) (offset : ℤ)
@@ -164,24 +160,25 @@ module _ (o : Parts) (f : Setting) (homes : HasHomes o f) (some : 1 ≤ f.profil
   second_typed : TypedBlock (context_of f.decls) label.Secret b
   second_typed = subst (λ (l : Label). TypedBlock (context_of f.decls) l b) secret typed.1.1
 
-  abbrev untaken : List Instr
-  untaken = untaken_arm (pair_count f a b) (padded_codes f modes.Real b) (padded_codes f modes.Mirrored a)
+  abbrev first : List Instr
+  first = first_of f modes.Public a b
 
-  abbrev other : List Instr
-  other = taken_arm (pair_count f a b) (padded_codes f modes.Real a) (padded_codes f modes.Mirrored b)
+  abbrev second : List Instr
+  second = second_of f modes.Public a b
 
   abbrev region : List Instr
-  region = region_code f.profile.taken t.cmp untaken other
+  region = region_code t.cmp first second
 
   abbrev offset : ℤ
   offset = branch_offset f modes.Public a b
 
   -- both arms go from the entry
-  arms : ArmsGo o f homes modes.Public 0 a b
-  arms =
-      arms-go o f homes modes.Public 0 a b first_typed second_typed
+  arms : (s : SymState) → CarriesInArm f s → ArmsGo o f homes modes.Public 0 a b s (slack_of f a b)
+  arms s carries =
+      arms-go o f homes some modes.Public 0 a b first_typed second_typed
       (each-goes o f homes some a 1 first_typed public.1.0 low.1.0 (omega arith))
-      (each-goes o f homes some b 1 second_typed public.1.1 low.1.1 (omega arith))
+      (each-goes o f homes some b 1 second_typed public.1.1 low.1.1 (omega arith)) s carries public.1.0 public.1.1
+      low.1.0 low.1.1
 
   abbrev guard : List Instr
   guard = guard_code f modes.Public 0 t
@@ -193,21 +190,17 @@ module _ (o : Parts) (f : Setting) (homes : HasHomes o f) (some : 1 ≤ f.profil
       → PassedRegion o f a b p guard (guard ++ region) offset comes
   region-crosses p comes holds passes carries stands unclaimed held =
       let mid = p + length guard in
-      let taken = f.profile.taken in
       let end = mid + length region in
-      let arm = first_padded taken untaken in
-      let ahead = second_padded taken other in
-      let rest = arm ++ (Jmp (pos (length ahead + 1)) ∷ ahead) in
+      let rest = first ++ (Jmp (pos (length second + 1)) ∷ second) in
       let s = at_entry holds in
-      let shows = shows_of_arms f a b in
+      let shows = shows_of_region f a b in
       let loads = slots_of_arms f a b in
-      let one = arms.untaken s (carried-in f homes.held holds carries) in
-      let two = arms.taken s (carried-in f homes.held holds carries) in
+      let go = arms s (carried-in f homes.held holds carries) in
       let none : 0 < most_regions = omega arith in
-      let state = common one.state two.state in
+      let state = common go.untaken.state go.taken.state in
       let pattern = pattern_of_region f a b in
-      let crossed = region-crossed o f homes.profile 0 s t.cmp 0 1 untaken other shows loads some none one two mid
-      stands in
+      let crossed = ways-crossed o f 0 s t.cmp first second go.xs go.ys shows loads none go.untaken go.taken
+      go.one_way go.other_way mid stands in
       let inside : end ≤ length o.code - 1 = let behind = stands.behind in omega arith in
       let same : end ≡ p + length (guard ++ region) = omega (arith, length-append guard region) in
       record {
@@ -219,11 +212,13 @@ module _ (o : Parts) (f : Setting) (homes : HasHomes o f) (some : 1 ≤ f.profil
           state = state;
           crosses = subst (λ (q : ℕ). CrossesFrom o mid offset holds pattern q state) same
               (crosses-wider o 0 end mid offset s pattern end state crossed (length o.code - 1) inside);
-          slots = joined-slots o f homes.profile 0 s t.cmp 0 1 untaken other shows loads some none one two;
+          slots = ways-slots o f 0 s t.cmp first second go.xs go.ys shows loads none go.untaken go.taken
+              go.one_way go.other_way;
         };
         unclaimed = unclaimed;
         carries = carried-out f state
-            (joined-carries o f homes.profile 0 s t.cmp 0 1 untaken other shows loads some none one two);
+            (ways-carry o f 0 s t.cmp first second go.xs go.ys shows loads none go.untaken go.taken
+            go.one_way go.other_way);
       }
 
   -- the guard and the region

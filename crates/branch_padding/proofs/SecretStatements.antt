@@ -1,30 +1,45 @@
 -- The code of statements in secret code: walked in an arm it shows what depends only on the statement, whether it has
 -- its effect or only looks as if it had.
-use Rattle.std.proofs.Common.{◌≡◌, ℕ, suc, ◌+◌, ◌<◌, ◌≤◌, false, List, ◌∷◌, ◌++◌, take, drop, refl, sym, ap, ◌∙◌, subst, arith}
+use Rattle.std.proofs.Common.{◌≡◌, ℕ, suc, ◌+◌, ◌-◌, ◌<◌, ◌≤◌, false, List, ◌∷◌, ◌++◌, take, drop, Option, Some, None, refl, sym, ap, ◌∙◌, subst, arith}
 use Rattle.gr_word.specs.declared.variables.Label.TheVariants.{Secret}
 use Rattle.lt_isa.specs.declared.instructions.Instr.{Instr}
+use Rattle.lt_isa.specs.declared.profiles.Profile.{Profile}
 use Rattle.lt_isa.specs.Object.{Parts}
 use Rattle.src_tree.specs.Contexts.{context_of}
 use Rattle.src_tree.specs.Limits.{LowStatement, LowBlock}
 use Rattle.src_tree.specs.Trees.{Test, Statement, SetVariable, SetElement, Choice, Loop, Block, Nothing, Then}
 use Rattle.src_tree.specs.Typing.{TypedStatement, TypedBlock}
+use Rattle.trace_patterns.specs.Patterns.{Shown, no_events, with_gap, joined}
+use Rattle.trace_patterns.specs.Events.{TreeEvent}
 use Rattle.trace_patterns.specs.Shape.{most_regions}
-use Rattle.stretches.specs.Shows.{Show, region_shows}
+use Rattle.trace_patterns.specs.Single.{gap}
+use Rattle.trace_patterns.specs.SymStates.{SymState}
+use Rattle.trace_patterns.specs.Walk.{untaken_way, taken_way}
+use Rattle.trace_patterns.proofs.PatternLaws.{with_gap-more}
+use Rattle.stretches.specs.Shows.{Show, Gap, pattern_of, region_shows}
+use Rattle.stretches.proofs.ArmCode.{walked-then}
+use Rattle.stretches.proofs.ArmRegions.{paused, walked-pauses, pattern_of-pause, untaken-shows, taken-shows}
+use Rattle.stretches.proofs.ShowLaws.{pattern_of-alone, pattern_of-append}
 use Rattle.block_cache_gen.specs.declared.frames.Mode.{Mode}
 use Rattle.block_cache_gen.specs.declared.frames.Mode.TheVariants as modes
 use Rattle.block_cache_gen.specs.Homes.{Setting, HasHomes}
 use Rattle.block_cache_gen.specs.Codes.{may_skip_loads, guard_code}
 use Rattle.block_cache_gen.specs.PublicIndexes.{StatementHasPublicIndexes, BlockHasPublicIndexes}
-use Rattle.block_cache_gen.specs.PatternsOf.{Loads, then_loads, tree_of_expr, shows_of_test, slots_of_test}
+use Rattle.block_cache_gen.specs.Carries.{CarriesInArm}
+use Rattle.block_cache_gen.specs.PatternsOf.{Loads, no_loads, then_loads, tree_of_expr, shows_of_test, slots_of_test}
 use Rattle.block_cache_gen.specs.Alike.{Pair, ToScalars, ToOblivious, ToResidents, ToSame, StartsPaired, NonePaired, OnePaired, pair_count}
 use Rattle.block_cache_gen.proofs.AlikeShows.{pair-shows, pair-slots}
 use Rattle.block_cache_gen.proofs.AlikeTests.{counts_pairs}
 use Rattle.block_cache_gen.proofs.ArmExpressions.{guard-leaves}
-use Rattle.block_cache_gen.proofs.ArmAssignments.{goes-none, goes-leaves, goes-then, set-goes}
-use Rattle.block_cache_gen.proofs.SecretRegions.{goes-region}
+use Rattle.block_cache_gen.proofs.ArmAssignments.{Goes, goes-none, goes-leaves, goes-then, set-goes}
 use Rattle.branch_padding.specs.Nesting.{nesting_of, nesting_of_block}
-use Rattle.branch_padding.specs.Padded.{arm_mode, in_a_row, untaken_arm, taken_arm, region_code, padded_code, padded_codes}
-use Rattle.branch_padding.specs.PatternsOfChoices.{shown_in_a_row, loaded_in_a_row, shows_of, shows_of_each, shows_of_arms, slots_of, slots_of_each, slots_of_arms}
+use Rattle.branch_padding.specs.declared.cycles.Slack.{Slack}
+use Rattle.branch_padding.specs.Cycles.{cycles_of_all, slack_of}
+use Rattle.branch_padding.specs.Padded.{idle, arm_mode, in_a_row, untaken_arm, taken_arm, first_arm, second_arm, region_code, padded_code, padded_codes, first_of, second_of}
+use Rattle.branch_padding.specs.PatternsOfChoices.{shown_in_a_row, loaded_in_a_row, padded_shows, padded_loads, mirrored_shows, mirrored_loads, shows_of, shows_of_each, shows_of_region, slots_of, slots_of_each, slots_of_arms}
+use Rattle.branch_padding.proofs.RegionWays.{gaps-joined, ways-go}
+use Rattle.branch_padding.proofs.QuietCode.{IsQuiet}
+use Rattle.branch_padding.proofs.QuietStatements.{IsSlack, slack-between, taken-cycles, block-quiet}
 use Rattle.branch_padding.proofs.SecretRows.{shown-rests, loaded-rests, GoesAnywhere, EachGoes, NoneGoes, OneGoes, row-goes, take-goes, drop-goes, three-go}
 
 -- the arms of a branch are secret code
@@ -78,7 +93,7 @@ module _ (o : Parts) (f : Setting) (homes : HasHomes o f) where
       subst (λ (m : ℕ). take m (slots_of f s ∷ slots_of_each f c) ≡ take m (slots_of f t ∷ slots_of_each f d)) next
       (λ i. one i ∷ more i)
 
-  -- the arms of a branch, of parts whose statements go
+  -- the mirrored arms of a branch, of parts whose statements go
   module _ (depth : ℕ) (a b : Block) where
     abbrev PartGoes : Block → List (List Instr) → Type 0
     PartGoes part codes = EachGoes o f depth codes (shows_of_each f part) (slots_of_each f part)
@@ -86,8 +101,8 @@ module _ (o : Parts) (f : Setting) (homes : HasHomes o f) where
     -- the arm that isn't taken shows what both arms show
     pub untaken-goes : (second first_mirrored : List (List Instr)) → TypedBlock (context_of f.decls) Secret a
         → TypedBlock (context_of f.decls) Secret b → PartGoes b second → PartGoes a first_mirrored
-        → GoesAnywhere o f depth (untaken_arm (pair_count f a b) second first_mirrored) (shows_of_arms f a b)
-        (slots_of_arms f a b)
+        → GoesAnywhere o f depth (untaken_arm (pair_count f a b) second first_mirrored) (mirrored_shows f a b)
+        (mirrored_loads f a b)
     untaken-goes second first_mirrored left right behind before =
         let k = pair_count f a b in
         let paired = (counts_pairs f a b).pairs in
@@ -96,17 +111,17 @@ module _ (o : Parts) (f : Setting) (homes : HasHomes o f) where
         let ls = slots_of_each f a in
         let ms = slots_of_each f b in
         let shows : shown_in_a_row (take k ys) ++ (shown_in_a_row (drop k xs) ++ shown_in_a_row (drop k ys))
-        ≡ shows_of_arms f a b =
+        ≡ mirrored_shows f a b =
         ap (λ (z : List (List Show)). shown_in_a_row z ++ (shown_in_a_row (drop k xs) ++ shown_in_a_row (drop k ys)))
         (sym (paired-shows k a b paired left right)) ∙ sym (shown-rests k xs ys) in
         let loads : then_loads (loaded_in_a_row (take k ms))
         (then_loads (loaded_in_a_row (drop k ls)) (loaded_in_a_row (drop k ms)))
-        ≡ slots_of_arms f a b =
+        ≡ mirrored_loads f a b =
         ap (λ (z : List Loads).
         then_loads (loaded_in_a_row z) (then_loads (loaded_in_a_row (drop k ls)) (loaded_in_a_row (drop k ms))))
         (sym (paired-slots k a b paired left right)) ∙ sym (loaded-rests k ls ms) in
         subst (λ (z : List Show).
-        GoesAnywhere o f depth (untaken_arm k second first_mirrored) z (slots_of_arms f a b)) shows
+        GoesAnywhere o f depth (untaken_arm k second first_mirrored) z (mirrored_loads f a b)) shows
         (subst (λ (z : Loads).
         GoesAnywhere o f depth (untaken_arm k second first_mirrored)
         (shown_in_a_row (take k ys) ++ (shown_in_a_row (drop k xs) ++ shown_in_a_row (drop k ys))) z) loads
@@ -120,15 +135,15 @@ module _ (o : Parts) (f : Setting) (homes : HasHomes o f) where
 
     -- and so does the one that is
     pub taken-goes : (first second_mirrored : List (List Instr)) → PartGoes a first → PartGoes b second_mirrored
-        → GoesAnywhere o f depth (taken_arm (pair_count f a b) first second_mirrored) (shows_of_arms f a b)
-        (slots_of_arms f a b)
+        → GoesAnywhere o f depth (taken_arm (pair_count f a b) first second_mirrored) (mirrored_shows f a b)
+        (mirrored_loads f a b)
     taken-goes first second_mirrored before behind =
         let k = pair_count f a b in
         let xs = shows_of_each f a in
         let ys = shows_of_each f b in
         let ls = slots_of_each f a in
         let ms = slots_of_each f b in
-        subst (λ (z : List Show). GoesAnywhere o f depth (taken_arm k first second_mirrored) z (slots_of_arms f a b))
+        subst (λ (z : List Show). GoesAnywhere o f depth (taken_arm k first second_mirrored) z (mirrored_loads f a b))
         (sym (shown-rests k xs ys))
         (subst (λ (z : Loads).
         GoesAnywhere o f depth (taken_arm k first second_mirrored)
@@ -148,46 +163,164 @@ module _ (o : Parts) (f : Setting) (homes : HasHomes o f) where
       (mode : Mode) → may_skip_loads mode ≡ false
       → EachGoes o f depth (padded_codes f mode part) (shows_of_each f part) (slots_of_each f part)
 
-  -- both arms of a branch go
-  pub record ArmsGo (mode : Mode) (depth : ℕ) (a b : Block) : Type 0 where
-    pub untaken : GoesAnywhere o f (depth + 1) (untaken_arm (pair_count f a b) (padded_codes f (arm_mode mode) b)
-        (padded_codes f modes.Mirrored a)) (shows_of_arms f a b) (slots_of_arms f a b)
-    pub taken : GoesAnywhere o f (depth + 1) (taken_arm (pair_count f a b) (padded_codes f (arm_mode mode) a)
-        (padded_codes f modes.Mirrored b)) (shows_of_arms f a b) (slots_of_arms f a b)
-
-  pub arms-go : (mode : Mode) (depth : ℕ) (a b : Block) → TypedBlock (context_of f.decls) Secret a
-      → TypedBlock (context_of f.decls) Secret b → PartGoesInArms (depth + 1) a → PartGoesInArms (depth + 1) b
-      → ArmsGo mode depth a b
-  arms-go mode depth a b left right first second = record {
-    untaken = untaken-goes (depth + 1) a b (padded_codes f (arm_mode mode) b) (padded_codes f modes.Mirrored a) left
-        right (second (arm_mode mode) (arm-secret mode)) (first modes.Mirrored refl);
-    taken = taken-goes (depth + 1) a b (padded_codes f (arm_mode mode) a) (padded_codes f modes.Mirrored b)
-        (first (arm_mode mode) (arm-secret mode)) (second modes.Mirrored refl);
+  -- code that idles before other code, or after it
+  idle-before : (depth n : ℕ) (s : SymState) (code : List Instr) (shows : List Show) (loads : Loads)
+      → Goes o f depth s code shows loads → Goes o f depth s (idle n ++ code) (paused n ++ shows) loads
+  idle-before depth n s code shows loads goes = record {
+    state = goes.state;
+    walked =
+        walked-then o depth s (idle n) (paused n) s code shows goes.state (walked-pauses o depth s n) goes.walked;
+    carries = goes.carries;
+    slots = goes.slots;
   }
+
+  idle-after : (depth n : ℕ) (s : SymState) (code : List Instr) (shows : List Show) (loads : Loads)
+      → Goes o f depth s code shows loads → Goes o f depth s (code ++ idle n) (shows ++ paused n) loads
+  idle-after depth n s code shows loads goes = record {
+    state = goes.state;
+    walked =
+        walked-then o depth s code shows goes.state (idle n) (paused n) goes.state goes.walked
+        (walked-pauses o depth goes.state n);
+    carries = goes.carries;
+    slots = goes.slots;
+  }
+
+  -- quiet code leaves the slots as they were
+  quiet-goes : (depth : ℕ) (s : SymState) (code : List Instr) (shows : List Show) (loads : Loads) (n : ℕ)
+      → IsQuiet s shows loads n → Goes o f depth s code shows loads → Goes o f depth s code shows no_loads
+  quiet-goes depth s code shows loads n quiet goes = record {
+    state = goes.state;
+    walked = goes.walked;
+    carries = goes.carries;
+    slots = λ k. goes.slots k ∙ quiet.slots k;
+  }
+
+  -- so many cycles after a quiet arm are shown with its own
+  idle-shown : (s : SymState) (shows : List Show) (loads : Loads) (n more : ℕ) → IsQuiet s shows loads n
+      → pattern_of (shows ++ paused more) ≡ gap (n + more)
+  idle-shown s shows loads n more quiet =
+      pattern_of-append shows (paused more)
+      ∙ (λ k. joined (quiet.shown k) ((pattern_of-pause more ∙ pattern_of-alone (Gap more)) k))
+      ∙ gaps-joined n more
+
+  -- from a state, both arms of a branch go, and both ways show the same
+  pub record ArmsGo (mode : Mode) (depth : ℕ) (a b : Block) (s : SymState) (slack : Option Slack) : Type 0 where
+    pub xs : List Show
+    pub ys : List Show
+    pub untaken : Goes o f (depth + 1) s (first_arm slack f.profile.taken (pair_count f a b)
+        (padded_codes f (arm_mode mode) b) (padded_codes f modes.Mirrored a)) xs
+        (padded_loads slack (pair_count f a b) (slots_of_each f a) (slots_of_each f b))
+    pub taken : Goes o f (depth + 1) s (second_arm slack f.profile.taken (pair_count f a b)
+        (padded_codes f (arm_mode mode) a) (padded_codes f modes.Mirrored b)) ys
+        (padded_loads slack (pair_count f a b) (slots_of_each f a) (slots_of_each f b))
+    pub one_way : untaken_way o (pattern_of xs) ≡ pattern_of
+        (padded_shows slack f.profile.taken (pair_count f a b) (shows_of_each f a) (shows_of_each f b))
+    pub other_way : taken_way o (pattern_of ys) ≡ pattern_of
+        (padded_shows slack f.profile.taken (pair_count f a b) (shows_of_each f a) (shows_of_each f b))
+
+  module _ (some : 1 ≤ f.profile.taken) (mode : Mode) (depth : ℕ) (a b : Block)
+      (left : TypedBlock (context_of f.decls) Secret a) (right : TypedBlock (context_of f.decls) Secret b)
+      (first : PartGoesInArms (depth + 1) a) (second : PartGoesInArms (depth + 1) b) (s : SymState)
+      (carries : CarriesInArm f s) where
+    same_taken : o.profile.taken ≡ f.profile.taken
+    same_taken = ap (λ (p : Profile). p.taken) homes.profile
+
+    mirrored-go : ArmsGo mode depth a b s None
+    mirrored-go =
+        let k = pair_count f a b in
+        let taken = f.profile.taken in
+        let shows = mirrored_shows f a b in
+        let loads = mirrored_loads f a b in
+        let own = padded_codes f (arm_mode mode) b in
+        let one = untaken-goes (depth + 1) a b own (padded_codes f modes.Mirrored a) left right
+        (second (arm_mode mode) (arm-secret mode)) (first modes.Mirrored refl) s carries in
+        let two = taken-goes (depth + 1) a b (padded_codes f (arm_mode mode) a) (padded_codes f modes.Mirrored b)
+        (first (arm_mode mode) (arm-secret mode)) (second modes.Mirrored refl) s carries in
+        let enough : 1 ≤ o.profile.taken = omega (arith, some, same_taken) in
+        record {
+          xs = paused (taken - 1) ++ shows;
+          ys = shows ++ paused taken;
+          untaken = idle-before (depth + 1) (taken - 1) s (untaken_arm k own (padded_codes f modes.Mirrored a)) shows
+              loads one;
+          taken = idle-after (depth + 1) taken s
+              (taken_arm k (padded_codes f (arm_mode mode) a) (padded_codes f modes.Mirrored b)) shows loads two;
+          one_way = subst (λ (n : ℕ).
+              untaken_way o (pattern_of (paused (n - 1) ++ shows)) ≡ pattern_of (region_shows n shows)) same_taken
+              (untaken-shows o enough shows);
+          other_way = subst (λ (n : ℕ).
+              taken_way o (pattern_of (shows ++ paused n)) ≡ pattern_of (region_shows n shows)) same_taken
+              (taken-shows o enough shows);
+        }
+
+    quiet-go : BlockHasPublicIndexes f a → BlockHasPublicIndexes f b → LowBlock a → LowBlock b → (slack : Slack)
+        → IsSlack (cycles_of_all f a) (cycles_of_all f b) slack → ArmsGo mode depth a b s (Some slack)
+    quiet-go public other_public low other_low slack even =
+        let taken = f.profile.taken in
+        let xs = shown_in_a_row (shows_of_each f b) in
+        let ys = shown_in_a_row (shows_of_each f a) in
+        let ls = loaded_in_a_row (slots_of_each f a) in
+        let ms = loaded_in_a_row (slots_of_each f b) in
+        let one = block-quiet o f homes s carries a even.one left public low even.first in
+        let two = block-quiet o f homes s carries b even.two right other_public other_low even.second in
+        let row_one = padded_codes f (arm_mode mode) a in
+        let row_two = padded_codes f (arm_mode mode) b in
+        let goes_one = row-goes o f (depth + 1) row_one (shows_of_each f a) (slots_of_each f a)
+        (first (arm_mode mode) (arm-secret mode)) s carries in
+        let goes_two = row-goes o f (depth + 1) row_two (shows_of_each f b) (slots_of_each f b)
+        (second (arm_mode mode) (arm-secret mode)) s carries in
+        let shown = taken-cycles s taken slack.taken even.one ys ls one in
+        let sum : 1 + (even.two + slack.untaken) + o.profile.taken ≡ taken + (even.one + slack.taken) =
+        omega (arith, even.even, same_taken) in
+        let sum_two : o.profile.taken + (even.one + slack.taken) ≡ taken + (even.one + slack.taken) =
+        omega (arith, same_taken) in
+        record {
+          xs = xs ++ paused slack.untaken;
+          ys = ys ++ paused slack.taken;
+          untaken = idle-after (depth + 1) slack.untaken s (in_a_row row_two) xs no_loads
+              (quiet-goes (depth + 1) s (in_a_row row_two) xs ms even.two two goes_two);
+          taken = idle-after (depth + 1) slack.taken s (in_a_row row_one) ys no_loads
+              (quiet-goes (depth + 1) s (in_a_row row_one) ys ls even.one one goes_one);
+          one_way =
+              ap (untaken_way o) (idle-shown s xs ms even.two slack.untaken two)
+              ∙ ap (λ (q : Shown TreeEvent). with_gap q o.profile.taken) (gaps-joined 1 (even.two + slack.untaken))
+              ∙ with_gap-more no_events (1 + (even.two + slack.untaken)) o.profile.taken
+              ∙ ap gap sum ∙ sym shown;
+          other_way =
+              ap (taken_way o) (idle-shown s ys ls even.one slack.taken one)
+              ∙ gaps-joined o.profile.taken (even.one + slack.taken) ∙ ap gap sum_two ∙ sym shown;
+        }
+
+    pub arms-go : BlockHasPublicIndexes f a → BlockHasPublicIndexes f b → LowBlock a → LowBlock b
+        → ArmsGo mode depth a b s (slack_of f a b)
+    arms-go one two low high = by (slack_of f a b) refl
+      where
+        by : (slack : Option Slack) → slack_of f a b ≡ slack → ArmsGo mode depth a b s slack
+        by None is = mirrored-go
+        by (Some slack) is =
+            quiet-go one two low high slack
+            (slack-between f.reduces (cycles_of_all f a) (cycles_of_all f b) slack is)
 
   -- a branch whose parts go
   module _ (some : 1 ≤ f.profile.taken) where
     choice-goes : (mode : Mode) → may_skip_loads mode ≡ false → (depth : ℕ) (t : Test) (a b : Block)
         → TypedStatement (context_of f.decls) Secret (Choice t a b) → StatementHasPublicIndexes f (Choice t a b)
-        → LowStatement (Choice t a b) → depth < most_regions → ArmsGo mode depth a b
+        → LowStatement (Choice t a b) → depth < most_regions → PartGoesInArms (depth + 1) a
+        → PartGoesInArms (depth + 1) b
         → GoesAnywhere o f depth (padded_code f mode (Choice t a b)) (shows_of f (Choice t a b))
         (slots_of f (Choice t a b))
-    choice-goes mode secret depth t a b typed public low around arms = λ s carries.
-        let k = pair_count f a b in
-        let taken = f.profile.taken in
+    choice-goes mode secret depth t a b typed public low around first second = λ s carries.
         let both = guard-leaves o f homes depth mode secret t s 0 typed.0 public.0 (omega arith) (omega arith)
         carries in
         let guard = goes-leaves o f depth s (guard_code f mode 0 t) (shows_of_test f t) 0 (tree_of_expr f t.left)
         (slots_of_test f t) both.leaves in
         let from = both.leaves.state in
-        let untaken = untaken_arm k (padded_codes f (arm_mode mode) b) (padded_codes f modes.Mirrored a) in
-        let other = taken_arm k (padded_codes f (arm_mode mode) a) (padded_codes f modes.Mirrored b) in
-        let shows = shows_of_arms f a b in
-        let loads = slots_of_arms f a b in
-        let region = goes-region o f homes.profile depth from t.cmp 0 1 untaken other shows loads some around
-        (arms.untaken from both.leaves.carries) (arms.taken from both.leaves.carries) in
+        let arms = arms-go some mode depth a b typed.1.0 typed.1.1 first second from both.leaves.carries public.1.0
+        public.1.1 low.1.0 low.1.1 in
+        let region = ways-go o f depth from t.cmp (first_of f mode a b) (second_of f mode a b) arms.xs arms.ys
+        (shows_of_region f a b) (slots_of_arms f a b) around arms.untaken arms.taken arms.one_way arms.other_way in
         goes-then o f depth s (guard_code f mode 0 t) (shows_of_test f t) (slots_of_test f t) guard
-        (region_code taken t.cmp untaken other) (region_shows taken shows) loads region
+        (region_code t.cmp (first_of f mode a b) (second_of f mode a b)) (shows_of_region f a b) (slots_of_arms f a b)
+        region
 
     mutual
       -- the code of a statement shows what its patterns say, in both modes
@@ -201,9 +334,8 @@ module _ (o : Parts) (f : Setting) (homes : HasHomes o f) where
           set-goes o f homes depth mode secret (SetElement x i e) s typed public low carries
       statement-goes (Choice t a b) mode secret depth typed public low around =
           choice-goes mode secret depth t a b typed public low (omega arith)
-          (arms-go mode depth a b typed.1.0 typed.1.1
           (each-goes a (depth + 1) typed.1.0 public.1.0 low.1.0 (omega arith))
-          (each-goes b (depth + 1) typed.1.1 public.1.1 low.1.1 (omega arith)))
+          (each-goes b (depth + 1) typed.1.1 public.1.1 low.1.1 (omega arith))
       statement-goes (Loop t a) mode secret depth typed public low around = λ s carries.
           goes-none o f depth s carries
 

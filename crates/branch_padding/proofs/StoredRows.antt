@@ -1,5 +1,5 @@
 -- How many stores of a word the code of statements has.
-use Rattle.std.proofs.Common.{◌≡◌, ℕ, zero, suc, ◌+◌, ◌-◌, ◌*◌, ◌≤◌, Bool, true, false, ℤ, pos, List, [], ◌∷◌, ◌++◌, length, map, take, drop, Option, Some, None, refl, sym, ap, ◌∙◌, subst, arith}
+use Rattle.std.proofs.Common.{◌≡◌, ℕ, zero, suc, ◌+◌, ◌-◌, ◌≤◌, Bool, true, false, ℤ, pos, List, [], ◌∷◌, ◌++◌, length, map, take, drop, Option, Some, None, refl, sym, ap, ◌∙◌, subst, arith}
 use Rattle.std.specs.Prelude.{if◌then◌else◌, is_some}
 use Rattle.std.proofs.lemmas.List.{take-map, drop-map}
 use Rattle.std.proofs.lemmas.List.Sums.{sum_by-append}
@@ -22,8 +22,10 @@ use Rattle.block_cache_gen.proofs.AlikeShows.{alike-fixed, oblivious-fixed}
 use Rattle.block_cache_gen.proofs.AlikeTests.{counts_pairs}
 use Rattle.block_cache_gen.proofs.SecretCodes.{stored-append, guard-stores, variable-stores, element-stores}
 use Rattle.block_cache_gen.proofs.SingleHomes.{ObliviousAreSingle}
-use Rattle.branch_padding.specs.Padded.{idle, in_a_row, arm_mode, untaken_arm, taken_arm, first_padded, second_padded, region_code, padded_code, padded_codes}
-use Rattle.branch_padding.specs.Stores.{added_up, choice_stores, stores_of, stores_of_each}
+use Rattle.branch_padding.specs.Padded.{idle, in_a_row, arm_mode, untaken_arm, taken_arm, first_arm, second_arm, first_of, second_of, region_code, padded_code, padded_codes}
+use Rattle.branch_padding.specs.declared.cycles.Slack.{Slack}
+use Rattle.branch_padding.specs.Cycles.{slack_of}
+use Rattle.branch_padding.specs.Stores.{added_up, arms_stores, choice_stores, stores_of, stores_of_each}
 
 -- pieces in a row have the stores of all
 row-stores : (codes : List (List Instr)) → stored_words (in_a_row codes) ≡ added_up (map stored_words codes)
@@ -41,11 +43,9 @@ idle-stores zero = refl
 idle-stores (suc n) = stored-append (Nop ∷ []) (idle n) ∙ ap (λ (m : ℕ). 0 + m) (idle-stores n)
 
 -- a region has those of its arms
-region-stores : (taken : ℕ) (cmp : Cmp) (untaken other : List Instr)
-    → stored_words (region_code taken cmp untaken other) ≡ stored_words untaken + stored_words other
-region-stores taken cmp untaken other =
-    let first = first_padded taken untaken in
-    let second = second_padded taken other in
+region-stores : (cmp : Cmp) (first second : List Instr)
+    → stored_words (region_code cmp first second) ≡ stored_words first + stored_words second
+region-stores cmp first second =
     let branch = Br cmp 0 1 (pos (length first + 2)) in
     let jump = Jmp (pos (length second + 1)) in
     let none_one : stored_words (branch ∷ []) ≡ 0 = refl in
@@ -55,10 +55,6 @@ region-stores taken cmp untaken other =
       stored-append (branch ∷ []) (first ++ (jump ∷ second)),
       stored-append first (jump ∷ second),
       stored-append (jump ∷ []) second,
-      stored-append (idle (taken - 1)) untaken,
-      stored-append other (idle taken),
-      idle-stores (taken - 1),
-      idle-stores taken,
       none_one,
       none_two,
     )
@@ -114,7 +110,7 @@ module _ (f : Setting) (single : ObliviousAreSingle f) where
   one-bank-stores x y i j one =
       oblivious-stores y j (omega (arith, one.oblivious, one.same)) ∙ sym (oblivious-stores x i one.oblivious)
 
-  reduced-stores : (x y : List ℕ) (i j : Tree) → AreReducedAlike f x y → Alike f i j
+  reduced-stores : (x y : List ℕ) (i j : Tree) → AreReducedAlike f x y i j → Alike f i j
       → stores_in (home_of f y) (fixed_index (home_of f y) j) ≡ stores_in (home_of f x) (fixed_index (home_of f x) i)
   reduced-stores x y i j one alike =
       let g = home_of f x in
@@ -150,22 +146,30 @@ module _ (f : Setting) (single : ObliviousAreSingle f) where
   abbrev PartStores : Block → Mode → Type 0
   PartStores part mode = map stored_words (padded_codes f mode part) ≡ stores_of_each f label.Secret part
 
-  choice-counts : (mode : Mode) (t : Test) (a b : Block) → PartStores a (arm_mode mode) → PartStores a modes.Mirrored
-      → PartStores b (arm_mode mode) → PartStores b modes.Mirrored
-      → stored_words (padded_code f mode (Choice t a b))
-      ≡ choice_stores label.Secret (pair_count f a b) (stores_of_each f label.Secret a)
-      (stores_of_each f label.Secret b)
-  choice-counts mode t a b first first_mirrored second second_mirrored =
+  -- the arms, mirrored or idling
+  abbrev before : Option Slack → Mode → Block → Block → List Instr
+  before slack mode a b =
+      first_arm slack f.profile.taken (pair_count f a b) (padded_codes f (arm_mode mode) b)
+      (padded_codes f modes.Mirrored a)
+
+  abbrev behind : Option Slack → Mode → Block → Block → List Instr
+  behind slack mode a b =
+      second_arm slack f.profile.taken (pair_count f a b) (padded_codes f (arm_mode mode) a)
+      (padded_codes f modes.Mirrored b)
+
+  arms-counts : (mode : Mode) (t : Test) (a b : Block) → PartStores a (arm_mode mode) → PartStores a modes.Mirrored
+      → PartStores b (arm_mode mode) → PartStores b modes.Mirrored → (slack : Option Slack)
+      → stored_words (region_code t.cmp (before slack mode a b) (behind slack mode a b))
+      ≡ arms_stores slack (pair_count f a b) (stores_of_each f label.Secret a) (stores_of_each f label.Secret b)
+  arms-counts mode t a b first first_mirrored second second_mirrored None =
       let k = pair_count f a b in
       let alike = paired-stores k a b (counts_pairs f a b).pairs in
       let xs = stores_of_each f label.Secret a in
       let ys = stores_of_each f label.Secret b in
       let paired = added_up (take k xs) in
       let rests = added_up (drop k xs) + added_up (drop k ys) in
-      let guard = guard_code f mode 0 t in
       let untaken = untaken_arm k (padded_codes f (arm_mode mode) b) (padded_codes f modes.Mirrored a) in
       let other = taken_arm k (padded_codes f (arm_mode mode) a) (padded_codes f modes.Mirrored b) in
-      let region = region_code f.profile.taken t.cmp untaken other in
       let one : stored_words untaken ≡ paired + rests =
       arm-stores k (padded_codes f (arm_mode mode) b) (padded_codes f modes.Mirrored a)
       (padded_codes f (arm_mode mode) b)
@@ -175,10 +179,52 @@ module _ (f : Setting) (single : ObliviousAreSingle f) where
       arm-stores k (padded_codes f (arm_mode mode) a) (padded_codes f (arm_mode mode) a)
       (padded_codes f modes.Mirrored b)
       ∙ (λ i. added_up (take k (first i)) + (added_up (drop k (first i)) + added_up (drop k (second_mirrored i)))) in
-      let all : paired + rests + (paired + rests) ≡ 2 * (paired + rests) = omega arith in
+      region-stores t.cmp (before None mode a b) (behind None mode a b)
+      ∙ omega (
+        arith,
+        stored-append (idle (f.profile.taken - 1)) untaken,
+        stored-append other (idle f.profile.taken),
+        idle-stores (f.profile.taken - 1),
+        idle-stores f.profile.taken,
+        one,
+        two,
+      )
+  arms-counts mode t a b first first_mirrored second second_mirrored (Some slack) =
+      let xs = stores_of_each f label.Secret a in
+      let ys = stores_of_each f label.Secret b in
+      let own = in_a_row (padded_codes f (arm_mode mode) b) in
+      let other = in_a_row (padded_codes f (arm_mode mode) a) in
+      let one : stored_words own ≡ added_up ys =
+      row-stores (padded_codes f (arm_mode mode) b) ∙ ap added_up second in
+      let two : stored_words other ≡ added_up xs =
+      row-stores (padded_codes f (arm_mode mode) a) ∙ ap added_up first in
+      region-stores t.cmp (before (Some slack) mode a b) (behind (Some slack) mode a b)
+      ∙ omega (
+        arith,
+        stored-append own (idle slack.untaken),
+        stored-append other (idle slack.taken),
+        idle-stores slack.untaken,
+        idle-stores slack.taken,
+        one,
+        two,
+      )
+
+  choice-counts : (mode : Mode) (t : Test) (a b : Block) → PartStores a (arm_mode mode) → PartStores a modes.Mirrored
+      → PartStores b (arm_mode mode) → PartStores b modes.Mirrored
+      → stored_words (padded_code f mode (Choice t a b))
+      ≡ choice_stores label.Secret (slack_of f a b) (pair_count f a b) (stores_of_each f label.Secret a)
+      (stores_of_each f label.Secret b)
+  choice-counts mode t a b first first_mirrored second second_mirrored =
+      let guard = guard_code f mode 0 t in
+      let region = region_code t.cmp (first_of f mode a b) (second_of f mode a b) in
+      let arms = arms-counts mode t a b first first_mirrored second second_mirrored (slack_of f a b) in
       stored-append guard region
-      ∙ (λ i. guard-stores f mode 0 t i + region-stores f.profile.taken t.cmp untaken other i)
-      ∙ ap (λ (n : ℕ). 0 + n) (λ i. one i + two i) ∙ omega (arith, all)
+      ∙ (λ i. guard-stores f mode 0 t i + arms i)
+      ∙ none (arms_stores (slack_of f a b) (pair_count f a b) (stores_of_each f label.Secret a)
+      (stores_of_each f label.Secret b))
+    where
+      none : (n : ℕ) → 0 + n ≡ n
+      none n = omega arith
 
   mutual
     -- the stores of a statement in secret code
@@ -212,4 +258,4 @@ module _ (f : Setting) (single : ObliviousAreSingle f) where
       choice-counts modes.Public t a b (each-stores a modes.Real first) (each-stores a modes.Mirrored first)
       (each-stores b modes.Real second) (each-stores b modes.Mirrored second)
       ∙ sym (ap (λ (l : Label).
-      choice_stores l (pair_count f a b) (stores_of_each f l a) (stores_of_each f l b)) secret)
+      choice_stores l (slack_of f a b) (pair_count f a b) (stores_of_each f l a) (stores_of_each f l b)) secret)

@@ -1,6 +1,8 @@
+pub mod Cycles
 pub mod Padded
 pub mod Rows
 pub mod EmittedBranches
+pub mod AfterStatements
 pub mod Stores
 pub mod PatternsOfChoices
 pub use Rattle.block_cache_gen.specs.Alike

@@ -10,7 +10,7 @@ use Rattle.block_cache_gen.specs.Homes.{Setting}
 use Rattle.block_cache_gen.specs.Assignments.{Assigns}
 use Rattle.block_cache_gen.specs.RunsOf.{BeginsCode}
 
--- code turns one store into another, at any place
+-- code turns one store into another, at any place where what is known of the store holds
 pub record Makes (f : Setting) (code : List Instr) (after : Store → Store) : Type 0 where
   pub runs : (o : Parts) (store : Store) (s : State) → BeginsCode o f store s code
       → (shown : List Observed) × RunsThrough o s code shown (Assigns f (after store))

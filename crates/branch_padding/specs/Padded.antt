@@ -1,8 +1,9 @@
 -- For proofs, and for a function that code_gen builds on: the instructions that are made of a branch on a secret, and
 -- of all secret code. One region has two arms that show the same: the first statements that pair are side by side; of
 -- the rest each arm has both parts, its own with its effect and the other mirrored. Idle instructions make up for the
--- cycles of the branch and of the jump. (This project's own padding.)
-use Rattle.std.specs.Prelude.{ℕ, ◌+◌, ◌-◌, pos, List, [], ◌∷◌, ◌++◌, length, replicate, take, drop}
+-- cycles of the branch and of the jump. If the branch is quiet, each arm has only its own part, and the shorter way
+-- idles. (This project's own padding.)
+use Rattle.std.specs.Prelude.{ℕ, ◌+◌, ◌-◌, pos, List, [], ◌∷◌, ◌++◌, length, replicate, take, drop, Option, Some, None}
 use Rattle.gr_word.specs.declared.operations.Cmp.{Cmp}
 use Rattle.lt_isa.specs.declared.instructions.Instr.{Instr}
 use Rattle.lt_isa.specs.declared.instructions.Instr.TheVariants.{Nop, Jmp, Br}
@@ -12,6 +13,8 @@ use Rattle.block_cache_gen.specs.declared.frames.Mode.TheVariants.{Public, Real,
 use Rattle.block_cache_gen.specs.Homes.{Setting}
 use Rattle.block_cache_gen.specs.Codes.{guard_code, set_code}
 use Rattle.block_cache_gen.specs.Alike.{pair_count}
+use Rattle.branch_padding.specs.declared.cycles.Slack.{Slack}
+use Rattle.branch_padding.specs.Cycles.{slack_of}
 
 -- this many idle instructions
 abbrev pub idle : ℕ → List Instr
@@ -44,12 +47,19 @@ first_padded taken untaken = idle (taken - 1) ++ untaken
 abbrev pub second_padded : ℕ → List Instr → List Instr
 second_padded taken code = code ++ idle taken
 
+-- the arm after the branch and the arm that the branch jumps to, both mirrored, or idling if the branch is quiet
+abbrev pub first_arm : Option Slack → (taken k : ℕ) → (second first_mirrored : List (List Instr)) → List Instr
+first_arm None taken k second first_mirrored = first_padded taken (untaken_arm k second first_mirrored)
+first_arm (Some slack) taken k second first_mirrored = in_a_row second ++ idle slack.untaken
+
+abbrev pub second_arm : Option Slack → (taken k : ℕ) → (first second_mirrored : List (List Instr)) → List Instr
+second_arm None taken k first second_mirrored = second_padded taken (taken_arm k first second_mirrored)
+second_arm (Some slack) taken k first second_mirrored = in_a_row first ++ idle slack.taken
+
 -- the region of a branch past the first arm; the jump after it jumps past the second
-abbrev pub region_code : ℕ → Cmp → (untaken taken_code : List Instr) → List Instr
-region_code taken cmp untaken code =
-    Br cmp 0 1 (pos (length (first_padded taken untaken) + 2))
-    ∷ (first_padded taken untaken
-    ++ (Jmp (pos (length (second_padded taken code) + 1)) ∷ second_padded taken code))
+abbrev pub region_code : Cmp → (first second : List Instr) → List Instr
+region_code cmp first second =
+    Br cmp 0 1 (pos (length first + 2)) ∷ (first ++ (Jmp (pos (length second + 1)) ∷ second))
 
 -- the code of a statement, and of each statement of a block; the guard of a branch on a secret in public code is public
 -- code
@@ -59,11 +69,24 @@ abbrev mutual
   padded_code f mode (SetElement x i e) = set_code f mode (SetElement x i e)
   padded_code f mode (Choice t a b) =
       guard_code f mode 0 t
-      ++ region_code f.profile.taken t.cmp
-      (untaken_arm (pair_count f a b) (padded_codes f (arm_mode mode) b) (padded_codes f Mirrored a))
-      (taken_arm (pair_count f a b) (padded_codes f (arm_mode mode) a) (padded_codes f Mirrored b))
+      ++ region_code t.cmp
+      (first_arm (slack_of f a b) f.profile.taken (pair_count f a b) (padded_codes f (arm_mode mode) b)
+      (padded_codes f Mirrored a))
+      (second_arm (slack_of f a b) f.profile.taken (pair_count f a b) (padded_codes f (arm_mode mode) a)
+      (padded_codes f Mirrored b))
   padded_code f mode (Loop t a) = []
 
   pub padded_codes : Setting → Mode → Block → List (List Instr)
   padded_codes f mode Nothing = []
   padded_codes f mode (Then s rest) = padded_code f mode s ∷ padded_codes f mode rest
+
+-- the two arms of the branch of two blocks
+abbrev pub first_of : Setting → Mode → Block → Block → List Instr
+first_of f mode a b =
+    first_arm (slack_of f a b) f.profile.taken (pair_count f a b) (padded_codes f (arm_mode mode) b)
+    (padded_codes f Mirrored a)
+
+abbrev pub second_of : Setting → Mode → Block → Block → List Instr
+second_of f mode a b =
+    second_arm (slack_of f a b) f.profile.taken (pair_count f a b) (padded_codes f (arm_mode mode) a)
+    (padded_codes f Mirrored b)

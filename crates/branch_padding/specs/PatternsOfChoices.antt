@@ -1,14 +1,16 @@
 -- What the check sees of a statement of secret code, regardless of the ways that its branches take: what is shown, and
 -- what the loads leave in the slots. All of it depends only on the setting and the statement. (GhostRider, ASPLOS 2015:
 -- the trace patterns of the type system of L_T; the padding is this project's own.)
-use Rattle.std.specs.Prelude.{ℕ, List, [], ◌∷◌, ◌++◌, drop}
+use Rattle.std.specs.Prelude.{ℕ, List, [], ◌∷◌, ◌++◌, drop, Option, Some, None}
 use Rattle.src_tree.specs.Trees.{Statement, SetVariable, SetElement, Choice, Loop, Block, Nothing, Then}
 use Rattle.trace_patterns.specs.Patterns.{Shown}
 use Rattle.trace_patterns.specs.Events.{TreeEvent}
-use Rattle.stretches.specs.Shows.{Show, pattern_of, region_shows}
+use Rattle.stretches.specs.Shows.{Show, Gap, pattern_of, region_shows}
 use Rattle.block_cache_gen.specs.Homes.{Setting}
 use Rattle.block_cache_gen.specs.Alike.{pair_count}
 use Rattle.block_cache_gen.specs.PatternsOf.{Loads, no_loads, then_loads, shows_of_test, slots_of_test, shows_of_set, slots_of_set}
+use Rattle.branch_padding.specs.declared.cycles.Slack.{Slack}
+use Rattle.branch_padding.specs.Cycles.{slack_of}
 
 -- in sequence
 abbrev pub shown_in_a_row : List (List Show) → List Show
@@ -30,6 +32,16 @@ arm_shows k first second = shown_in_a_row (both_rests k first second)
 abbrev pub arm_loads : ℕ → (first second : List Loads) → Loads
 arm_loads k first second = loaded_in_a_row (both_rests k first second)
 
+-- What the region of a branch shows, and what its loads leave. A quiet one shows the cycles of the way that is taken, and
+-- nothing is loaded.
+abbrev pub padded_shows : Option Slack → (taken k : ℕ) → (first second : List (List Show)) → List Show
+padded_shows None taken k first second = region_shows taken (arm_shows k first second)
+padded_shows (Some slack) taken k first second = Gap taken ∷ (shown_in_a_row first ++ Gap slack.taken ∷ [])
+
+abbrev pub padded_loads : Option Slack → (k : ℕ) → (first second : List Loads) → Loads
+padded_loads None k first second = arm_loads k first second
+padded_loads (Some slack) k first second = no_loads
+
 -- what a statement shows, and each statement of a block; a branch shows its guard and its region
 abbrev mutual
   pub shows_of : Setting → Statement → List Show
@@ -37,7 +49,7 @@ abbrev mutual
   shows_of f (SetElement x i e) = shows_of_set f (SetElement x i e)
   shows_of f (Choice t a b) =
       shows_of_test f t
-      ++ region_shows f.profile.taken (arm_shows (pair_count f a b) (shows_of_each f a) (shows_of_each f b))
+      ++ padded_shows (slack_of f a b) f.profile.taken (pair_count f a b) (shows_of_each f a) (shows_of_each f b)
   shows_of f (Loop t a) = []
 
   pub shows_of_each : Setting → Block → List (List Show)
@@ -50,7 +62,8 @@ abbrev mutual
   slots_of f (SetVariable x e) = slots_of_set f (SetVariable x e)
   slots_of f (SetElement x i e) = slots_of_set f (SetElement x i e)
   slots_of f (Choice t a b) =
-      then_loads (slots_of_test f t) (arm_loads (pair_count f a b) (slots_of_each f a) (slots_of_each f b))
+      then_loads (slots_of_test f t)
+      (padded_loads (slack_of f a b) (pair_count f a b) (slots_of_each f a) (slots_of_each f b))
   slots_of f (Loop t a) = no_loads
 
   pub slots_of_each : Setting → Block → List Loads
@@ -60,12 +73,20 @@ abbrev mutual
 abbrev pub pattern_of_statement : Setting → Statement → Shown TreeEvent
 pattern_of_statement f s = pattern_of (shows_of f s)
 
--- what both arms of the region of two parts show and leave in the slots, and the pattern of the region
-abbrev pub shows_of_arms : Setting → Block → Block → List Show
-shows_of_arms f a b = arm_shows (pair_count f a b) (shows_of_each f a) (shows_of_each f b)
+-- what each arm of the region of two parts shows and leaves in the slots if it is mirrored
+abbrev pub mirrored_shows : Setting → Block → Block → List Show
+mirrored_shows f a b = arm_shows (pair_count f a b) (shows_of_each f a) (shows_of_each f b)
 
-abbrev pub slots_of_arms : Setting → Block → Block → Loads
-slots_of_arms f a b = arm_loads (pair_count f a b) (slots_of_each f a) (slots_of_each f b)
+abbrev pub mirrored_loads : Setting → Block → Block → Loads
+mirrored_loads f a b = arm_loads (pair_count f a b) (slots_of_each f a) (slots_of_each f b)
+
+-- what the region of two parts shows, its pattern, and what it leaves in the slots
+abbrev pub shows_of_region : Setting → Block → Block → List Show
+shows_of_region f a b =
+    padded_shows (slack_of f a b) f.profile.taken (pair_count f a b) (shows_of_each f a) (shows_of_each f b)
 
 abbrev pub pattern_of_region : Setting → Block → Block → Shown TreeEvent
-pattern_of_region f a b = pattern_of (region_shows f.profile.taken (shows_of_arms f a b))
+pattern_of_region f a b = pattern_of (shows_of_region f a b)
+
+abbrev pub slots_of_arms : Setting → Block → Block → Loads
+slots_of_arms f a b = padded_loads (slack_of f a b) (pair_count f a b) (slots_of_each f a) (slots_of_each f b)

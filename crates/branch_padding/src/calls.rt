@@ -22,14 +22,14 @@ ghost use Rattle.branch_padding.specs.SecretChoices.{IsWalkedAsStatement};
 ghost use Rattle.branch_padding.specs.Stores.{stores_of};
 
 use crate::choices::put_choice;
-use block_cache_gen::{CodeBuf, Emitter, Frame, Mode};
+use block_cache_gen::{CodeBuf, Emitter, Frame, Mode, Prepared};
 use gr_base::Memory;
 use src_tree::Stmt;
 use std::alloc::Global;
 
 // A statement that is a branch.
 fn put_branch<'a>(
-    emitter: &Emitter<'a>,
+    emitter: &Emitter<'a, '_, '_>,
     out: &mut CodeBuf,
     s: &'a Stmt,
     mode: Mode,
@@ -96,6 +96,7 @@ pub fn emit_secret_if<'a>(
         out.old out.new) }
     ensures grows { CodeGrows out.old out.new }
 {
-    let emitter = Emitter::new(alloc, f)?;
+    let prepared = Prepared::new(alloc, f)?;
+    let emitter = Emitter::new(&prepared);
     put_branch(&emitter, out, s, mode)
 }

@@ -1,4 +1,4 @@
-ghost use Rattle.std.specs.Prelude.{◌≡◌, ◌+◌, ◌-◌, ◌*◌, ◌<◌, ◌≤◌, [], ◌∷◌, OnOk, length};
+ghost use Rattle.std.specs.Prelude.{◌≡◌, ◌+◌, ◌-◌, ◌*◌, ◌<◌, ◌≤◌, [], ◌∷◌, ◌++◌, OnOk, length};
 ghost use Rattle.gr_word.specs.declared.variables.Label.TheVariants as label;
 ghost use Rattle.src_tree.specs.Contexts.{context_of};
 ghost use Rattle.src_tree.specs.Labels.{label_of_test};
@@ -13,8 +13,9 @@ ghost use Rattle.block_cache_gen.specs.Notes.{guard_notes};
 ghost use Rattle.block_cache_gen.specs.ProgramWords.{BlockHasWords, StatementHasWords};
 ghost use Rattle.branch_padding.specs.EmittedBranches.{PartsFit, both_weights, choice_of};
 ghost use Rattle.branch_padding.specs.Rows.{HaveWords, row_between};
-ghost use Rattle.branch_padding.specs.Padded.{arm_mode, first_padded, idle, in_a_row, padded_code, padded_codes, second_padded, taken_arm, untaken_arm};
+ghost use Rattle.branch_padding.specs.Padded.{arm_mode, first_arm, first_padded, idle, in_a_row, padded_code, padded_codes, second_arm, second_padded, taken_arm, untaken_arm};
 
+use crate::cycles::{Slack, slack_of};
 use block_cache_gen::{
     CodeBuf, Emitter, Mode, pair_count, put_guard, put_set_element, put_set_variable,
 };
@@ -22,13 +23,14 @@ use gr_base::Memory;
 use lt_isa::Instr;
 use src_tree::{Guard, Stmt};
 
-// The two blocks of a branch on a secret, how many of their first statements pair, and the mode in which each block's
-// code is made in its own arm.
+// The two blocks of a branch on a secret, how many of their first statements pair, how long each way idles if the branch
+// is quiet, and the mode in which each block's code is made in its own arm.
 #[derive(Clone, Copy)]
 struct Parts<'a> {
     first: &'a [Stmt],
     second: &'a [Stmt],
     pairs: usize,
+    slack: Option<Slack>,
     mode: Mode,
 }
 
@@ -59,7 +61,7 @@ fn put_idle(out: &mut CodeBuf, cycles: u8) -> Result<(), Memory>
 // A statement of secret code.
 #[cycle(padding)]
 fn put_padded<'a>(
-    emitter: &Emitter<'a>,
+    emitter: &Emitter<'a, '_, '_>,
     out: &mut CodeBuf,
     s: &'a Stmt,
     mode: Mode,
@@ -95,7 +97,7 @@ fn put_padded<'a>(
 // The statements of a part from one on up to another.
 #[cycle(padding)]
 fn put_row<'a>(
-    emitter: &Emitter<'a>,
+    emitter: &Emitter<'a, '_, '_>,
     out: &mut CodeBuf,
     part: &'a [Stmt],
     from: usize,
@@ -121,10 +123,14 @@ fn put_row<'a>(
     Ok(())
 }
 
-// Appends the arm after the branch, which runs if the branch isn't taken. Before it are as many idle cycles as a taken
-// branch costs more than an untaken one.
+// Appends the arm after the branch if it is mirrored. Before it are as many idle cycles as a taken branch costs more than
+// an untaken one.
 #[cycle(padding)]
-fn put_untaken<'a>(emitter: &Emitter<'a>, out: &mut CodeBuf, p: &Parts<'a>) -> Result<(), Memory>
+fn put_first_mirrored<'a>(
+    emitter: &Emitter<'a, '_, '_>,
+    out: &mut CodeBuf,
+    p: &Parts<'a>,
+) -> Result<(), Memory>
     requires parts { PartsFit emitter.now p.now.mode p.now.pairs p.now.first.now p.now.second.now }
     requires room { length out.old.code.items + 40 + 240 * both_weights emitter.now (block_of_all p.now.first.now)
         (block_of_all p.now.second.now) ≤ most_instructions }
@@ -141,10 +147,14 @@ fn put_untaken<'a>(emitter: &Emitter<'a>, out: &mut CodeBuf, p: &Parts<'a>) -> R
     put_row(emitter, out, second, p.pairs, second.len(), p.mode)
 }
 
-// Appends the arm that the branch jumps to if it is taken. After it are as many idle cycles as the other arm's jump
+// Appends the arm that the branch jumps to if it is mirrored. After it are as many idle cycles as the other arm's jump
 // costs.
 #[cycle(padding)]
-fn put_taken<'a>(emitter: &Emitter<'a>, out: &mut CodeBuf, p: &Parts<'a>) -> Result<(), Memory>
+fn put_second_mirrored<'a>(
+    emitter: &Emitter<'a, '_, '_>,
+    out: &mut CodeBuf,
+    p: &Parts<'a>,
+) -> Result<(), Memory>
     requires parts { PartsFit emitter.now p.now.mode p.now.pairs p.now.first.now p.now.second.now }
     requires room { length out.old.code.items + 40 + 120 * both_weights emitter.now (block_of_all p.now.first.now)
         (block_of_all p.now.second.now) ≤ most_instructions }
@@ -160,11 +170,79 @@ fn put_taken<'a>(emitter: &Emitter<'a>, out: &mut CodeBuf, p: &Parts<'a>) -> Res
     put_idle(out, emitter.taken())
 }
 
+// Appends an arm of a quiet branch: a block, and then idle cycles.
+#[cycle(padding)]
+fn put_idling<'a>(
+    emitter: &Emitter<'a, '_, '_>,
+    out: &mut CodeBuf,
+    part: &'a [Stmt],
+    cycles: u8,
+    mode: Mode,
+) -> Result<(), Memory>
+    requires arm { arm_mode mode ≡ mode }
+    requires few { emitter.now.profile.taken ≤ 32 }
+    requires typed { TypedBlock (context_of emitter.now.decls) label.Secret (block_of_all part.now) }
+    requires low { LowBlock (block_of_all part.now) }
+    requires room { length out.old.code.items
+        + 120 * block_weight (context_of emitter.now.decls) label.Secret (block_of_all part.now) ≤ most_instructions }
+    ensures emitted { OnOk result (Appended out.old out.new
+        (in_a_row (padded_codes emitter.now mode (block_of_all part.now)) ++ idle cycles) no_notes) }
+    ensures words { OnOk result (BlockHasWords (block_of_all part.now)) }
+    ensures grows { CodeGrows out.old out.new }
+{
+    put_row(emitter, out, part, 0, part.len(), mode)?;
+    put_idle(out, cycles)
+}
+
+// Appends the arm after the branch, which runs if the branch isn't taken.
+#[cycle(padding)]
+fn put_untaken<'a>(
+    emitter: &Emitter<'a, '_, '_>,
+    out: &mut CodeBuf,
+    p: &Parts<'a>,
+) -> Result<(), Memory>
+    requires parts { PartsFit emitter.now p.now.mode p.now.pairs p.now.first.now p.now.second.now }
+    requires room { length out.old.code.items + 40 + 240 * both_weights emitter.now (block_of_all p.now.first.now)
+        (block_of_all p.now.second.now) ≤ most_instructions }
+    ensures emitted { OnOk result (Appended out.old out.new (first_arm p.now.slack emitter.now.profile.taken p.now.pairs
+        (padded_codes emitter.now p.now.mode (block_of_all p.now.second.now))
+        (padded_codes emitter.now modes.Mirrored (block_of_all p.now.first.now))) no_notes) }
+    ensures words { OnOk result (BlockHasWords (block_of_all p.now.second.now)) }
+    ensures grows { CodeGrows out.old out.new }
+{
+    match p.slack {
+        None => put_first_mirrored(emitter, out, p),
+        Some(slack) => put_idling(emitter, out, p.second, slack.untaken, p.mode),
+    }
+}
+
+// Appends the arm that the branch jumps to if it is taken.
+#[cycle(padding)]
+fn put_taken<'a>(
+    emitter: &Emitter<'a, '_, '_>,
+    out: &mut CodeBuf,
+    p: &Parts<'a>,
+) -> Result<(), Memory>
+    requires parts { PartsFit emitter.now p.now.mode p.now.pairs p.now.first.now p.now.second.now }
+    requires room { length out.old.code.items + 40 + 120 * both_weights emitter.now (block_of_all p.now.first.now)
+        (block_of_all p.now.second.now) ≤ most_instructions }
+    ensures emitted { OnOk result (Appended out.old out.new (second_arm p.now.slack emitter.now.profile.taken p.now.pairs
+        (padded_codes emitter.now p.now.mode (block_of_all p.now.first.now))
+        (padded_codes emitter.now modes.Mirrored (block_of_all p.now.second.now))) no_notes) }
+    ensures words { OnOk result (BlockHasWords (block_of_all p.now.first.now)) }
+    ensures grows { CodeGrows out.old out.new }
+{
+    match p.slack {
+        None => put_second_mirrored(emitter, out, p),
+        Some(slack) => put_idling(emitter, out, p.first, slack.taken, p.mode),
+    }
+}
+
 /// Appends the code of a branch whose arms show the same, in code of any mode. In public code its guard is public code.
 /// The only error is want of memory.
 #[cycle(padding)]
 pub(crate) fn put_choice<'a>(
-    emitter: &Emitter<'a>,
+    emitter: &Emitter<'a, '_, '_>,
     out: &mut CodeBuf,
     guard: &'a Guard,
     first: &'a [Stmt],
@@ -184,10 +262,12 @@ pub(crate) fn put_choice<'a>(
     ensures grows { CodeGrows out.old out.new }
 {
     put_guard(emitter, out, guard, 0, mode)?;
+    let slack = slack_of(emitter, first, second)?;
     let parts = Parts {
         first,
         second,
         pairs: pair_count(emitter, first, second),
+        slack,
         mode: arm_mode(mode),
     };
     let branch = out.next_place();
@@ -205,7 +285,7 @@ pub(crate) fn put_choice<'a>(
 /// It serves `code_gen`: its clause names the code, and [`emit_secret_if`](crate::emit_secret_if) states what that code
 /// does.
 pub fn put_secret_if<'a>(
-    emitter: &Emitter<'a>,
+    emitter: &Emitter<'a, '_, '_>,
     out: &mut CodeBuf,
     guard: &'a Guard,
     first: &'a [Stmt],

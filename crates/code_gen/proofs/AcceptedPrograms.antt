@@ -19,9 +19,10 @@ use Rattle.bank_alloc.specs.Apart.{IsBankOf}
 use Rattle.bank_alloc.specs.Layout.{IsLaidOut, placed_symbols}
 use Rattle.scratch_alloc.specs.Plans.{Plan, IsSoundPlan, no_decl, no_place}
 use Rattle.block_cache_gen.specs.declared.frames.Mode.TheVariants as modes
-use Rattle.block_cache_gen.specs.Homes.{Setting, HasHomes}
+use Rattle.block_cache_gen.specs.Homes.{Setting, HasHomes, ranged}
 use Rattle.block_cache_gen.specs.Codes.{guard_code}
 use Rattle.block_cache_gen.specs.HeldCodes.{HasSecretSlot}
+use Rattle.block_cache_gen.proofs.Ranged.{homes-ranged}
 use Rattle.block_cache_gen.proofs.Settled.{IsSettingOf, has-homes}
 use Rattle.block_cache_gen.proofs.IndexesOfPrograms.{program-public}
 use Rattle.branch_padding.proofs.NestingWeights.{choice-nesting}
@@ -61,7 +62,7 @@ laid-plain p w plan sound o layout =
     ∙ symbols_apart p.decls plan.places (λ k lt. (sound.place k lt).label)
 
 -- the code of a branch on a secret begins with its guard, and is passed
-pub begins-guarded : (f : Setting) → BeginsGuarded f (padding_of f)
+pub begins-guarded : BeginsGuarded padding_of
 begins-guarded f t a b =
     longer (guard_code f modes.Public 0 t) _
   where
@@ -69,10 +70,13 @@ begins-guarded f t a b =
     longer xs ys = omega (arith, length-append xs ys)
 
 pub passes-padded : (o : Parts) (f : Setting) → HasHomes o f → DeclaredOnce f.decls → 1 ≤ f.profile.taken
-    → PassesPadded o f (padding_of f)
-passes-padded o f homes once some t a b typed public low light secret p k stands notes inside open_here carries =
-    let h = held-open o f homes once p k open_here carries in
-    let c = choice-passes o f homes some t a b typed secret public low
+    → PassesPadded o f padding_of
+passes-padded o f homes once some known t a b typed public low light secret p k stands notes inside open_here
+    carries =
+    let g = ranged f known in
+    let on = homes-ranged o f known homes in
+    let h = held-open o g on once p k open_here carries in
+    let c = choice-passes o g on some t a b typed secret public low
     (choice-nesting (context_of f.decls) t a b secret light) once p k h.held
     (record { code_stands = stands; noted = notes.inner; behind = inside }) h.here h.carries in
     record { last = c.last; passes = c.passes; carries = c.carries }
@@ -80,12 +84,12 @@ passes-padded o f homes once some t a b typed public low light secret p k stands
 -- an object with a program's variables at the places of a plan, and with the code and the notes of the program
 pub laid-accepts : (p : Source) (w : ℕ) (plan : Plan) → IsTyped p → IsWithinLimits p → IsSoundPlan p w plan
     → (o : Parts) → IsLaidOut p w plan.places plan.blocks o
-    → (f : Setting) → IsSettingOf p plan o f → HasSecretSlot f → 1 ≤ f.profile.taken → o.code ≡ program_code f (padding_of f) p.body
-    → o.notes ≡ program_notes f (padding_of f) p.body → Accepts o
+    → (f : Setting) → IsSettingOf p plan o f → HasSecretSlot f → 1 ≤ f.profile.taken → o.code ≡ program_code f padding_of p.body
+    → o.notes ≡ program_notes f padding_of p.body → Accepts o
 laid-accepts p w plan typed limits sound o layout f setting slot some code notes =
     let homes = has-homes p w plan limits sound o layout f setting in
     let once : DeclaredOnce f.decls = subst DeclaredOnce (sym setting.decls) typed.once in
-    program-accepts o f (padding_of f) p.body homes once slot (begins-guarded f) (passes-padded o f homes once some)
+    program-accepts o f padding_of p.body homes once slot begins-guarded (passes-padded o f homes once some)
     (subst (λ ds. TypedBlock (context_of ds) Public p.body) (sym setting.decls) typed.body)
     (program-public p w plan sound o f setting typed.body) limits.heights
     (subst (λ ds. block_weight (context_of ds) Public p.body ≤ max_weight) (sym setting.decls) limits.weight) code notes

@@ -76,8 +76,8 @@ pub frame-made : (f : Frame) (l : Latencies) (o : Parts) → IsFrame f → Laten
     → ((banks : List BankSpec) → map (λ b. b.blocks) banks ≡ f.places.now.blocks.items
     → EachAfter (SymbolFits (2 ^ f.profile.now.block_log) banks) [] o.symbols)
     → BlockHasWords (source_of f.program.now).body
-    → o.code ≡ program_code (setting_of f) (padding_of (setting_of f)) (source_of f.program.now).body
-    → o.notes ≡ program_notes (setting_of f) (padding_of (setting_of f)) (source_of f.program.now).body
+    → o.code ≡ program_code (setting_of f) padding_of (source_of f.program.now).body
+    → o.notes ≡ program_notes (setting_of f) padding_of (source_of f.program.now).body
     → IsMadeOf (source_of f.program.now) (plan_of f) f.profile.now f.reduces f.held.now l o
 frame-made f l o frame latencies profile banks symbols named words code notes =
     let blocks : map (λ (b : BankSpec). b.blocks) o.banks ≡ f.places.now.blocks.items =

@@ -13,19 +13,21 @@ use Rattle.src_tree.specs.Meaning.{run_of_block}
 use Rattle.block_cache_gen.specs.Homes.{Setting}
 use Rattle.code_gen.specs.Follows.{Follows}
 use Rattle.code_gen.specs.Statements.{Padding, block_code}
-use Rattle.code_gen.specs.Programs.{beginning, ending, program_code}
+use Rattle.code_gen.specs.Programs.{at_start, beginning, ending, program_code}
+use Rattle.code_gen.proofs.AtStart.{start-public}
 use Rattle.code_gen.proofs.Followed.{PartsFollow, block-follows}
 
 -- the statements of a program are followed in its object
 pub body-follows : (p : Source) (o : Parts)
     → IsInRange o → (f : Setting) (padded : Padding) → f.decls ≡ p.decls → IsTyped p
     → IsWithinLimits p → o.code ≡ program_code f padded p.body → PartsFollow o f padded
-    → Follows o f (length (beginning f)) (block_code f padded p.body) (run_of_block p.decls p.body)
+    → Follows o f (at_start f).ranges (length (beginning f)) (block_code (at_start f) padded p.body)
+    (run_of_block p.decls p.body)
 body-follows p o fits f padded decls typed within code_is parts =
-    let body = block_code f padded p.body in
+    let body = block_code (at_start f) padded p.body in
     let place : 0 + length (beginning f) ≡ length (beginning f) = omega arith in
-    subst (λ ds. Follows o f (length (beginning f)) body (run_of_block ds p.body)) decls
-    (block-follows o fits f padded parts p.body (length (beginning f))
+    subst (λ ds. Follows o f (at_start f).ranges (length (beginning f)) body (run_of_block ds p.body)) decls
+    (block-follows o fits f padded parts (at_start f).ranges (start-public f) p.body (length (beginning f))
     (subst (λ ds. TypedBlock (context_of ds) Public p.body) (sym decls) typed.body) within.heights
     (standing-first body (ending f)
     (subst (λ n. StandsAt o n (body ++ ending f)) place

@@ -28,7 +28,7 @@ use Rattle.block_cache_gen.specs.Homes.{Home, Setting, home_of, words_a_block, s
 use Rattle.block_cache_gen.specs.Settings.{home_at, setting_for}
 use Rattle.block_cache_gen.specs.StandsFor.{FitsHomes}
 use Rattle.held_registers.proofs.Sound.{nothing-sound}
-use Rattle.block_cache_gen.proofs.Settled.{IsSettingOf, width, bank-count, bank-blocks, home-at, named-below, homes-apart}
+use Rattle.block_cache_gen.proofs.Settled.{IsSettingOf, width, bank-count, bank-blocks, home-at, named-below, homes-apart, place-length}
 use Rattle.code_gen.specs.Implements.{HasSymbols, by_name}
 use Rattle.code_gen.proofs.Started.{BanksHold}
 use Rattle.code_gen.proofs.Implementing.{NamesWords}
@@ -316,12 +316,22 @@ module _ (p : Source) (w : ℕ) (plan : Plan) (once : DeclaredOnce p.decls) (lim
       subst (λ s. symbol_words o u s ≡ words_named left s) (sym variable.is)
       (symbol-told u left hold fit variable.number variable.below))
 
+  -- each variable has a word
+  words-some : (store : Store) → FitsWants (declared_wants p.decls) store → (k : ℕ) → k < length p.decls
+      → 0 < length (words_of_number store k)
+  words-some store given k below =
+      let at = fits-at p.decls store given k below in
+      let q = sound.place k below in
+      let long = place-length p w plan k limits sound below in
+      omega (arith, at.size, q.words, long.0)
+
   -- the object's inputs and outputs are the words of the program's variables
   pub names-words : NamesWords p o f
   names-words = record {
     decls = setting.decls;
     symbols = has-symbols;
     fit = store-fits;
+    some = words-some;
     inputs = inputs-fit;
     hold = banks-start;
     tell = outputs-told;

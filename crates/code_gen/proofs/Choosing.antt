@@ -19,6 +19,7 @@ use Rattle.stretches.proofs.Standing.{standing-first, standing-rest, standing-he
 use Rattle.stretches.proofs.Coming.{comes-here, comes-weaker, comes-jmp, comes-br_taken, comes-br_on}
 use Rattle.src_tree.specs.Meaning.{Store, Left, Execution}
 use Rattle.src_tree.proofs.Loops.{left}
+use Rattle.scalar_ranges.specs.Ranges.{AreWithin, Ranges}
 use Rattle.block_cache_gen.specs.Homes.{Setting}
 use Rattle.block_cache_gen.specs.StandsFor.{FitsHomes, StandsFor}
 use Rattle.code_gen.specs.Follows.{Finishes, Lasts, Follows}
@@ -91,11 +92,11 @@ jumped-over {o = o} {f = f} fits (i ∷ code) t store shaped at stands =
     (stands-moved _ _ stands))
     refl (omega arith) (omega arith) (λ u shape h. h)
 
-module _ (o : Parts) (fits : IsInRange o) (f : Setting) (p : ℕ) (guard first second : List Instr) (cmp : Cmp)
-    (holds : Store → Bool)
-    (one two : Execution) (at : StandsAt o p (choice_code guard cmp first second)) (tests : Tests o f p guard cmp holds)
-    (follows : Follows o f (p + length guard + 1) first one)
-    (follows_second : Follows o f (p + length guard + places_over first second) second two) where
+module _ (o : Parts) (fits : IsInRange o) (f : Setting) (known : Ranges) (p : ℕ) (guard first second : List Instr)
+    (cmp : Cmp) (holds : Store → Bool)
+    (one two : Execution) (at : StandsAt o p (choice_code guard cmp first second))
+    (tests : Tests o f known p guard cmp holds) (follows : Follows o f known (p + length guard + 1) first one)
+    (follows_second : Follows o f known (p + length guard + places_over first second) second two) where
   abbrev over : Instr
   over = Br (opposite cmp) 0 1 (pos (places_over first second))
 
@@ -151,13 +152,13 @@ module _ (o : Parts) (fits : IsInRange o) (f : Setting) (p : ℕ) (guard first s
       refl (omega (arith, place)) (omega arith) (λ u shape h. h)
 
   module _ (s : State) (store : Store) (turns : ℕ) (shaped : IsShaped o s) (place : s.place ≡ p)
-      (stands : StandsFor f s store) (has : FitsHomes f store) where
+      (stands : StandsFor f s store) (has : FitsHomes f store) (within : AreWithin known store) where
     first_done : (l : Left) → holds store ≡ true → one (left store turns) ≡ Some l
         → Finishes o f s turns l behind (greatest_costs o (choice_code guard cmp first second))
     first_done l e is =
-        let (shown, tested) = tests.tested s store shaped place stands has in
+        let (shown, tested) = tests.tested s store shaped place stands has within in
         let on = branch_on tested.end store tested.shaped tested.comes tested.holds e in
-        let body = follows.done on.end store turns l on.shaped on.comes on.holds has is in
+        let body = follows.done on.end store turns l on.shaped on.comes on.holds has within is in
         let jump =
         jumped-over {f = f} fits second body.end l.store body.shaped
         (subst (λ q. StandsAt o q (second_code second)) (sym body.comes) jump_at) body.stands in
@@ -174,9 +175,9 @@ module _ (o : Parts) (fits : IsInRange o) (f : Setting) (p : ℕ) (guard first s
     second_done : (l : Left) → holds store ≡ false → two (left store turns) ≡ Some l
         → Finishes o f s turns l behind (greatest_costs o (choice_code guard cmp first second))
     second_done l e is =
-        let (shown, tested) = tests.tested s store shaped place stands has in
+        let (shown, tested) = tests.tested s store shaped place stands has within in
         let on = branch_over tested.end store tested.shaped tested.comes tested.holds e in
-        let body = follows_second.done on.end store turns l on.shaped on.comes on.holds has is in
+        let body = follows_second.done on.end store turns l on.shaped on.comes on.holds has within is in
         let last = branch + places_over first second + length second in
         finishes-weaker behind (greatest_costs o (choice_code guard cmp first second))
         (finishes-behind l last (greatest_cost o over + greatest_costs o second) fits shaped tested
@@ -186,18 +187,18 @@ module _ (o : Parts) (fits : IsInRange o) (f : Setting) (p : ℕ) (guard first s
 
     first_spent : holds store ≡ true → one (left store turns) ≡ None → Lasts o s turns
     first_spent e is =
-        let (shown, tested) = tests.tested s store shaped place stands has in
+        let (shown, tested) = tests.tested s store shaped place stands has within in
         let on = branch_on tested.end store tested.shaped tested.comes tested.holds e in
         lasts-behind fits shaped tested
-        (lasts-behind fits tested.shaped on (follows.spent on.end store turns on.shaped on.comes on.holds has is))
+        (lasts-behind fits tested.shaped on (follows.spent on.end store turns on.shaped on.comes on.holds has within is))
 
     second_spent : holds store ≡ false → two (left store turns) ≡ None → Lasts o s turns
     second_spent e is =
-        let (shown, tested) = tests.tested s store shaped place stands has in
+        let (shown, tested) = tests.tested s store shaped place stands has within in
         let on = branch_over tested.end store tested.shaped tested.comes tested.holds e in
         lasts-behind fits shaped tested
         (lasts-behind fits tested.shaped on
-        (follows_second.spent on.end store turns on.shaped on.comes on.holds has is))
+        (follows_second.spent on.end store turns on.shaped on.comes on.holds has within is))
 
   -- what is done by a guard that is known
   by_guard : (store : Store) (turns : ℕ) (b : Bool) (r : Option Left) → holds store ≡ b
@@ -206,17 +207,17 @@ module _ (o : Parts) (fits : IsInRange o) (f : Setting) (p : ℕ) (guard first s
   by_guard store turns b r e is = ap (λ c. if c then one (left store turns) else two (left store turns)) (sym e) ∙ is
 
   -- a choice is followed: its guard holds and the first block runs, or else the second
-  pub follows-choice : Follows o f p (choice_code guard cmp first second)
+  pub follows-choice : Follows o f known p (choice_code guard cmp first second)
       (λ before. if holds before.store then one before else two before)
   follows-choice = record {
-    done = λ s store turns l shaped place stands has is.
+    done = λ s store turns l shaped place stands has within is.
         ⊎_elim
-        (λ e. first_done s store turns shaped place stands has l e (by_guard store turns true (Some l) e is))
-        (λ e. second_done s store turns shaped place stands has l e (by_guard store turns false (Some l) e is))
+        (λ e. first_done s store turns shaped place stands has within l e (by_guard store turns true (Some l) e is))
+        (λ e. second_done s store turns shaped place stands has within l e (by_guard store turns false (Some l) e is))
         (cases_Bool (holds store));
-    spent = λ s store turns shaped place stands has is.
+    spent = λ s store turns shaped place stands has within is.
         ⊎_elim
-        (λ e. first_spent s store turns shaped place stands has e (by_guard store turns true None e is))
-        (λ e. second_spent s store turns shaped place stands has e (by_guard store turns false None e is))
+        (λ e. first_spent s store turns shaped place stands has within e (by_guard store turns true None e is))
+        (λ e. second_spent s store turns shaped place stands has within e (by_guard store turns false None e is))
         (cases_Bool (holds store));
   }

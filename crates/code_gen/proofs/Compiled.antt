@@ -13,11 +13,12 @@ use Rattle.src_tree.specs.Typing.{IsTyped, DeclaredOnce, TypedStatement}
 use Rattle.bank_alloc.specs.Layout.{IsLaidOut}
 use Rattle.scratch_alloc.specs.Plans.{Plan, IsSoundPlan}
 use Rattle.block_cache_gen.specs.HeldCodes.{HasSecretSlot}
-use Rattle.block_cache_gen.specs.Homes.{Setting}
+use Rattle.scalar_ranges.specs.Ranges.{AreOfPublic, Ranges}
+use Rattle.block_cache_gen.specs.Homes.{Setting, ranged}
 use Rattle.block_cache_gen.proofs.Settled.{IsSettingOf, has-homes}
 use Rattle.code_gen.specs.Implements.{Implements}
 use Rattle.code_gen.specs.Statements.{Padding, block_code}
-use Rattle.code_gen.specs.Programs.{beginning, program_code}
+use Rattle.code_gen.specs.Programs.{at_start, beginning, program_code}
 use Rattle.code_gen.specs.Follows.{Follows}
 use Rattle.code_gen.proofs.Implementing.{implements}
 use Rattle.code_gen.proofs.ByName.{names-words}
@@ -29,7 +30,8 @@ pub laid-implements : (p : Source) (w : ℕ) (plan : Plan) → IsTyped p → IsW
     → (o : Parts) → IsInRange o → IsLaidOut p w plan.places plan.blocks o
     → (f : Setting) → IsSettingOf p plan o f → HasSecretSlot f → (padded : Padding)
     → o.code ≡ program_code f padded p.body
-    → Follows o f (length (beginning f)) (block_code f padded p.body) (run_of_block p.decls p.body) → Implements p o
+    → Follows o f (at_start f).ranges (length (beginning f)) (block_code (at_start f) padded p.body)
+    (run_of_block p.decls p.body) → Implements p o
 laid-implements p w plan typed limits sound o fits layout f setting slot padded code follows =
     implements p o fits f (has-homes p w plan limits sound o layout f setting)
     (subst DeclaredOnce (sym setting.decls) typed.once) slot
@@ -38,9 +40,10 @@ laid-implements p w plan typed limits sound o fits layout f setting slot padded 
 -- The same of both, where the code of each branch on a secret follows it.
 abbrev pub SecretsFollow : Parts → Setting → Padding → Type 0
 SecretsFollow o f padded =
-    (t : Test) (a b : Block) (place : ℕ) → TypedStatement (context_of f.decls) Public (Choice t a b)
-    → LowStatement (Choice t a b) → label_of_test (context_of f.decls) t ≡ Secret → StandsAt o place (padded t a b)
-    → Follows o f place (padded t a b) (run_of f.decls (Choice t a b))
+    (known : Ranges) → AreOfPublic f.decls known → (t : Test) (a b : Block) (place : ℕ)
+    → TypedStatement (context_of f.decls) Public (Choice t a b) → LowStatement (Choice t a b)
+    → label_of_test (context_of f.decls) t ≡ Secret → StandsAt o place (padded (ranged f known) t a b)
+    → Follows o f known place (padded (ranged f known) t a b) (run_of f.decls (Choice t a b))
 
 -- an object with the program's layout and code implements it, where its branches on secrets are followed
 pub laid-padded-implements : (p : Source) (w : ℕ) (plan : Plan) → IsTyped p → IsWithinLimits p → IsSoundPlan p w plan

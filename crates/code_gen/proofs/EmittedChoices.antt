@@ -14,15 +14,15 @@ use Rattle.src_tree.specs.Trees.{Test, Statement, SetVariable, SetElement, Choic
 use Rattle.src_tree.specs.Contexts.{context_of}
 use Rattle.src_tree.specs.Labels.{label_of_test}
 use Rattle.block_cache_gen.specs.declared.frames.CodeBuf.{CodeBuf}
-use Rattle.block_cache_gen.specs.declared.frames.Mode.TheVariants.{Public, Real, Mirrored}
+use Rattle.block_cache_gen.specs.declared.frames.Mode.TheVariants.{Public}
 use Rattle.block_cache_gen.specs.Homes.{Setting}
 use Rattle.block_cache_gen.specs.Codes.{guard_code}
 use Rattle.block_cache_gen.specs.Notes.{guard_notes}
-use Rattle.block_cache_gen.specs.Alike.{pair_count}
 use Rattle.block_cache_gen.specs.Emitted.{Appended, no_notes, EmitsGuard}
 use Rattle.block_cache_gen.proofs.Emitting.{appended_length}
 use Rattle.block_cache_gen.proofs.SomeCode.{guard_code-some, set_code-some}
-use Rattle.branch_padding.specs.Padded.{padded_codes, region_code, untaken_arm, taken_arm}
+use Rattle.branch_padding.specs.Padded.{region_code, first_of, second_of}
+use Rattle.branch_padding.specs.AfterStatements.{after}
 use Rattle.code_gen.specs.Statements.{opposite, second_code, places_over, choice_code, choice_by, statement_code, block_code, block_notes, block_ends_noted, head_note, head_unless, choice_notes, notes_by}
 use Rattle.code_gen.specs.Emitted.{padding_of, EmitsStatement, EmitsBlock, ClosesChoice, before_second, second_notes}
 use Rattle.code_gen.proofs.EmittedParts.{guard-length}
@@ -32,33 +32,32 @@ pub longer : (xs ys : List Instr) → 1 ≤ length xs → 1 ≤ length (xs ++ ys
 longer xs ys some = omega (arith, length-append xs ys)
 
 -- no statement is made into no code
-statement_code-some : (f : Setting) (s : Statement) → 1 ≤ length (statement_code f (padding_of f) s)
+statement_code-some : (f : Setting) (s : Statement) → 1 ≤ length (statement_code f padding_of s)
 statement_code-some f (SetVariable x e) = set_code-some f Public (SetVariable x e) tt
 statement_code-some f (SetElement x i e) = set_code-some f Public (SetElement x i e) tt
 statement_code-some f (Choice t a b) = by (label_of_test (context_of f.decls) t)
   where
     by : (l : Label)
-        → 1 ≤ length (choice_by l (choice_code (guard_code f Public 0 t) t.cmp (block_code f (padding_of f) a)
-        (block_code f (padding_of f) b)) (padding_of f t a b))
+        → 1 ≤ length (choice_by l (choice_code (guard_code f Public 0 t) t.cmp (block_code f padding_of a)
+        (block_code f padding_of b)) (padding_of f t a b))
     by label.Public =
         longer (guard_code f Public 0 t)
-        (Br (opposite t.cmp) 0 1 (pos (places_over (block_code f (padding_of f) a) (block_code f (padding_of f) b)))
-        ∷ (block_code f (padding_of f) a ++ second_code (block_code f (padding_of f) b)))
+        (Br (opposite t.cmp) 0 1 (pos (places_over (block_code f padding_of a) (block_code f padding_of b)))
+        ∷ (block_code f padding_of a ++ second_code (block_code f padding_of b)))
         (guard_code-some f Public 0 t)
     by label.Secret =
         longer (guard_code f Public 0 t)
-        (region_code f.profile.taken t.cmp
-        (untaken_arm (pair_count f a b) (padded_codes f Real b) (padded_codes f Mirrored a))
-        (taken_arm (pair_count f a b) (padded_codes f Real a) (padded_codes f Mirrored b)))
+        (region_code t.cmp (first_of f Public a b) (second_of f Public a b))
         (guard_code-some f Public 0 t)
 statement_code-some f (Loop t a) = omega arith
 
 -- some statements make some code
 pub block_code-some : (f : Setting) (statements : List Stmt) → 1 ≤ length statements
-    → 1 ≤ length (block_code f (padding_of f) (block_of_all statements))
+    → 1 ≤ length (block_code f padding_of (block_of_all statements))
 block_code-some f [] some = absurd (omega arith)
 block_code-some f (s ∷ statements) some =
-    longer (statement_code f (padding_of f) (statement_of s)) (block_code f (padding_of f) (block_of_all statements))
+    longer (statement_code f padding_of (statement_of s))
+    (block_code (after f (statement_of s)) padding_of (block_of_all statements))
     (statement_code-some f (statement_of s))
 
 -- statements from one on
@@ -111,15 +110,15 @@ second_notes-any f place (i ∷ code) others n m e some = refl
 
 -- a choice whose second block isn't empty
 pub closes-any : (f : Setting) (cmp : Cmp) (branch : ℕ) (n m : Bool) (b : Block) (d e : CodeBuf)
-    → 1 ≤ length (block_code f (padding_of f) b) → ClosesChoice f cmp branch n b d e → ClosesChoice f cmp branch m b d e
+    → 1 ≤ length (block_code f padding_of b) → ClosesChoice f cmp branch n b d e → ClosesChoice f cmp branch m b d e
 closes-any f cmp branch n m b d e some closes = record {
   code = closes.code;
   notes =
       closes.notes
       ∙ ap (λ l. d.notes.items ++ l)
-      (second_notes-any f (length d.code.items) (block_code f (padding_of f) b)
-      (block_notes f (padding_of f) (length d.code.items + 1) b) n m
-      (block_ends_noted f b) some);
+      (second_notes-any f (length d.code.items) (block_code f padding_of b)
+      (block_notes f padding_of (length d.code.items + 1) b) n m
+      (block_ends_noted f.decls b) some);
 }
 
 -- one whose second block is empty
@@ -143,20 +142,20 @@ closes-bare f cmp branch noted d e g code notes more =
 
 -- the second block after its jump
 pub closes-second : (f : Setting) (cmp : Cmp) (branch jump : ℕ) (noted : Bool) (b : Block) (old : Instr)
-    (d e g h i k l : CodeBuf) → branch < length d.code.items → jump ≡ length d.code.items → noted ≡ block_ends_noted f b
-    → 1 ≤ length (block_code f (padding_of f) b) → Appended d e (old ∷ []) no_notes
+    (d e g h i k l : CodeBuf) → branch < length d.code.items → jump ≡ length d.code.items → noted ≡ block_ends_noted f.decls b
+    → 1 ≤ length (block_code f padding_of b) → Appended d e (old ∷ []) no_notes
     → g.code.items ≡ set e.code.items branch (Br (opposite cmp) 0 1 (pos (length e.code.items - branch)))
     → g.notes.items ≡ e.notes.items → Appended g h [] (λ place. head_note f place ∷ []) → EmitsBlock f b h i
     → k.code.items ≡ set i.code.items jump (Jmp (pos (length i.code.items - jump))) → k.notes.items ≡ i.notes.items
     → Appended k l [] (λ place. head_unless noted f place) → ClosesChoice f cmp branch true b d l
 closes-second f cmp branch jump noted b old d e g h i k l before is_jump is_noted some x g_code g_notes y z k_code
     k_notes w =
-    by (block_code f (padding_of f) b) refl
+    by (block_code f padding_of b) refl
   where
-    by : (code : List Instr) → block_code f (padding_of f) b ≡ code → ClosesChoice f cmp branch true b d l
+    by : (code : List Instr) → block_code f padding_of b ≡ code → ClosesChoice f cmp branch true b d l
     by [] is = absurd (omega (arith, some, ap (λ c. length c) is))
     by (j ∷ code) is =
-        let all = block_code f (padding_of f) b in
+        let all = block_code f padding_of b in
         let D = length d.code.items in
         let E = length e.code.items in
         let e_long : E ≡ D + 1 = appended_length d e (old ∷ []) no_notes x in
@@ -185,8 +184,8 @@ closes-second f cmp branch jump noted b old d e g h i k l before is_jump is_note
         omega (arith, appended_length g h [] (λ place. head_note f place ∷ []) y, g_long) in
         let k_long : length k.code.items ≡ D + (1 + length all) =
         omega (arith, ap (λ l. length l) k_is, length-append (set d.code.items branch over) (to ∷ all), set_long) in
-        let notes = block_notes f (padding_of f) (D + 1) b in
-        let ends = block_ends_noted f b in
+        let notes = block_notes f padding_of (D + 1) b in
+        let ends = block_ends_noted f.decls b in
         let h_notes : h.notes.items ≡ d.notes.items ++ head_note f (D + 1) ∷ [] =
         y.notes
         ∙ ap (λ l. l ++ head_note f (length g.code.items) ∷ []) (g_notes ∙ x.notes ∙ append-nil d.notes.items)
@@ -195,7 +194,7 @@ closes-second f cmp branch jump noted b old d e g h i k l before is_jump is_note
         ≡ d.notes.items ++ (head_note f (D + 1) ∷ (notes ++ head_unless ends f (D + (1 + length all)))) =
         w.notes
         ∙ ap (λ l. l ++ head_unless noted f (length k.code.items))
-        (k_notes ∙ z.notes ∙ ap (λ n. h.notes.items ++ block_notes f (padding_of f) n b) h_long
+        (k_notes ∙ z.notes ∙ ap (λ n. h.notes.items ++ block_notes f padding_of n b) h_long
         ∙ ap (λ l. l ++ notes) h_notes)
         ∙ ap (λ n. (d.notes.items ++ head_note f (D + 1) ∷ [] ++ notes) ++ head_unless noted f n) k_long
         ∙ ap (λ n. (d.notes.items ++ head_note f (D + 1) ∷ [] ++ notes) ++ head_unless n f (D + (1 + length all)))
@@ -221,11 +220,11 @@ closes-second f cmp branch jump noted b old d e g h i k l before is_jump is_note
 pub choice-emitted : (f : Setting) (t : Test) (a b : Block) (x0 x1 x2 x3 x4 : CodeBuf) (old : Instr) (branch : ℕ)
     (noted : Bool) → label_of_test (context_of f.decls) t ≡ label.Public → EmitsGuard f Public 0 t x0 x1
     → Appended x1 x2 (old ∷ []) no_notes → EmitsBlock f a x2 x3 → branch ≡ length x1.code.items
-    → noted ≡ block_ends_noted f a → ClosesChoice f t.cmp branch noted b x3 x4 → EmitsStatement f (Choice t a b) x0 x4
+    → noted ≡ block_ends_noted f.decls a → ClosesChoice f t.cmp branch noted b x3 x4 → EmitsStatement f (Choice t a b) x0 x4
 choice-emitted f t a b x0 x1 x2 x3 x4 old branch noted public x y z is_branch is_noted w =
     let G = guard_code f Public 0 t in
-    let F = block_code f (padding_of f) a in
-    let S = block_code f (padding_of f) b in
+    let F = block_code f padding_of a in
+    let S = block_code f padding_of b in
     let X = length x0.code.items in
     let P = X + (length G + 1) in
     let Q = X + (length G + (1 + (length F + 1))) in
@@ -243,24 +242,24 @@ choice-emitted f t a b x0 x1 x2 x3 x4 old branch noted public x y z is_branch is
     ∙ ap (λ n. set x3.code.items n over) is_branch
     ∙ ap (λ l. set l (length x1.code.items) over) three
     ∙ set-append_seam x1.code.items old F over in
-    let ends : Bool × Bool = (block_ends_noted f a, block_ends_noted f b) in
-    let tail = second_notes f (P + length F) S (block_notes f (padding_of f) Q b) ends in
-    let is_tail : second_notes f (length x3.code.items) S (block_notes f (padding_of f) (length x3.code.items + 1) b)
-    (noted, block_ends_noted f b) ≡ tail =
-    ap (λ n. second_notes f n S (block_notes f (padding_of f) (n + 1) b) (noted, block_ends_noted f b)) three_long
-    ∙ ap (λ n. second_notes f (P + length F) S (block_notes f (padding_of f) n b) (noted, block_ends_noted f b))
+    let ends : Bool × Bool = (block_ends_noted f.decls a, block_ends_noted f.decls b) in
+    let tail = second_notes f (P + length F) S (block_notes f padding_of Q b) ends in
+    let is_tail : second_notes f (length x3.code.items) S (block_notes f padding_of (length x3.code.items + 1) b)
+    (noted, block_ends_noted f.decls b) ≡ tail =
+    ap (λ n. second_notes f n S (block_notes f padding_of (n + 1) b) (noted, block_ends_noted f.decls b)) three_long
+    ∙ ap (λ n. second_notes f (P + length F) S (block_notes f padding_of n b) (noted, block_ends_noted f.decls b))
     (omega arith)
-    ∙ ap (λ n. second_notes f (P + length F) S (block_notes f (padding_of f) Q b) (n, block_ends_noted f b)) is_noted in
-    let three_notes : x3.notes.items ≡ x0.notes.items ++ (guard_notes f 0 X t ++ block_notes f (padding_of f) P a) =
+    ∙ ap (λ n. second_notes f (P + length F) S (block_notes f padding_of Q b) (n, block_ends_noted f.decls b)) is_noted in
+    let three_notes : x3.notes.items ≡ x0.notes.items ++ (guard_notes f 0 X t ++ block_notes f padding_of P a) =
     z.notes
-    ∙ ap (λ n. x2.notes.items ++ block_notes f (padding_of f) n a) two_long
-    ∙ ap (λ l. l ++ block_notes f (padding_of f) P a) (y.notes ∙ append-nil x1.notes.items ∙ x.notes)
-    ∙ append_assoc x0.notes.items (guard_notes f 0 X t) (block_notes f (padding_of f) P a) in
+    ∙ ap (λ n. x2.notes.items ++ block_notes f padding_of n a) two_long
+    ∙ ap (λ l. l ++ block_notes f padding_of P a) (y.notes ∙ append-nil x1.notes.items ∙ x.notes)
+    ∙ append_assoc x0.notes.items (guard_notes f 0 X t) (block_notes f padding_of P a) in
     let Made : Label → Type 0 = λ l. Appended x0 x4 (choice_by l (choice_code G t.cmp F S) (padding_of f t a b))
     (λ place. guard_notes f 0 place t
     ++ notes_by l
-    (choice_notes f (place + (length G + 1)) F S (block_notes f (padding_of f) (place + (length G + 1)) a)
-    (block_notes f (padding_of f) (place + (length G + (1 + (length F + 1)))) b) ends)) in
+    (choice_notes f (place + (length G + 1)) F S (block_notes f padding_of (place + (length G + 1)) a)
+    (block_notes f padding_of (place + (length G + (1 + (length F + 1)))) b) ends)) in
     subst Made (sym public)
     (record {
       code =
@@ -270,8 +269,8 @@ choice-emitted f t a b x0 x1 x2 x3 x4 old branch noted public x y z is_branch is
           ∙ append_assoc x0.code.items G (over ∷ (F ++ second_code S));
       notes =
           w.notes ∙ ap (λ l. x3.notes.items ++ l) is_tail ∙ ap (λ l. l ++ tail) three_notes
-          ∙ append_assoc x0.notes.items (guard_notes f 0 X t ++ block_notes f (padding_of f) P a) tail
-          ∙ ap (λ l. x0.notes.items ++ l) (append_assoc (guard_notes f 0 X t) (block_notes f (padding_of f) P a) tail)
+          ∙ append_assoc x0.notes.items (guard_notes f 0 X t ++ block_notes f padding_of P a) tail
+          ∙ ap (λ l. x0.notes.items ++ l) (append_assoc (guard_notes f 0 X t) (block_notes f padding_of P a) tail)
           ∙ ap (λ l. x0.notes.items ++ (guard_notes f 0 X t ++ l))
-          (sym (choice_notes-is f P F S (block_notes f (padding_of f) P a) (block_notes f (padding_of f) Q b) ends));
+          (sym (choice_notes-is f P F S (block_notes f padding_of P a) (block_notes f padding_of Q b) ends));
     })

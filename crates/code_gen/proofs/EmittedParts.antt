@@ -7,6 +7,7 @@ use Rattle.gr_word.specs.declared.variables.Label.{Label}
 use Rattle.gr_word.specs.declared.variables.Label.TheVariants as label
 use Rattle.lt_isa.specs.declared.instructions.Instr.{Instr}
 use Rattle.lt_isa.specs.declared.instructions.Instr.TheVariants.{Jmp, Br}
+use Rattle.src_tree.specs.declared.trees.Decl.{Decl}
 use Rattle.src_tree.specs.Trees.{Tree, Number, Variable, Element, Operation, Test, Statement, SetVariable, SetElement, Choice, Loop, Block, Nothing, Then}
 use Rattle.src_tree.specs.Contexts.{Context, context_of}
 use Rattle.src_tree.specs.Labels.{label_of_test}
@@ -19,6 +20,7 @@ use Rattle.block_cache_gen.specs.Notes.{guard_notes, set_notes}
 use Rattle.block_cache_gen.specs.Emitted.{Appended, no_notes, EmitsGuard, EmitsSet}
 use Rattle.block_cache_gen.proofs.Emitting.{appended_then, appended_length}
 use Rattle.block_cache_gen.proofs.Sizes.{expr_code_short, set_code_short}
+use Rattle.branch_padding.specs.AfterStatements.{after, behind_loop, within_loop}
 use Rattle.code_gen.specs.Statements.{statement_code, block_code, statement_notes, block_notes, block_ends_noted, head_note, head_unless, guard_note}
 use Rattle.code_gen.specs.Emitted.{padding_of, EmitsStatement, EmitsBlock, ClosesLoop, noted_behind}
 
@@ -81,16 +83,16 @@ element-short f x i e a b made =
     )
 
 -- after a jump that was set, a note that may be there, and a guard
-pub closing-length : (f : Setting) (t : Test) (a b c d : CodeBuf) (start : ℕ) (jump : Instr) (noted : Bool)
+pub closing-length : (f g : Setting) (t : Test) (a b c d : CodeBuf) (start : ℕ) (jump : Instr) (noted : Bool)
     → b.code.items ≡ set a.code.items start jump → Appended b c [] (λ place. head_unless noted f place)
-    → EmitsGuard f Public 0 t c d → length d.code.items ≡ length a.code.items + length (guard_code f Public 0 t)
-closing-length f t a b c d start jump noted is x y =
+    → EmitsGuard g Public 0 t c d → length d.code.items ≡ length a.code.items + length (guard_code g Public 0 t)
+closing-length f g t a b c d start jump noted is x y =
     omega (
       arith,
       ap (λ l. length l) is,
       length-set a.code.items start jump,
       appended_length b c [] (λ place. head_unless noted f place) x,
-      guard-length f t c d y,
+      guard-length g t c d y,
     )
 
 -- the branch after it
@@ -113,10 +115,10 @@ pub unless-short : (f : Setting) (noted : Bool) (n : ℕ) (d e : CodeBuf) → le
 unless-short f noted n d e few x = omega (arith, few, appended_length d e [] (λ place. head_unless noted f place) x)
 
 -- a block, statement by statement
-pub noted_behind-none : (f : Setting) (b : Block) → noted_behind f false b ≡ block_ends_noted f b
-noted_behind-none f Nothing = refl
-noted_behind-none f (Then s Nothing) = refl
-noted_behind-none f (Then s (Then t rest)) = noted_behind-none f (Then t rest)
+pub noted_behind-none : (decls : List Decl) (b : Block) → noted_behind decls false b ≡ block_ends_noted decls b
+noted_behind-none decls Nothing = refl
+noted_behind-none decls (Then s Nothing) = refl
+noted_behind-none decls (Then s (Then t rest)) = noted_behind-none decls (Then t rest)
 
 -- no statement was made
 pub block-none : (f : Setting) (a : CodeBuf) → EmitsBlock f Nothing a a
@@ -124,10 +126,10 @@ block-none f a = record { code = sym (append-nil a.code.items); notes = sym (app
 
 -- one statement and then the rest
 pub block-then : (f : Setting) (s : Statement) (rest : Block) (a b c : CodeBuf)
-    → EmitsStatement f s a b → EmitsBlock f rest b c → EmitsBlock f (Then s rest) a c
+    → EmitsStatement f s a b → EmitsBlock (after f s) rest b c → EmitsBlock f (Then s rest) a c
 block-then f s rest a b c x y =
-    appended_then a b c (statement_code f (padding_of f) s) (block_code f (padding_of f) rest)
-    (λ place. statement_notes f (padding_of f) place s) (λ place. block_notes f (padding_of f) place rest) x y
+    appended_then a b c (statement_code f padding_of s) (block_code (after f s) padding_of rest)
+    (λ place. statement_notes f padding_of place s) (λ place. block_notes (after f s) padding_of place rest) x y
 
 -- a jump whose target becomes known
 set_jump-is : (before more : List Instr) (old new : Instr) (code : List Instr) → code ≡ before ++ old ∷ more
@@ -152,13 +154,15 @@ guard_note-is f (i ∷ code) ends start behind is =
 
 -- a loop
 pub loop-emitted : (f : Setting) (t : Test) (body : Block) (a b c d e : CodeBuf) (old : Instr) (start : ℕ)
-    (noted : Bool) → start ≡ length a.code.items → noted ≡ block_ends_noted f body → Appended a b (old ∷ []) no_notes
-    → Appended b c [] (λ place. head_note f place ∷ []) → EmitsBlock f body c d → ClosesLoop f t start noted d e
-    → EmitsStatement f (Loop t body) a e
+    (noted : Bool) → start ≡ length a.code.items → noted ≡ block_ends_noted f.decls body → Appended a b (old ∷ []) no_notes
+    → Appended b c [] (λ place. head_note f place ∷ []) → EmitsBlock (within_loop f t body) body c d
+    → ClosesLoop f (behind_loop f body).ranges t start noted d e → EmitsStatement f (Loop t body) a e
 loop-emitted f t body a b c d e old start noted is_start is_noted x y z w =
     let A = length a.code.items in
-    let guard = guard_code f Public 0 t in
-    let code = block_code f (padding_of f) body in
+    let inner = within_loop f t body in
+    let behind = behind_loop f body in
+    let guard = guard_code behind Public 0 t in
+    let code = block_code inner padding_of body in
     let D = length d.code.items in
     let jump = Jmp (pos (length code + 1)) in
     let is_d : d.code.items ≡ a.code.items ++ old ∷ code =
@@ -174,13 +178,13 @@ loop-emitted f t body a b c d e old start noted is_start is_noted x y z w =
     let c_long : length c.code.items ≡ A + 1 =
     omega
     (arith, appended_length a b (old ∷ []) no_notes x, appended_length b c [] (λ place. head_note f place ∷ []) y) in
-    let is_notes : d.notes.items ≡ a.notes.items ++ (head_note f (A + 1) ∷ block_notes f (padding_of f) (A + 1) body) =
+    let is_notes : d.notes.items ≡ a.notes.items ++ (head_note f (A + 1) ∷ block_notes inner padding_of (A + 1) body) =
     z.notes
-    ∙ ap (λ n. c.notes.items ++ block_notes f (padding_of f) n body) c_long
-    ∙ ap (λ l. l ++ block_notes f (padding_of f) (A + 1) body)
+    ∙ ap (λ n. c.notes.items ++ block_notes inner padding_of n body) c_long
+    ∙ ap (λ l. l ++ block_notes inner padding_of (A + 1) body)
     (y.notes ∙ ap (λ l. l ++ head_note f (length b.code.items) ∷ []) (x.notes ∙ append-nil a.notes.items)
     ∙ ap (λ n. a.notes.items ++ head_note f n ∷ []) (appended_length a b (old ∷ []) no_notes x))
-    ∙ append_assoc a.notes.items (head_note f (A + 1) ∷ []) (block_notes f (padding_of f) (A + 1) body) in
+    ∙ append_assoc a.notes.items (head_note f (A + 1) ∷ []) (block_notes inner padding_of (A + 1) body) in
     let at_guard : ◌≡◌ {A = ℕ} D (A + (1 + length code)) = omega arith in
     record {
       code =
@@ -191,14 +195,14 @@ loop-emitted f t body a b c d e old start noted is_start is_noted x y z w =
           (guard ++ Br t.cmp 0 1 (negsuc ((length code + length guard) - 1)) ∷ []);
       notes =
           w.notes
-          ∙ ap (λ l. l ++ (head_unless (noted || (D == start + 1)) f D ++ guard_notes f 0 D t)) is_notes
-          ∙ append_assoc a.notes.items (head_note f (A + 1) ∷ block_notes f (padding_of f) (A + 1) body)
-          (head_unless (noted || (D == start + 1)) f D ++ guard_notes f 0 D t)
+          ∙ ap (λ l. l ++ (head_unless (noted || (D == start + 1)) f D ++ guard_notes behind 0 D t)) is_notes
+          ∙ append_assoc a.notes.items (head_note f (A + 1) ∷ block_notes inner padding_of (A + 1) body)
+          (head_unless (noted || (D == start + 1)) f D ++ guard_notes behind 0 D t)
           ∙ ap (λ l. a.notes.items
-          ++ (head_note f (A + 1) ∷ (block_notes f (padding_of f) (A + 1) body ++ (l ++ guard_notes f 0 D t))))
+          ++ (head_note f (A + 1) ∷ (block_notes inner padding_of (A + 1) body ++ (l ++ guard_notes behind 0 D t))))
           (guard_note-is f code noted start D (omega arith) ∙ ap (λ n. guard_note f code n D) is_noted)
           ∙ ap (λ n. a.notes.items
           ++ (head_note f (A + 1)
-          ∷ (block_notes f (padding_of f) (A + 1) body
-          ++ (guard_note f code (block_ends_noted f body) n ++ guard_notes f 0 n t)))) at_guard;
+          ∷ (block_notes inner padding_of (A + 1) body
+          ++ (guard_note f code (block_ends_noted f.decls body) n ++ guard_notes behind 0 n t)))) at_guard;
     }

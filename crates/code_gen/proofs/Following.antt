@@ -17,6 +17,7 @@ use Rattle.stretches.specs.Coming.{Comes}
 use Rattle.stretches.proofs.Standing.{greatest_costs-append}
 use Rattle.src_tree.specs.Meaning.{Store, Left, Execution, in_turn}
 use Rattle.src_tree.proofs.Loops.{left}
+use Rattle.scalar_ranges.specs.Ranges.{AreWithin, Ranges}
 use Rattle.block_cache_gen.specs.Homes.{Setting}
 use Rattle.block_cache_gen.specs.StandsFor.{FitsHomes, StandsFor}
 use Rattle.block_cache_gen.specs.Assignments.{Assigns}
@@ -48,17 +49,18 @@ pub record Tested (f : Setting) (cmp : Cmp) (holds : Store → Bool) (store : St
   pub says : compared cmp (register t 0) (register t 1) ≡ holds store
   pub stands : StandsFor f t store
 
--- code at a place tests a guard
-pub record Tests (o : Parts) (f : Setting) (place : ℕ) (code : List Instr) (cmp : Cmp)
+-- code at a place tests a guard of a store within what is known
+pub record Tests (o : Parts) (f : Setting) (known : Ranges) (place : ℕ) (code : List Instr) (cmp : Cmp)
     (holds : Store → Bool) : Type 0 where
   pub tested : (s : State) (store : Store) → IsShaped o s → s.place ≡ place → StandsFor f s store → FitsHomes f store
-      → (shown : List Observed)
+      → AreWithin known store → (shown : List Observed)
       × Comes o s shown (place + length code) (greatest_costs o code) (Tested f cmp holds store)
 
 -- code at a place turns one store into another, for any number of iterations left
-pub record Changes (o : Parts) (f : Setting) (place : ℕ) (code : List Instr) (after : Store → Store) : Type 0 where
+pub record Changes (o : Parts) (f : Setting) (known : Ranges) (place : ℕ) (code : List Instr)
+    (after : Store → Store) : Type 0 where
   pub changed : (s : State) (store : Store) → IsShaped o s → s.place ≡ place → StandsFor f s store → FitsHomes f store
-      → (shown : List Observed)
+      → AreWithin known store → (shown : List Observed)
       × Comes o s shown (place + length code) (greatest_costs o code) (Assigns f (after store))
 
 -- whether a state stands for a store depends only on its slots and banks
@@ -174,9 +176,9 @@ module _ {o : Parts} {f : Setting} where
       }
 
   -- no statements, and no code
-  pub follows-none : (p : ℕ) → Follows o f p [] (λ before. Some before)
+  pub follows-none : {known : Ranges} (p : ℕ) → Follows o f known p [] (λ before. Some before)
   follows-none p = record {
-    done = λ s store turns l shaped place stands fits is.
+    done = λ s store turns l shaped place stands fits within is.
         let same : left store turns ≡ l = cc in
         subst (λ l. Finishes o f s turns l (p + 0) 0) same
         (record {
@@ -192,52 +194,58 @@ module _ {o : Parts} {f : Setting} where
           stands = stands;
           fits = fits;
         });
-    spent = λ s store turns shaped place stands fits is. absurd (cc);
+    spent = λ s store turns shaped place stands fits within is. absurd (cc);
   }
 
   -- what changes the store and uses no turns
-  pub follows-change : (p : ℕ) (code : List Instr) (after : Store → Store) (run : Execution) → IsInRange o
-      → ((store : Store) (turns : ℕ) → run (left store turns) ≡ Some (left (after store) turns))
-      → Changes o f p code after → Follows o f p code run
+  pub follows-change : {known : Ranges} (p : ℕ) (code : List Instr) (after : Store → Store) (run : Execution)
+      → IsInRange o → ((store : Store) (turns : ℕ) → run (left store turns) ≡ Some (left (after store) turns))
+      → Changes o f known p code after → Follows o f known p code run
   follows-change p code after run in_range leaves changes = record {
-    done = λ s store turns l shaped place stands fits is.
+    done = λ s store turns l shaped place stands fits within is.
         let same : left (after store) turns ≡ l = let found = leaves store turns in cc in
-        let stretch = (changes.changed s store shaped place stands fits).1 in
+        let stretch = (changes.changed s store shaped place stands fits within).1 in
         subst (λ l. Finishes o f s turns l (p + length code) (greatest_costs o code)) same
         (finishes-stretch (after store) turns in_range shaped stretch stretch.holds.stands stretch.holds.fits);
-    spent = λ s store turns shaped place stands fits is.
+    spent = λ s store turns shaped place stands fits within is.
         absurd (none-some (left (after store) turns) (sym is ∙ leaves store turns));
   }
 
--- Statements followed by others.
-module _ {o : Parts} {f : Setting} {p : ℕ} {xs ys : List Instr} {first second : Execution}
-    (one : Follows o f p xs first)
-    (two : Follows o f (p + length xs) ys second) where
+-- Statements followed by others. If the first are done, the store is within what is known after them.
+module _ {o : Parts} {f : Setting} {known next : Ranges} {p : ℕ} {xs ys : List Instr} {first second : Execution}
+    (one : Follows o f known p xs first) (two : Follows o f next (p + length xs) ys second)
+    (keeps : (before after : Left) → AreWithin known before.store → first before ≡ Some after
+    → AreWithin next after.store) where
   both_done : (s : State) (store : Store) (turns : ℕ) (l : Left) → IsShaped o s → s.place ≡ p → StandsFor f s store
-      → FitsHomes f store → (r : Option Left) → first (left store turns) ≡ r → option_and_then second r ≡ Some l
+      → FitsHomes f store → AreWithin known store → (r : Option Left) → first (left store turns) ≡ r
+      → option_and_then second r ≡ Some l
       → Finishes o f s turns l (p + length (xs ++ ys)) (greatest_costs o (xs ++ ys))
-  both_done s store turns l shaped place stands fits None is rest = absurd (none-some l rest)
-  both_done s store turns l shaped place stands fits (Some between) is rest =
-      let a = one.done s store turns between shaped place stands fits is in
+  both_done s store turns l shaped place stands fits within None is rest = absurd (none-some l rest)
+  both_done s store turns l shaped place stands fits within (Some between) is rest =
+      let a = one.done s store turns between shaped place stands fits within is in
       finishes-weaker (p + length (xs ++ ys)) (greatest_costs o (xs ++ ys))
       (finishes-append between l (p + length xs + length ys) (greatest_costs o ys) a
-      (two.done a.end between.store between.turns l a.shaped a.comes a.stands a.fits rest))
+      (two.done a.end between.store between.turns l a.shaped a.comes a.stands a.fits
+      (keeps (left store turns) between within is) rest))
       (omega (arith, length-append xs ys))
       (omega (arith, greatest_costs-append o xs ys))
 
   both_spent : (s : State) (store : Store) (turns : ℕ) → IsShaped o s → s.place ≡ p → StandsFor f s store
-      → FitsHomes f store → (r : Option Left) → first (left store turns) ≡ r → option_and_then second r ≡ None
-      → Lasts o s turns
-  both_spent s store turns shaped place stands fits None is rest = one.spent s store turns shaped place stands fits is
-  both_spent s store turns shaped place stands fits (Some between) is rest =
-      let a = one.done s store turns between shaped place stands fits is in
-      lasts-append between a (two.spent a.end between.store between.turns a.shaped a.comes a.stands a.fits rest)
+      → FitsHomes f store → AreWithin known store → (r : Option Left) → first (left store turns) ≡ r
+      → option_and_then second r ≡ None → Lasts o s turns
+  both_spent s store turns shaped place stands fits within None is rest =
+      one.spent s store turns shaped place stands fits within is
+  both_spent s store turns shaped place stands fits within (Some between) is rest =
+      let a = one.done s store turns between shaped place stands fits within is in
+      lasts-append between a
+      (two.spent a.end between.store between.turns a.shaped a.comes a.stands a.fits
+      (keeps (left store turns) between within is) rest)
 
   -- one piece is followed and then the other
-  pub follows-append : Follows o f p (xs ++ ys) (in_turn first second)
+  pub follows-append : Follows o f known p (xs ++ ys) (in_turn first second)
   follows-append = record {
-    done = λ s store turns l shaped place stands fits is.
-        both_done s store turns l shaped place stands fits (first (left store turns)) refl is;
-    spent = λ s store turns shaped place stands fits is.
-        both_spent s store turns shaped place stands fits (first (left store turns)) refl is;
+    done = λ s store turns l shaped place stands fits within is.
+        both_done s store turns l shaped place stands fits within (first (left store turns)) refl is;
+    spent = λ s store turns shaped place stands fits within is.
+        both_spent s store turns shaped place stands fits within (first (left store turns)) refl is;
   }

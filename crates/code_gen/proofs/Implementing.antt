@@ -28,9 +28,10 @@ use Rattle.stretches.proofs.Coming.{comes-weaker}
 use Rattle.stretches.proofs.RunningThrough.{runs-append}
 use Rattle.lt_isa.proofs.Lasting.{lasting-no_halt}
 use Rattle.src_tree.specs.Trees.{Source}
-use Rattle.src_tree.specs.Meaning.{Store, Left, run_of_block, meaning}
+use Rattle.src_tree.specs.Meaning.{Store, Left, run_of_block, meaning, words_of_number}
 use Rattle.flow_types.specs.Wants.{declared_wants}
 use Rattle.src_tree.specs.Typing.{DeclaredOnce}
+use Rattle.scalar_ranges.specs.Ranges.{AreWithin}
 use Rattle.held_registers.proofs.Sound.{nothing-sound}
 use Rattle.block_cache_gen.specs.HeldCodes.{held_beginning, held_ending, HasSecretSlot}
 use Rattle.block_cache_gen.specs.Homes.{Setting, HasHomes}
@@ -39,8 +40,9 @@ use Rattle.block_cache_gen.specs.StandsFor.{StandsFor, FitsHomes}
 use Rattle.code_gen.specs.Implements.{Implements, HasSymbols, by_name}
 use Rattle.code_gen.specs.Statements.{Padding, block_code}
 use Rattle.block_cache_gen.proofs.HeldBeginning.{unheld, runs-held_beginning}
-use Rattle.code_gen.specs.Programs.{load_code, pin_store, each_slot, beginning, ending, program_code}
+use Rattle.code_gen.specs.Programs.{at_start, load_code, pin_store, each_slot, beginning, ending, program_code}
 use Rattle.code_gen.specs.Follows.{Follows, Finishes, Lasts}
+use Rattle.code_gen.proofs.AtStart.{start-within}
 use Rattle.code_gen.proofs.Loads.{LoadedTo, loads_shown, comes-slots}
 use Rattle.code_gen.proofs.Started.{BanksHold, stands-started}
 use Rattle.code_gen.proofs.Ended.{pins_shown, comes-ending}
@@ -52,6 +54,8 @@ pub record NamesWords (p : Source) (o : Parts) (f : Setting) : Type 0 where
   pub decls : f.decls ≡ p.decls
   pub symbols : HasSymbols p o
   pub fit : (store : Store) → FitsWants (declared_wants p.decls) store → FitsHomes f store
+  pub some : (store : Store) → FitsWants (declared_wants p.decls) store → (k : ℕ) → k < length p.decls
+      → 0 < length (words_of_number store k)
   pub inputs : (store : Store) → FitsWants (declared_wants p.decls) store → FitsObject o (by_name p o store)
   pub hold : (store : Store) → FitsWants (declared_wants p.decls) store
       → BanksHold f (start_state o (by_name p o store)) store
@@ -95,9 +99,10 @@ module _ (o : Parts) (fits : IsInRange o) (s : State) (shaped : IsShaped o s) (n
 module _ (p : Source) (o : Parts) (fits : IsInRange o) (f : Setting) (homes : HasHomes o f)
     (once : DeclaredOnce f.decls) (secret_slot : HasSecretSlot f) (names : NamesWords p o f) (padded : Padding)
     (code_is : o.code ≡ program_code f padded p.body)
-    (follows : Follows o f (length (beginning f)) (block_code f padded p.body) (run_of_block p.decls p.body)) where
+    (follows : Follows o f (at_start f).ranges (length (beginning f)) (block_code (at_start f) padded p.body)
+    (run_of_block p.decls p.body)) where
   abbrev body : List Instr
-  body = block_code f padded p.body
+  body = block_code (at_start f) padded p.body
 
   abbrev costs : ℕ
   costs = greatest_costs o o.code
@@ -222,19 +227,27 @@ module _ (p : Source) (o : Parts) (fits : IsInRange o) (f : Setting) (homes : Ha
       → meaning p store n ≡ option_map (λ (l : Left). l.store) found
   left-means store n found is = ap (option_map (λ (l : Left). l.store)) is
 
+  -- nothing is known at the beginning
+  begins-within : (store : Store) → FitsWants (declared_wants p.decls) store → AreWithin (at_start f).ranges store
+  begins-within store given =
+      start-within f store
+      (λ k below. names.some store given k (subst (λ ds. k < length ds) names.decls below))
+
   finishes : (store : Store) (given : FitsWants (declared_wants p.decls) store) (n : ℕ) (left : Left)
       → run_of_block p.decls p.body (record { store = store; turns = n }) ≡ Some left
       → Finishes o f (comes-begun store given).end n left (length (beginning f) + length body) (greatest_costs o body)
   finishes store given n left done =
       let run = comes-begun store given in
-      follows.done run.end store n left run.shaped run.comes run.holds (names.fit store given) done
+      follows.done run.end store n left run.shaped run.comes run.holds (names.fit store given)
+      (begins-within store given) done
 
   lasts : (store : Store) (given : FitsWants (declared_wants p.decls) store) (n : ℕ)
       → run_of_block p.decls p.body (record { store = store; turns = n }) ≡ None
       → Lasts o (comes-begun store given).end n
   lasts store given n spent =
       let run = comes-begun store given in
-      follows.spent run.end store n run.shaped run.comes run.holds (names.fit store given) spent
+      follows.spent run.end store n run.shaped run.comes run.holds (names.fit store given)
+      (begins-within store given) spent
 
   none-some : (left : Store) → ◌≡◌ {A = Option Store} None (Some left) → ⊥
   none-some left e = cc

@@ -1,6 +1,7 @@
 pub mod ScalarsNumbered
 pub mod HeldNumbers
 pub mod Loads
+pub mod AtStart
 pub mod Started
 pub mod Ended
 pub mod HeldEnding
@@ -18,6 +19,7 @@ pub mod EmittedParts
 pub mod ChoiceLengths
 pub mod EmittedChoices
 pub mod PassedParts
+pub mod RangedParts
 pub mod PassedBranches
 pub mod PassedChoices
 pub mod PassedLoops

@@ -24,10 +24,11 @@ use Rattle.block_cache_gen.specs.Homes.{Held, Setting, HasHomes, held_label, hom
 use Rattle.block_cache_gen.specs.HeldCodes.{HasSecretSlot, begin_code, end_code, each_held}
 use Rattle.block_cache_gen.specs.ServedBlocks.{first_blocks}
 use Rattle.block_cache_gen.specs.Carries.{Carries}
+use Rattle.block_cache_gen.proofs.Ranged.{homes-ranged, block-ranged}
 use Rattle.block_cache_gen.proofs.NamesOfHomes.{array-used, array-served}
 use Rattle.block_cache_gen.proofs.ServedBlocks.{first-pinned, first-served}
 use Rattle.code_gen.specs.Statements.{Padding, block_code, block_notes, block_ends_noted}
-use Rattle.code_gen.specs.Programs.{load_code, pin_store, each_slot, beginning, ending, program_code, program_notes}
+use Rattle.code_gen.specs.Programs.{at_start, load_code, pin_store, each_slot, beginning, ending, program_code, program_notes}
 use Rattle.block_cache_gen.specs.PublicIndexes.{BlockHasPublicIndexes}
 use Rattle.gr_word.specs.declared.variables.Label.{Label}
 use Rattle.src_tree.specs.Labels.{secret_label}
@@ -37,7 +38,8 @@ use Rattle.held_registers.proofs.Found.{held-high}
 use Rattle.block_cache_gen.proofs.HeldScalars.{held-listed}
 use Rattle.code_gen.proofs.PassedRegisters.{KnowsPins, all_held, got_from, stored_scalars}
 use Rattle.code_gen.proofs.PassedParts.{IsOpenAt, rise-lies, end-open, held-open, stands-as}
-use Rattle.code_gen.proofs.PassedStatements.{BeginsGuarded, PassesPadded, block-noted, block-passed}
+use Rattle.code_gen.proofs.RangedParts.{noted-ranged, passed-ranged}
+use Rattle.code_gen.proofs.PassedStatements.{BeginsGuarded, PassesPadded, Relies, block-noted, block-passed}
 
 -- what is known in the loads of a program's beginning is of all registers and slots
 record Loading (k : Known) : Type 0 where
@@ -234,16 +236,17 @@ notes_claim o notes r same = ap (λ (ns : List Note). option_map note_known (not
 
 -- an object with a program's code and notes is accepted
 pub program-accepts : (o : Parts) (f : Setting) (padded : Padding) (body : Block) → HasHomes o f → DeclaredOnce f.decls
-    → HasSecretSlot f → BeginsGuarded f padded → PassesPadded o f padded → TypedBlock (context_of f.decls) label.Public body
+    → HasSecretSlot f → BeginsGuarded padded → PassesPadded o f padded → TypedBlock (context_of f.decls) label.Public body
     → BlockHasPublicIndexes f body → LowBlock body → block_weight (context_of f.decls) label.Public body ≤ max_weight
     → o.code ≡ program_code f padded body → o.notes ≡ program_notes f padded body → has_secret_in_ram o ≡ false
     → Accepts o
 program-accepts o f padded body homes once slot begins secret typed indexes low light coded noted symbols =
     let start = beginning f in
-    let middle = block_code f padded body in
+    let inner = at_start f in
+    let middle = block_code inner padded body in
     let p = length start in
     let q = p + length middle in
-    let notes = block_notes f padded p body in
+    let notes = block_notes inner padded p body in
     let scalars = each_held (end_code f) 19 f.held in
     let blocks = each_slot pin_store 0 f.pins in
     let stores = scalars ++ blocks in
@@ -256,7 +259,8 @@ program-accepts o f padded body homes once slot begins secret typed indexes low 
     ∙ ap (λ (n : ℕ). length middle + n) (ap length regrouped ∙ length-append stores (Halt ∷ []))) in
     let whole : length o.code ≡ p + (length middle + (length stores + 1)) = ap length coded ∙ size in
     let stands : StandsAt o 0 (start ++ (middle ++ last)) = standing-whole o (start ++ (middle ++ last)) coded in
-    let part = block-noted f padded begins body in
+    let part = noted-ranged f inner.ranges middle (λ p. block_notes inner padded p body)
+    (block_ends_noted f.decls body) (block-noted padded begins inner body) in
     let lie : LieBetween p (q + 1) notes = rise-lies f (p + 1) p (q + 1) notes (omega arith) (part.rises p) in
     let at : (r : ℕ) → claimed_at o r
     ≡ option_map note_known (note_of_place notes r) = (λ r. notes_claim o notes r noted) in
@@ -272,12 +276,15 @@ program-accepts o f padded body homes once slot begins secret typed indexes low 
     let rest = stands-as o (0 + length start) p (middle ++ last) zero_p (standing-rest start
     (middle ++ last) stands) in
     let open_body : IsOpenAt o f p = inl (none_low p (omega arith)) in
-    let b = block-passed f padded begins o homes once secret body typed indexes low light p a.after
+    let relies : Relies o padded inner = record { homes = homes-ranged o f inner.ranges homes; once = once; secret = secret } in
+    let body_passed = passed-ranged o f inner.ranges middle (λ p. block_notes inner padded p body)
+    (block-passed padded begins o inner relies body typed (block-ranged f inner.ranges body indexes) low light) in
+    let b = body_passed p a.after
     (standing-first middle last rest)
     (record { inner = λ r after under. at r; outer = λ n found. at q ∙ ap (option_map note_known) found })
     (omega arith) open_body a.carries in
     let h = held-open o f homes once q b.last
-    (end-open o f (block_ends_noted f body) q (at q ∙ ap (option_map note_known) (part.ended p))) b.carries in
+    (end-open o f (block_ends_noted f.decls body) q (at q ∙ ap (option_map note_known) (part.ended p))) b.carries in
     let close : StandsAt o q (stores ++ Halt ∷ []) =
     subst (λ (code : List Instr). StandsAt o q code) regrouped (standing-rest middle last rest) in
     let w = stored_scalars o f homes once slot q 19 f.held h.held (all_held f) h.carries in

@@ -55,8 +55,8 @@ pub frame-in_range : (f : Frame) → IsFrame f → (o : Parts) → o.profile ≡
     → IsLaidOut (source_of f.program.now) f.profile.now.block_log f.places.now.of_var.items f.places.now.blocks.items o
     → EachAfter (SymbolFits (2 ^ f.profile.now.block_log) o.banks) [] o.symbols
     → All (λ b. Within 1 most_latency b.latency) o.banks → BlockHasWords (source_of f.program.now).body
-    → o.code ≡ program_code (setting_of f) (padding_of (setting_of f)) (source_of f.program.now).body
-    → o.notes ≡ program_notes (setting_of f) (padding_of (setting_of f)) (source_of f.program.now).body → IsInRange o
+    → o.code ≡ program_code (setting_of f) padding_of (source_of f.program.now).body
+    → o.notes ≡ program_notes (setting_of f) padding_of (source_of f.program.now).body → IsInRange o
 frame-in_range f frame o profile layout named latencies words code notes =
     let p = source_of f.program.now in
     let w = f.profile.now.block_log in
@@ -95,7 +95,7 @@ frame-in_range f frame o profile layout named latencies words code notes =
           (program-size g p.body few eight registers light);
       behind_notes
           = subst (λ (ns : List Note). next_place ns ≤ length o.code) (sym notes)
-          (subst (λ (c : List Instr). next_place (program_notes g (padding_of g) p.body) ≤ length c) (sym code)
+          (subst (λ (c : List Instr). next_place (program_notes g padding_of p.body) ≤ length c) (sym code)
           (notes-inside g p.body few eight registers light));
       code
           = subst (All (InstrFits (length o.banks))) (sym code)

@@ -21,12 +21,14 @@ use Rattle.block_cache_gen.specs.HeldCodes.{home_numbered, begin_code, end_code,
 use Rattle.block_cache_gen.specs.Homes.{Held, Setting, pin_at}
 use Rattle.block_cache_gen.specs.ServedBlocks.{first_blocks}
 use Rattle.block_cache_gen.specs.ProgramWords.{BlockHasWords}
+use Rattle.block_cache_gen.proofs.Ranged.{homes_fit-ranged}
 use Rattle.block_cache_gen.proofs.RangesOfCode.{HomeFits, HomesFit, CodeFits, NoCode, Before, code-all, code-both, small-word}
 use Rattle.block_cache_gen.proofs.RangesOfNotes.{NotesRise, PinsLow, rise-fits}
 use Rattle.code_gen.specs.Emitted.{padding_of}
 use Rattle.code_gen.specs.Statements.{block_code}
-use Rattle.code_gen.specs.Programs.{load_code, pin_store, each_slot, beginning, ending, program_code, program_notes}
+use Rattle.code_gen.specs.Programs.{at_start, load_code, pin_store, each_slot, beginning, ending, program_code, program_notes}
 use Rattle.code_gen.proofs.PassedStatements.{block-noted}
+use Rattle.code_gen.proofs.RangedParts.{rise-ranged}
 use Rattle.code_gen.proofs.AcceptedPrograms.{begins-guarded}
 use Rattle.code_gen.proofs.RangesOfStatements.{row-public, row-count, rows-fits}
 
@@ -179,16 +181,19 @@ rise_ends f low high (n ∷ m ∷ notes) rise = rise_ends f (n.pc + 1) high (m �
 module _ (f : Setting) (body : Block) (few : f.profile.taken ≤ 32) (pins : PinsInEight f)
     (registers : length f.held ≤ 13)
     (light : block_weight (context_of f.decls) label.Public body ≤ max_weight) where
+  abbrev inner : Setting
+  inner = at_start f
+
   abbrev whole : List Instr
-  whole = program_code f (padding_of f) body
+  whole = program_code f padding_of body
 
   abbrev notes : List Note
-  notes = program_notes f (padding_of f) body
+  notes = program_notes f padding_of body
 
-  whole_size : length whole ≡ length (beginning f) + (length (block_code f (padding_of f) body) + length (ending f))
+  whole_size : length whole ≡ length (beginning f) + (length (block_code inner padding_of body) + length (ending f))
   whole_size =
-      length-append (beginning f) (block_code f (padding_of f) body ++ ending f)
-      ∙ ap (λ (n : ℕ). length (beginning f) + n) (length-append (block_code f (padding_of f) body) (ending f))
+      length-append (beginning f) (block_code inner padding_of body ++ ending f)
+      ∙ ap (λ (n : ℕ). length (beginning f) + n) (length-append (block_code inner padding_of body) (ending f))
 
   -- it ends with an instruction at least
   ending_some : 1 ≤ length (ending f)
@@ -201,7 +206,7 @@ module _ (f : Setting) (body : Block) (few : f.profile.taken ≤ 32) (pins : Pin
 
   -- a program has at most 120 instructions for each unit of its weight, and few more
   pub program-short : length whole ≤ 120 * block_weight (context_of f.decls) label.Public body + (64 + 4 * length f.held)
-  program-short = omega (arith, whole_size, beginning_short f, ending_short f pins, row-public f few body)
+  program-short = omega (arith, whole_size, beginning_short f, ending_short f pins, row-public inner few body)
 
   -- the code of a program isn't too long
   pub program-size : Within 1 most_instructions (length whole)
@@ -218,18 +223,19 @@ module _ (f : Setting) (body : Block) (few : f.profile.taken ≤ 32) (pins : Pin
       → All (InstrFits banks) whole
   program-fits banks some homes first held typed words low =
       code-all banks whole
-      (code-both banks (beginning f) (block_code f (padding_of f) body ++ ending f)
+      (code-both banks (beginning f) (block_code inner padding_of body ++ ending f)
       (code-both banks (each_slot load_code 0 (first_blocks f)) (held_beginning f)
       (loads_fit banks some 0 (first_blocks f) (omega arith) first) (begun_fits banks f 19 f.held held))
-      (code-both banks (block_code f (padding_of f) body) (ending f)
-      (rows-fits f few banks homes body typed words low light) (ending_fits banks f pins held)))
+      (code-both banks (block_code inner padding_of body) (ending f)
+      (rows-fits banks inner few (homes_fit-ranged banks f inner.ranges homes) body typed words low light) (ending_fits banks f pins held)))
 
   -- its notes
   notes_rise : NotesRise f (length (beginning f) + 1)
-      (length (beginning f) + length (block_code f (padding_of f) body) + 1) notes
+      (length (beginning f) + length (block_code inner padding_of body) + 1) notes
   notes_rise =
-      let part = block-noted f (padding_of f) (begins-guarded f) body in
-      part.rises (length (beginning f))
+      let part = block-noted padding_of begins-guarded inner body in
+      let p = length (beginning f) in
+      rise-ranged f inner.ranges (p + 1) (p + length (block_code inner padding_of body) + 1) notes (part.rises p)
 
   -- each of its notes is in its range
   pub notes-fit : (banks : ℕ) → 2 ≤ banks → PinsLow f → EachAfter (NoteFits banks) [] notes
@@ -237,12 +243,12 @@ module _ (f : Setting) (body : Block) (few : f.profile.taken ≤ 32) (pins : Pin
       let size = program-size in
       let most = size.1 in
       rise-fits f banks some low (length (beginning f) + 1)
-      (length (beginning f) + length (block_code f (padding_of f) body) + 1) [] notes (omega arith)
+      (length (beginning f) + length (block_code inner padding_of body) + 1) [] notes (omega arith)
       (omega (arith, whole_size, ending_some)) notes_rise
 
   -- its notes aren't too many
   pub notes-few : length notes ≤ most_notes
-  notes-few = omega (arith, row-count f few body (length (beginning f)))
+  notes-few = omega (arith, row-count inner body (length (beginning f)))
 
   -- there is no note past the end of the code
   pub notes-inside : next_place notes ≤ length whole
@@ -252,5 +258,5 @@ module _ (f : Setting) (body : Block) (few : f.profile.taken ≤ 32) (pins : Pin
         whole_size,
         ending_some,
         rise_ends f (length (beginning f) + 1)
-            (length (beginning f) + length (block_code f (padding_of f) body) + 1) notes notes_rise,
+            (length (beginning f) + length (block_code inner padding_of body) + 1) notes notes_rise,
       )

@@ -22,10 +22,12 @@ use Rattle.block_cache_gen.specs.Alike.{pair_count}
 use Rattle.block_cache_gen.specs.StoredWords.{stored_words}
 use Rattle.block_cache_gen.proofs.SecretCodes.{stored-append, guard-stores, variable-stores, element-stores}
 use Rattle.block_cache_gen.proofs.SingleHomes.{ObliviousAreSingle}
+use Rattle.branch_padding.specs.AfterStatements.{after, behind_loop, within_loop}
+use Rattle.branch_padding.specs.Cycles.{slack_of}
 use Rattle.branch_padding.specs.Stores.{added_up, choice_stores, stores_of, stores_of_each}
 use Rattle.branch_padding.proofs.StoredRows.{added-first, public_choice-stores}
 use Rattle.code_gen.specs.Statements.{opposite, second_code, places_over, choice_code, loop_code, choice_by, statement_code, block_code}
-use Rattle.code_gen.specs.Programs.{is_some_scalar, scalars_among, load_code, pin_store, each_slot, beginning, ending, program_code}
+use Rattle.code_gen.specs.Programs.{at_start, is_some_scalar, scalars_among, load_code, pin_store, each_slot, beginning, ending, program_code}
 use Rattle.code_gen.specs.Emitted.{padding_of}
 
 -- a choice has the stores of its blocks, and a loop those of its body
@@ -68,49 +70,54 @@ loop-stored guard cmp body none =
       stored-append guard (branch ∷ []),
     )
 
+-- a choice by the label of its guard
+choice-by : (f : Setting) (t : Test) (a b : Block) (public : List Instr) (l : Label)
+    → label_of_test (context_of f.decls) t ≡ l
+    → (label_of_test (context_of f.decls) t ≡ label.Public
+    → stored_words public ≡ stores_of f label.Public (Choice t a b))
+    → (label_of_test (context_of f.decls) t ≡ label.Secret
+    → stored_words (padding_of f t a b) ≡ stores_of f label.Public (Choice t a b))
+    → stored_words (choice_by l public (padding_of f t a b)) ≡ stores_of f label.Public (Choice t a b)
+choice-by f t a b public label.Public is open_guard closed = open_guard is
+choice-by f t a b public label.Secret is open_guard closed = closed is
+
+mutual
+  pub statement-stored : (f : Setting) → ObliviousAreSingle f → (s : Statement)
+      → TypedStatement (context_of f.decls) label.Public s
+      → stored_words (statement_code f padding_of s) ≡ stores_of f label.Public s
+  statement-stored f single (SetVariable x e) typed = variable-stores f Public x e
+  statement-stored f single (SetElement x i e) typed = element-stores f Public x i e
+  statement-stored f single (Choice t a b) typed =
+      let known = context_of f.decls in
+      let guard = guard_code f Public 0 t in
+      let first = block_code f padding_of a in
+      let second = block_code f padding_of b in
+      choice-by f t a b (choice_code guard t.cmp first second) (label_of_test known t) refl
+      (λ public.
+      choice-stored guard t.cmp first second (guard-stores f Public 0 t)
+      ∙ (λ i.
+      block-stored f single a (subst (λ (l : Label). TypedBlock known l a) public typed.1.0) i
+      + block-stored f single b (subst (λ (l : Label). TypedBlock known l b) public typed.1.1) i)
+      ∙ sym (ap (λ (l : Label).
+      choice_stores l (slack_of f a b) (pair_count f a b) (stores_of_each f l a) (stores_of_each f l b)) public))
+      (λ secret. public_choice-stores f single t a b typed secret)
+  statement-stored f single (Loop t a) typed =
+      let g = behind_loop f a in
+      let inner = within_loop f t a in
+      loop-stored (guard_code g Public 0 t) t.cmp (block_code inner padding_of a) (guard-stores g Public 0 t)
+      ∙ block-stored inner single a typed.1.1.1
+
+  pub block-stored : (f : Setting) → ObliviousAreSingle f → (b : Block)
+      → TypedBlock (context_of f.decls) label.Public b
+      → stored_words (block_code f padding_of b) ≡ added_up (stores_of_each f label.Public b)
+  block-stored f single Nothing typed = refl
+  block-stored f single (Then s rest) typed =
+      let g = after f s in
+      stored-append (statement_code f padding_of s) (block_code g padding_of rest)
+      ∙ (λ i. statement-stored f single s typed.0 i + block-stored g single rest typed.1 i)
+      ∙ sym (added-first (stores_of f label.Public s) (stores_of_each g label.Public rest))
+
 module _ (f : Setting) (single : ObliviousAreSingle f) where
-  -- a choice by the label of its guard
-  choice-by : (t : Test) (a b : Block) (public : List Instr) (l : Label)
-      → label_of_test (context_of f.decls) t ≡ l
-      → (label_of_test (context_of f.decls) t ≡ label.Public
-      → stored_words public ≡ stores_of f label.Public (Choice t a b))
-      → (label_of_test (context_of f.decls) t ≡ label.Secret
-      → stored_words (padding_of f t a b) ≡ stores_of f label.Public (Choice t a b))
-      → stored_words (choice_by l public (padding_of f t a b)) ≡ stores_of f label.Public (Choice t a b)
-  choice-by t a b public label.Public is open_guard closed = open_guard is
-  choice-by t a b public label.Secret is open_guard closed = closed is
-
-  mutual
-    pub statement-stored : (s : Statement) → TypedStatement (context_of f.decls) label.Public s
-        → stored_words (statement_code f (padding_of f) s) ≡ stores_of f label.Public s
-    statement-stored (SetVariable x e) typed = variable-stores f Public x e
-    statement-stored (SetElement x i e) typed = element-stores f Public x i e
-    statement-stored (Choice t a b) typed =
-        let known = context_of f.decls in
-        let guard = guard_code f Public 0 t in
-        let first = block_code f (padding_of f) a in
-        let second = block_code f (padding_of f) b in
-        choice-by t a b (choice_code guard t.cmp first second) (label_of_test known t) refl
-        (λ public.
-        choice-stored guard t.cmp first second (guard-stores f Public 0 t)
-        ∙ (λ i.
-        block-stored a (subst (λ (l : Label). TypedBlock known l a) public typed.1.0) i
-        + block-stored b (subst (λ (l : Label). TypedBlock known l b) public typed.1.1) i)
-        ∙ sym (ap (λ (l : Label).
-        choice_stores l (pair_count f a b) (stores_of_each f l a) (stores_of_each f l b)) public))
-        (λ secret. public_choice-stores f single t a b typed secret)
-    statement-stored (Loop t a) typed =
-        loop-stored (guard_code f Public 0 t) t.cmp (block_code f (padding_of f) a) (guard-stores f Public 0 t)
-        ∙ block-stored a typed.1.1.1
-
-    pub block-stored : (b : Block) → TypedBlock (context_of f.decls) label.Public b
-        → stored_words (block_code f (padding_of f) b) ≡ added_up (stores_of_each f label.Public b)
-    block-stored Nothing typed = refl
-    block-stored (Then s rest) typed =
-        stored-append (statement_code f (padding_of f) s) (block_code f (padding_of f) rest)
-        ∙ (λ i. statement-stored s typed.0 i + block-stored rest typed.1 i)
-        ∙ sym (added-first (stores_of f label.Public s) (stores_of_each f label.Public rest))
-
   -- a whole program has those of its body
   slots-stored : (code : (slot : ℕ) → Option Pin → List Instr)
       → ((slot : ℕ) (pin : Option Pin) → stored_words (code slot pin) ≡ 0) → (slot : ℕ) (pins : List (Option Pin))
@@ -187,15 +194,16 @@ module _ (f : Setting) (single : ObliviousAreSingle f) where
 
   -- the stores of a word in a program's code are those of its statements, and one for each scalar that a register holds
   pub program-stored : (body : Block) → TypedBlock (context_of f.decls) label.Public body
-      → stored_words (program_code f (padding_of f) body)
-      ≡ added_up (stores_of_each f label.Public body) + scalars_among f.held
+      → stored_words (program_code f padding_of body)
+      ≡ added_up (stores_of_each (at_start f) label.Public body) + scalars_among f.held
   program-stored body typed =
-      let code = block_code f (padding_of f) body in
+      let inner = at_start f in
+      let code = block_code inner padding_of body in
       omega (
         arith,
         stored-append (beginning f) (code ++ ending f),
         stored-append code (ending f),
         beginning-stored,
         ending-stored,
-        block-stored body typed,
+        block-stored inner single body typed,
       )

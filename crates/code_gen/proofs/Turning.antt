@@ -20,8 +20,13 @@ use Rattle.stretches.specs.Standing.{StandsAt, greatest_costs}
 use Rattle.stretches.specs.Coming.{Comes}
 use Rattle.stretches.proofs.Standing.{standing-first, standing-rest, standing-head, standing-tail, greatest_costs-append}
 use Rattle.stretches.proofs.Coming.{comes-on, comes-weaker, comes-jmp, comes-br_taken, comes-br_on}
-use Rattle.src_tree.specs.Meaning.{Store, Left, Execution, loop}
-use Rattle.src_tree.proofs.Loops.{TurnsFall, left, loop_ends, loop_spent, loop_again}
+use Rattle.src_tree.specs.Meaning.{Store, Left, Execution, guard_holds, loop, run_of_block}
+use Rattle.src_tree.specs.Trees.{Test, Block}
+use Rattle.src_tree.proofs.Loops.{TurnsFall, left, block_falls, loop_ends, loop_spent, loop_again}
+use Rattle.scalar_ranges.specs.Comes.{Again, AtOnce, Enters, Returns}
+use Rattle.scalar_ranges.specs.Known.{forgotten_block, inside}
+use Rattle.scalar_ranges.specs.Ranges.{AreWithin, Ranges}
+use Rattle.scalar_ranges.proofs.Counting.{inside-within, returned-forgotten}
 use Rattle.block_cache_gen.specs.Homes.{Setting}
 use Rattle.block_cache_gen.specs.StandsFor.{FitsHomes, StandsFor}
 use Rattle.code_gen.specs.Follows.{Finishes, Lasts, Follows}
@@ -88,11 +93,25 @@ module _ {o : Parts} {f : Setting} {s : State} {store : Store} {es fs : List Obs
         late = omega (arith, later, second.holds.later, rest.late);
       }
 
--- A loop whose guard takes an instruction at least.
-module _ (o : Parts) (fits : IsInRange o) (f : Setting) (p : ℕ) (guard body : List Instr) (cmp : Cmp)
-    (holds : Store → Bool) (run : Execution) (some : 1 ≤ length guard) (at : StandsAt o p (loop_code guard cmp body))
-    (tests : Tests o f (p + 1 + length body) guard cmp holds)
-    (follows : Follows o f (p + 1) body run) (falls : TurnsFall run) where
+-- A loop whose guard takes an instruction at least. The guard is tested within what is known before the loop and isn't
+-- assigned in it, and the body is followed within what is known inside the loop.
+module _ (o : Parts) (fits : IsInRange o) (f : Setting) (known : Ranges) (p : ℕ) (guard body : List Instr) (t : Test)
+    (a : Block) (some : 1 ≤ length guard) (at : StandsAt o p (loop_code guard t.cmp body))
+    (tests : Tests o f (forgotten_block f.decls known a) (p + 1 + length body) guard t.cmp
+    (λ store. guard_holds f.decls store t))
+    (follows : Follows o f (inside f.decls known t a) (p + 1) body (run_of_block f.decls a)) where
+  abbrev cmp : Cmp
+  cmp = t.cmp
+
+  abbrev holds : Store → Bool
+  holds store = guard_holds f.decls store t
+
+  abbrev run : Execution
+  run = run_of_block f.decls a
+
+  falls : TurnsFall run
+  falls = block_falls f.decls a
+
   abbrev back : Instr
   back = Br cmp 0 1 (negsuc ((length body + length guard) - 1))
 
@@ -154,86 +173,118 @@ module _ (o : Parts) (fits : IsInRange o) (f : Setting) (p : ℕ) (guard body : 
       (omega arith)
       (λ u shape stands. stands)
 
-  -- What is done from a state at the guard.
-  module _ (s : State) (store : Store) (shaped : IsShaped o s) (place : s.place ≡ head) (stands : StandsFor f s store)
-      (has : FitsHomes f store) where
-    ended : (turns : ℕ) (l : Left) → holds store ≡ false → loop holds run (left store turns) ≡ Some l
-        → Finishes o f s turns l behind each
-    ended turns l e is =
-        let same : left store turns ≡ l = let ends = loop_ends holds run store turns e in cc in
-        let (shown, first) = tests.tested s store shaped place stands has in
-        let run = comes-on [] behind (greatest_cost o back) (λ u. StandsFor f u store) first
-        (λ t shape at_turn was. branch_on t store shape at_turn was e) in
-        subst (λ l. Finishes o f s turns l behind each) same
-        (finishes-weaker behind each (finishes-stretch store turns fits shaped run run.holds has) refl (omega arith))
+  -- From the state before the loop, what is known there holds.
+  module _ (first : Left) (begins : AreWithin known first.store) where
+    -- the states in which the run comes to the guard
+    abbrev Returned : Left → Type 0
+    Returned now = Returns f.decls t a first now
 
-    -- from a state at the guard with no more turns than these, the rest of the loop is done, or lasts
-    again : (k : ℕ) (l : Left) → holds store ≡ true → (r : Option Left) → run (left store k) ≡ r
-        → option_and_then (loop holds run) r ≡ Some l → ((t : State) (between : Left) → between.turns ≤ k → IsShaped o t
-        → t.place ≡ head → StandsFor f t between.store
-        → FitsHomes f between.store → loop holds run between ≡ Some l → Finishes o f t between.turns l behind each)
-        → Finishes o f s (suc k) l behind each
-    again k l e None ran is rest = absurd (none-some l is)
-    again k l e (Some between) ran is rest =
-        let (shown, first) = tests.tested s store shaped place stands has in
-        let second = branch_back first.end store first.shaped first.comes first.holds e in
-        let one = follows.done second.end store k between second.shaped second.comes second.holds.stands has ran in
-        finishes-turn fits shaped first second between l behind one
-        (rest one.end between (omega (arith, one.counts)) one.shaped one.comes one.stands one.fits is)
+    at_guard : (now : Left) → Returned now → AreWithin (forgotten_block f.decls known a) now.store
+    at_guard now returns = returned-forgotten f.decls known t a first now begins returns
 
-    again_spent : (k : ℕ) → holds store ≡ true → (r : Option Left) → run (left store k) ≡ r
-        → option_and_then (loop holds run) r ≡ None → ((t : State) (between : Left) → between.turns ≤ k → IsShaped o t
-        → t.place ≡ head → StandsFor f t between.store
-        → FitsHomes f between.store → loop holds run between ≡ None → Lasts o t between.turns) → Lasts o s (suc k)
-    again_spent k e None ran is rest =
-        let (shown, first) = tests.tested s store shaped place stands has in
-        let second = branch_back first.end store first.shaped first.comes first.holds e in
-        lasts-turn fits shaped first second
-        (follows.spent second.end store k second.shaped second.comes second.holds.stands has ran)
-    again_spent k e (Some between) ran is rest =
-        let (shown, first) = tests.tested s store shaped place stands has in
-        let second = branch_back first.end store first.shaped first.comes first.holds e in
-        let one = follows.done second.end store k between second.shaped second.comes second.holds.stands has ran in
-        lasts-turn fits shaped first second
-        (lasts-append between one
-        (rest one.end between (omega (arith, one.counts)) one.shaped one.comes one.stands one.fits is))
+    turned : (store : Store) (k : ℕ) → holds store ≡ true → Enters f.decls t (left store (suc k)) (left store k)
+    turned store k e = record { holds = e; turns = refl; store = refl }
 
-    last_done : (l : Left) → loop holds run (left store 0) ≡ Some l → Finishes o f s 0 l behind each
-    last_done l is =
-        ⊎_elim (λ e. absurd (none-some l (sym (loop_spent holds run store e) ∙ is))) (λ e. ended 0 l e is)
+    in_body : (store : Store) (k : ℕ) → Returned (left store (suc k)) → holds store ≡ true
+        → AreWithin (inside f.decls known t a) store
+    in_body store k returns e =
+        inside-within f.decls known t a first (left store (suc k)) (left store k) begins returns (turned store k e)
+
+    -- What is done from a state at the guard.
+    module _ (s : State) (store : Store) (shaped : IsShaped o s) (place : s.place ≡ head) (stands : StandsFor f s store)
+        (has : FitsHomes f store) where
+      ended : (turns : ℕ) (l : Left) → Returned (left store turns) → holds store ≡ false
+          → loop holds run (left store turns) ≡ Some l → Finishes o f s turns l behind each
+      ended turns l returns e is =
+          let same : left store turns ≡ l = let ends = loop_ends holds run store turns e in cc in
+          let (shown, first) = tests.tested s store shaped place stands has (at_guard (left store turns) returns) in
+          let run = comes-on [] behind (greatest_cost o back) (λ u. StandsFor f u store) first
+          (λ t shape at_turn was. branch_on t store shape at_turn was e) in
+          subst (λ l. Finishes o f s turns l behind each) same
+          (finishes-weaker behind each (finishes-stretch store turns fits shaped run run.holds has) refl (omega arith))
+
+      -- from a state at the guard with no more turns than these, the rest of the loop is done, or lasts
+      again : (k : ℕ) (l : Left) → Returned (left store (suc k)) → holds store ≡ true → (r : Option Left)
+          → run (left store k) ≡ r → option_and_then (loop holds run) r ≡ Some l
+          → ((t : State) (between : Left) → between.turns ≤ k → Returned between → IsShaped o t → t.place ≡ head
+          → StandsFor f t between.store → FitsHomes f between.store → loop holds run between ≡ Some l
+          → Finishes o f t between.turns l behind each) → Finishes o f s (suc k) l behind each
+      again k l returns e None ran is rest = absurd (none-some l is)
+      again k l returns e (Some between) ran is rest =
+          let (shown, first) = tests.tested s store shaped place stands has
+          (at_guard (left store (suc k)) returns) in
+          let second = branch_back first.end store first.shaped first.comes first.holds e in
+          let one = follows.done second.end store k between second.shaped second.comes second.holds.stands has
+          (in_body store k returns e) ran in
+          finishes-turn fits shaped first second between l behind one
+          (rest one.end between (omega (arith, one.counts))
+          (Again (left store (suc k)) (left store k) between returns (turned store k e) ran) one.shaped one.comes
+          one.stands one.fits is)
+
+      again_spent : (k : ℕ) → Returned (left store (suc k)) → holds store ≡ true → (r : Option Left)
+          → run (left store k) ≡ r → option_and_then (loop holds run) r ≡ None
+          → ((t : State) (between : Left) → between.turns ≤ k → Returned between → IsShaped o t → t.place ≡ head
+          → StandsFor f t between.store → FitsHomes f between.store → loop holds run between ≡ None
+          → Lasts o t between.turns) → Lasts o s (suc k)
+      again_spent k returns e None ran is rest =
+          let (shown, first) = tests.tested s store shaped place stands has
+          (at_guard (left store (suc k)) returns) in
+          let second = branch_back first.end store first.shaped first.comes first.holds e in
+          lasts-turn fits shaped first second
+          (follows.spent second.end store k second.shaped second.comes second.holds.stands has
+          (in_body store k returns e) ran)
+      again_spent k returns e (Some between) ran is rest =
+          let (shown, first) = tests.tested s store shaped place stands has
+          (at_guard (left store (suc k)) returns) in
+          let second = branch_back first.end store first.shaped first.comes first.holds e in
+          let one = follows.done second.end store k between second.shaped second.comes second.holds.stands has
+          (in_body store k returns e) ran in
+          lasts-turn fits shaped first second
+          (lasts-append between one
+          (rest one.end between (omega (arith, one.counts))
+          (Again (left store (suc k)) (left store k) between returns (turned store k e) ran) one.shaped one.comes
+          one.stands one.fits is))
+
+      last_done : (l : Left) → Returned (left store 0) → loop holds run (left store 0) ≡ Some l
+          → Finishes o f s 0 l behind each
+      last_done l returns is =
+          ⊎_elim (λ e. absurd (none-some l (sym (loop_spent holds run store e) ∙ is))) (λ e. ended 0 l returns e is)
+          (cases_Bool (holds store))
+
+      last_spent : Lasts o s 0
+      last_spent = record { end = s; events = []; reaches = Here s; late = omega arith }
+
+    from_guard : (n : ℕ) (s : State) (store : Store) (turns : ℕ) (l : Left) → turns ≤ n
+        → Returned (left store turns) → IsShaped o s → s.place ≡ head → StandsFor f s store → FitsHomes f store
+        → loop holds run (left store turns) ≡ Some l → Finishes o f s turns l behind each
+    from_guard n s store zero l few returns shaped place stands has is =
+        last_done s store shaped place stands has l returns is
+    from_guard zero s store (suc k) l few returns shaped place stands has is = absurd (omega arith)
+    from_guard (suc n) s store (suc k) l few returns shaped place stands has is =
+        ⊎_elim
+        (λ e.
+        again s store shaped place stands has k l returns e (run (left store k)) refl
+        (sym (loop_again holds run falls store k e) ∙ is)
+        (λ t between fewer returns' shape at_head stands' has' is'.
+        from_guard n t between.store between.turns l (omega arith) returns' shape at_head stands' has' is'))
+        (λ e. ended s store shaped place stands has (suc k) l returns e is)
         (cases_Bool (holds store))
 
-    last_spent : Lasts o s 0
-    last_spent = record { end = s; events = []; reaches = Here s; late = omega arith }
-
-  from_guard : (n : ℕ) (s : State) (store : Store) (turns : ℕ) (l : Left) → turns ≤ n → IsShaped o s → s.place ≡ head
-      → StandsFor f s store → FitsHomes f store → loop holds run (left store turns) ≡ Some l
-      → Finishes o f s turns l behind each
-  from_guard n s store zero l few shaped place stands has is = last_done s store shaped place stands has l is
-  from_guard zero s store (suc k) l few shaped place stands has is = absurd (omega arith)
-  from_guard (suc n) s store (suc k) l few shaped place stands has is =
-      ⊎_elim
-      (λ e.
-      again s store shaped place stands has k l e (run (left store k)) refl
-      (sym (loop_again holds run falls store k e) ∙ is)
-      (λ t between fewer shape at_head stands' has' is'.
-      from_guard n t between.store between.turns l (omega arith) shape at_head stands' has' is'))
-      (λ e. ended s store shaped place stands has (suc k) l e is)
-      (cases_Bool (holds store))
-
-  lasts_from_guard : (n : ℕ) (s : State) (store : Store) (turns : ℕ) → turns ≤ n → IsShaped o s → s.place ≡ head
-      → StandsFor f s store → FitsHomes f store → loop holds run (left store turns) ≡ None → Lasts o s turns
-  lasts_from_guard n s store zero few shaped place stands has is = last_spent s store shaped place stands has
-  lasts_from_guard zero s store (suc k) few shaped place stands has is = absurd (omega arith)
-  lasts_from_guard (suc n) s store (suc k) few shaped place stands has is =
-      ⊎_elim
-      (λ e.
-      again_spent s store shaped place stands has k e (run (left store k)) refl
-      (sym (loop_again holds run falls store k e) ∙ is)
-      (λ t between fewer shape at_head stands' has' is'.
-      lasts_from_guard n t between.store between.turns (omega arith) shape at_head stands' has' is'))
-      (λ e. absurd (none-some (left store (suc k)) (sym is ∙ loop_ends holds run store (suc k) e)))
-      (cases_Bool (holds store))
+    lasts_from_guard : (n : ℕ) (s : State) (store : Store) (turns : ℕ) → turns ≤ n → Returned (left store turns)
+        → IsShaped o s → s.place ≡ head → StandsFor f s store → FitsHomes f store
+        → loop holds run (left store turns) ≡ None → Lasts o s turns
+    lasts_from_guard n s store zero few returns shaped place stands has is =
+        last_spent s store shaped place stands has
+    lasts_from_guard zero s store (suc k) few returns shaped place stands has is = absurd (omega arith)
+    lasts_from_guard (suc n) s store (suc k) few returns shaped place stands has is =
+        ⊎_elim
+        (λ e.
+        again_spent s store shaped place stands has k returns e (run (left store k)) refl
+        (sym (loop_again holds run falls store k e) ∙ is)
+        (λ t between fewer returns' shape at_head stands' has' is'.
+        lasts_from_guard n t between.store between.turns (omega arith) returns' shape at_head stands' has' is'))
+        (λ e. absurd (none-some (left store (suc k)) (sym is ∙ loop_ends holds run store (suc k) e)))
+        (cases_Bool (holds store))
 
   -- the jump to the guard
   jumped : (s : State) (store : Store) → IsShaped o s → s.place ≡ p → StandsFor f s store
@@ -247,16 +298,18 @@ module _ (o : Parts) (fits : IsInRange o) (f : Setting) (p : ℕ) (guard body : 
       refl (omega (arith, place)) (omega arith) (λ t shape stands'. stands')
 
   -- a loop is followed, turn by turn
-  pub follows-loop : Follows o f p (loop_code guard cmp body) (loop holds run)
+  pub follows-loop : Follows o f known p (loop_code guard cmp body) (loop holds run)
   follows-loop = record {
-    done = λ s store turns l shaped place stands has is.
+    done = λ s store turns l shaped place stands has within is.
         let first = jumped s store shaped place stands in
         finishes-weaker behind (greatest_costs o (loop_code guard cmp body))
         (finishes-behind l behind each fits shaped first
-        (from_guard turns first.end store turns l (omega arith) first.shaped first.comes first.holds has is))
+        (from_guard (left store turns) within turns first.end store turns l (omega arith) AtOnce first.shaped
+        first.comes first.holds has is))
         refl cost_is;
-    spent = λ s store turns shaped place stands has is.
+    spent = λ s store turns shaped place stands has within is.
         let first = jumped s store shaped place stands in
         lasts-behind fits shaped first
-        (lasts_from_guard turns first.end store turns (omega arith) first.shaped first.comes first.holds has is);
+        (lasts_from_guard (left store turns) within turns first.end store turns (omega arith) AtOnce first.shaped
+        first.comes first.holds has is);
   }

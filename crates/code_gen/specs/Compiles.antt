@@ -18,7 +18,7 @@ use Rattle.block_cache_gen.specs.Settings.{setting_for}
 use Rattle.branch_padding.specs.Stores.{added_up, stores_of_each}
 use Rattle.code_gen.specs.FastLayout.{fast_plan}
 use Rattle.code_gen.specs.HeldNumbers.{held_for}
-use Rattle.code_gen.specs.Programs.{scalars_among}
+use Rattle.code_gen.specs.Programs.{at_start, scalars_among}
 use Rattle.code_gen.specs.declared.compiling.CompileError.{CompileError}
 use Rattle.code_gen.specs.declared.compiling.CompileError.TheVariants.{TooManyScalars, BankFull, Memory}
 
@@ -42,7 +42,7 @@ pub record IsFor (given : Profile) (l : Latencies) (o : Parts) : Type 0 where
 -- holds
 abbrev pub stores_by : Source → Plan → Profile → Bool → List Held → ℕ
 stores_by p plan profile reduces held =
-    added_up (stores_of_each (setting_for p plan profile reduces held) Public p.body) + scalars_among held
+    added_up (stores_of_each (at_start (setting_for p plan profile reduces held)) Public p.body) + scalars_among held
 
 -- the same without --fast
 abbrev pub stores_in : Source → Profile → ℕ

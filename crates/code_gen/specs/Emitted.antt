@@ -4,10 +4,12 @@ use Rattle.gr_word.specs.declared.operations.Cmp.{Cmp}
 use Rattle.lt_isa.specs.declared.symbols.Note.{Note}
 use Rattle.lt_isa.specs.declared.instructions.Instr.{Instr}
 use Rattle.lt_isa.specs.declared.instructions.Instr.TheVariants.{Jmp, Br}
+use Rattle.src_tree.specs.declared.trees.Decl.{Decl}
+use Rattle.scalar_ranges.specs.Ranges.{Ranges}
 use Rattle.src_tree.specs.Trees.{Test, Statement, Choice, Block, Nothing, Then}
 use Rattle.block_cache_gen.specs.declared.frames.CodeBuf.{CodeBuf}
 use Rattle.block_cache_gen.specs.declared.frames.Mode.TheVariants.{Public}
-use Rattle.block_cache_gen.specs.Homes.{Setting}
+use Rattle.block_cache_gen.specs.Homes.{Setting, ranged}
 use Rattle.block_cache_gen.specs.Codes.{guard_code}
 use Rattle.block_cache_gen.specs.Notes.{guard_notes}
 use Rattle.block_cache_gen.specs.Emitted.{Appended}
@@ -15,27 +17,31 @@ use Rattle.branch_padding.specs.Padded.{padded_code}
 use Rattle.code_gen.specs.Statements.{Padding, opposite, second_code, statement_code, block_code, statement_notes, block_notes, ends_noted, block_ends_noted, head_note, head_unless}
 
 -- the code of branches on secrets
-abbrev pub padding_of : Setting → Padding
+abbrev pub padding_of : Padding
 padding_of f t a b = padded_code f Public (Choice t a b)
 
 abbrev pub EmitsStatement : Setting → Statement → CodeBuf → CodeBuf → Type 0
 EmitsStatement f s before after =
-    Appended before after (statement_code f (padding_of f) s) (λ place. statement_notes f (padding_of f) place s)
+    Appended before after (statement_code f padding_of s) (λ place. statement_notes f padding_of place s)
 
 abbrev pub EmitsBlock : Setting → Block → CodeBuf → CodeBuf → Type 0
 EmitsBlock f b before after =
-    Appended before after (block_code f (padding_of f) b) (λ place. block_notes f (padding_of f) place b)
+    Appended before after (block_code f padding_of b) (λ place. block_notes f padding_of place b)
 
 -- After the body of a loop whose jump is at a place: the jump leads here, and the guard follows with its branch back.
-pub record ClosesLoop (f : Setting) (t : Test) (start : ℕ) (noted : Bool) (before after : CodeBuf) : Type 0 where
+-- The guard is made for what is known there.
+pub record ClosesLoop (f : Setting) (known : Ranges) (t : Test) (start : ℕ) (noted : Bool)
+    (before after : CodeBuf) : Type 0 where
   pub code : after.code.items
       ≡ slice_set before.code.items start (Jmp (pos (length before.code.items - start)))
-      ++ (guard_code f Public 0 t
-      ++ Br t.cmp 0 1 (negsuc ((length before.code.items + length (guard_code f Public 0 t)) - (start + 1) - 1)) ∷ [])
+      ++ (guard_code (ranged f known) Public 0 t
+      ++ Br t.cmp 0 1
+      (negsuc ((length before.code.items + length (guard_code (ranged f known) Public 0 t)) - (start + 1) - 1))
+      ∷ [])
   pub notes : after.notes.items
       ≡ before.notes.items
       ++ (head_unless (noted || (length before.code.items == start + 1)) f (length before.code.items)
-      ++ guard_notes f 0 (length before.code.items) t)
+      ++ guard_notes (ranged f known) 0 (length before.code.items) t)
 
 -- how many places a jump before the second block of a choice takes
 abbrev pub before_second : List Instr → ℕ
@@ -53,14 +59,14 @@ pub record ClosesChoice (f : Setting) (cmp : Cmp) (branch : ℕ) (noted : Bool) 
     (before after : CodeBuf) : Type 0 where
   pub code : after.code.items
       ≡ slice_set before.code.items branch
-      (Br (opposite cmp) 0 1 (pos (length before.code.items - branch + before_second (block_code f (padding_of f) b))))
-      ++ second_code (block_code f (padding_of f) b)
+      (Br (opposite cmp) 0 1 (pos (length before.code.items - branch + before_second (block_code f padding_of b))))
+      ++ second_code (block_code f padding_of b)
   pub notes : after.notes.items
       ≡ before.notes.items
-      ++ second_notes f (length before.code.items) (block_code f (padding_of f) b)
-      (block_notes f (padding_of f) (length before.code.items + 1) b) (noted, block_ends_noted f b)
+      ++ second_notes f (length before.code.items) (block_code f padding_of b)
+      (block_notes f padding_of (length before.code.items + 1) b) (noted, block_ends_noted f.decls b)
 
 -- whether there is a note just after a block, given whether there is one just before it
-abbrev pub noted_behind : Setting → Bool → Block → Bool
-noted_behind f noted Nothing = noted
-noted_behind f noted (Then s rest) = noted_behind f (ends_noted f s) rest
+abbrev pub noted_behind : List Decl → Bool → Block → Bool
+noted_behind decls noted Nothing = noted
+noted_behind decls noted (Then s rest) = noted_behind decls (ends_noted decls s) rest

@@ -8,6 +8,7 @@ use Rattle.lt_isa.specs.Shape.{IsShaped}
 use Rattle.lt_isa.specs.Trace.{Stamped, Reaches}
 use Rattle.stretches.specs.Standing.{greatest_costs}
 use Rattle.src_tree.specs.Meaning.{Store, Left, Execution}
+use Rattle.scalar_ranges.specs.Ranges.{AreWithin, Ranges}
 use Rattle.block_cache_gen.specs.Homes.{Setting}
 use Rattle.block_cache_gen.specs.StandsFor.{FitsHomes, StandsFor}
 
@@ -34,11 +35,15 @@ pub record Lasts (o : Parts) (s : State) (cycles : ℕ) : Type 0 where
   pub reaches : Reaches o s events end
   pub late : s.cycle + cycles ≤ end.cycle
 
--- Code at a place follows statements: from a state there that represents a store, the run reaches the end of the code
--- if the statements are done, and lasts at least as many cycles as they had iterations if they are spent.
-pub record Follows (o : Parts) (f : Setting) (place : ℕ) (code : List Instr) (run : Execution) : Type 0 where
+-- Code at a place follows statements: from a state there that represents a store within what is known, the run reaches
+-- the end of the code if the statements are done, and lasts at least as many cycles as they had iterations if they are
+-- spent.
+pub record Follows (o : Parts) (f : Setting) (known : Ranges) (place : ℕ) (code : List Instr)
+    (run : Execution) : Type 0 where
   pub done : (s : State) (store : Store) (turns : ℕ) (left : Left) → IsShaped o s → s.place ≡ place
-      → StandsFor f s store → FitsHomes f store → run (record { store = store; turns = turns }) ≡ Some left
+      → StandsFor f s store → FitsHomes f store → AreWithin known store
+      → run (record { store = store; turns = turns }) ≡ Some left
       → Finishes o f s turns left (place + length code) (greatest_costs o code)
   pub spent : (s : State) (store : Store) (turns : ℕ) → IsShaped o s → s.place ≡ place → StandsFor f s store
-      → FitsHomes f store → run (record { store = store; turns = turns }) ≡ None → Lasts o s turns
+      → FitsHomes f store → AreWithin known store → run (record { store = store; turns = turns }) ≡ None
+      → Lasts o s turns

@@ -31,10 +31,8 @@ pub record IsMadeOf (p : Source) (plan : Plan) (given : Profile) (reduces : Bool
   pub profile : o.profile ≡ given
   pub layout : IsLaidOut p given.block_log plan.places plan.blocks o
   pub banks : o.banks ≡ banks_from l 0 plan.blocks
-  pub code : o.code
-      ≡ program_code (setting_for p plan given reduces held) (padding_of (setting_for p plan given reduces held)) p.body
-  pub notes : o.notes
-      ≡ program_notes (setting_for p plan given reduces held) (padding_of (setting_for p plan given reduces held)) p.body
+  pub code : o.code ≡ program_code (setting_for p plan given reduces held) padding_of p.body
+  pub notes : o.notes ≡ program_notes (setting_for p plan given reduces held) padding_of p.body
 
 -- the error of a lack of room
 abbrev pub error_of : PlaceError → CompileError

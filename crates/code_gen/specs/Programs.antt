@@ -1,14 +1,15 @@
 -- For the proofs and for private clauses only: the code of a whole program. It begins with the loads of the slots and
 -- registers that the rest relies on, and ends with the stores of the scalars that registers hold for the whole run, and
 -- of the blocks that slots hold.
-use Rattle.std.specs.Prelude.{ℕ, ◌+◌, Bool, true, false, pos, List, [], ◌∷◌, ◌++◌, length, count_by, Option, Some, None}
+use Rattle.std.specs.Prelude.{ℕ, ◌+◌, Bool, true, false, pos, List, [], ◌∷◌, ◌++◌, if◌then◌else◌, length, count_by, Option, Some, None}
 use Rattle.lt_isa.specs.declared.symbols.Note.{Note}
 use Rattle.lt_isa.specs.declared.instructions.Instr.{Instr}
 use Rattle.lt_isa.specs.declared.instructions.Instr.TheVariants.{Li, Ldb, Stb, Halt}
 use Rattle.src_tree.specs.Trees.{Block}
 use Rattle.scratch_alloc.specs.declared.plans.Pin.{Pin}
 use Rattle.held_registers.specs.declared.registers.Held.TheVariants.{SecretZero, Number, Scalar}
-use Rattle.block_cache_gen.specs.Homes.{Held, Setting}
+use Rattle.scalar_ranges.specs.Known.{nothing_known}
+use Rattle.block_cache_gen.specs.Homes.{Held, Setting, ranged}
 use Rattle.block_cache_gen.specs.HeldCodes.{held_beginning, held_ending}
 use Rattle.block_cache_gen.specs.ServedBlocks.{first_blocks}
 use Rattle.code_gen.specs.Statements.{Padding, block_code, block_notes}
@@ -43,8 +44,13 @@ is_some_scalar (Scalar n) = true
 abbrev pub scalars_among : List Held → ℕ
 scalars_among held = count_by is_some_scalar held
 
+-- At the beginning nothing is known of any scalar. Ranges serve the steps that replace operations by numbers: if there
+-- are none, no list of ranges is kept.
+abbrev pub at_start : Setting → Setting
+at_start f = ranged f (if f.reduces then nothing_known (length f.decls) else [])
+
 abbrev pub program_code : Setting → Padding → Block → List Instr
-program_code f padded body = beginning f ++ (block_code f padded body ++ ending f)
+program_code f padded body = beginning f ++ (block_code (at_start f) padded body ++ ending f)
 
 abbrev pub program_notes : Setting → Padding → Block → List Note
-program_notes f padded body = block_notes f padded (length (beginning f)) body
+program_notes f padded body = block_notes (at_start f) padded (length (beginning f)) body

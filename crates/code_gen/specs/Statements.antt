@@ -1,5 +1,6 @@
 -- For the proofs and for private clauses only: the instructions and the notes that are made of statements in public
--- code. Branches on secrets are padded; what is made of one is handed in.
+-- code. Branches on secrets are padded; what is made of one is a parameter. Each statement's code is made for what is
+-- known at its place, which `f` has at the beginning of the statements.
 use Rattle.std.specs.Prelude.{ℕ, ◌+◌, ◌-◌, Bool, true, false, pos, negsuc, List, [], ◌∷◌, ◌++◌, length}
 use Rattle.gr_word.specs.declared.operations.Cmp.{Cmp}
 use Rattle.gr_word.specs.declared.operations.Cmp.TheVariants.{Eq, Ne, Lt, Le, Gt, Ge}
@@ -9,16 +10,18 @@ use Rattle.lt_isa.specs.declared.symbols.Note.{Note}
 use Rattle.lt_isa.specs.declared.instructions.Instr.{Instr}
 use Rattle.lt_isa.specs.declared.instructions.Instr.TheVariants.{Jmp, Br}
 use Rattle.src_tree.specs.Trees.{Test, Statement, SetVariable, SetElement, Choice, Loop, Block, Nothing, Then}
+use Rattle.src_tree.specs.declared.trees.Decl.{Decl}
 use Rattle.src_tree.specs.Contexts.{context_of}
 use Rattle.src_tree.specs.Labels.{label_of_test}
 use Rattle.block_cache_gen.specs.declared.frames.Mode.TheVariants.{Public}
 use Rattle.block_cache_gen.specs.Homes.{Setting}
 use Rattle.block_cache_gen.specs.Codes.{guard_code, set_code}
 use Rattle.block_cache_gen.specs.Notes.{base_mask, note_of, guard_notes, set_notes}
+use Rattle.branch_padding.specs.AfterStatements.{after, behind_loop, within_loop}
 
 -- the code of a branch on a secret
 abbrev pub Padding : Type 0
-Padding = Test → Block → Block → List Instr
+Padding = Setting → Test → Block → Block → List Instr
 
 -- the comparison that holds exactly where another doesn't
 abbrev pub opposite : Cmp → Cmp
@@ -61,12 +64,13 @@ abbrev mutual
   statement_code f padded (SetElement x i e) = set_code f Public (SetElement x i e)
   statement_code f padded (Choice t a b) =
       choice_by (label_of_test (context_of f.decls) t)
-      (choice_code (guard_code f Public 0 t) t.cmp (block_code f padded a) (block_code f padded b)) (padded t a b)
-  statement_code f padded (Loop t a) = loop_code (guard_code f Public 0 t) t.cmp (block_code f padded a)
+      (choice_code (guard_code f Public 0 t) t.cmp (block_code f padded a) (block_code f padded b)) (padded f t a b)
+  statement_code f padded (Loop t a) =
+      loop_code (guard_code (behind_loop f a) Public 0 t) t.cmp (block_code (within_loop f t a) padded a)
 
   pub block_code : Setting → Padding → Block → List Instr
   block_code f padded Nothing = []
-  block_code f padded (Then s rest) = statement_code f padded s ++ block_code f padded rest
+  block_code f padded (Then s rest) = statement_code f padded s ++ block_code (after f s) padded rest
 
 -- a note to which public code may jump: every register may hold a secret, but those that hold something public for the
 -- whole run
@@ -78,16 +82,16 @@ abbrev pub is_public : Label → Bool
 is_public label.Public = true
 is_public label.Secret = false
 
-abbrev pub ends_noted : Setting → Statement → Bool
-ends_noted f (SetVariable x e) = false
-ends_noted f (SetElement x i e) = false
-ends_noted f (Choice t a b) = is_public (label_of_test (context_of f.decls) t)
-ends_noted f (Loop t a) = false
+abbrev pub ends_noted : List Decl → Statement → Bool
+ends_noted decls (SetVariable x e) = false
+ends_noted decls (SetElement x i e) = false
+ends_noted decls (Choice t a b) = is_public (label_of_test (context_of decls) t)
+ends_noted decls (Loop t a) = false
 
-abbrev pub block_ends_noted : Setting → Block → Bool
-block_ends_noted f Nothing = false
-block_ends_noted f (Then s Nothing) = ends_noted f s
-block_ends_noted f (Then s (Then t rest)) = block_ends_noted f (Then t rest)
+abbrev pub block_ends_noted : List Decl → Block → Bool
+block_ends_noted decls Nothing = false
+block_ends_noted decls (Then s Nothing) = ends_noted decls s
+block_ends_noted decls (Then s (Then t rest)) = block_ends_noted decls (Then t rest)
 
 -- a head note at a place that has none yet
 abbrev pub head_unless : Bool → Setting → ℕ → List Note
@@ -127,14 +131,16 @@ abbrev mutual
       (block_notes f padded
       (place + (length (guard_code f Public 0 t) + (1 + (length (block_code f padded a) + 1))))
       b)
-      (block_ends_noted f a, block_ends_noted f b))
+      (block_ends_noted f.decls a, block_ends_noted f.decls b))
   statement_notes f padded place (Loop t a) =
       head_note f (place + 1)
-      ∷ (block_notes f padded (place + 1) a
-      ++ (guard_note f (block_code f padded a) (block_ends_noted f a) (place + (1 + length (block_code f padded a)))
-      ++ guard_notes f 0 (place + (1 + length (block_code f padded a))) t))
+      ∷ (block_notes (within_loop f t a) padded (place + 1) a
+      ++ (guard_note f (block_code (within_loop f t a) padded a) (block_ends_noted f.decls a)
+      (place + (1 + length (block_code (within_loop f t a) padded a)))
+      ++ guard_notes (behind_loop f a) 0 (place + (1 + length (block_code (within_loop f t a) padded a))) t))
 
   pub block_notes : Setting → Padding → ℕ → Block → List Note
   block_notes f padded place Nothing = []
   block_notes f padded place (Then s rest) =
-      statement_notes f padded place s ++ block_notes f padded (place + length (statement_code f padded s)) rest
+      statement_notes f padded place s
+      ++ block_notes (after f s) padded (place + length (statement_code f padded s)) rest

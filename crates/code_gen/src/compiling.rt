@@ -28,7 +28,7 @@ use crate::numbers::held_for;
 use crate::plans::fast_plan;
 use crate::programs::program_code;
 use bank_alloc::{PlaceError, Places, banks, symbols};
-use block_cache_gen::{CodeBuf, Emitter, Frame};
+use block_cache_gen::{CodeBuf, Emitter, Frame, Prepared};
 use flow_types::Typed;
 use gr_base::Memory;
 use gr_word::Label;
@@ -71,9 +71,9 @@ fn assembled(alloc: Global, f: &Frame<'_>, l: &Latencies, made: CodeBuf) -> Resu
     requires latencies { LatenciesFit l.now }
     requires words { BlockHasWords (source_of f.now.program.now).body }
     requires code { made.code.items
-        ≡ program_code (setting_of f.now) (padding_of (setting_of f.now)) (source_of f.now.program.now).body }
+        ≡ program_code (setting_of f.now) padding_of (source_of f.now.program.now).body }
     requires notes { made.notes.items
-        ≡ program_notes (setting_of f.now) (padding_of (setting_of f.now)) (source_of f.now.program.now).body }
+        ≡ program_notes (setting_of f.now) padding_of (source_of f.now.program.now).body }
     ensures { IfOk result (λ o. IsMadeOf (source_of f.now.program.now) (plan_of f.now) f.now.profile.now f.now.reduces
         f.now.held.now l.now o) }
 {
@@ -111,7 +111,8 @@ fn planned(
         reduces,
         held,
     };
-    let emitter = Emitter::new(alloc, &frame)?;
+    let prepared = Prepared::new(alloc, &frame)?;
+    let emitter = Emitter::new(&prepared);
     let made = program_code(alloc, &emitter, &frame, program.body.as_slice())?;
     assembled(alloc, &frame, l, made)
 }

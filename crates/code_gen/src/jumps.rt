@@ -45,7 +45,7 @@ pub(crate) fn set_branch_unless(out: &mut CodeBuf, at: u32, cmp: Cmp)
 
 /// Appends a note after the code so far, to which public code may jump: every register may hold a secret, but those that
 /// hold something public for the whole run. The only error is want of memory.
-pub(crate) fn put_head_note(emitter: &Emitter<'_>, out: &mut CodeBuf) -> Result<(), Memory>
+pub(crate) fn put_head_note(emitter: &Emitter<'_, '_, '_>, out: &mut CodeBuf) -> Result<(), Memory>
     requires room { length out.old.code.items < 2 ^ 32 }
     ensures appended { OnOk result (Appended out.old out.new [] (λ place. head_note emitter.now place ∷ [])) }
 {
@@ -58,7 +58,7 @@ pub(crate) fn put_head_note(emitter: &Emitter<'_>, out: &mut CodeBuf) -> Result<
 
 /// The same if there is no note yet, which `noted` says.
 pub(crate) fn put_head_note_unless(
-    emitter: &Emitter<'_>,
+    emitter: &Emitter<'_, '_, '_>,
     out: &mut CodeBuf,
     noted: bool,
 ) -> Result<(), Memory>

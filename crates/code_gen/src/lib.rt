@@ -9,6 +9,7 @@
 mod banks;
 pub mod compiling;
 mod jumps;
+mod known;
 mod laws;
 mod numbers;
 pub mod plans;

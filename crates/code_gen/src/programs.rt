@@ -12,6 +12,7 @@ ghost use Rattle.block_cache_gen.specs.ProgramWords.{BlockHasWords};
 ghost use Rattle.code_gen.specs.Emitted.{padding_of};
 ghost use Rattle.code_gen.specs.Programs.{beginning, each_slot, ending, load_code, pin_store, program_code, program_notes};
 
+use crate::known::known_at_start;
 use crate::statements::put_block;
 use block_cache_gen::{CodeBuf, Emitter, Frame};
 use gr_base::Memory;
@@ -167,7 +168,11 @@ fn put_held_ending(out: &mut CodeBuf, f: &Frame<'_>) -> Result<(), Memory>
 }
 
 // The loads of the slots and the registers that the rest of a program relies on.
-fn put_beginning(emitter: &Emitter<'_>, f: &Frame<'_>, out: &mut CodeBuf) -> Result<(), Memory>
+fn put_beginning(
+    emitter: &Emitter<'_, '_, '_>,
+    f: &Frame<'_>,
+    out: &mut CodeBuf,
+) -> Result<(), Memory>
     requires frame { IsFrame f.now }
     requires same { emitter.now ≡ setting_of f.now }
     ensures { OnOk result (Appended out.old out.new (beginning emitter.now) no_notes) }
@@ -177,7 +182,7 @@ fn put_beginning(emitter: &Emitter<'_>, f: &Frame<'_>, out: &mut CodeBuf) -> Res
 }
 
 // The stores of the scalars that registers hold and of the blocks that slots hold for the whole run, and the end.
-fn put_ending(emitter: &Emitter<'_>, f: &Frame<'_>, out: &mut CodeBuf) -> Result<(), Memory>
+fn put_ending(emitter: &Emitter<'_, '_, '_>, f: &Frame<'_>, out: &mut CodeBuf) -> Result<(), Memory>
     requires frame { IsFrame f.now }
     requires same { emitter.now ≡ setting_of f.now }
     ensures { OnOk result (Appended out.old out.new (ending emitter.now) no_notes) }
@@ -191,7 +196,7 @@ fn put_ending(emitter: &Emitter<'_>, f: &Frame<'_>, out: &mut CodeBuf) -> Result
 /// scalars that registers hold and of the blocks that slots hold for the whole run. The only error is want of memory.
 pub(crate) fn program_code<'a>(
     alloc: Global,
-    emitter: &Emitter<'a>,
+    emitter: &Emitter<'a, '_, '_>,
     f: &Frame<'_>,
     body: &'a [Stmt],
 ) -> Result<CodeBuf, Memory>
@@ -201,14 +206,15 @@ pub(crate) fn program_code<'a>(
     requires low { LowBlock (block_of_all body.now) }
     requires light { block_weight (context_of emitter.now.decls) Public (block_of_all body.now) ≤ max_weight }
     ensures code { IfOk result
-        (λ out. out.code.items ≡ program_code emitter.now (padding_of emitter.now) (block_of_all body.now)) }
+        (λ out. out.code.items ≡ program_code emitter.now padding_of (block_of_all body.now)) }
     ensures words { OnOk result (BlockHasWords (block_of_all body.now)) }
     ensures notes { IfOk result
-        (λ out. out.notes.items ≡ program_notes emitter.now (padding_of emitter.now) (block_of_all body.now)) }
+        (λ out. out.notes.items ≡ program_notes emitter.now padding_of (block_of_all body.now)) }
 {
     let mut out = CodeBuf::new(alloc);
     put_beginning(emitter, f, &mut out)?;
-    put_block(emitter, &mut out, body)?;
+    let known = known_at_start(alloc, emitter)?;
+    put_block(&emitter.at(known.as_slice()), &mut out, body)?;
     put_ending(emitter, f, &mut out)?;
     Ok(out)
 }

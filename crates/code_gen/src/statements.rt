@@ -14,6 +14,7 @@ ghost use Rattle.code_gen.specs.Emitted.{ClosesLoop, EmitsBlock, EmitsStatement}
 ghost use Rattle.code_gen.specs.Statements.{block_ends_noted, ends_noted};
 
 use crate::jumps::{backward, put_head_note, put_head_note_unless, set_branch_unless};
+use crate::known::{known_behind, known_inside, learn};
 use block_cache_gen::{
     CodeBuf, Emitter, Mode, label_of, put_guard, put_set_element, put_set_variable,
 };
@@ -21,10 +22,11 @@ use branch_padding::put_secret_if;
 use gr_base::Memory;
 use gr_word::{Label, Name};
 use lt_isa::Instr;
+use scalar_ranges::{Range, copied};
 use src_tree::{Expr, Guard, Stmt, higher};
 
 // The label of a guard.
-fn label_of_guard<'a>(emitter: &Emitter<'a>, guard: &'a Guard) -> Label
+fn label_of_guard<'a>(emitter: &Emitter<'a, '_, '_>, guard: &'a Guard) -> Label
     ensures { result ≡ label_of_test (context_of emitter.now.decls) (test_of guard.now) }
 {
     let left = label_of(emitter, &guard.left);
@@ -34,7 +36,7 @@ fn label_of_guard<'a>(emitter: &Emitter<'a>, guard: &'a Guard) -> Label
 
 // An assignment to a variable.
 fn put_variable<'a>(
-    emitter: &Emitter<'a>,
+    emitter: &Emitter<'a, '_, '_>,
     out: &mut CodeBuf,
     name: &'a Name,
     value: &'a Expr,
@@ -55,7 +57,7 @@ fn put_variable<'a>(
 
 // An assignment to an element.
 fn put_element<'a>(
-    emitter: &Emitter<'a>,
+    emitter: &Emitter<'a, '_, '_>,
     out: &mut CodeBuf,
     name: &'a Name,
     index: &'a Expr,
@@ -75,10 +77,11 @@ fn put_element<'a>(
     put_set_element(emitter, out, name, index, value, Mode::Public)
 }
 
-// Ends a loop after its body: sets the target of the jump to the guard, and appends the guard with a branch back to the
-// body.
+// Ends a loop after its body: sets the target of the jump to the guard, and appends the guard, made for what is known
+// there, with a branch back to the body.
 fn close_loop<'a>(
-    emitter: &Emitter<'a>,
+    emitter: &Emitter<'a, '_, '_>,
+    known: &[Option<Range>],
     out: &mut CodeBuf,
     guard: &'a Guard,
     start: u32,
@@ -89,7 +92,7 @@ fn close_loop<'a>(
     requires right { height_of (expr_tree guard.now.right) ≤ 16 }
     requires before { start < length out.old.code.items }
     requires room { length out.old.code.items + 120 * test_weight (test_of guard.now) ≤ most_instructions }
-    ensures closed { OnOk result (ClosesLoop emitter.now (test_of guard.now) start noted out.old out.new) }
+    ensures closed { OnOk result (ClosesLoop emitter.now known.now (test_of guard.now) start noted out.old out.new) }
     ensures short { OnOk result
         (length out.new.code.items ≤ length out.old.code.items + 120 * test_weight (test_of guard.now)) }
     ensures words { OnOk result (TestHasWords (test_of guard.now)) }
@@ -97,7 +100,7 @@ fn close_loop<'a>(
     out.set_jump(start);
     let is_bare = out.next_place() == start + 1;
     put_head_note_unless(emitter, out, noted || is_bare)?;
-    put_guard(emitter, out, guard, 0, Mode::Public)?;
+    put_guard(&emitter.at(known), out, guard, 0, Mode::Public)?;
     let offset = backward(out.next_place() - (start + 1));
     out.put(&[Instr::Br {
         cmp: guard.cmp,
@@ -107,15 +110,19 @@ fn close_loop<'a>(
     }])
 }
 
-// A statement of public code. Returns whether there is a note just after it.
+// A statement of public code, made for what is known before it. Returns whether there is a note just after it.
 #[cycle(statements)]
-fn put_statement<'a>(emitter: &Emitter<'a>, out: &mut CodeBuf, s: &'a Stmt) -> Result<bool, Memory>
+fn put_statement<'a>(
+    emitter: &Emitter<'a, '_, '_>,
+    out: &mut CodeBuf,
+    s: &'a Stmt,
+) -> Result<bool, Memory>
     requires typed { TypedStatement (context_of emitter.now.decls) Public (statement_of s.now) }
     requires low { LowStatement (statement_of s.now) }
     requires room { length out.old.code.items
         + 120 * statement_weight (context_of emitter.now.decls) Public (statement_of s.now) ≤ most_instructions }
     ensures emitted { OnOk result (EmitsStatement emitter.now (statement_of s.now) out.old out.new) }
-    ensures noted { IfOk result (λ noted. noted ≡ ends_noted emitter.now (statement_of s.now)) }
+    ensures noted { IfOk result (λ noted. noted ≡ ends_noted emitter.now.decls (statement_of s.now)) }
     ensures short { OnOk result (length out.new.code.items ≤ length out.old.code.items
         + 120 * statement_weight (context_of emitter.now.decls) Public (statement_of s.now)) }
     ensures words { OnOk result (StatementHasWords (statement_of s.now)) }
@@ -142,7 +149,7 @@ fn put_statement<'a>(emitter: &Emitter<'a>, out: &mut CodeBuf, s: &'a Stmt) -> R
 // A choice, by the label of its guard. Returns whether there is a note just after it.
 #[cycle(statements)]
 fn put_if<'a>(
-    emitter: &Emitter<'a>,
+    emitter: &Emitter<'a, '_, '_>,
     out: &mut CodeBuf,
     guard: &'a Guard,
     first: &'a [Stmt],
@@ -154,7 +161,7 @@ fn put_if<'a>(
         (choice_of guard.now first.now second.now) ≤ most_instructions }
     ensures emitted { OnOk result (EmitsStatement emitter.now
         (choice_of guard.now first.now second.now) out.old out.new) }
-    ensures noted { IfOk result (λ noted. noted ≡ ends_noted emitter.now (choice_of guard.now first.now second.now)) }
+    ensures noted { IfOk result (λ noted. noted ≡ ends_noted emitter.now.decls (choice_of guard.now first.now second.now)) }
     ensures short { OnOk result (length out.new.code.items ≤ length out.old.code.items + 120
         * statement_weight (context_of emitter.now.decls) Public (choice_of guard.now first.now second.now)) }
     ensures words { OnOk result (StatementHasWords (choice_of guard.now first.now second.now)) }
@@ -174,7 +181,7 @@ fn put_if<'a>(
 // A choice with a public guard: the branch leads over the first block, and a jump leads over the second.
 #[cycle(statements)]
 fn put_choice<'a>(
-    emitter: &Emitter<'a>,
+    emitter: &Emitter<'a, '_, '_>,
     out: &mut CodeBuf,
     guard: &'a Guard,
     first: &'a [Stmt],
@@ -208,10 +215,11 @@ fn put_choice<'a>(
     put_head_note_unless(emitter, out, noted_at_end)
 }
 
-// A loop: a jump leads to the guard, which follows the body.
+// A loop: a jump leads to the guard, which follows the body. The body is made for what is known in it, and the guard for
+// what is known before the loop and after the body.
 #[cycle(statements)]
 fn put_loop<'a>(
-    emitter: &Emitter<'a>,
+    emitter: &Emitter<'a, '_, '_>,
     out: &mut CodeBuf,
     guard: &'a Guard,
     body: &'a [Stmt],
@@ -228,18 +236,20 @@ fn put_loop<'a>(
         * statement_weight (context_of emitter.now.decls) Public (Loop (test_of guard.now) (block_of_all body.now))) }
     ensures words { OnOk result (StatementHasWords (Loop (test_of guard.now) (block_of_all body.now))) }
 {
+    let inner = known_inside(emitter, guard, body)?;
+    let behind = known_behind(emitter, body)?;
     let start = out.next_place();
     out.put(&[Instr::Jmp { offset: 0 }])?;
     put_head_note(emitter, out)?;
-    let noted = put_block(emitter, out, body)?;
-    close_loop(emitter, out, guard, start, noted)
+    let noted = put_block(&emitter.at(inner.as_slice()), out, body)?;
+    close_loop(emitter, behind.as_slice(), out, guard, start, noted)
 }
 
-/// Appends the code and the notes of statements in their order, and returns whether there is a note just after them.
-/// The only error is want of memory.
+/// Appends the code and the notes of statements in their order, each made for what is known at its place, and returns
+/// whether there is a note just after them. The only error is want of memory.
 #[cycle(statements)]
 pub(crate) fn put_block<'a>(
-    emitter: &Emitter<'a>,
+    emitter: &Emitter<'a, '_, '_>,
     out: &mut CodeBuf,
     statements: &'a [Stmt],
 ) -> Result<bool, Memory>
@@ -248,14 +258,16 @@ pub(crate) fn put_block<'a>(
     requires room { length out.old.code.items
         + 120 * block_weight (context_of emitter.now.decls) Public (block_of_all statements.now) ≤ most_instructions }
     ensures emitted { OnOk result (EmitsBlock emitter.now (block_of_all statements.now) out.old out.new) }
-    ensures noted { IfOk result (λ noted. noted ≡ block_ends_noted emitter.now (block_of_all statements.now)) }
+    ensures noted { IfOk result (λ noted. noted ≡ block_ends_noted emitter.now.decls (block_of_all statements.now)) }
     ensures short { OnOk result (length out.new.code.items ≤ length out.old.code.items
         + 120 * block_weight (context_of emitter.now.decls) Public (block_of_all statements.now)) }
     ensures words { OnOk result (BlockHasWords (block_of_all statements.now)) }
 {
+    let mut known = copied(emitter.alloc(), emitter.known())?;
     let mut noted = false;
     for statement in statements {
-        noted = put_statement(emitter, out, statement)?;
+        noted = put_statement(&emitter.at(known.as_slice()), out, statement)?;
+        learn(emitter, &mut known, statement);
     }
     Ok(noted)
 }

@@ -68,7 +68,6 @@ fn owners_in(
     let slots = slots_of(alloc, program, target)?;
     let compiled = CompiledCode {
         code,
-        taken: target.profile.taken,
         decls: program.program().decls.as_slice(),
         slots: &slots,
     };

@@ -166,12 +166,26 @@ fn reached(end: usize, expected: usize) -> Option<usize> {
     if end == expected { Some(end) } else { None }
 }
 
-// Makes a branch on a secret the owner of its guard and its jump, and of the instructions that do nothing.
+// Makes a branch on a secret the owner of its guard and its jump, and of what does nothing before its first arm.
 fn claim_region(owners: &mut Owners, from: usize, region: Region, arms: Arms, owner: Owner) {
     claim(owners, from, arms.idle, owner);
     claim(owners, arms.idle, arms.untaken, padding(owner));
     claim(owners, region.jump, arms.taken, owner);
-    claim(owners, arms.idle_again, region.end, padding(owner));
+}
+
+// Makes a branch on a secret the owner of the instructions between two places after an arm, if they do nothing.
+fn claim_idle(
+    compiled: CompiledCode<'_>,
+    owners: &mut Owners,
+    from: usize,
+    to: usize,
+    owner: Owner,
+) -> Option<usize> {
+    if !compiled.idles(from, to) {
+        return None;
+    }
+    claim(owners, from, to, padding(owner));
+    Some(to)
 }
 
 // An owner of instructions that pad.
@@ -229,6 +243,33 @@ fn map_row(
     Some(at)
 }
 
+// Which statements of the blocks of a branch on a secret have code in the arm that isn't theirs: those of the first block
+// from one on, and those of the second. As many statements of the second as pair stand before the rest of the first.
+#[derive(Clone, Copy)]
+struct Rests {
+    pairs: usize,
+    first: usize,
+    second: usize,
+}
+
+// The rests of blocks of these lengths. Mirrored arms have as many statements as each other, of which the first pair. In a
+// quiet branch each arm has only its own block.
+fn rests_of(arms: Arms, first: usize, second: usize) -> Option<Rests> {
+    if arms.untaken_count != arms.taken_count {
+        return Some(Rests {
+            pairs: second,
+            first,
+            second,
+        });
+    }
+    let pairs = first.checked_add(second)?.checked_sub(arms.untaken_count)?;
+    Some(Rests {
+        pairs,
+        first: pairs,
+        second: pairs,
+    })
+}
+
 // Maps a statement of an arm. A branch has its guard, two arms, a jump, and instructions that do nothing. The arm of a
 // branch that isn't taken has the second block, with the rest of the first after the pairs; the other arm has the first
 // block, and the rest of the second. One of the rests has its effect, and the other only pads.
@@ -247,34 +288,42 @@ fn map_padded(
             let region = compiled.region_at(compiled.guard_end(from)?)?;
             let arms = compiled.arms_of(region)?;
             claim_region(owners, from, region, arms, owner);
-            let found = compiled.statements_between(arms.untaken, region.jump)?;
-            let pairs = first.len().checked_add(second.len())?.checked_sub(found)?;
+            let rests = rests_of(arms, first.len(), second.len())?;
             let one = first_owner(owner);
             let other = second_owner(owner, first);
-            let at = map_row(compiled, owners, second, 0, pairs, other, arms.untaken)?;
+            let pads = padding(one);
             let at = map_row(
                 compiled,
                 owners,
-                first,
-                pairs,
-                first.len(),
-                padding(one),
-                at,
+                second,
+                0,
+                rests.pairs,
+                other,
+                arms.untaken,
             )?;
-            let untaken = map_row(compiled, owners, second, pairs, second.len(), other, at)?;
-            let at = map_row(compiled, owners, first, 0, first.len(), one, arms.taken)?;
-            let taken = map_row(
+            let at = map_row(compiled, owners, first, rests.first, first.len(), pads, at)?;
+            let at = map_row(
                 compiled,
                 owners,
                 second,
-                pairs,
+                rests.pairs,
                 second.len(),
-                padding(other),
+                other,
                 at,
             )?;
-            reached(untaken, region.jump)?;
-            reached(taken, arms.idle_again)?;
-            Some(region.end)
+            claim_idle(compiled, owners, at, region.jump, owner)?;
+            let pads = padding(other);
+            let at = map_row(compiled, owners, first, 0, first.len(), one, arms.taken)?;
+            let at = map_row(
+                compiled,
+                owners,
+                second,
+                rests.second,
+                second.len(),
+                pads,
+                at,
+            )?;
+            claim_idle(compiled, owners, at, region.end, owner)
         }
         Stmt::While(_, _) => None,
     }

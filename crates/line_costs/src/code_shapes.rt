@@ -13,8 +13,6 @@ const FIRST_HELD: u8 = 21;
 pub struct CompiledCode<'a> {
     /// The object's instructions.
     pub code: &'a [Instr],
-    /// The cycles of a branch that is taken.
-    pub taken: u8,
     /// The program's variables.
     pub decls: &'a [Decl],
     /// How the code uses the slots of the scratchpad.
@@ -29,14 +27,15 @@ pub(crate) struct Region {
     pub(crate) end: usize,
 }
 
-/// Where the arms of a region begin: that of a branch that isn't taken, after instructions that do nothing, and that of one
-/// that is, before such instructions.
+/// Where the arms of a region begin: that of a branch that isn't taken, after instructions that do nothing, and that of
+/// one that is; and how many statements each has.
 #[derive(Clone, Copy)]
 pub(crate) struct Arms {
     pub(crate) idle: usize,
     pub(crate) untaken: usize,
     pub(crate) taken: usize,
-    pub(crate) idle_again: usize,
+    pub(crate) untaken_count: usize,
+    pub(crate) taken_count: usize,
 }
 
 impl CompiledCode<'_> {
@@ -242,19 +241,23 @@ impl CompiledCode<'_> {
         }
     }
 
-    // Whether this many instructions from a place do nothing.
-    fn idles(&self, from: usize, count: usize) -> bool {
-        let mut left = count;
-        for instruction in self.code.iter().skip(from) {
-            if left == 0 {
-                return true;
+    // The first place from one on, but not behind another, whose instruction does something.
+    fn idle_end(&self, from: usize, to: usize) -> usize {
+        for (at, instruction) in self.code.iter().enumerate().skip(from) {
+            if to <= at {
+                return to;
             }
             match instruction {
-                Instr::Nop => left -= 1,
-                _ => return false,
+                Instr::Nop => {}
+                _ => return at,
             }
         }
-        left == 0
+        to
+    }
+
+    /// Whether the instructions from a place up to another do nothing.
+    pub(crate) fn idles(&self, from: usize, to: usize) -> bool {
+        from <= to && self.idle_end(from, to) == to
     }
 
     /// Whether a guard has a secret variable.
@@ -262,12 +265,12 @@ impl CompiledCode<'_> {
         has_secret(self.decls, &guard.left) || has_secret(self.decls, &guard.right)
     }
 
-    /// How many statements have their code between two places of an arm.
-    pub(crate) fn statements_between(&self, from: usize, to: usize) -> Option<usize> {
+    // How many statements have their code between two places of an arm, before instructions that do nothing.
+    fn statements_between(&self, from: usize, to: usize) -> Option<usize> {
         let mut at = from;
         let mut count = 0usize;
         for _ in 0..self.code.len() {
-            if to <= at {
+            if self.idles(at, to) {
                 return Some(count);
             }
             at = self.statement_end(at)?;
@@ -308,20 +311,18 @@ impl CompiledCode<'_> {
         Some(Region { branch, jump, end })
     }
 
-    /// Where the arms of a region begin, and where the instructions that do nothing are.
+    /// Where the arms of a region begin, and how many statements they have.
     pub(crate) fn arms_of(&self, region: Region) -> Option<Arms> {
-        let taken = usize::from(self.taken);
-        let arms = Arms {
-            idle: region.branch.checked_add(1)?,
-            untaken: region.branch.checked_add(taken)?,
-            taken: region.jump.checked_add(1)?,
-            idle_again: region.end.checked_sub(taken)?,
-        };
-        if self.idles(arms.idle, taken.checked_sub(1)?) && self.idles(arms.idle_again, taken) {
-            Some(arms)
-        } else {
-            None
-        }
+        let idle = region.branch.checked_add(1)?;
+        let untaken = self.idle_end(idle, region.jump);
+        let taken = region.jump.checked_add(1)?;
+        Some(Arms {
+            idle,
+            untaken,
+            taken,
+            untaken_count: self.statements_between(untaken, region.jump)?,
+            taken_count: self.statements_between(taken, region.end)?,
+        })
     }
 }
 

@@ -32,7 +32,7 @@ pub struct Costs {
 }
 
 /// Runs a machine from its start up to a cycle, and counts what its steps take, in this many rows. `parts` has the row
-/// of each instruction; an instruction without a valid row is counted in row 0.
+/// of each instruction; an instruction without a valid row is counted in the first row.
 ///
 /// A branch that is taken has to cost more than one that isn't, since the machine's cycle is all that tells them apart.
 pub fn run_costs<B: Bank + Drop>(

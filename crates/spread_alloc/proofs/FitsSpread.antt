@@ -1,6 +1,6 @@
 -- A plan whose arrays can be spread, and what stays of that while they are spread.
-use Rattle.std.proofs.Common.{◌≡◌, ℕ, zero, suc, ◌+◌, ◌*◌, ◌^◌, ◌<◌, ◌≤◌, Bool, true, false, List, [], ◌∷◌, All, length, take, get_or, set, nat_lt, refl, sym, ap, ◌∙◌, subst, arith}
-use Rattle.std.specs.Prelude.{is_none, ◌&&◌, nat_le}
+use Rattle.std.proofs.Common.{◌≡◌, ℕ, zero, suc, ◌+◌, ◌^◌, ◌<◌, ◌≤◌, Bool, true, false, List, length, take, get_or, nat_lt, refl, sym, ◌∙◌, arith}
+use Rattle.std.specs.Prelude.{is_none, nat_le}
 use Rattle.std.specs.List.{range_with_len}
 use Rattle.std.proofs.lemmas.Bool.{and_parts, cond_both, leb-true}
 use Rattle.std.proofs.lemmas.List.{length-set}
@@ -8,7 +8,6 @@ use Rattle.std.proofs.lemmas.List.Elements.{All-from_get_or, All-get_or, All-set
 use Rattle.std.proofs.lemmas.Nat.{pow_pos}
 use Rattle.lt_isa.specs.Limits.{most_blocks}
 use Rattle.src_tree.specs.Trees.{Source}
-use Rattle.bank_alloc.specs.Apart.{end_of_place}
 use Rattle.bank_alloc.specs.Places.{blocks_for}
 use Rattle.bank_alloc.specs.declared.places.Place.{Place}
 use Rattle.scratch_alloc.specs.Plans.{Plan, IsSoundPlan, pin_of_slot, place_at, slot_at, no_place}

@@ -1,25 +1,23 @@
 -- The plan with spread arrays is sound for each program with room for its variables.
-use Rattle.std.proofs.Common.{◌≡◌, ◌≢◌, ℕ, zero, suc, ◌+◌, ◌-◌, ◌*◌, ◌^◌, ◌/◌, ◌<◌, ◌≤◌, Bool, true, false, cond, List, [], ◌∷◌, length, take, get_or, set, Option, Some, None, ◌⊎◌, inl, inr, refl, sym, ap, ◌∙◌, subst, ⊎_elim, arith}
-use Rattle.std.specs.Prelude.{is_none, ◌&&◌, ◌==◌, nat_le, nat_lt, max, min}
+use Rattle.std.proofs.Common.{◌≡◌, ◌≢◌, ℕ, zero, suc, ◌+◌, ◌-◌, ◌*◌, ◌^◌, ◌<◌, ◌≤◌, Bool, true, false, List, [], ◌∷◌, length, take, get_or, set, Option, Some, None, ◌⊎◌, inl, inr, refl, sym, ap, ◌∙◌, subst, ⊎_elim, arith}
+use Rattle.std.specs.Prelude.{is_none, nat_le, nat_lt, min}
 use Rattle.std.specs.List.{range_with_len}
 use Rattle.std.proofs.lemmas.Bool.{and_parts, cases_eq, cases_lt, cond_both, eqb-true, leb-true, ltb-true}
 use Rattle.std.proofs.Math.Nat.{div-lt_iff_lt-mul}
 use Rattle.std.proofs.lemmas.Nat.{pow_pos}
 use Rattle.std.proofs.lemmas.List.{get_or-set_same, get_or-set_other, get_or-take, length-set, length-take, length-take-le}
-use Rattle.gr_base.specs.Lists.{Within}
-use Rattle.gr_word.specs.declared.variables.Label.{Label}
-use Rattle.gr_word.specs.declared.variables.Label.TheVariants.{Public, Secret}
+use Rattle.gr_word.specs.declared.variables.Label.TheVariants.{Secret}
 use Rattle.lt_isa.specs.Limits.{most_blocks}
 use Rattle.src_tree.specs.Trees.{Source}
 use Rattle.bank_alloc.specs.declared.places.Place.{Place}
-use Rattle.bank_alloc.specs.Apart.{IsBankOf, start_of_place, end_of_place}
-use Rattle.bank_alloc.specs.Places.{blocks_for, is_oblivious}
+use Rattle.bank_alloc.specs.Apart.{start_of_place, end_of_place}
+use Rattle.bank_alloc.specs.Places.{blocks_for}
 use Rattle.bank_alloc.proofs.EachPlace.{blocks_for-hold, blocks_for-some}
 use Rattle.scratch_alloc.specs.declared.plans.Pin.{Pin}
-use Rattle.scratch_alloc.specs.Plans.{Plan, IsSoundPlan, IsSoundPlace, IsSoundByPin, IsSoundArray, IsSoundPin, pin_to, pin_of_slot, decl_at, place_at, slot_at, no_place}
+use Rattle.scratch_alloc.specs.Plans.{Plan, IsSoundPlan, IsSoundByPin, IsSoundArray, pin_of_slot, decl_at, place_at, slot_at, no_place}
 use Rattle.spread_alloc.specs.Spread.{free_slots, blocks_in, may_move, is_long, may_spread, place_behind, spread_place, spread_blocks, spread_over, spread_one, spread_each, spread_turn, last_bank, without_empty_banks, spread_plan}
 use Rattle.spread_alloc.proofs.Slots.{FreeFrom, free_slots-are, first-free, length-pinned}
-use Rattle.spread_alloc.proofs.SpreadArrays.{IsTarget, fewer_blocks, secret_of_bank, spread_sound}
+use Rattle.spread_alloc.proofs.SpreadArrays.{IsTarget, secret_of_bank, spread_sound}
 
 -- a plan that is sound and has a pin or none for each of the eight slots
 pub record IsSound (p : Source) (w : ℕ) (plan : Plan) : Type 0 where

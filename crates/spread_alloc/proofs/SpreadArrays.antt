@@ -1,5 +1,5 @@
 -- A sound plan stays sound if one of its arrays is spread.
-use Rattle.std.proofs.Common.{◌≡◌, ◌≢◌, ℕ, zero, suc, ◌+◌, ◌*◌, ◌^◌, ◌<◌, ◌≤◌, Bool, true, false, cond, List, [], ◌∷◌, length, take, get_or, set, Option, Some, None, ◌⊎◌, inl, inr, refl, sym, ap, ◌∙◌, subst, ⊎_elim, arith}
+use Rattle.std.proofs.Common.{◌≡◌, ◌≢◌, ℕ, ◌+◌, ◌*◌, ◌^◌, ◌<◌, ◌≤◌, List, length, get_or, set, Option, Some, None, ◌⊎◌, inl, inr, refl, sym, ap, ◌∙◌, subst, ⊎_elim, arith}
 use Rattle.std.proofs.Math.Nat.{mul-le-mul_left}
 use Rattle.std.proofs.lemmas.Bool.{cases_eq, cases_lt}
 use Rattle.std.proofs.lemmas.List.{get_or-set_same, get_or-set_other, length-set}
@@ -7,16 +7,13 @@ use Rattle.gr_base.specs.Lists.{Within}
 use Rattle.gr_word.specs.declared.variables.Label.{Label}
 use Rattle.gr_word.specs.declared.variables.Label.TheVariants.{Public, Secret}
 use Rattle.lt_isa.specs.Limits.{most_blocks}
-use Rattle.src_tree.specs.declared.trees.Decl.{Decl}
 use Rattle.src_tree.specs.Trees.{Source}
-use Rattle.bank_alloc.specs.declared.classes.Class.TheVariants.{ObliviousArray}
 use Rattle.bank_alloc.specs.declared.places.Place.{Place}
 use Rattle.bank_alloc.specs.Apart.{AreApart, start_of_place, end_of_place, scalar_bank, IsBankOf}
-use Rattle.bank_alloc.specs.Classes.{class_of}
 use Rattle.scratch_alloc.specs.declared.plans.Pin.{Pin}
-use Rattle.scratch_alloc.specs.Plans.{Plan, IsSoundPlan, IsSoundPlace, IsSoundByPin, IsSoundResident, IsSpread, IsSoundArray, IsSoundPin, pin_to, pin_of_slot, decl_at, place_at, slot_at, no_place}
+use Rattle.scratch_alloc.specs.Plans.{Plan, IsSoundPlan, IsSoundPlace, IsSoundByPin, IsSoundPin, pin_to, pin_of_slot, decl_at, place_at, slot_at, no_place}
 use Rattle.spread_alloc.specs.Spread.{pinned_from}
-use Rattle.spread_alloc.proofs.Slots.{IsFree, FreeFrom, free-at, pinned-other, pinned-at, pinned-either, length-pinned}
+use Rattle.spread_alloc.proofs.Slots.{FreeFrom, free-at, pinned-other, pinned-at, pinned-either}
 
 -- fewer blocks have fewer words
 pub fewer_blocks : (size a b : ℕ) → a * size < b * size → a < b

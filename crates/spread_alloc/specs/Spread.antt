@@ -5,7 +5,7 @@
 -- 2, 3, 4, 5 and 7 those that hold no block for the whole run and that serve no other variable. Each of these then
 -- holds a block of the array for the whole run. Arrays of oblivious banks come first, in order of declaration, and each
 -- moves to the end of encrypted memory; then come arrays of encrypted memory, which stay where they are.
-use Rattle.std.specs.Prelude.{ℕ, zero, suc, ◌+◌, ◌*◌, ◌^◌, ◌==◌, nat_le, nat_lt, max, not, ◌&&◌, ◌||◌, Bool, true, false, is_none, if◌then◌else◌, List, [], ◌∷◌, length, take, drop, slice_index_or, slice_set, Option, Some, None}
+use Rattle.std.specs.Prelude.{ℕ, ◌+◌, ◌*◌, ◌^◌, ◌==◌, nat_le, nat_lt, max, not, ◌&&◌, ◌||◌, Bool, true, false, is_none, if◌then◌else◌, List, [], ◌∷◌, length, take, drop, slice_index_or, slice_set, Option, Some, None}
 use Rattle.std.specs.List.{list_any, range_with_len}
 use Rattle.lt_isa.specs.Limits.{most_blocks}
 use Rattle.bank_alloc.specs.declared.places.Place.{Place}
@@ -45,7 +45,7 @@ may_move false q = q.bank == 1
 abbrev pub is_long : ℕ → Place → Bool
 is_long size q = nat_lt size q.length && nat_le q.length (5 * size)
 
--- whether there are slots for some blocks, and room in encrypted memory, which has so many blocks
+-- whether there are slots for some blocks, and room in encrypted memory, which has `encrypted` blocks
 abbrev pub has_room : (blocks free encrypted : ℕ) → Bool
 has_room blocks free encrypted = nat_le blocks free && nat_le (encrypted + blocks) (most_blocks 1)
 

@@ -107,7 +107,7 @@ below-limit limit n less small = omega (arith, ints)
 from-limit : (limit n : ℕ) → 1 ≤ limit → limit ≤ n → pos (limit - 1) -ℤ pos n ≡ negsuc (n - limit)
 from-limit limit n least le = omega (arith, ints)
 
--- a mask tells whether a number is at least the limit
+-- a mask says whether a number is at least the limit
 pub mask_made : (limit n : ℕ) → 1 ≤ limit → limit < 2 ^ 63 → n < 2 ^ 63 → limit ≤ 2 ^ shift_of limit
     → n < 2 ^ shift_of limit
     → mask_word limit (pos n) ≡ mask_of (leb limit n)

@@ -11,8 +11,8 @@ ghost use Rattle.word_selection.specs.SlotSteps.{IsOutside, with_word};
 ghost use Rattle.word_selection.specs.declared.effects.Effect.TheVariants.{Keeps, Stores};
 
 /// Does nothing; its clauses are laws of runs through the code that reads or writes word number `n` of an array, whose
-/// blocks are in some slots in order. Reading leaves the word of the slot of its block. Writing stores a value in that slot
-/// alone, and without effect it leaves each slot as it is.
+/// blocks are in some slots in order. Reading leaves the word of the slot of its block. Writing stores a value in that
+/// slot and in no other one, and without effect it leaves each slot as it is.
 pub fn selection_laws()
     ensures reads { (o : Parts) (slots : List ℕ) (to n default : ℕ) (s : State)
         → IsInRange o

@@ -1,7 +1,8 @@
 use Rattle.std.proofs.Common.{sym, ◌∙◌, subst}
 use Rattle.std.proofs.lemmas.Result.{on_ok_weaker}
-use Rattle.std.proofs.Common.{Bool, length, ◌+◌, ◌++◌, None}
+use Rattle.std.proofs.Common.{length, ◌+◌, ◌++◌, None}
 use Rattle.src_tree.specs.Trees.{expr_tree}
+use Rattle.block_cache_gen.specs.declared.indexes.Numbering.{Numbering}
 use Rattle.block_cache_gen.specs.Codes.{numbered_code, offset_code, shift_code}
 use Rattle.block_cache_gen.specs.Emitted.{Appended}
 use Rattle.block_cache_gen.specs.Notes.{compared_notes}
@@ -16,10 +17,10 @@ returns-then-is_resident-clause-appended c =
     (λ x.
     found_placed c.args.emitter.now c.args.mode h c.args.mask c.args.to c.args.from (expr_tree c.args.index.now)
     c.args.out.now c.put_placed.new.out c.requires.from (sym c.is_resident.ensures ∙ c.if-is_resident.true)
-    (subst (λ (near : Bool). Appended c.args.out.now c.put_placed.new.out
-    (numbered_code near c.args.emitter.now h c.args.to c.args.from ++ offset_code c.args.emitter.now h c.args.to)
-    (λ place. compared_notes near None c.args.emitter.now c.args.mask c.args.to
-    (place + length (numbered_code near c.args.emitter.now h c.args.to c.args.from)))) c.compares-compared.ensures x))
+    (subst (λ (way : Numbering). Appended c.args.out.now c.put_placed.new.out
+    (numbered_code way c.args.emitter.now h c.args.to c.args.from ++ offset_code c.args.emitter.now h c.args.to)
+    (λ place. compared_notes way None c.args.emitter.now c.args.mask c.args.to
+    (place + length (numbered_code way c.args.emitter.now h c.args.to c.args.from)))) c.numbering-numbering.ensures x))
     c.put_placed.ensures.appended
 
 pub returns-clause-appended : goal.returns-clause-appended
@@ -28,9 +29,9 @@ returns-clause-appended c =
     on_ok_weaker c.put_load.result
     (found_loaded c.args.emitter.now c.args.mode h c.args.mask c.args.to c.args.from (expr_tree c.args.index.now)
     c.args.out.now c.put_located.new.out c.put_load.new.out c.requires.from (sym c.is_resident.ensures ∙ c.if-is_resident.false)
-    (subst (λ (near : Bool). Appended c.args.out.now c.put_located.new.out
-    (numbered_code near c.args.emitter.now h c.args.to c.args.from ++ shift_code c.args.emitter.now h c.args.to)
-    (λ place. compared_notes near None c.args.emitter.now c.args.mask c.args.to
-    (place + length (numbered_code near c.args.emitter.now h c.args.to c.args.from)))) c.compares-compared.ensures
+    (subst (λ (way : Numbering). Appended c.args.out.now c.put_located.new.out
+    (numbered_code way c.args.emitter.now h c.args.to c.args.from ++ shift_code c.args.emitter.now h c.args.to)
+    (λ place. compared_notes way None c.args.emitter.now c.args.mask c.args.to
+    (place + length (numbered_code way c.args.emitter.now h c.args.to c.args.from)))) c.numbering-numbering.ensures
     c.in_ok-put_located.ensures.appended))
     c.put_load.ensures.appended

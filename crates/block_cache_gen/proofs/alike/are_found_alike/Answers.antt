@@ -1,4 +1,4 @@
-use Rattle.std.proofs.Common.{◌≡◌, Bool, true, false, ◌&&◌, pos, sym, ap, ◌∙◌}
+use Rattle.std.proofs.Common.{Bool, ◌&&◌, pos, sym, ap, ◌∙◌}
 use Rattle.block_cache_gen.specs.Alike.{numbers_alike}
 use Rattle.block_cache_gen.proofs.alike.are_found_alike.Goals as goal
 

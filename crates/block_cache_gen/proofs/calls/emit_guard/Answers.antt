@@ -1,3 +1,4 @@
+use Rattle.std.proofs.Common.{◌∙◌}
 use Rattle.std.proofs.lemmas.Result.{on_ok_weaker}
 use Rattle.src_tree.specs.Trees.{test_of}
 use Rattle.block_cache_gen.proofs.FrameClauses.{frame-test_promises}
@@ -7,8 +8,8 @@ use Rattle.block_cache_gen.proofs.calls.emit_guard.Goals as goal
 pub returns : goal.returns
 returns c =
     let t = test_of c.args.g.now in
-    let same = c.in_ok-emitter.ensures {u = tt} in
-    let promised = frame-test_promises c.args.f.now c.in_ok-emitter.emitter c.args.mode c.args.to t c.args.out.now
+    let same = c.new-emitter.ensures ∙ c.in_ok-prepared.ensures {u = tt} in
+    let promised = frame-test_promises c.args.f.now c.new-emitter.result c.args.mode c.args.to t c.args.out.now
     c.put_guard.new.out c.requires.frame same c.requires.typed c.requires.indexes c.requires.left c.requires.right in
     record {
       runs = on_ok_weaker c.put_guard.result (λ x. let h = promised x in h.runs) c.put_guard.ensures.emitted;
@@ -18,7 +19,7 @@ returns c =
       words = c.put_guard.ensures.words;
       extends =
           on_ok_both c.put_guard.result c.put_guard.ensures.emitted c.put_guard.ensures.words
-          (frame_guard c.args.f.now c.in_ok-emitter.emitter c.args.mode c.args.to t c.args.out.now c.put_guard.new.out
+          (frame_guard c.args.f.now c.new-emitter.result c.args.mode c.args.to t c.args.out.now c.put_guard.new.out
           c.requires.frame same c.requires.typed c.requires.left c.requires.right c.requires.room);
       grows = c.put_guard.ensures.grows;
     }

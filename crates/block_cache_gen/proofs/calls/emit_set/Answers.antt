@@ -1,4 +1,4 @@
-use Rattle.std.proofs.Common.{subst, sym}
+use Rattle.std.proofs.Common.{subst, sym, ◌∙◌}
 use Rattle.src_tree.specs.Contexts.{context_of}
 use Rattle.src_tree.specs.Trees.{source_of, statement_of}
 use Rattle.src_tree.specs.Typing.{TypedStatement}
@@ -16,7 +16,7 @@ put_set-requires-clause-typed c =
     let s = statement_of c.args.s.now in
     let P : Setting → Type 0 = λ f. TypedStatement (context_of f.decls) c.requires.stands.code s in (
       c.requires.stands.code,
-      subst P (sym (c.in_ok-emitter.ensures {u = tt}))
+      subst P (sym (c.new-emitter.ensures ∙ c.in_ok-prepared.ensures {u = tt}))
           (statement_typed (source_of c.args.f.now.program.now) c.requires.stands.code s c.requires.frame.typed
           c.requires.stands.stands),
     )
@@ -29,8 +29,8 @@ put_set-requires-clause-low c =
 pub returns : goal.returns
 returns c =
     let s = statement_of c.args.s.now in
-    let same = c.in_ok-emitter.ensures {u = tt} in
-    let promised = frame-set_promises c.args.f.now c.in_ok-emitter.emitter c.args.mode s c.args.out.now
+    let same = c.new-emitter.ensures ∙ c.in_ok-prepared.ensures {u = tt} in
+    let promised = frame-set_promises c.args.f.now c.new-emitter.result c.args.mode s c.args.out.now
     c.put_set.new.out c.requires.frame same c.requires.assignment c.requires.stands in
     record {
       runs = on_ok_weaker c.put_set.result (λ x. let h = promised x in h.runs) c.put_set.ensures.emitted;
@@ -45,7 +45,7 @@ returns c =
       words = c.put_set.ensures.words;
       extends =
           on_ok_both c.put_set.result c.put_set.ensures.emitted c.put_set.ensures.words
-          (frame_set c.args.f.now c.in_ok-emitter.emitter c.args.mode Public s c.args.out.now c.put_set.new.out
+          (frame_set c.args.f.now c.new-emitter.result c.args.mode Public s c.args.out.now c.put_set.new.out
           c.requires.frame same c.requires.assignment c.requires.stands c.requires.room);
       grows = c.put_set.ensures.grows;
     }

@@ -14,11 +14,11 @@ use Rattle.branch_padding.specs.Padded.{idle, first_padded, second_padded, untak
 use Rattle.branch_padding.specs.EmittedBranches.{both_weights}
 use Rattle.branch_padding.specs.Rows.{HaveWords, row_between}
 use Rattle.block_cache_gen.specs.ProgramWords.{StatementHasWords}
-use Rattle.branch_padding.proofs.EmittedRegions.{weight-at, guard-behind, idle-behind, choice-appended, typed-at, low-at, one-behind, set-behind, taken-behind, row-start, row-more, row-room, row-behind, untaken-appended, taken-appended_whole}
+use Rattle.branch_padding.proofs.EmittedRegions.{weight-at, guard-behind, idle-behind, choice-appended, first-made, second-made, idling-appended, typed-at, low-at, one-behind, set-behind, taken-behind, row-start, row-more, row-room, row-behind, untaken-appended, taken-appended_whole}
 use Rattle.branch_padding.proofs.RegionLengths.{behind-branch, behind-untaken, parts-fit}
 use Rattle.branch_padding.proofs.GrowingRows.{appended-grows, branch-grows, grows_thrice, set-grows, grows-longer, words-none, words-more, words-both, words-all}
 use Rattle.branch_padding.proofs.choices.+padding.Goals as goal
-use Rattle.branch_padding.proofs.choices.+padding.Goals.{put_choice-In_ok-put_untaken, put_choice-After-set_branch, put_untaken-In_ok-put_idle}
+use Rattle.branch_padding.proofs.choices.+padding.Goals.{put_choice-In_ok-put_untaken, put_choice-After-set_branch, put_first_mirrored-In_ok-put_idle}
 
 pub put_choice-next_place-branch-requires : goal.put_choice-next_place-branch-requires
 put_choice-next_place-branch-requires t c =
@@ -52,9 +52,9 @@ left : (t : ℕ) (c : put_choice-In_ok-put_untaken t)
     ≤ most_instructions
 left t c =
     let behind = behind-untaken c.args.emitter.now c.requires.few c.args.mode (test_of c.args.guard.now)
-    (block_of_all c.args.first.now) (block_of_all c.args.second.now) c.pair_count.result c.arm_mode.result
-    c.put_untaken.new.out c.in_ok-put_guard.ensures.emitted c.in_ok-put.ensures.appended
-    c.in_ok-put_untaken.ensures.emitted in
+    (block_of_all c.args.first.now) (block_of_all c.args.second.now) c.pair_count.result c.in_ok-slack.slack
+    c.arm_mode.result c.put_untaken.new.out (c.in_ok-slack.ensures {u = tt}) c.in_ok-put_guard.ensures.emitted
+    c.in_ok-put.ensures.appended c.in_ok-put_untaken.ensures.emitted in
     omega (arith, behind, c.requires.room)
 
 pub put_choice-next_place-jump-requires : goal.put_choice-next_place-jump-requires
@@ -97,7 +97,7 @@ put_choice-set_jump-requires-clause-room t c =
       one_more t at.After-set_branch,
       taken-behind c.args.emitter.now c.requires.few c.arm_mode.result (block_of_all c.args.first.now)
           (block_of_all c.args.second.now) c.pair_count.result c.set_branch.new.self c.put_taken.new.out
-          c.in_ok-put_taken.ensures.emitted,
+          c.in_ok-slack.slack (c.in_ok-slack.ensures {u = tt}) c.in_ok-put_taken.ensures.emitted,
     )
 
 pub put_choice-returns : goal.put_choice-returns
@@ -107,21 +107,18 @@ put_choice-returns t c =
     let second = block_of_all c.args.second.now in
     record {
       emitted =
-          choice-appended f c.args.mode (test_of c.args.guard.now) first second c.pair_count.result
-          c.next_place-branch.result
+          choice-appended f c.args.mode (test_of c.args.guard.now) first second c.next_place-branch.result
           c.next_place-jump.result c.args.out.now c.put_guard.new.out c.put.new.self c.put_untaken.new.out
           c.put-2.new.self
-          c.set_branch.new.self c.put_taken.new.out c.set_jump.new.self c.pair_count.ensures
+          c.set_branch.new.self c.put_taken.new.out c.set_jump.new.self
           c.next_place-branch.ensures
           c.next_place-jump.ensures c.in_ok-put_guard.ensures.emitted c.in_ok-put.ensures.appended
-          (subst (λ m. Appended c.put.new.self c.put_untaken.new.out
-          (first_padded f.profile.taken (untaken_arm c.pair_count.result (padded_codes f m second)
-          (padded_codes f modes.Mirrored first))) no_notes)
-          c.arm_mode.ensures c.in_ok-put_untaken.ensures.emitted)
+          (first-made f c.args.mode c.arm_mode.result first second c.in_ok-slack.slack c.pair_count.result
+          c.put.new.self c.put_untaken.new.out (c.in_ok-slack.ensures {u = tt}) c.pair_count.ensures c.arm_mode.ensures
+          c.in_ok-put_untaken.ensures.emitted)
           c.in_ok-put-2.ensures.appended c.set_branch.ensures.code c.set_branch.ensures.notes
-          (subst (λ m. Appended c.set_branch.new.self c.put_taken.new.out
-          (second_padded f.profile.taken (taken_arm c.pair_count.result (padded_codes f m first)
-          (padded_codes f modes.Mirrored second))) no_notes)
+          (second-made f c.args.mode c.arm_mode.result first second c.in_ok-slack.slack c.pair_count.result
+          c.set_branch.new.self c.put_taken.new.out (c.in_ok-slack.ensures {u = tt}) c.pair_count.ensures
           c.arm_mode.ensures c.in_ok-put_taken.ensures.emitted)
           c.set_jump.ensures.code c.set_jump.ensures.notes;
       words = (
@@ -243,8 +240,8 @@ put_row-returns t c =
           no_notes c.loop-i.invariant.made;
     }
 
-pub put_taken-put_row-requires-2 : goal.put_taken-put_row-requires-2
-put_taken-put_row-requires-2 t c =
+pub put_second_mirrored-put_row-requires-2 : goal.put_second_mirrored-put_row-requires-2
+put_second_mirrored-put_row-requires-2 t c =
     let fit = c.requires.parts in
     let room = c.requires.room in
     let row = row-behind c.args.emitter.now fit.few c.args.p.now.mode c.args.p.now.first.now 0
@@ -257,12 +254,12 @@ put_taken-put_row-requires-2 t c =
       ),
     )
 
-pub put_taken-returns-in_err-put_row-2-clause-grows : goal.put_taken-returns-in_err-put_row-2-clause-grows
-put_taken-returns-in_err-put_row-2-clause-grows t c =
+pub put_second_mirrored-returns-in_err-put_row-2-clause-grows : goal.put_second_mirrored-returns-in_err-put_row-2-clause-grows
+put_second_mirrored-returns-in_err-put_row-2-clause-grows t c =
     grows_then c.args.out.now c.put_row.new.out c.put_row-2.new.out c.put_row.ensures.grows c.put_row-2.ensures.grows
 
-pub put_taken-returns : goal.put_taken-returns
-put_taken-returns t c = record {
+pub put_second_mirrored-returns : goal.put_second_mirrored-returns
+put_second_mirrored-returns t c = record {
   emitted =
       on_ok_weaker c.put_idle.result
       (λ x. taken-appended_whole c.args.emitter.now c.args.p.now.mode c.args.p.now.first.now c.args.p.now.second.now
@@ -285,7 +282,7 @@ put_taken-returns t c = record {
 }
 
 -- this many may still follow the idle instructions
-left_idle : (t : ℕ) (c : put_untaken-In_ok-put_idle t)
+left_idle : (t : ℕ) (c : put_first_mirrored-In_ok-put_idle t)
     → length c.put_idle.new.out.code.items
     + 240 * both_weights c.args.emitter.now (block_of_all c.args.p.now.first.now) (block_of_all c.args.p.now.second.now)
     ≤ most_instructions
@@ -297,10 +294,10 @@ left_idle t c =
       idle-behind c.args.out.now c.put_idle.new.out (c.taken.result - 1) c.in_ok-put_idle.ensures.appended,
     )
 
-pub put_untaken-put_row-requires : goal.put_untaken-put_row-requires
-put_untaken-put_row-requires t c =
+pub put_first_mirrored-put_row-requires : goal.put_first_mirrored-put_row-requires
+put_first_mirrored-put_row-requires t c =
     let fit = c.requires.parts in
-    let idle = left_idle t (goal.at.put_untaken-put_row-requires t c).In_ok-put_idle in (
+    let idle = left_idle t (goal.at.put_first_mirrored-put_row-requires t c).In_ok-put_idle in (
       search rules,
       (
         omega arith,
@@ -311,10 +308,10 @@ put_untaken-put_row-requires t c =
       ),
     )
 
-pub put_untaken-put_row-requires-2 : goal.put_untaken-put_row-requires-2
-put_untaken-put_row-requires-2 t c =
+pub put_first_mirrored-put_row-requires-2 : goal.put_first_mirrored-put_row-requires-2
+put_first_mirrored-put_row-requires-2 t c =
     let fit = c.requires.parts in
-    let idle = left_idle t (goal.at.put_untaken-put_row-requires-2 t c).In_ok-put_idle in
+    let idle = left_idle t (goal.at.put_first_mirrored-put_row-requires-2 t c).In_ok-put_idle in
     let row = row-behind c.args.emitter.now fit.few c.args.p.now.mode c.args.p.now.second.now 0 c.args.p.now.pairs
     c.put_idle.new.out
     c.put_row.new.out c.in_ok-put_row.ensures.emitted in (
@@ -325,10 +322,10 @@ put_untaken-put_row-requires-2 t c =
       ),
     )
 
-pub put_untaken-put_row-requires-3 : goal.put_untaken-put_row-requires-3
-put_untaken-put_row-requires-3 t c =
+pub put_first_mirrored-put_row-requires-3 : goal.put_first_mirrored-put_row-requires-3
+put_first_mirrored-put_row-requires-3 t c =
     let fit = c.requires.parts in
-    let idle = left_idle t (goal.at.put_untaken-put_row-requires-3 t c).In_ok-put_idle in
+    let idle = left_idle t (goal.at.put_first_mirrored-put_row-requires-3 t c).In_ok-put_idle in
     let row = row-behind c.args.emitter.now fit.few c.args.p.now.mode c.args.p.now.second.now 0 c.args.p.now.pairs
     c.put_idle.new.out
     c.put_row.new.out c.in_ok-put_row.ensures.emitted in
@@ -341,17 +338,17 @@ put_untaken-put_row-requires-3 t c =
       ),
     )
 
-pub put_untaken-returns-in_err-put_row-clause-grows : goal.put_untaken-returns-in_err-put_row-clause-grows
-put_untaken-returns-in_err-put_row-clause-grows t c =
+pub put_first_mirrored-returns-in_err-put_row-clause-grows : goal.put_first_mirrored-returns-in_err-put_row-clause-grows
+put_first_mirrored-returns-in_err-put_row-clause-grows t c =
     grows_then c.args.out.now c.put_idle.new.out c.put_row.new.out c.put_idle.ensures.grows c.put_row.ensures.grows
 
-pub put_untaken-returns-in_err-put_row-2-clause-grows : goal.put_untaken-returns-in_err-put_row-2-clause-grows
-put_untaken-returns-in_err-put_row-2-clause-grows t c =
+pub put_first_mirrored-returns-in_err-put_row-2-clause-grows : goal.put_first_mirrored-returns-in_err-put_row-2-clause-grows
+put_first_mirrored-returns-in_err-put_row-2-clause-grows t c =
     grows_thrice c.args.out.now c.put_idle.new.out c.put_row.new.out c.put_row-2.new.out c.put_idle.ensures.grows
     c.put_row.ensures.grows c.put_row-2.ensures.grows
 
-pub put_untaken-returns : goal.put_untaken-returns
-put_untaken-returns t c = record {
+pub put_first_mirrored-returns : goal.put_first_mirrored-returns
+put_first_mirrored-returns t c = record {
   emitted =
       on_ok_weaker c.put_row-3.result
       (untaken-appended c.args.emitter.now c.args.p.now.mode c.args.p.now.first.now c.args.p.now.second.now
@@ -377,4 +374,18 @@ put_untaken-returns t c = record {
       (grows_then c.args.out.now c.put_idle.new.out c.put_row.new.out c.put_idle.ensures.grows c.put_row.ensures.grows)
       c.put_row-2.ensures.grows)
       c.put_row-3.ensures.grows;
+}
+
+pub put_idling-returns : goal.put_idling-returns
+put_idling-returns t c = record {
+  emitted =
+      on_ok_weaker c.put_idle.result
+      (idling-appended c.args.emitter.now c.args.mode c.args.part.now (length c.args.part.now) c.args.cycles
+      c.args.out.now c.put_row.new.out c.put_idle.new.out refl c.in_ok-put_row.ensures.emitted)
+      c.put_idle.ensures.appended;
+  words =
+      on_ok_weaker c.put_idle.result (λ x. words-all c.args.part.now c.in_ok-put_row.ensures.words)
+      c.put_idle.ensures.appended;
+  grows =
+      grows_then c.args.out.now c.put_row.new.out c.put_idle.new.out c.put_row.ensures.grows c.put_idle.ensures.grows;
 }

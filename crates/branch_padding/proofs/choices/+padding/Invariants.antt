@@ -10,22 +10,33 @@ use Rattle.branch_padding.specs.Rows.{HaveWords, row_between}
 use Rattle.branch_padding.proofs.choices.+padding.Given as goal
 
 abbrev pub decreases-put_padded : goal.decreases-put_padded
-decreases-put_padded l = 4 * statement_weight (context_of l.emitter.now.decls) label.Secret (statement_of l.s.now)
+decreases-put_padded l = 5 * statement_weight (context_of l.emitter.now.decls) label.Secret (statement_of l.s.now)
 
 abbrev pub decreases-put_row : goal.decreases-put_row
-decreases-put_row l = 4 * block_weight (context_of l.emitter.now.decls) label.Secret (block_of_all l.part.now) + 1
+decreases-put_row l = 5 * block_weight (context_of l.emitter.now.decls) label.Secret (block_of_all l.part.now) + 1
+
+abbrev pub decreases-put_first_mirrored : goal.decreases-put_first_mirrored
+decreases-put_first_mirrored l =
+    5 * both_weights l.emitter.now (block_of_all l.p.now.first.now) (block_of_all l.p.now.second.now) + 2
+
+abbrev pub decreases-put_second_mirrored : goal.decreases-put_second_mirrored
+decreases-put_second_mirrored l =
+    5 * both_weights l.emitter.now (block_of_all l.p.now.first.now) (block_of_all l.p.now.second.now) + 2
+
+abbrev pub decreases-put_idling : goal.decreases-put_idling
+decreases-put_idling l = 5 * block_weight (context_of l.emitter.now.decls) label.Secret (block_of_all l.part.now) + 2
 
 abbrev pub decreases-put_untaken : goal.decreases-put_untaken
 decreases-put_untaken l =
-    4 * both_weights l.emitter.now (block_of_all l.p.now.first.now) (block_of_all l.p.now.second.now) + 2
+    5 * both_weights l.emitter.now (block_of_all l.p.now.first.now) (block_of_all l.p.now.second.now) + 3
 
 abbrev pub decreases-put_taken : goal.decreases-put_taken
 decreases-put_taken l =
-    4 * both_weights l.emitter.now (block_of_all l.p.now.first.now) (block_of_all l.p.now.second.now) + 2
+    5 * both_weights l.emitter.now (block_of_all l.p.now.first.now) (block_of_all l.p.now.second.now) + 3
 
 abbrev pub decreases-put_choice : goal.decreases-put_choice
 decreases-put_choice l =
-    4 * both_weights l.emitter.now (block_of_all l.first.now) (block_of_all l.second.now) + 3
+    5 * both_weights l.emitter.now (block_of_all l.first.now) (block_of_all l.second.now) + 4
 
 abbrev pub invariant-put_row-loop-i : goal.invariant-put_row-loop-i
 invariant-put_row-loop-i l = record {

@@ -1,4 +1,8 @@
 use Rattle.std.proofs.Common.{length, ap, arith}
+use Rattle.gr_word.specs.declared.variables.Label.TheVariants.{Public}
+use Rattle.src_tree.specs.Contexts.{context_of}
+use Rattle.src_tree.specs.Limits.{block_weight}
+use Rattle.src_tree.specs.Trees.{block_of_all}
 use Rattle.block_cache_gen.specs.Emitted.{no_notes}
 use Rattle.block_cache_gen.proofs.Emitting.{appended_length}
 use Rattle.block_cache_gen.specs.Homes.{Setting}
@@ -18,4 +22,5 @@ put_block-requires-clause-room c =
       beginning_short f,
       ap length (ap (λ (g : Setting). g.held) c.requires.same),
       (let sound = frame.held in sound.few),
+      ap (λ (g : Setting). block_weight (context_of g.decls) Public (block_of_all c.args.body.now)) c.at.ensures,
     )

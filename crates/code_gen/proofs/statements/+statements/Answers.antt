@@ -6,48 +6,61 @@ use Rattle.src_tree.specs.Limits.{LowBlock, block_weight, statement_weight}
 use Rattle.src_tree.specs.Trees.{block_of_all, statement_of, test_of, Nothing}
 use Rattle.src_tree.specs.Typing.{TypedBlock}
 use Rattle.block_cache_gen.specs.Emitted.{no_notes}
+use Rattle.block_cache_gen.specs.Homes.{Setting, ranged}
 use Rattle.block_cache_gen.specs.ProgramWords.{BlockHasWords}
 use Rattle.block_cache_gen.proofs.Emitting.{appended_length}
 use Rattle.branch_padding.specs.EmittedBranches.{choice_of}
-use Rattle.code_gen.specs.Emitted.{ClosesChoice, EmitsBlock, noted_behind}
+use Rattle.code_gen.specs.Emitted.{ClosesChoice, ClosesLoop, EmitsBlock, EmitsStatement, noted_behind}
+use Rattle.code_gen.specs.Statements.{block_ends_noted, ends_noted}
+use Rattle.branch_padding.specs.AfterStatements.{within_loop}
 use Rattle.branch_padding.proofs.EmittedRegions.{set-behind}
 use Rattle.code_gen.proofs.ChoiceLengths.{Leaves, behind-branch, behind-first, behind-head}
 use Rattle.code_gen.proofs.EmittedParts.{guard-length, guard_code-short, choice_weight-public, unless-short, noted_behind-none, block-none, block-then, loop-emitted}
 use Rattle.code_gen.proofs.EmittedChoices.{block_code-some, block-more, block-past, block-empty, some-items, closes-any, closes-bare, closes-second, choice-emitted}
 use Rattle.code_gen.proofs.statements.+statements.Goals as goal
-use Rattle.code_gen.proofs.statements.+statements.Goals.{put_choice-In_ok-noted, put_choice-In_ok-put_head_note}
+use Rattle.code_gen.proofs.statements.+statements.Goals.{put_choice-In_ok-noted, put_choice-In_ok-put_head_note, put_loop-In_ok-noted}
 
 pub put_block-loop-statement-init : goal.put_block-loop-statement-init
-put_block-loop-statement-init t c = record {
-  typed = c.requires.typed;
-  low = c.requires.low;
-  emitted = λ last x. x;
-  words = λ x. x;
-  noted = noted_behind-none c.args.emitter.now (block_of_all c.args.statements.now);
-  least = omega arith;
-  short = omega arith;
-}
+put_block-loop-statement-init t c =
+    let f = c.args.emitter.now in
+    let begun : c.in_ok-known.known.items ≡ f.ranges = c.in_ok-known.ensures ∙ c.known.ensures in
+    record {
+      typed = c.requires.typed;
+      low = c.requires.low;
+      emitted = λ last x.
+          subst (λ k. EmitsBlock (ranged f k) (block_of_all c.args.statements.now) c.args.out.now last) begun x;
+      words = λ x. x;
+      noted = noted_behind-none f.decls (block_of_all c.args.statements.now);
+      least = omega arith;
+      short = omega arith;
+    }
 
 pub put_block-loop-statement-preserved : goal.put_block-loop-statement-preserved
 put_block-loop-statement-preserved t c =
     let f = c.args.emitter.now in
+    let here = ranged f c.loop-statement.known.items in
+    let s = statement_of c.statement-item.result in
     let rest = block_of_all (drop (c.loop-statement.statement-index + 1) c.args.statements.now) in
     let more =
     block-more c.args.statements.now c.loop-statement.statement-index c.statement-item.result c.loop-statement-test.true
     c.statement-item.is in
+    let same : c.at.result ≡ here = c.at.ensures ∙ ap (λ k. ranged f k) c.as_slice.ensures.value in
     record {
       typed = (subst (λ b. TypedBlock (context_of f.decls) Public b) more c.loop-statement.invariant.typed).1;
       low = (subst LowBlock more c.loop-statement.invariant.low).1;
       emitted = λ last x.
           c.loop-statement.invariant.emitted last
-          (subst (λ b. EmitsBlock f b c.loop-statement.out last) (sym more)
-          (block-then f (statement_of c.statement-item.result) rest c.loop-statement.out c.put_statement.new.out last
-          c.in_ok-noted.ensures.emitted x));
+          (subst (λ b. EmitsBlock here b c.loop-statement.out last) (sym more)
+          (block-then here s rest c.loop-statement.out c.put_statement.new.out last
+          (subst (λ g. EmitsStatement g s c.loop-statement.out c.put_statement.new.out) same
+          c.in_ok-noted.ensures.emitted)
+          (subst (λ k. EmitsBlock (ranged f k) rest c.put_statement.new.out last) c.learn.ensures x)));
       words = λ x.
           c.loop-statement.invariant.words (subst BlockHasWords (sym more) (c.in_ok-noted.ensures.words, x));
       noted =
-          ap (λ n. noted_behind f n rest) c.in_ok-noted.ensures.noted
-          ∙ sym (ap (noted_behind f c.loop-statement.noted) more)
+          ap (λ n. noted_behind f.decls n rest)
+          (c.in_ok-noted.ensures.noted ∙ ap (λ (g : Setting). ends_noted g.decls s) same)
+          ∙ sym (ap (noted_behind f.decls c.loop-statement.noted) more)
           ∙ c.loop-statement.invariant.noted;
       least =
           omega (arith, ap (λ b. block_weight (context_of f.decls) Public b) more, c.loop-statement.invariant.least);
@@ -55,6 +68,7 @@ put_block-loop-statement-preserved t c =
           omega (
             arith,
             ap (λ b. block_weight (context_of f.decls) Public b) more,
+            ap (λ (g : Setting). statement_weight (context_of g.decls) Public s) same,
             c.in_ok-noted.ensures.short,
             c.loop-statement.invariant.short,
           );
@@ -62,10 +76,11 @@ put_block-loop-statement-preserved t c =
 
 pub put_block-returns-clause-emitted : goal.put_block-returns-clause-emitted
 put_block-returns-clause-emitted t c =
+    let here = ranged c.args.emitter.now c.loop-statement.known.items in
     c.loop-statement.invariant.emitted c.loop-statement.out
-    (subst (λ b. EmitsBlock c.args.emitter.now b c.loop-statement.out c.loop-statement.out)
+    (subst (λ b. EmitsBlock here b c.loop-statement.out c.loop-statement.out)
     (sym (block-past c.args.statements.now c.loop-statement.statement-index c.loop-statement-test.false))
-    (block-none c.args.emitter.now c.loop-statement.out))
+    (block-none here c.loop-statement.out))
 
 pub put_block-returns-clause-words : goal.put_block-returns-clause-words
 put_block-returns-clause-words t c =
@@ -84,15 +99,28 @@ put_choice-next_place-branch-requires t c =
       c.requires.room,
     )
 
+-- what the body of a loop is made for
+in_body : (t : ℕ) (c : put_loop-In_ok-noted t) → c.at.result
+    ≡ within_loop c.args.emitter.now (test_of c.args.guard.now) (block_of_all c.args.body.now)
+in_body t c =
+    c.at.ensures
+    ∙ ap (λ k. ranged c.args.emitter.now k) (c.as_slice.ensures.value ∙ c.in_ok-inner.ensures)
+
 pub put_loop-returns-clause-emitted : goal.put_loop-returns-clause-emitted
 put_loop-returns-clause-emitted t c =
+    let f = c.args.emitter.now in
+    let test = test_of c.args.guard.now in
+    let body = block_of_all c.args.body.now in
+    let inner = in_body t (goal.at.put_loop-returns-clause-emitted t c).In_ok-noted in
     on_ok_weaker c.close_loop.result
-    (loop-emitted c.args.emitter.now (test_of c.args.guard.now)
-    (block_of_all c.args.body.now) c.args.out.now c.put.new.self
-    c.put_head_note.new.out c.put_block.new.out c.close_loop.new.out _ c.next_place-start.result c.in_ok-noted.noted
-    c.next_place-start.ensures c.in_ok-noted.ensures.noted c.in_ok-put.ensures.appended
-    c.in_ok-put_head_note.ensures.appended
-    c.in_ok-noted.ensures.emitted)
+    (λ closed.
+    loop-emitted f test body c.args.out.now c.put.new.self c.put_head_note.new.out c.put_block.new.out
+    c.close_loop.new.out _ c.next_place-start.result c.in_ok-noted.noted c.next_place-start.ensures
+    (c.in_ok-noted.ensures.noted ∙ ap (λ (g : Setting). block_ends_noted g.decls body) inner)
+    c.in_ok-put.ensures.appended c.in_ok-put_head_note.ensures.appended
+    (subst (λ g. EmitsBlock g body c.put_head_note.new.out c.put_block.new.out) inner c.in_ok-noted.ensures.emitted)
+    (subst (λ k. ClosesLoop f k test c.next_place-start.result c.in_ok-noted.noted c.put_block.new.out
+    c.close_loop.new.out) (c.as_slice-2.ensures.value ∙ c.in_ok-behind.ensures) closed))
     c.close_loop.ensures.closed
 
 pub put_choice-put_block-requires : goal.put_choice-put_block-requires

@@ -5,6 +5,7 @@ use Rattle.src_tree.specs.Limits.{LowBlock, block_weight, statement_weight}
 use Rattle.src_tree.specs.Trees.{block_of_all, statement_of, test_of, Loop}
 use Rattle.src_tree.specs.Typing.{TypedBlock}
 use Rattle.block_cache_gen.specs.declared.frames.CodeBuf.{CodeBuf}
+use Rattle.block_cache_gen.specs.Homes.{ranged}
 use Rattle.block_cache_gen.specs.ProgramWords.{BlockHasWords}
 use Rattle.branch_padding.specs.EmittedBranches.{choice_of}
 use Rattle.code_gen.specs.Emitted.{EmitsBlock, noted_behind}
@@ -15,12 +16,13 @@ abbrev pub invariant-put_block-loop-statement : goal.invariant-put_block-loop-st
 invariant-put_block-loop-statement l = record {
   typed : TypedBlock (context_of l.emitter.decls) Public (block_of_all (drop l.statement-index l.statements));
   low : LowBlock (block_of_all (drop l.statement-index l.statements));
-  emitted : (last : CodeBuf) → EmitsBlock l.emitter (block_of_all (drop l.statement-index l.statements)) l.out last
+  emitted : (last : CodeBuf)
+      → EmitsBlock (ranged l.emitter l.known.items) (block_of_all (drop l.statement-index l.statements)) l.out last
       → EmitsBlock l.emitter (block_of_all l.statements) l.fn.out last;
   words : BlockHasWords (block_of_all (drop l.statement-index l.statements))
       → BlockHasWords (block_of_all l.statements);
-  noted : noted_behind l.emitter l.noted (block_of_all (drop l.statement-index l.statements))
-      ≡ block_ends_noted l.emitter (block_of_all l.statements);
+  noted : noted_behind l.emitter.decls l.noted (block_of_all (drop l.statement-index l.statements))
+      ≡ block_ends_noted l.emitter.decls (block_of_all l.statements);
   least : block_weight (context_of l.emitter.decls) Public (block_of_all (drop l.statement-index l.statements))
       ≤ block_weight (context_of l.emitter.decls) Public (block_of_all l.statements);
   short : length l.out.code.items

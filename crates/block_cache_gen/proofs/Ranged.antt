@@ -1,0 +1,114 @@
+-- What holds of a setting holds of it with other ranges too: only the code of an access depends on these. `ranged f
+-- f.ranges` is `f`, so each lemma also leads back.
+use Rattle.std.proofs.Common.{ℕ, inl, inr, ◌⊎◌}
+use Rattle.gr_word.specs.declared.variables.Label.{Label}
+use Rattle.lt_isa.specs.Object.{Parts, block_words}
+use Rattle.lt_isa.specs.Machine.{State}
+use Rattle.src_tree.specs.Meaning.{Store}
+use Rattle.src_tree.specs.Trees.{Tree, Number, Variable, Element, Operation, Test, Statement, SetVariable, SetElement, Choice, Loop, Block, Nothing, Then}
+use Rattle.trace_patterns.specs.Known.{Known}
+use Rattle.scalar_ranges.specs.Ranges.{Ranges}
+use Rattle.block_cache_gen.specs.Homes.{Home, Setting, ranged, HasHomes, IsArrayHome, IsInOneBlock, IsResidentHome, IsSpreadHome}
+use Rattle.block_cache_gen.specs.Carries.{Carries}
+use Rattle.block_cache_gen.specs.PublicIndexes.{HasPublicIndexes, TestHasPublicIndexes, StatementHasPublicIndexes, BlockHasPublicIndexes}
+use Rattle.block_cache_gen.specs.StandsFor.{FitsHomes, StandsFor}
+use Rattle.block_cache_gen.proofs.RangesOfCode.{HomesFit}
+
+module _ (f : Setting) (known : Ranges) where
+  pub carries-ranged : (k : Known) → Carries f k → Carries (ranged f known) k
+  carries-ranged k is = record {
+    registers = is.registers;
+    slots = is.slots;
+    pinned = is.pinned;
+    arrays = is.arrays;
+    held = is.held;
+  }
+
+  pub fits-ranged : (store : Store) → FitsHomes f store → FitsHomes (ranged f known) store
+  fits-ranged store is = record { count = is.count; lengths = is.lengths; all_words = is.all_words }
+
+  pub stands-ranged : (s : State) (store : Store) → StandsFor f s store → StandsFor (ranged f known) s store
+  stands-ranged s store is = record {
+    pinned = is.pinned;
+    residents = is.residents;
+    arrays = is.arrays;
+    bound = is.bound;
+    current = is.current;
+    held = is.held;
+  }
+
+  -- the homes
+  spread-ranged : (w : ℕ) (label : Label) (h : Home) → IsSpreadHome f w label h → IsSpreadHome (ranged f known) w label h
+  spread-ranged w label h is =
+      record { secret = is.secret; word = is.word; inside = is.inside; pinned = is.pinned }
+
+  blocks-ranged : (w : ℕ) (label : Label) (h : Home) → IsInOneBlock w h ⊎ IsSpreadHome f w label h
+      → IsInOneBlock w h ⊎ IsSpreadHome (ranged f known) w label h
+  blocks-ranged w label h (inl one) = inl one
+  blocks-ranged w label h (inr spread) = inr (spread-ranged w label h spread)
+
+  resident-ranged : (w : ℕ) (label : Label) (h : Home) → IsResidentHome f w label h
+      → IsResidentHome (ranged f known) w label h
+  resident-ranged w label h is = record {
+    bank = is.bank;
+    pinned = is.pinned;
+    length = is.length;
+    blocks = blocks-ranged w label h is.blocks;
+  }
+
+  array-ranged : (o : Parts) (label : Label) (h : Home) → IsArrayHome o f label h
+      → IsArrayHome o (ranged f known) label h
+  array-ranged o label h is = record {
+    bank = is.bank;
+    plain = is.plain;
+    single = is.single;
+    slot = is.slot;
+    unpinned = is.unpinned;
+    apart = is.apart;
+    word = is.word;
+    length = is.length;
+    inside = is.inside;
+  }
+
+  -- the public indexes
+  pub tree-ranged : (e : Tree) → HasPublicIndexes f e → HasPublicIndexes (ranged f known) e
+  tree-ranged (Number z) has = has
+  tree-ranged (Variable x) has = has
+  tree-ranged (Element x i) has = (has.0, tree-ranged i has.1)
+  tree-ranged (Operation op a b) has = (tree-ranged a has.0, tree-ranged b has.1)
+
+  pub test-ranged : (t : Test) → TestHasPublicIndexes f t → TestHasPublicIndexes (ranged f known) t
+  test-ranged t has = (tree-ranged t.left has.0, tree-ranged t.right has.1)
+
+  mutual
+    pub statement-ranged : (s : Statement) → StatementHasPublicIndexes f s
+        → StatementHasPublicIndexes (ranged f known) s
+    statement-ranged (SetVariable x e) has = tree-ranged e has
+    statement-ranged (SetElement x i e) has = (tree-ranged (Element x i) has.0, tree-ranged e has.1)
+    statement-ranged (Choice t a b) has =
+        (test-ranged t has.0, (block-ranged a has.1.0, block-ranged b has.1.1))
+    statement-ranged (Loop t a) has = (test-ranged t has.0, block-ranged a has.1)
+
+    pub block-ranged : (b : Block) → BlockHasPublicIndexes f b → BlockHasPublicIndexes (ranged f known) b
+    block-ranged Nothing has = has
+    block-ranged (Then s rest) has = (statement-ranged s has.0, block-ranged rest has.1)
+
+pub homes-ranged : (o : Parts) (f : Setting) (known : Ranges) → HasHomes o f → HasHomes o (ranged f known)
+homes-ranged o f known is = record {
+  profile = is.profile;
+  banks = is.banks;
+  blocks = is.blocks;
+  count = is.count;
+  scalars = is.scalars;
+  residents = λ x label shape declared resident.
+      resident-ranged f known (block_words o) label _ (is.residents x label shape declared resident);
+  arrays = λ x label declared other. array-ranged f known o label _ (is.arrays x label declared other);
+  pins = is.pins;
+  pins_apart = is.pins_apart;
+  held = is.held;
+  apart = is.apart;
+}
+
+pub homes_fit-ranged : (banks : ℕ) (f : Setting) (known : Ranges) → HomesFit banks f → HomesFit banks (ranged f known)
+homes_fit-ranged banks f known is =
+    record { block_log = is.block_log; held = is.held; pins = is.pins; homes = is.homes }

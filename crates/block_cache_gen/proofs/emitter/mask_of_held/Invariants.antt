@@ -1,6 +1,0 @@
-use Rattle.std.proofs.Common.{◌≡◌}
-use Rattle.block_cache_gen.specs.Notes.{mask_to}
-use Rattle.block_cache_gen.proofs.emitter.mask_of_held.Given as goal
-
-abbrev pub invariant-loop-register : goal.invariant-loop-register
-invariant-loop-register l = l.mask ≡ mask_to l.decls l.held l.register

@@ -1,0 +1,10 @@
+pub mod Results
+pub mod Values
+pub mod Writing
+pub mod Forgetting
+pub mod Passing
+pub mod Counting
+pub mod Coming
+pub mod SecretCode
+pub mod PublicOnly
+pub mod Counts

@@ -1,0 +1,7 @@
+use Rattle.std.proofs.Common.{◌≡◌, drop}
+use Rattle.src_tree.specs.Contexts.{context_of}
+use Rattle.src_tree.specs.Labels.{label_at}
+use Rattle.scalar_ranges.proofs.names.label_at.Given as goal
+
+abbrev pub invariant-loop-decl : goal.invariant-loop-decl
+invariant-loop-decl l = label_at (context_of (drop l.decl-index l.decls)) l.name ≡ label_at (context_of l.decls) l.name
