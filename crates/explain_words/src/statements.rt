@@ -1,6 +1,9 @@
 //! Declarations, statements and calls among tokens, by the numbers that typing gives them.
 
 use crate::tokens::Tokens;
+use gr_base::Memory;
+use src_lexer::TokenKind;
+use std::alloc::Global;
 
 /// A declaration among tokens: its name, and what it declares.
 #[derive(Clone, Copy)]
@@ -20,15 +23,34 @@ impl Declared {
 impl Tokens<'_> {
     // The declaration that begins at a token of a program.
     fn declared_at(&self, at: usize) -> Option<Declared> {
-        let is_secret = self.is(at, "secret");
-        if !is_secret && !self.is(at, "public") {
-            return None;
-        }
+        let is_secret = match self.kind(at)? {
+            TokenKind::Secret => true,
+            TokenKind::Public => false,
+            _ => return None,
+        };
+        let is_array = match self.kind(at.saturating_add(3)) {
+            Some(TokenKind::LBracket) => true,
+            _ => false,
+        };
         Some(Declared {
             name: at.saturating_add(2),
             is_secret,
-            is_array: self.is(at.saturating_add(3), "["),
+            is_array,
         })
+    }
+
+    /// The declarations at the head of a program's tokens.
+    pub(crate) fn declarations(&self, alloc: Global) -> Result<Vec<Declared>, Memory> {
+        let mut declarations = Vec::new(alloc);
+        let mut at = 0usize;
+        for _ in self.all {
+            let Some(declared) = self.declared_at(at) else {
+                break;
+            };
+            declarations.push(declared)?;
+            at = at.saturating_add(declared.size());
+        }
+        Ok(declarations)
     }
 
     /// The declaration of a number, from 0, at the head of a program's tokens.
@@ -94,7 +116,10 @@ impl Tokens<'_> {
 
     /// Whether the statement at a token is a call.
     pub(crate) fn is_call(&self, at: usize) -> bool {
-        self.is_name(at) && self.is(at.saturating_add(1), "(")
+        match self.kind(at.saturating_add(1)) {
+            Some(TokenKind::LParen) => self.is_name(at),
+            _ => false,
+        }
     }
 
     /// The first statement from a token on, before an end. Before it there are only closing braces and `else`.
@@ -139,9 +164,13 @@ impl Tokens<'_> {
     pub(crate) fn closing(&self, open: usize) -> usize {
         let mut depth = 0usize;
         for at in open..self.all.len().max(open) {
-            match self.word(at) {
-                b"(" | b"[" | b"{" => depth = depth.saturating_add(1),
-                b")" | b"]" | b"}" => depth = depth.saturating_sub(1),
+            match self.kind(at) {
+                Some(TokenKind::LParen | TokenKind::LBracket | TokenKind::LBrace) => {
+                    depth = depth.saturating_add(1);
+                }
+                Some(TokenKind::RParen | TokenKind::RBracket | TokenKind::RBrace) => {
+                    depth = depth.saturating_sub(1);
+                }
                 _ => {}
             }
             if depth == 0 {

@@ -28,6 +28,22 @@ pub(crate) fn tokens_of(alloc: Global, text: &[u8]) -> Result<Vec<Token>, Memory
 }
 
 impl<'a> Tokens<'a> {
+    /// The kind of a token, or `None` if there is no such token.
+    pub(crate) fn kind(&self, at: usize) -> Option<&'a TokenKind> {
+        match self.all.get(at) {
+            Some(token) => Some(&token.kind),
+            None => None,
+        }
+    }
+
+    /// The name at a token, if the token is one.
+    pub(crate) fn name_at(&self, at: usize) -> Option<&'a [u8]> {
+        match self.kind(at)? {
+            TokenKind::Word(name) => Some(name.bytes()),
+            _ => None,
+        }
+    }
+
     /// The text of a token, and nothing where there is no such token.
     pub(crate) fn word(&self, at: usize) -> &'a [u8] {
         match self.all.get(at) {
@@ -64,15 +80,21 @@ impl<'a> Tokens<'a> {
 
     /// Whether a token is a name.
     pub(crate) fn is_name(&self, at: usize) -> bool {
-        match self.all.get(at) {
-            Some(token) => matches!(token.kind, TokenKind::Word(_)),
-            None => false,
+        match self.kind(at) {
+            Some(TokenKind::Word(_)) => true,
+            _ => false,
         }
     }
 
     /// Whether a statement, a declaration or a block may begin at a token: the one before ends such.
     pub(crate) fn is_head(&self, at: usize) -> bool {
-        matches!(self.before(at), b"" | b";" | b"{" | b"}")
+        let Some(before) = at.checked_sub(1) else {
+            return true;
+        };
+        match self.kind(before) {
+            Some(TokenKind::Semi | TokenKind::LBrace | TokenKind::RBrace) | None => true,
+            _ => false,
+        }
     }
 
     /// The first token of a token's statement, or of its guard and what is before the guard.

@@ -26,6 +26,35 @@ struct Indexes {
     first: usize,
 }
 
+impl Indexes {
+    const NONE: Indexes = Indexes {
+        secret: 0,
+        public: 0,
+        first: 0,
+    };
+}
+
+/// A variable of the file, whether the file's own statements name it, and the indexes of a secret array.
+#[derive(Clone, Copy)]
+struct Variable {
+    declared: Declared,
+    is_used: bool,
+    indexes: Indexes,
+}
+
+impl Variable {
+    fn is_secret_array(&self) -> bool {
+        self.declared.is_secret && self.declared.is_array
+    }
+}
+
+/// The variables of the file in the order of declaration, and their numbers by their names.
+#[derive(Drop)]
+struct Variables<'a> {
+    all: Vec<Variable>,
+    numbers: BTreeMap<&'a [u8], usize>,
+}
+
 /// The warnings of a file that were found so far.
 #[derive(Clone, Copy)]
 pub(crate) struct Count {
@@ -63,8 +92,9 @@ fn warned(alloc: Global, tokens: Tokens<'_>, out: &mut Words) -> Result<(), Memo
     for at in tokens.end_of_declarations()..tokens.all.len() {
         tokens.warn_of_number(at, procedures.main <= at, &mut count, out);
     }
-    procedures.warn_of_unused(alloc, &mut count, out)?;
-    procedures.warn_of_secret_index(alloc, &mut count, out)?;
+    let variables = procedures.variables(alloc)?;
+    procedures.warn_of_unused(alloc, &variables, &mut count, out)?;
+    tokens.warn_of_secret_index(&variables, &mut count, out);
     count.close(out);
     Ok(())
 }
@@ -72,7 +102,7 @@ fn warned(alloc: Global, tokens: Tokens<'_>, out: &mut Words) -> Result<(), Memo
 impl<'a> Tokens<'a> {
     // The number at a token.
     fn number(&self, at: usize) -> Option<u64> {
-        match &self.all.get(at)?.kind {
+        match self.kind(at)? {
             TokenKind::Num(value) if *value >= 0 => Some(*value as u64),
             _ => None,
         }
@@ -91,19 +121,19 @@ impl<'a> Tokens<'a> {
     // is in the file's own statements.
     fn warn_of_number(&self, at: usize, is_own: bool, count: &mut Count, out: &mut Words) {
         let next = at.saturating_add(1);
-        match self.word(at) {
-            b"/" if self.number(next) == Some(0) => {
+        match self.kind(at) {
+            Some(TokenKind::Slash) if self.number(next) == Some(0) => {
                 if self.begin_warning(at, count, out) {
                     out.line("a division by 0 gives -1");
                 }
             }
-            b"%" if self.number(next) == Some(0) => {
+            Some(TokenKind::Percent) if self.number(next) == Some(0) => {
                 if self.begin_warning(at, count, out) {
                     out.line("the remainder of a division by 0 is the dividend");
                 }
             }
-            b"<<" | b">>" => self.warn_of_shift(at, count, out),
-            b"[" if is_own => self.warn_of_index(at, count, out),
+            Some(TokenKind::Shl | TokenKind::Shr) => self.warn_of_shift(at, count, out),
+            Some(TokenKind::LBracket) if is_own => self.warn_of_index(at, count, out),
             _ => {}
         }
     }
@@ -162,6 +192,29 @@ impl<'a> Tokens<'a> {
         }
     }
 
+    // Warns of an array's only secret index, which makes the array oblivious, if no call has the array as an argument.
+    fn warn_of_secret_index(&self, variables: &Variables<'a>, count: &mut Count, out: &mut Words) {
+        for variable in &variables.all {
+            let Indexes {
+                secret,
+                public,
+                first,
+            } = variable.indexes;
+            if secret == 1
+                && public >= PUBLIC_INDEXES
+                && public < u64::MAX
+                && self.begin_warning(first, count, out)
+            {
+                out.say("this is the only secret index of ");
+                self.tell(
+                    variable.declared.name,
+                    ", and makes each of its accesses an oblivious one, which takes longer\n",
+                    out,
+                );
+            }
+        }
+    }
+
     // The names that occur from a token to an end, other than those of calls.
     fn names_between(
         &self,
@@ -185,19 +238,134 @@ fn remainder(index: u64, length: u64) -> u64 {
     if length == 0 { 0 } else { index % length }
 }
 
+impl<'a> Variables<'a> {
+    // The variables that are declared at the head of the file.
+    fn of(alloc: Global, tokens: Tokens<'a>) -> Result<Variables<'a>, Memory> {
+        let mut all = Vec::new(alloc);
+        let mut numbers: BTreeMap<&'a [u8], usize> = BTreeMap::new(alloc);
+        let declarations = tokens.declarations(alloc)?;
+        for declared in &declarations {
+            if numbers
+                .insert(tokens.word(declared.name), all.len())
+                .is_err()
+            {
+                return Err(Memory);
+            }
+            all.push(Variable {
+                declared: *declared,
+                is_used: false,
+                indexes: Indexes::NONE,
+            })?;
+        }
+        Ok(Variables { all, numbers })
+    }
+
+    // The variable of a name, and its number.
+    fn find(&self, name: &'a [u8]) -> Option<(usize, Variable)> {
+        let number = *self.numbers.get(&name)?;
+        Some((number, *self.all.get(number)?))
+    }
+
+    // Notes a use of the variable whose name is at a token. Returns whether it is the first.
+    fn note(&mut self, tokens: Tokens<'a>, at: usize, name: &'a [u8]) -> bool {
+        let Some((number, variable)) = self.find(name) else {
+            return false;
+        };
+        if variable.is_used && !variable.is_secret_array() {
+            return false;
+        }
+        let indexes = if variable.is_secret_array() {
+            self.with_index(tokens, at, variable.indexes)
+        } else {
+            variable.indexes
+        };
+        if number < self.all.len() {
+            self.all[number] = Variable {
+                is_used: true,
+                indexes,
+                ..variable
+            };
+        }
+        !variable.is_used
+    }
+
+    // Whether a token is the name of a secret variable.
+    fn is_secret(&self, tokens: Tokens<'a>, at: usize) -> bool {
+        match tokens.name_at(at) {
+            Some(name) => match self.find(name) {
+                Some((_, variable)) => variable.declared.is_secret,
+                None => false,
+            },
+            None => false,
+        }
+    }
+
+    // The indexes of an array, with the one after the name at a token. An argument counts as any number of public ones.
+    fn with_index(&self, tokens: Tokens<'a>, at: usize, indexes: Indexes) -> Indexes {
+        let open = at.saturating_add(1);
+        if !matches!(tokens.kind(open), Some(TokenKind::LBracket)) {
+            return Indexes {
+                public: u64::MAX,
+                ..indexes
+            };
+        }
+        for within in open..tokens.closing(open).max(open) {
+            if self.is_secret(tokens, within) {
+                return Indexes {
+                    secret: indexes.secret.saturating_add(1),
+                    first: if indexes.secret == 0 {
+                        at
+                    } else {
+                        indexes.first
+                    },
+                    ..indexes
+                };
+            }
+        }
+        Indexes {
+            public: indexes.public.saturating_add(1),
+            ..indexes
+        }
+    }
+}
+
 impl<'a> Procedures<'a> {
+    // The variables of the file, with their uses in the file's own statements. Once each is used, only the indexes of
+    // secret arrays matter.
+    fn variables(&self, alloc: Global) -> Result<Variables<'a>, Memory> {
+        let tokens = self.tokens;
+        let mut variables = Variables::of(alloc, tokens)?;
+        let mut unused = variables.all.len();
+        let has_arrays = variables
+            .all
+            .iter()
+            .any(|variable| variable.is_secret_array());
+        for at in self.main..tokens.all.len().max(self.main) {
+            if unused == 0 && !has_arrays {
+                break;
+            }
+            if let Some(name) = tokens.name_at(at)
+                && !(tokens.is_call(at) && tokens.is_head(at))
+                && variables.note(tokens, at, name)
+            {
+                unused = unused.saturating_sub(1);
+            }
+        }
+        Ok(variables)
+    }
+
     // Warns of variables, parameters and locals that no statement names.
     fn warn_of_unused(
         &self,
         alloc: Global,
+        variables: &Variables<'a>,
         count: &mut Count,
         out: &mut Words,
     ) -> Result<(), Memory> {
         let tokens = self.tokens;
-        let used = tokens.names_between(alloc, self.main, tokens.all.len())?;
-        for number in 0..tokens.count_declarations() {
-            let name = tokens.declared_name(number);
-            if used.get(&tokens.word(name)).is_none() && tokens.begin_warning(name, count, out) {
+        for variable in &variables.all {
+            let name = variable.declared.name;
+            if !variable.is_used && tokens.begin_warning(name, count, out) {
                 tokens.tell(name, " is never used\n", out);
             }
         }
@@ -226,97 +394,5 @@ impl<'a> Procedures<'a> {
             }
         }
         Ok(())
-    }
-
-    // Warns of an array's only secret index, which makes the array oblivious, if no call has the array as an argument.
-    fn warn_of_secret_index(
-        &self,
-        alloc: Global,
-        count: &mut Count,
-        out: &mut Words,
-    ) -> Result<(), Memory> {
-        let tokens = self.tokens;
-        let arrays = self.secret_arrays(alloc)?;
-        for number in 0..tokens.count_declarations() {
-            let name = tokens.declared_name(number);
-            if let Some(indexes) = arrays.get(&tokens.word(name)).copied()
-                && indexes.secret == 1
-                && indexes.public >= PUBLIC_INDEXES
-                && indexes.public < u64::MAX
-                && tokens.begin_warning(indexes.first, count, out)
-            {
-                out.say("this is the only secret index of ");
-                tokens.tell(
-                    name,
-                    ", and makes each of its accesses an oblivious one, which takes longer\n",
-                    out,
-                );
-            }
-        }
-        Ok(())
-    }
-
-    // The indexes of the secret arrays that the file's own statements name.
-    fn secret_arrays(&self, alloc: Global) -> Result<BTreeMap<&'a [u8], Indexes>, Memory> {
-        let tokens = self.tokens;
-        let mut arrays: BTreeMap<&'a [u8], Indexes> = BTreeMap::new(alloc);
-        for at in self.main..tokens.all.len().max(self.main) {
-            let is_called = tokens.is_call(at) && tokens.is_head(at);
-            if is_called || !tokens.is_name(at) {
-                continue;
-            }
-            if let Some(declared) = tokens.declaration_of(at)
-                && declared.is_array
-                && declared.is_secret
-            {
-                let before = arrays.get(&tokens.word(at)).copied();
-                let after = self.with_index(at, before);
-                if arrays.insert(tokens.word(at), after).is_err() {
-                    return Err(Memory);
-                }
-            }
-        }
-        Ok(arrays)
-    }
-
-    // The indexes of an array, with the one after the name at a token. An argument counts as any number of public ones.
-    fn with_index(&self, at: usize, before: Option<Indexes>) -> Indexes {
-        let indexes = before.unwrap_or(Indexes {
-            secret: 0,
-            public: 0,
-            first: at,
-        });
-        let open = at.saturating_add(1);
-        if !self.tokens.is(open, "[") {
-            return Indexes {
-                public: u64::MAX,
-                ..indexes
-            };
-        }
-        for within in open..self.tokens.closing(open).max(open) {
-            if self.tokens.is_name(within) && self.is_secret(within) {
-                return Indexes {
-                    secret: indexes.secret.saturating_add(1),
-                    first: if indexes.secret == 0 {
-                        at
-                    } else {
-                        indexes.first
-                    },
-                    ..indexes
-                };
-            }
-        }
-        Indexes {
-            public: indexes.public.saturating_add(1),
-            ..indexes
-        }
-    }
-
-    // Whether the name at a token is that of a secret variable of the file.
-    fn is_secret(&self, name: usize) -> bool {
-        match self.tokens.declaration_of(name) {
-            Some(declared) => declared.is_secret,
-            None => false,
-        }
     }
 }
