@@ -1,3 +1,4 @@
+pub mod EscapedNames
 pub mod FaultyFiles
 pub mod Plain
 pub mod ShownNames

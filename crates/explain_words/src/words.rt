@@ -1,12 +1,18 @@
-ghost use Rattle.std.specs.Prelude.{IfOk, All};
-ghost use Rattle.explain_words.specs.Plain.{IsPlain};
+ghost use Rattle.std.specs.Prelude.{◌≡◌, ◌<◌, [], ◌∷◌, ◌++◌, map, Some, IfOk, All};
+ghost use Rattle.std.specs.Char.{digit_char};
+ghost use Rattle.std.specs.Option.{option_map};
+ghost use Rattle.gr_base.specs.Added.{Adds};
+ghost use Rattle.explain_words.specs.EscapedNames.{escaped_char, escaped_name, hex_digits};
+ghost use Rattle.explain_words.specs.Plain.{IsPlain, shown_byte};
 
 use crate::texts::piece;
 use gr_base::Memory;
 use itoa::Buffer;
 use std::alloc::Global;
+use std::marker::Model;
 
-/// A text for people that is built piece by piece. If memory runs out, the rest is dropped, and [`Words::finish`] fails.
+/// A text for people that is built piece by piece. If memory runs out, [`Words::finish`] fails. Contracts see the text
+/// so far, and `None` once memory ran out.
 #[derive(Drop)]
 pub struct Words {
     text: Vec<u8>,
@@ -15,6 +21,14 @@ pub struct Words {
     places: Vec<Marked>,
     excerpts: Vec<Excerpt>,
     lacks_memory: bool,
+}
+
+impl Model for Words {
+    ghost use Rattle.std.specs.Prelude.{ℕ, List, Option, None, Some, if◌then◌else◌};
+
+    ghost Value = { Option (List ℕ) };
+
+    ghost view = { λ words. if words.lacks_memory then None else Some words.text.items };
 }
 
 /// A place that a text names: where the text about it starts, where its reason starts, and the number of bytes of `names`
@@ -38,7 +52,8 @@ struct Excerpt {
 
 // What is shown of a byte.
 fn shown(byte: u8) -> u8
-    ensures { IsPlain result }
+    ensures value { result ≡ shown_byte byte }
+    ensures plain { IsPlain result }
 {
     match byte {
         b'\n' => b'\n',
@@ -48,14 +63,23 @@ fn shown(byte: u8) -> u8
     }
 }
 
-// The digit of a number below 16.
-fn hex_digit(number: u32) -> u8 {
-    b"0123456789abcdef"[number as usize % 16]
+// The hexadecimal digit of a number below 16.
+fn hex_digit(number: u32) -> u8
+    requires { number < 16 }
+    ensures { result ≡ digit_char number }
+{
+    if number < 10 {
+        b'0' + number as u8
+    } else {
+        b'a' - 10 + number as u8
+    }
 }
 
 impl Words {
     /// An empty text.
-    pub fn new(alloc: Global) -> Words {
+    pub fn new(alloc: Global) -> Words
+        ensures { result ≡ Some [] }
+    {
         Words {
             text: Vec::new(alloc),
             names: Vec::new(alloc),
@@ -129,14 +153,25 @@ impl Words {
     }
 
     /// Adds a text.
-    pub fn say(&mut self, text: &str) {
-        if self.text.extend_from_slice(text.as_bytes()).is_err() {
+    pub fn say(&mut self, text: &str)
+        ensures { Adds self.old self.new text.now }
+    {
+        self.push(text.as_bytes());
+    }
+
+    // Adds bytes.
+    fn push(&mut self, bytes: &[u8])
+        ensures { Adds self.old self.new bytes.now }
+    {
+        if self.text.extend_from_slice(bytes).is_err() {
             self.lacks_memory = true;
         }
     }
 
     /// Adds a sentence, and ends the line.
-    pub fn line(&mut self, text: &str) {
+    pub fn line(&mut self, text: &str)
+        ensures { Adds self.old self.new (text.now ++ 10 ∷ []) }
+    {
         self.say(text);
         self.say("\n");
     }
@@ -158,9 +193,7 @@ impl Words {
     pub(crate) fn quote(&mut self, bytes: &[u8]) {
         for byte in bytes {
             let within = if *byte == b'\n' { b'?' } else { *byte };
-            if self.text.push(within).is_err() {
-                self.lacks_memory = true;
-            }
+            self.push(&[within]);
         }
     }
 
@@ -173,33 +206,59 @@ impl Words {
 
     /// Adds a name that was given from outside. Each character that isn't printable ASCII is escaped, as `\x1b` or
     /// `\u{202e}`, so that two names never look alike.
-    pub fn name(&mut self, name: &str) {
+    #[tactic(auto, using(crate::proofs::Escaped::nothing_added, crate::proofs::Escaped::character_added))]
+    pub fn name(&mut self, name: &str)
+        ensures { Adds self.old self.new (escaped_name name.now) }
+    {
         for c in name.chars() {
-            match c {
-                '\\' => self.say("\\\\"),
-                ' '..='~' => self.quote(&[c as u8]),
-                '\0'..='\x7f' => self.escape("\\x", u32::from(c), 2, ""),
-                _ => self.escape("\\u{", u32::from(c), 1, "}"),
-            }
+            self.push_escaped(c);
+        }
+    }
+
+    // Adds a character of a name.
+    fn push_escaped(&mut self, c: char)
+        ensures { Adds self.old self.new (escaped_char c) }
+    {
+        let code = c as u32;
+        if code == 92 {
+            self.say("\\\\");
+        } else if 32 <= code && code <= 126 {
+            self.push(&[code as u8]);
+        } else if code <= 127 {
+            self.escape("\\x", code, 2, "");
+        } else {
+            self.escape("\\u{", code, 1, "}");
         }
     }
 
     /// Adds a number in hexadecimal, with at least `digits` digits, between two texts.
-    pub(crate) fn escape(&mut self, before: &str, number: u32, digits: u32, after: &str) {
+    pub(crate) fn escape(&mut self, before: &str, number: u32, digits: u32, after: &str)
+        ensures { Adds self.old self.new (before.now ++ hex_digits 8 digits number ++ after.now) }
+    {
         self.say(before);
-        for place in 0..8u32 {
-            let shift = 4 * (7 - place);
-            if 7 - place < digits || number >> shift != 0 {
-                self.quote(&[hex_digit(number >> shift & 15)]);
-            }
-        }
+        self.push_digits(8, digits, number);
         self.say(after);
+    }
+
+    // Adds a number in hexadecimal, with at least `least` digits and at most `most`.
+    fn push_digits(&mut self, most: u32, least: u32, number: u32)
+        ensures { Adds self.old self.new (hex_digits most least number) }
+    {
+        if most == 0 {
+            return;
+        }
+        if least == 0 && number == 0 {
+            return;
+        }
+        self.push_digits(most - 1, least.saturating_sub(1), number / 16);
+        self.push(&[hex_digit(number % 16)]);
     }
 
     /// The text, in which nothing acts on a terminal. A byte that isn't printable ASCII is shown as a question mark.
     ///
     /// Fails if memory ran out since the text was begun.
     pub fn finish(&self, alloc: Global) -> Result<Vec<u8>, Memory>
+        ensures shown { IfOk result (λ text. option_map (map shown_byte) self.now ≡ Some text.items) }
         ensures plain { IfOk result (λ text. All IsPlain text.items) }
     {
         if self.lacks_memory {

@@ -1,2 +1,3 @@
 pub mod Overlaid
 pub mod CallEnds
+pub mod FirstWord

@@ -1,6 +1,11 @@
 -- The calls that the front program handles itself: for help, for the version and for its path, and its own verbs.
-use Rattle.std.specs.Prelude.{ℕ, Bool, false, not, ◌&&◌, ◌||◌, List, [], ◌∷◌, if◌then◌else◌, codes}
+use Rattle.std.specs.Prelude.{ℕ, Bool, false, not, ◌==◌, ◌&&◌, ◌||◌, List, [], ◌∷◌, if◌then◌else◌, codes}
+use Rattle.std.specs.List.{before_first}
 use Rattle.std.specs.Str.{bytes_eq}
+
+-- the text before the first space
+abbrev pub first_word : List ℕ → List ℕ
+first_word text = before_first (λ byte. byte == 32) text
 
 -- `--quiet` turns explanations and warnings off; `--json` prints them as lines of JSON
 abbrev pub is_manner : List ℕ → Bool

@@ -18,6 +18,5 @@ mod verb_table;
 pub use answering::Program;
 pub use help::VERSION;
 pub use outside::{Identities, Reasons};
-pub use streams::{ReadFile, StreamShelf};
+pub use streams::StreamShelf;
 pub use top::{front, refuse_words};
-pub use verb_table::{VerbHelp, verb_help};

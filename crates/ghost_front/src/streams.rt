@@ -17,7 +17,7 @@ pub(crate) const DASH: &str = "-";
 
 /// A file that was read: its name, and the bytes that the reader got.
 #[derive(Drop)]
-pub struct ReadFile {
+pub(crate) struct ReadFile {
     pub name: String,
     pub bytes: Vec<u8>,
 }
@@ -93,7 +93,7 @@ impl<F: Shelf + Drop> StreamShelf<F> {
     }
 
     /// The files that were read so far, in order.
-    pub fn read_files(&self) -> &[ReadFile] {
+    pub(crate) fn read_files(&self) -> &[ReadFile] {
         self.read.as_slice()
     }
 
@@ -112,7 +112,7 @@ impl<F: Shelf + Drop> StreamShelf<F> {
     }
 
     /// Why standard input couldn't be read, if that was tried and failed.
-    pub fn input_error(&self) -> Option<Error> {
+    pub(crate) fn input_error(&self) -> Option<Error> {
         self.input_error
     }
 

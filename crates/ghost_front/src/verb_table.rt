@@ -1,8 +1,11 @@
 //! The one table of the verbs: what `help` prints, and what the man page and the completions are made from.
 
+ghost use Rattle.std.specs.Prelude.{◌≡◌, IfSome};
+ghost use Rattle.ghost_front.specs.Requests.{first_word};
+
 /// A verb, with what `help` prints of it.
 #[derive(Clone, Copy)]
-pub struct VerbHelp {
+pub(crate) struct VerbHelp {
     /// The verb, the words that it takes, and its options in square brackets.
     pub usage: &'static str,
     /// What it does, in lines that are indented by four spaces.
@@ -114,15 +117,20 @@ pub(crate) const NOTES: &str =
     of the script only 69 no toolchain to build with, 70 the build failed.\n";
 
 /// The name of a verb: the first word of its usage.
-pub(crate) fn name_of(verb: VerbHelp) -> &'static str {
-    match verb.usage.split_once(" ") {
+#[tactic(auto, using(crate::proofs::FirstWord::only_word))]
+pub(crate) fn name_of(verb: VerbHelp) -> &'static str
+    ensures { result.now ≡ first_word verb.usage.now }
+{
+    match verb.usage.split_once(' ') {
         Some((name, _)) => name,
         None => verb.usage,
     }
 }
 
 /// The row of the verb of this name.
-pub fn verb_help(name: &str) -> Option<VerbHelp> {
+pub(crate) fn verb_help(name: &str) -> Option<VerbHelp>
+    ensures { IfSome result (λ verb. first_word verb.usage.now ≡ name.now) }
+{
     for verb in VERBS {
         if name_of(verb) == name {
             return Some(verb);

@@ -7,3 +7,4 @@ pub mod StatusLaws
 pub mod FilesStay
 pub mod Begun
 pub mod CalmPuts
+pub mod ToolFound

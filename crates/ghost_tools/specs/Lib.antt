@@ -8,3 +8,4 @@ pub mod Judging
 pub mod SoFar
 pub mod CountedSoFar
 pub mod Runs
+pub mod ToolWords

@@ -26,7 +26,7 @@ pub(crate) struct SourceText {
     pub(crate) expanded: bool,
 }
 
-/// Tokens of an access to an array: its name, and the bracket behind its index.
+/// Tokens of an access to an array: its name, and the bracket after its index.
 #[derive(Clone, Copy)]
 pub(crate) struct Access {
     name: usize,

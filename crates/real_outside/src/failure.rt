@@ -1,8 +1,10 @@
+ghost use Rattle.std.specs.Prelude.{◌≡◌, IfSome, string_bytes};
+
 use arrayvec::ArrayString;
 use std::alloc::Global;
 use std::fmt;
 use std::fmt::{Display, Formatter, Write};
-use std::io::{Error, ErrorKind};
+use std::io::Error;
 
 /// The most bytes of a cause as the standard library prints it.
 const MOST_WORDS: usize = 320;
@@ -12,18 +14,7 @@ const NUMBER: &str = " (os error ";
 
 /// Why the system failed a call. `Display` prints the system's own words, such as `No space left on device`.
 #[derive(Clone, Copy, Debug, Drop)]
-pub struct Cause(Error);
-
-impl Cause {
-    pub(crate) fn new(error: Error) -> Cause {
-        Cause(error)
-    }
-
-    /// The kind of the error, for callers that treat some causes differently.
-    pub fn kind(&self) -> ErrorKind {
-        self.0.kind()
-    }
-}
+pub struct Cause(pub Error);
 
 impl Display for Cause {
     fn fmt<W: fmt::Write>(&self, f: &mut Formatter<W>) -> fmt::Result {
@@ -45,29 +36,21 @@ fn without_number(words: &str) -> &str {
 /// to a terminal.
 #[derive(Debug, Drop)]
 pub struct Failure {
-    name: Option<String>,
-    cause: Cause,
+    /// The file's name. `None` if memory ran out when it was to be kept.
+    pub name: Option<String>,
+    /// Why the read or the write failed.
+    pub cause: Cause,
 }
 
 impl Failure {
-    pub(crate) fn new(alloc: Global, name: &str, error: Error) -> Failure {
+    pub(crate) fn new(alloc: Global, name: &str, error: Error) -> Failure
+        ensures named { IfSome result.name (λ it. string_bytes it ≡ name.now) }
+        ensures caused { result.cause.0 ≡ error }
+    {
         Failure {
             name: String::from_str(alloc, name).ok(),
-            cause: Cause::new(error),
+            cause: Cause(error),
         }
-    }
-
-    /// The file's name. `None` if memory ran out when it was to be kept.
-    pub fn name(&self) -> Option<&str> {
-        match &self.name {
-            Some(name) => Some(name.as_str()),
-            None => None,
-        }
-    }
-
-    /// Why the read or the write failed.
-    pub fn cause(&self) -> Cause {
-        self.cause
     }
 }
 

@@ -134,7 +134,7 @@ impl<W: Write + Drop> RealSink<W> {
         ensures count { self.old.faults ≤ self.new.faults }
     {
         self.faults = self.faults.saturating_add(1);
-        self.cause = Some(Cause::new(error));
+        self.cause = Some(Cause(error));
         SinkFailed
     }
 }
