@@ -233,13 +233,19 @@ static void put_place(struct emitter *emitter, const struct variable *array, con
     put_applied(emitter, ADD, to + 1, to + 1, to + 2, symbol->block);
 }
 
-/* Leaves the number of the word that an index of a resident array names, in its block, in a register. */
+/* Leaves the number of the word that an index of a resident array names, in its block, in a register. An index that is
+   known to be below the length is added to the array's first word as it is. */
 static void put_resident_place(struct emitter *emitter, const struct variable *array, const struct expr *index, unsigned to,
                                enum mode mode, uint32_t mask)
 {
     const struct symbol *symbol = &array->symbol;
     if (is_fixed(array, index)) {
         put_constant(emitter, to, (int64_t)(symbol->word + (uint64_t)index->number % symbol->length));
+        return;
+    }
+    if (symbol->word != 0 && is_within(emitter, array, index)) {
+        const unsigned held = put_operand(emitter, index, to, mode, mask);
+        put_applied(emitter, ADD, to, held, to + 1, symbol->word);
         return;
     }
     put_word(emitter, array, index, to, mode, mask);
@@ -289,10 +295,15 @@ static void put_read(struct emitter *emitter, const struct variable *array, cons
         put_plain(emitter, LDW, to, slot_at(emitter, array, index), to);
 }
 
-/* The word of a slot whose number register 1 has becomes the value in a register. Without effect it stays. */
+/* The word of a slot whose number register 1 has becomes the value in a register. Without effect it stays. Secret code
+   reads the old word first, but with `--fast` only where it would stay. */
 static void put_stored(struct emitter *emitter, unsigned slot, unsigned value, enum mode mode)
 {
-    if (mode != IN_PUBLIC)
+    if (emitter->is_fast && mode == WITHOUT_EFFECT) {
+        put_plain(emitter, LDW, 0, slot, 1);
+        return;
+    }
+    if (mode != IN_PUBLIC && !emitter->is_fast)
         put_plain(emitter, LDW, 2, slot, 1);
     put_plain(emitter, STW, mode == WITHOUT_EFFECT ? 2 : value, slot, 1);
 }
@@ -324,6 +335,15 @@ static bool put_by_number(struct emitter *emitter, const struct expr *expr, unsi
     return true;
 }
 
+/* Leaves the result of an operation in a register, with the sides in registers from another one on. */
+static void put_operation(struct emitter *emitter, const struct expr *expr, unsigned from, unsigned to, enum mode mode,
+                          uint32_t mask)
+{
+    const unsigned left = put_operand(emitter, expr->left, from, mode, mask);
+    const unsigned right = put_operand(emitter, expr->right, from + 1, mode, mask_with(expr->left, mask, left, from));
+    put_plain(emitter, expr->opcode, to, left, right);
+}
+
 /* Leaves the value of an expression in a register. The mask says which registers may be secret in its notes. */
 static void put_expr(struct emitter *emitter, const struct expr *expr, unsigned to, enum mode mode, uint32_t mask)
 {
@@ -347,11 +367,8 @@ static void put_expr(struct emitter *emitter, const struct expr *expr, unsigned 
         put_read(emitter, variable, expr->left, to);
         break;
     case OPERATION:
-        if (put_by_number(emitter, expr, to, mode, mask))
-            break;
-        const unsigned left = put_operand(emitter, expr->left, to, mode, mask);
-        const unsigned right = put_operand(emitter, expr->right, to + 1, mode, mask_with(expr->left, mask, left, to));
-        put_plain(emitter, expr->opcode, to, left, right);
+        if (!put_by_number(emitter, expr, to, mode, mask))
+            put_operation(emitter, expr, to, to, mode, mask);
         break;
     }
 }
@@ -364,15 +381,41 @@ static void put_guard(struct emitter *emitter, const struct guard *guard, enum m
     put_expr(emitter, guard->right, SCALAR_REGISTER + 1, mode, mask_behind(guard->left, mask, SCALAR_REGISTER));
 }
 
-/* Puts an assignment. Without effect the old word is stored, or the register that holds a scalar copied to itself. */
+static bool is_product(uint8_t opcode)
+{
+    return opcode >= MUL && opcode <= REMU;
+}
+
+/* Whether steps may replace an operation. */
+static bool may_step(const struct emitter *emitter, const struct expr *expr)
+{
+    return emitter->is_fast && expr->right->kind == CONSTANT && is_product(expr->opcode);
+}
+
+/* Whether the last instruction of an assignment leaves the value in the register that holds the scalar: an operation that no
+ * steps may replace, to a public scalar or of a secret. */
+static bool is_straight(const struct emitter *emitter, const struct statement *made)
+{
+    return emitter->is_fast && emitter->holding.variables[made->variable] != 0 && made->value->kind == OPERATION
+           && !may_step(emitter, made->value)
+           && (!variable_of(emitter, made->variable)->symbol.is_secret || made->value->is_secret);
+}
+
+/* Puts an assignment. Without effect the old word is stored, or what is for a register that holds a scalar left in register
+ * 0. */
 static void put_assignment(struct emitter *emitter, const struct statement *made, enum mode mode)
 {
     const struct variable *target = variable_of(emitter, made->variable);
     const uint32_t mask = emitter->base_mask;
-    const unsigned value = put_operand(emitter, made->value, 0, mode, mask);
     const unsigned held = emitter->holding.variables[made->variable];
+    const unsigned to = mode == WITHOUT_EFFECT ? 0 : held;
+    if (made->kind == SET && is_straight(emitter, made)) {
+        put_operation(emitter, made->value, 0, to, mode, mask);
+        return;
+    }
+    const unsigned value = put_operand(emitter, made->value, 0, mode, mask);
     if (made->kind == SET && held != 0) {
-        put_copy(emitter, held, mode == WITHOUT_EFFECT ? held : value, target->symbol.is_secret);
+        put_copy(emitter, to, value, target->symbol.is_secret);
         return;
     }
     if (made->kind == PUT) {
@@ -396,17 +439,6 @@ static bool is_same(const struct expr *one, const struct expr *other)
     case ELEMENT: return one->variable == other->variable && is_same(one->left, other->left);
     default: return one->opcode == other->opcode && is_same(one->left, other->left) && is_same(one->right, other->right);
     }
-}
-
-static bool is_product(uint8_t opcode)
-{
-    return opcode >= MUL && opcode <= REMU;
-}
-
-/* Whether steps may replace an operation. */
-static bool may_step(const struct emitter *emitter, const struct expr *expr)
-{
-    return emitter->is_fast && expr->right->kind == CONSTANT && is_product(expr->opcode);
 }
 
 /* Whether two operations are the same operation by the same number. */
@@ -487,7 +519,8 @@ static bool is_pair(const struct emitter *emitter, const struct statement *one, 
     if (one->kind != other->kind || (one->kind != SET && one->kind != PUT) || !is_alike(emitter, one->value, other->value))
         return false;
     if (one->kind == SET)
-        return (emitter->holding.variables[one->variable] != 0) == (emitter->holding.variables[other->variable] != 0);
+        return (emitter->holding.variables[one->variable] != 0) == (emitter->holding.variables[other->variable] != 0)
+               && is_straight(emitter, one) == is_straight(emitter, other);
     return shows_same(emitter, one->variable, one->index, other->variable, other->index);
 }
 

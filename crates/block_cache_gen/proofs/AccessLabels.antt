@@ -1,6 +1,5 @@
 -- The labels of the registers in the public code of an access: the number of the word, that of its block, and the load.
 use Rattle.std.proofs.Common.{◌≡◌, ◌≢◌, ℕ, zero, suc, ◌+◌, ◌<◌, ◌≤◌, Bool, true, false, not, ◌||◌, ◌&&◌, ◌==◌, ℤ, pos, ◌+ℤ◌, List, [], ◌∷◌, ◌++◌, length, Option, None, Some, refl, sym, ap, ◌∙◌, subst, arith}
-use Rattle.std.specs.Prelude.{if◌then◌else◌}
 use Rattle.std.proofs.lemmas.Bool.{ne_eqb}
 use Rattle.gr_word.specs.declared.operations.Op.{Op}
 use Rattle.gr_word.specs.declared.operations.Op.TheVariants.{Add, Remu, Shr}
@@ -74,13 +73,11 @@ module _ (o : Parts) (f : Setting) (sound : IsSoundHeld f.decls f.held) (to : �
   apart_own : to ≢ to + 1
   apart_own e = absurd (omega (arith, e))
 
-  -- the number of the array's first word is added, unless that is 0
-  pub offset_by : (h : Home) (p : ℕ) (k : Known) → Carries f k → (first : Bool)
-      → Placed o p (if first then [] else applied_code f Add to to (to + 1) (pos h.word)) to k (is_secret k to)
-  offset_by h p k carries true =
-      record { after = k; goes = NoMore p k; same = same-itself to k; word_is = refl }
-  offset_by h p k carries false =
-      applied-placed o f sound Add to to (to + 1) (pos h.word) p k carries (omega arith) (omega arith) apart_own
+  -- the number of the array's first word is added
+  pub offset_by : (h : Home) (from : ℕ) → from ≢ to + 1 → (p : ℕ) (k : Known) → Carries f k
+      → Placed o p (applied_code f Add to from (to + 1) (pos h.word)) to k (is_secret k from)
+  offset_by h from apart p k carries =
+      applied-placed o f sound Add to from (to + 1) (pos h.word) p k carries (omega arith) (omega arith) apart
 
   -- without a comparison
   pub reduced-numbered : (h : Home) (from : ℕ) → from ≢ to + 1 → (p : ℕ) (k : Known) → Carries f k

@@ -27,14 +27,14 @@ use Rattle.block_cache_gen.specs.declared.frames.Mode.{Mode}
 use Rattle.block_cache_gen.specs.declared.frames.Mode.TheVariants.{Public, Real, Mirrored}
 use Rattle.block_cache_gen.specs.declared.indexes.Numbering.{Numbering}
 use Rattle.block_cache_gen.specs.Homes.{Home, Setting, HasHomes, home_of, words_a_block}
-use Rattle.block_cache_gen.specs.Codes.{skips, is_cached, fixed_index, fixed_word, located_code, fixed_code, numbered_code, shift_code, load_code, access_by}
+use Rattle.block_cache_gen.specs.Codes.{numbered_register, skips, is_cached, fixed_index, fixed_word, located_code, fixed_code, numbered_code, shift_code, load_code, access_by}
 use Rattle.block_cache_gen.specs.StandsFor.{StandsFor, FitsHomes, IsBlockOf}
 use Rattle.block_cache_gen.specs.Accesses.{ArrayAccess, access_of, accesses, word_number, block_in, slots_after, may_skip, is_held, seen_of, seen_of_all}
 use Rattle.block_cache_gen.specs.LeavesWord.{LeavesWord}
 use Rattle.block_cache_gen.proofs.AccessLaws.{slots_after-append, seen_of_all-append, may_skip-is, seen_of-unskipped}
 use Rattle.block_cache_gen.proofs.HomeFacts.{serves-cached, block-of, block-exists, block-small, profile-fits}
 use Rattle.block_cache_gen.proofs.Stands.{stands-like, stands-loaded}
-use Rattle.block_cache_gen.proofs.IndexRuns.{FitsNumbering, Locates, Reduces, runs-numbered, runs-block, runs-fixed}
+use Rattle.block_cache_gen.proofs.IndexRuns.{FitsNumbering, Locates, Numbers, numbered-loaded, runs-numbered, runs-block, runs-fixed}
 use Rattle.block_cache_gen.proofs.Kept.{Keeps, keeps-set}
 use Rattle.block_cache_gen.proofs.OperandRuns.{LeavesAt, RunsValue}
 
@@ -221,7 +221,7 @@ module _ (o : Parts) (fits : IsInRange o) (f : Setting) (homes : HasHomes o f) (
   runs-located : (mode : Mode) (to from : ℕ) (i : Tree) (code : List Instr) (s : State) → IsShaped o s
       → StandsFor f s store → to + 2 < 19 → from ≢ to + 1
       → RunsValue o f store mode to from i code s → (way : Numbering)
-      → FitsNumbering way to from (evaluated f.decls store i) (home_of f x).length → (fixed : Option ℤ)
+      → FitsNumbering way (home_of f x) to from (evaluated f.decls store i) → (fixed : Option ℤ)
       → fixed_index (home_of f x) i ≡ fixed
       → StandsAt o s.place (located_code way f (home_of f x) to from fixed code)
       → RunsThrough o s (located_code way f (home_of f x) to from fixed code)
@@ -269,10 +269,12 @@ module _ (o : Parts) (fits : IsInRange o) (f : Setting) (homes : HasHomes o f) (
       (runs-append s code (number ++ shift_code f h to) seen [] (LeavesAt f store before to from index s) Found at run
       (λ t shape leaves at'.
       runs-append t number (shift_code f h to) [] []
-      (Reduces to (unsigned_of index % h.length) t) Found at'
+      (Numbers (numbered_register way to from) to (unsigned_of index % h.length) t) Found at'
       (runs-numbered o fits f store way h to from t index shape leaves.stands leaves.value other own small home.length.0 home.length.1)
       (λ u shape' reduces at''.
-      let word : register u to ≡ pos n = reduces.word ∙ ap pos (word_number-is index) in
+      let word : register u to ≡ pos n =
+      ap (register u) (sym (numbered-loaded way h to from index own turn)) ∙ reduces.word
+      ∙ ap pos (word_number-is index) in
       let stands' = stands-like f t u store reduces.keeps.slots reduces.keeps.banks reduces.keeps.above leaves.stands in
       runs-weaker u (shift_code f h to) [] [] (Locates to n (h.block + n / w) u) Found
       (runs-block o fits f store h to u n shape' stands' word small log_small block_small at'')
@@ -296,7 +298,7 @@ module _ (o : Parts) (fits : IsInRange o) (f : Setting) (homes : HasHomes o f) (
   -- the whole access
   pub runs-access : (way : Numbering) (mode : Mode) (to from : ℕ) (i : Tree) (code : List Instr) (s : State)
       → IsShaped o s → StandsFor f s store → to + 2 < 19 → from ≢ to + 1
-      → FitsNumbering way to from (evaluated f.decls store i) (home_of f x).length
+      → FitsNumbering way (home_of f x) to from (evaluated f.decls store i)
       → RunsValue o f store mode to from i code s → StandsAt o s.place
       (access_by false way f mode (home_of f x) to from (fixed_index (home_of f x) i) code)
       → RunsThrough o s

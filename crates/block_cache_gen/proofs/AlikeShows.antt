@@ -1,5 +1,5 @@
 -- Alike expressions, and assignments that pair, show the same in secret code and leave the same in the slots.
-use Rattle.std.proofs.Common.{length, suc, ◌≡◌, ℕ, ◌≤◌, ◌==◌, Bool, true, false, ◌&&◌, ℤ, pos, List, [], ◌∷◌, ◌++◌, Option, Some, None, refl, sym, ap, ◌∙◌, arith}
+use Rattle.std.proofs.Common.{length, suc, ◌≡◌, ℕ, ◌≤◌, ◌==◌, Bool, true, false, not, ◌&&◌, ℤ, pos, List, [], ◌∷◌, ◌++◌, Option, Some, None, refl, sym, ap, ◌∙◌, arith}
 use Rattle.std.specs.Prelude.{if◌then◌else◌, is_some}
 use Rattle.std.proofs.lemmas.Bool.{le-ltb, ne_eqb}
 use Rattle.gr_word.specs.declared.operations.Op.{Op}
@@ -17,10 +17,10 @@ use Rattle.trace_patterns.specs.Events.{Oram}
 use Rattle.stretches.specs.Shows.{Show, Gap, Seen, pattern_of}
 use Rattle.trace_patterns.specs.SymStates.{SymSlot, OramSlot}
 use Rattle.block_cache_gen.specs.Homes.{further_slots, Home, Setting, home_of, register_for, HasHomes}
-use Rattle.block_cache_gen.specs.Codes.{is_cached, is_masked, is_within_home, is_power, literal, fixed_index, held_number, reducing, reducer, operand, operand_part, operand_unless, left_operand, steps_at}
+use Rattle.block_cache_gen.specs.Codes.{has_offset, is_cached, is_masked, is_within_home, is_power, literal, fixed_index, held_number, reducing, reducer, operand, operand_part, operand_unless, left_operand, steps_at, straight}
 use Rattle.strength_reduction.specs.Steps.{Step}
 use Rattle.block_cache_gen.proofs.StepsAt.{not-stepped}
-use Rattle.block_cache_gen.specs.PatternsOf.{index_by, store_shows, shows_among, read_shows_by, read_shows, stored_shows_by, stored_shows, applied_shows, operand_tree, scalar_shows, write_shows, operation_gap, word_gap, block_tree, found_shows, plain_loaded, encrypted_loaded, block_loaded, load_shows, placed_shows, shows_by, loads_by, Loads, then_loads, one_load, index_loads, no_loads, operation_shows, operation_loads, element_slot, access_shows, access_loads, tree_of_expr, shows_of_expr, slots_of_expr, shows_of_set, slots_of_set, pattern_of_expr, pattern_of_set}
+use Rattle.block_cache_gen.specs.PatternsOf.{index_by, store_shows, shows_among, read_shows_by, read_shows, stored_shows_by, stored_shows, applied_shows, operand_tree, scalar_shows, write_shows, operation_gap, word_shows, block_tree, found_shows, plain_loaded, encrypted_loaded, block_loaded, load_shows, placed_shows, shows_by, loads_by, Loads, then_loads, one_load, index_loads, no_loads, operation_shows, operation_loads, element_slot, access_shows, access_loads, tree_of_expr, shows_of_expr, slots_of_expr, shows_of_set, slots_of_set, pattern_of_expr, pattern_of_set, scalar_set_shows}
 use Rattle.block_cache_gen.specs.Alike.{is_product, AreNumbersAlike, InOneBank, AreNumberedAlike, BothWithin, BothReduced, AreReducedAlike, Residents, ToResidents, Alike, Numbers, Scalars, Oblivious, Same, Operations, ByNumber, Pair, ToScalars, ToOblivious, ToSame}
 use Rattle.word_selection.specs.Selection as selection
 use Rattle.scalar_ranges.specs.Known.{is_within}
@@ -223,15 +223,15 @@ operand-alike f a b alike same =
     part-alike (operand f a) (operand f b) (shows_of_expr f a) (shows_of_expr f b) (alike-held f a b alike) same
 
 -- the tree and the cycles of an index, and what the access to an array by it shows
-abbrev index_tree : (near : Bool) → Setting → Tree → Option Value
-index_tree near f i = operand_tree f (index_by near f i) (tree_of_expr f i)
+abbrev index_tree : (near : Bool) → Setting → List ℕ → Tree → Option Value
+index_tree near f x i = operand_tree f (index_by near f (home_of f x) i) (tree_of_expr f i)
 
-abbrev index_shows : (near : Bool) → Setting → Tree → List Show
-index_shows near f i = operand_part (index_by near f i) (shows_of_expr f i)
+abbrev index_shows : (near : Bool) → Setting → List ℕ → Tree → List Show
+index_shows near f x i = operand_part (index_by near f (home_of f x) i) (shows_of_expr f i)
 
 abbrev array_shows : (near : Bool) → Setting → List ℕ → Tree → List Show
 array_shows near f x i =
-    access_shows near f (home_of f x) (fixed_index (home_of f x) i) (index_tree near f i) (index_shows near f i)
+    access_shows near f (home_of f x) (fixed_index (home_of f x) i) (index_tree near f x i) (index_shows near f x i)
 
 -- an index is known to be below the length of an array
 abbrev is_near : Setting → List ℕ → Tree → Bool
@@ -269,10 +269,10 @@ module _ (o : Parts) (f : Setting) (homes : HasHomes o f) where
       let reduced = set-alike f (reducer g) (reducer h) one.reduced in
       let block = set-alike f (pos g.block) (pos h.block) one.blocks in
       let same = operand-alike f i j alike shown in
-      let index = index_tree false f i in
-      let other = index_tree false f j in
-      let shows = index_shows false f i in
-      let more = index_shows false f j in
+      let index = index_tree false f x i in
+      let other = index_tree false f y j in
+      let shows = index_shows false f x i in
+      let more = index_shows false f y j in
       ap (λ (b : Bool). array_shows b f x i) (oblivious-within f g one.oblivious i)
       ∙ ap (λ (b : Bool). shows_by b false f g (fixed_index g i) index shows) (oblivious-turn x left one.oblivious)
       ∙ oblivious-shows f g one.oblivious i index shows
@@ -311,24 +311,31 @@ module _ (o : Parts) (f : Setting) (homes : HasHomes o f) where
       by (BothWithin near far) =
           let g = home_of f x in
           let h = home_of f y in
-          let shows = index_shows true f i in
-          let more = index_shows true f j in
+          let shows = index_shows true f x i in
+          let more = index_shows true f y j in
+          let turn = one.first ∙ sym one.second in
+          let whole = one.offset in
+          let same : has_offset g ≡ has_offset h = (λ k. turn k && not (whole k)) in
+          let held = ap (λ (b : Bool). is_some (operand_unless (not b) (operand f i))) same
+          ∙ unless-alike (not (has_offset h)) (operand f i) (operand f j) (alike-held f i j alike) in
+          let part = part-alike (index_by true f g i) (index_by true f h j) (shows_of_expr f i) (shows_of_expr f j) held
+          shown in
           ap (λ (b : Bool). array_shows b f x i) near
-          ∙ ap (λ (b : Bool). shows_by b true f g (fixed_index g i) (index_tree true f i) shows) one.first
+          ∙ ap (λ (b : Bool). shows_by b true f g (fixed_index g i) (index_tree true f x i) shows) one.first
           ∙ placed-within f g h (fixed_index g i) (fixed_index h j) shows more one.offset one.words
-          (alike-fixed f g h i j one.low alike) shown
-          ∙ sym (ap (λ (b : Bool). shows_by b true f h (fixed_index h j) (index_tree true f j) more) one.second)
+          (alike-fixed f g h i j one.low alike) part
+          ∙ sym (ap (λ (b : Bool). shows_by b true f h (fixed_index h j) (index_tree true f y j) more) one.second)
           ∙ sym (ap (λ (b : Bool). array_shows b f y j) far)
       by (BothReduced reduced) =
           let g = home_of f x in
           let h = home_of f y in
-          let shows = index_shows false f i in
-          let more = index_shows false f j in
+          let shows = index_shows false f x i in
+          let more = index_shows false f y j in
           ap (λ (b : Bool). array_shows b f x i) reduced.first
-          ∙ ap (λ (b : Bool). shows_by b false f g (fixed_index g i) (index_tree false f i) shows) one.first
+          ∙ ap (λ (b : Bool). shows_by b false f g (fixed_index g i) (index_tree false f x i) shows) one.first
           ∙ placed-alike f g h (fixed_index g i) (fixed_index h j) shows more reduced.masked
           one.offset reduced.reduced one.words (alike-fixed f g h i j one.low alike) (operand-alike f i j alike shown)
-          ∙ sym (ap (λ (b : Bool). shows_by b false f h (fixed_index h j) (index_tree false f j) more) one.second)
+          ∙ sym (ap (λ (b : Bool). shows_by b false f h (fixed_index h j) (index_tree false f y j) more) one.second)
           ∙ sym (ap (λ (b : Bool). array_shows b f y j) reduced.second)
 
   resident-loads : (x y : List ℕ) (i j : Tree) (near far : Bool) (index other : Option Value)
@@ -413,12 +420,12 @@ module _ (o : Parts) (f : Setting) (homes : HasHomes o f) where
   alike-slots a b (Numbers y z one) left right = refl
   alike-slots a b (Scalars x y one) left right = refl
   alike-slots a b (Oblivious x y i j one alike) left right =
-      both-loads x y i j (is_near f x i) (is_near f y j) (index_tree (is_near f x i) f i)
-      (index_tree (is_near f y j) f j)
+      both-loads x y i j (is_near f x i) (is_near f y j) (index_tree (is_near f x i) f x i)
+      (index_tree (is_near f y j) f y j)
       one left.0 right.0 (alike-slots i j alike left.1.0 right.1.0)
   alike-slots a b (Residents x y i j one alike) left right =
-      resident-loads x y i j (is_near f x i) (is_near f y j) (index_tree (is_near f x i) f i)
-      (index_tree (is_near f y j) f j) one alike (alike-slots i j alike left.1.0 right.1.0)
+      resident-loads x y i j (is_near f x i) (is_near f y j) (index_tree (is_near f x i) f x i)
+      (index_tree (is_near f y j) f y j) one alike (alike-slots i j alike left.1.0 right.1.0)
   alike-slots a b (Same x i cached) left right = refl
   alike-slots a b (Operations op oq l r m s plain other kind one two) left right =
       let first = alike-slots l m one left.0 right.0 in
@@ -440,15 +447,21 @@ module _ (o : Parts) (f : Setting) (homes : HasHomes o f) where
   -- the block of an element that is assigned to
   abbrev array_slot : List ℕ → Tree → SymSlot
   array_slot x i =
-      element_slot (is_near f x i) f (home_of f x) (fixed_index (home_of f x) i) (index_tree (is_near f x i) f i)
+      element_slot (is_near f x i) f (home_of f x) (fixed_index (home_of f x) i) (index_tree (is_near f x i) f x i)
 
   -- assignments that pair
   pub pair-shows : (s t : Statement) → Pair f s t → TypedStatement (context_of f.decls) Secret s
       → TypedStatement (context_of f.decls) Secret t → shows_of_set f s ≡ shows_of_set f t
-  pair-shows s t (ToScalars x y e g one alike) left right =
-      let first = operand-alike f e g alike (alike-shows e g alike left.1.0 right.1.0) in
-      let last = write-alike f (register_for f x) (register_for f y) one in
-      λ k. first k ++ last k
+  pair-shows s t (ToScalars x y e g one both alike) left right = by (straight f x e) (straight f y g) both
+    where
+      by : (p q : Option ℕ) → is_some p ≡ is_some q → scalar_set_shows p f x e ≡ scalar_set_shows q f y g
+      by None None same =
+          let first = operand-alike f e g alike (alike-shows e g alike left.1.0 right.1.0) in
+          let last = write-alike f (register_for f x) (register_for f y) one in
+          λ k. first k ++ last k
+      by (Some p) (Some q) same = alike-shows e g alike left.1.0 right.1.0
+      by (Some p) None same = absurd (let e : true ≡ false = same in cc)
+      by None (Some q) same = absurd (let e : false ≡ true = same in cc)
   pair-shows s t (ToResidents x y i j e g one index value) left right =
       let first = operand-alike f e g value (alike-shows e g value left.1.0 right.1.0) in
       let second = resident-shows x y i j one index (alike-shows i j index left.0.1.0 right.0.1.0) in
@@ -462,12 +475,12 @@ module _ (o : Parts) (f : Setting) (homes : HasHomes o f) where
       let other : 2 ≤ (home_of f y).bank = omega (arith, one.oblivious, one.same) in
       let near = is_near f x i in
       let far = is_near f y j in
-      let slot = oblivious-slot f (home_of f x) one.oblivious near i (index_tree near f i) ∙ ap OramSlot one.same
-      ∙ sym (oblivious-slot f (home_of f y) other far j (index_tree far f j)) in
+      let slot = oblivious-slot f (home_of f x) one.oblivious near i (index_tree near f x i) ∙ ap OramSlot one.same
+      ∙ sym (oblivious-slot f (home_of f y) other far j (index_tree far f y j)) in
       let last : stored_shows f (home_of f x) (fixed_index (home_of f x) i) (array_slot x i)
       ≡ stored_shows f (home_of f y) (fixed_index (home_of f y) j) (array_slot y j) =
       ap (λ (b : Bool). stored_shows_by b f (home_of f x) (fixed_index (home_of f x) i) (array_slot x i)) turn
-      ∙ ap (λ (bound : SymSlot). word_gap f ∷ word_gap f ∷ store_shows bound) slot
+      ∙ ap (λ (bound : SymSlot). word_shows f.reduces f ++ store_shows bound) slot
       ∙ sym (ap (λ (b : Bool). stored_shows_by b f (home_of f y) (fixed_index (home_of f y) j) (array_slot y j))
       turn') in
       λ k. first k ++ (second k ++ last k)
@@ -481,21 +494,21 @@ module _ (o : Parts) (f : Setting) (homes : HasHomes o f) where
   -- two statements that pair leave the slots alike
   pub pair-slots : (s t : Statement) → Pair f s t → TypedStatement (context_of f.decls) Secret s
       → TypedStatement (context_of f.decls) Secret t → slots_of_set f s ≡ slots_of_set f t
-  pair-slots s t (ToScalars x y e g one alike) left right = alike-slots e g alike left.1.0 right.1.0
+  pair-slots s t (ToScalars x y e g one both alike) left right = alike-slots e g alike left.1.0 right.1.0
   pair-slots s t (ToOblivious x y i j e g one index value) left right =
       let first = alike-slots e g value left.1.0 right.1.0 in
-      let second = both-loads x y i j (is_near f x i) (is_near f y j) (index_tree (is_near f x i) f i)
-      (index_tree (is_near f y j) f j) one left.0.0 right.0.0 (alike-slots i j index left.0.1.0 right.0.1.0) in
+      let second = both-loads x y i j (is_near f x i) (is_near f y j) (index_tree (is_near f x i) f x i)
+      (index_tree (is_near f y j) f y j) one left.0.0 right.0.0 (alike-slots i j index left.0.1.0 right.0.1.0) in
       λ k. then_loads (first k) (second k)
   pair-slots s t (ToResidents x y i j e g one index value) left right =
       let first = alike-slots e g value left.1.0 right.1.0 in
-      let second = resident-loads x y i j (is_near f x i) (is_near f y j) (index_tree (is_near f x i) f i)
-      (index_tree (is_near f y j) f j) one index (alike-slots i j index left.0.1.0 right.0.1.0) in
+      let second = resident-loads x y i j (is_near f x i) (is_near f y j) (index_tree (is_near f x i) f x i)
+      (index_tree (is_near f y j) f y j) one index (alike-slots i j index left.0.1.0 right.0.1.0) in
       λ k. then_loads (first k) (second k)
   pair-slots s t (ToSame x i e g encrypted value) left right =
       ap (λ (loads : Loads).
       then_loads loads
-      (access_loads (is_near f x i) f (home_of f x) (fixed_index (home_of f x) i) (index_tree (is_near f x i) f i)
+      (access_loads (is_near f x i) f (home_of f x) (fixed_index (home_of f x) i) (index_tree (is_near f x i) f x i)
       (slots_of_expr f i)))
       (alike-slots e g value left.1.0 right.1.0)
 

@@ -9,9 +9,9 @@ use Rattle.symbolic_values.specs.Sameness.{same_op}
 use Rattle.symbolic_values.proofs.TreeEquality.{same_op-true, same_op-own}
 use Rattle.src_tree.specs.Trees.{Tree, Number, Variable, Element, Operation, Statement, SetVariable, SetElement, Block, Nothing, Then}
 use Rattle.block_cache_gen.specs.Homes.{further_slots, Setting, home_of}
-use Rattle.block_cache_gen.specs.Codes.{is_cached, is_masked, is_within_home, may_step, operand, held_number, reducer}
+use Rattle.block_cache_gen.specs.Codes.{is_cached, is_masked, is_within_home, may_step, operand, held_number, reducer, straight}
 use Rattle.gr_word.specs.declared.operations.Op.{Op}
-use Rattle.block_cache_gen.specs.Alike.{is_product, AreNumbersAlike, numbers_alike, AreHeldAlike, held_alike, InOneBank, AreNumberedAlike, BothWithin, BothReduced, numbered_alike, AreReducedAlike, Residents, ToResidents, same_flag, reduced_alike, Alike, Numbers, Scalars, Oblivious, Same, Operations, ByNumber, Pair, ToScalars, ToOblivious, ToSame, StartsPaired, NonePaired, OnePaired, IsPairCount, is_same, in_one_bank, both_products, are_plain, is_same_number, by_same_number, is_alike, is_pair, pair_count}
+use Rattle.block_cache_gen.specs.Alike.{is_product, AreNumbersAlike, numbers_alike, AreHeldAlike, held_alike, InOneBank, AreNumberedAlike, BothWithin, BothReduced, numbered_alike, AreReducedAlike, Residents, ToResidents, same_flag, reduced_alike, Alike, Numbers, Scalars, Oblivious, Same, Operations, ByNumber, Pair, ToScalars, ToOblivious, ToSame, StartsPaired, NonePaired, OnePaired, IsPairCount, is_same, in_one_bank, both_products, are_plain, is_same_number, by_same_number, is_alike, straight_alike, is_pair, pair_count}
 
 -- expressions as they stand
 same-true : (a b : Tree) → is_same a b ≡ true → a ≡ b
@@ -292,8 +292,10 @@ module _ (f : Setting) where
   -- assignments that pair
   pair-true : (s t : Statement) → is_pair f s t ≡ true → Pair f s t
   pair-true (SetVariable x e) (SetVariable y g) held =
-      let parts = and_parts (held_alike f (Variable x) (Variable y)) (is_alike f e g) held in
-      ToScalars x y e g (held-true (Variable x) (Variable y) parts.0) (alike-true e g parts.1)
+      let parts = and_parts (held_alike f (Variable x) (Variable y)) (straight_alike f x y e g && is_alike f e g) held in
+      let rest = and_parts (straight_alike f x y e g) (is_alike f e g) parts.1 in
+      ToScalars x y e g (held-true (Variable x) (Variable y) parts.0)
+      (kinds-true (is_some (straight f x e)) (is_some (straight f y g)) rest.0) (alike-true e g rest.1)
   pair-true (SetElement x i e) (SetElement y j g) held =
       let parts = and_parts (is_alike f e g)
       (((in_one_bank f x y || reduced_alike f x y i j) && is_alike f i j)
@@ -319,9 +321,11 @@ module _ (f : Setting) where
   pair-true _ _ held = absurd (let f : false ≡ true = held in cc)
 
   pair-own : (s t : Statement) → Pair f s t → is_pair f s t ≡ true
-  pair-own s t (ToScalars x y e g one alike) =
-      and_from (held_alike f (Variable x) (Variable y)) (is_alike f e g) (held-own (Variable x) (Variable y) one)
-      (alike-own e g alike)
+  pair-own s t (ToScalars x y e g one both alike) =
+      and_from (held_alike f (Variable x) (Variable y)) (straight_alike f x y e g && is_alike f e g)
+      (held-own (Variable x) (Variable y) one)
+      (and_from (straight_alike f x y e g) (is_alike f e g)
+      (kinds-own (is_some (straight f x e)) (is_some (straight f y g)) both) (alike-own e g alike))
   pair-own s t (ToOblivious x y i j e g one index value) =
       and_from (is_alike f e g)
       (((in_one_bank f x y || reduced_alike f x y i j) && is_alike f i j)

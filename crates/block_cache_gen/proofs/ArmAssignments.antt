@@ -1,6 +1,6 @@
 -- The code of assignments in secret code: walked in an arm, it shows what depends only on the assignment, whether it
 -- has its effect or only looks as if it had.
-use Rattle.std.proofs.Common.{◌≡◌, ℕ, ◌+◌, ◌≤◌, ℤ, pos, Bool, true, false, List, [], ◌∷◌, ◌++◌, length, get_or, Option, Some, None, refl, sym, ap, ◌∙◌, subst, arith}
+use Rattle.std.proofs.Common.{◌≡◌, ℕ, ◌+◌, ◌≤◌, ℤ, pos, Bool, true, false, not, ◌&&◌, ◌==◌, List, [], ◌∷◌, ◌++◌, length, get_or, Option, Some, None, refl, sym, ap, ◌∙◌, subst, arith}
 use Rattle.std.specs.Option.{unwrap_or}
 use Rattle.std.specs.List.{slice_get}
 use Rattle.gr_word.specs.declared.variables.Label.{Label}
@@ -8,15 +8,16 @@ use Rattle.gr_word.specs.declared.variables.Label.TheVariants.{Public, Secret}
 use Rattle.gr_word.specs.declared.variables.Shape.{Shape}
 use Rattle.gr_word.specs.declared.variables.Shape.TheVariants.{Scalar, Array}
 use Rattle.lt_isa.specs.declared.instructions.Instr.{Instr}
-use Rattle.lt_isa.specs.declared.instructions.Instr.TheVariants.{Li, Ldw, Stw, Stb}
+use Rattle.lt_isa.specs.declared.instructions.Instr.TheVariants.{Li, Alu, Ldw, Stw, Stb}
+use Rattle.gr_word.specs.declared.operations.Op.{Op}
 use Rattle.gr_word.specs.declared.operations.Op.TheVariants.{Add}
 use Rattle.lt_isa.specs.Object.{Parts}
 use Rattle.symbolic_values.specs.Trees.{Value, Const}
 use Rattle.src_tree.specs.Contexts.{context_of}
-use Rattle.src_tree.specs.Labels.{label_or_public, label_at}
+use Rattle.src_tree.specs.Labels.{label_or_public, label_at, label_of}
 use Rattle.src_tree.specs.Heights.{height_of}
 use Rattle.src_tree.specs.Limits.{LowStatement}
-use Rattle.src_tree.specs.Trees.{Tree, Statement, SetVariable, SetElement, Choice, Loop}
+use Rattle.src_tree.specs.Trees.{Tree, Operation, Statement, SetVariable, SetElement, Choice, Loop}
 use Rattle.src_tree.specs.Typing.{Flows, TypedTree, TypedStatement}
 use Rattle.stretches.specs.Shows.{Show, Gap}
 use Rattle.trace_patterns.specs.SymStates.{SymSlot, AnySlot, RamSlot, EramSlot, OramSlot, SymState, tree_held, slot_held, slot_bank}
@@ -25,10 +26,10 @@ use Rattle.block_cache_gen.specs.declared.frames.Mode.{Mode}
 use Rattle.block_cache_gen.specs.declared.frames.Mode.TheVariants as modes
 use Rattle.block_cache_gen.specs.Homes.{further_slots, Setting, home_of, pin_of, slot_of_word, words_a_block, HasHomes, register_for}
 use Rattle.block_cache_gen.specs.declared.indexes.Numbering.{Numbering}
-use Rattle.block_cache_gen.specs.Codes.{effect_of, fixed_word, stored_among, stored_by, may_skip_loads, fixed_index, expr_code, access_by, placed_code, store_code, stored_code, set_code, is_within_home, numbering_by, numbering, operand, operand_part, operand_register, indexed_code, write_code, copied_from}
+use Rattle.block_cache_gen.specs.Codes.{effect_of, fixed_word, stored_among, stored_by, may_skip_loads, fixed_index, expr_code, access_by, placed_code, store_code, stored_code, set_code, is_within_home, numbering_by, numbering, operand, operand_part, operand_register, operand_unless, indexed_code, write_code, target, keeps_label, straight, straight_code, scalar_set}
 use Rattle.block_cache_gen.specs.Carries.{CarriesInArm}
 use Rattle.block_cache_gen.specs.PublicIndexes.{IndexIsPublic, HasPublicIndexes, SetHasPublicIndexes}
-use Rattle.block_cache_gen.specs.PatternsOf.{write_shows, operand_tree, index_by, word_gap, block_tree, number_tree, store_shows, shows_among, stored_shows_by, stored_shows, Loads, no_loads, then_loads, element_slot, placed_shows, placed_tree, index_loads, shows_by, loads_by, tree_of_expr, shows_of_expr, slots_of_expr, shows_of_set, slots_of_set}
+use Rattle.block_cache_gen.specs.PatternsOf.{write_shows, operand_tree, index_by, word_gap, word_shows, block_tree, number_tree, store_shows, shows_among, stored_shows_by, stored_shows, Loads, no_loads, then_loads, element_slot, placed_shows, placed_tree, index_loads, shows_by, loads_by, tree_of_expr, shows_of_expr, slots_of_expr, shows_of_set, slots_of_set, operation_gap, operation_tree, operation_shows, operation_loads, scalar_set_shows}
 use Rattle.lt_checker.proofs.Singles.{IsKnown, IsHidden}
 use Rattle.lt_isa.specs.declared.profiles.Profile.{Profile}
 use Rattle.word_selection.specs.Selection as selection
@@ -43,9 +44,14 @@ use Rattle.block_cache_gen.proofs.ArmStates.{LeavesIn, then_loads-held, carries-
 use Rattle.held_registers.specs.Held.{secret_zero}
 use Rattle.held_registers.proofs.Copies.{hidden_copy}
 use Rattle.block_cache_gen.proofs.HeldLabels.{register-label, register-low, zero-label}
-use Rattle.block_cache_gen.proofs.HomeFacts.{shows-cached}
+use Rattle.block_cache_gen.proofs.HomeFacts.{offset-none, shows-cached}
 use Rattle.block_cache_gen.proofs.PublicTrees.{is-index, block-seen, public-index}
-use Rattle.block_cache_gen.proofs.ArmExpressions.{access-leaves, placed-leaves, number-leaves, operand-leaves, index-apart, index-own, expr-leaves}
+use Rattle.trace_patterns.specs.Single.{applied_trees}
+use Rattle.strength_reduction.specs.Steps.{Step}
+use Rattle.std.specs.Prelude.{is_some}
+use Rattle.block_cache_gen.proofs.StraightCodes.{IsStraight, straight-by}
+use Rattle.block_cache_gen.proofs.SecretTrees.{tree-hidden}
+use Rattle.block_cache_gen.proofs.ArmExpressions.{operand-stays, access-leaves, placed-leaves, number-leaves, operand-leaves, index-apart, index-own, expr-leaves}
 use Rattle.block_cache_gen.proofs.OperandLabels.{is-operand}
 
 -- A stretch of secret code is walked from s: it shows this, keeps what the setting relies on, and leaves this in the
@@ -81,6 +87,11 @@ resident-hidden o f homes s x shape carries declared is =
     let pin = homes.pins h.slot (pin_of h) home.pinned in
     stored-of_bank (slot_held s h.slot) 1
     (carries.pinned h.slot (pin_of h) home.pinned pin.few pin.apart ∙ ap Some home.bank) (λ e. omega arith)
+
+-- a secret scalar keeps the label of a secret value only
+kept-secret : (l : Label) → keeps_label Secret l ≡ true → l ≡ Secret
+kept-secret Public e = absurd (let g : false ≡ true = e in cc)
+kept-secret Secret e = refl
 
 -- what a secret flows to is secret
 flows-secret : (to : Label) → Flows Secret to → to ≡ Secret
@@ -133,27 +144,53 @@ module _ (o : Parts) (f : Setting) (homes : HasHomes o f) (depth : ℕ) where
         slots = λ k. ap (λ (slots : List SymSlot). get_or slots k AnySlot) read.slots;
       }
 
+  -- a word is only stored, or only read
+  only_stored : (s : SymState) (rs slot : ℕ) → CarriesInArm f s → IsHidden (slot_held s slot)
+      → Goes o f depth s (Stw rs slot 1 ∷ []) (word_gap f ∷ []) no_loads
+  only_stored s rs slot carries stored = record {
+    state = s;
+    walked = walked-stw o depth f homes.profile s rs slot 1 stored;
+    carries = carries;
+    slots = λ k. refl;
+  }
+
+  only_read : (s : SymState) (slot : ℕ) → CarriesInArm f s → IsHidden (slot_held s slot)
+      → Goes o f depth s (Ldw 0 slot 1 ∷ []) (word_gap f ∷ []) no_loads
+  only_read s slot carries stored =
+      let bound = slot_held s slot in
+      let read = sets-ldw o depth f homes.profile s 0 slot 1 bound (tree_held s 1) carries.registers (omega arith) refl
+      (bound-of_stored bound stored) refl in
+      record {
+        state = read.state;
+        walked = read.walked;
+        carries = carries-same f s read.state carries read.slots (λ r high. read.other r (λ e. absurd (omega (arith, e))))
+            read.registers;
+        slots = λ k. ap (λ (slots : List SymSlot). get_or slots k AnySlot) read.slots;
+      }
+
   module _ (mode : Mode) (secret : may_skip_loads mode ≡ false) where
     store-goes : (s : SymState) (slot value : ℕ) → CarriesInArm f s → IsHidden (slot_held s slot)
-        → Goes o f depth s (store_code mode slot value) (word_gap f ∷ word_gap f ∷ []) no_loads
-    store-goes s slot value carries stored = by mode secret
+        → Goes o f depth s (store_code f.reduces mode slot value) (word_shows f.reduces f) no_loads
+    store-goes s slot value carries stored = by f.reduces mode secret
       where
-        by : (m : Mode) → may_skip_loads m ≡ false
-            → Goes o f depth s (store_code m slot value) (word_gap f ∷ word_gap f ∷ []) no_loads
-        by modes.Public e = absurd (let g : true ≡ false = e in cc)
-        by modes.Real e = stored-by s value slot carries stored
-        by modes.Mirrored e = stored-by s 2 slot carries stored
+        by : (once : Bool) (m : Mode) → may_skip_loads m ≡ false
+            → Goes o f depth s (store_code once m slot value) (word_shows once f) no_loads
+        by once modes.Public e = absurd (let g : true ≡ false = e in cc)
+        by false modes.Real e = stored-by s value slot carries stored
+        by true modes.Real e = only_stored s value slot carries stored
+        by false modes.Mirrored e = stored-by s 2 slot carries stored
+        by true modes.Mirrored e = only_read s slot carries stored
 
     -- the block is stored too
     store_block-goes : (s : SymState) (slot value : ℕ) (bound : SymSlot) → CarriesInArm f s → slot_held s slot ≡ bound
         → IsHidden bound
-        → Goes o f depth s (store_code mode slot value ++ Stb slot ∷ []) (word_gap f ∷ word_gap f ∷ store_shows bound)
-        no_loads
+        → Goes o f depth s (store_code f.reduces mode slot value ++ Stb slot ∷ [])
+        (word_shows f.reduces f ++ store_shows bound) no_loads
     store_block-goes s slot value bound carries holds stored =
         let word = store-goes s slot value carries (subst IsHidden (sym holds) stored) in
         record {
           state = word.state;
-          walked = walked-then o depth s (store_code mode slot value) (word_gap f ∷ word_gap f ∷ []) word.state
+          walked = walked-then o depth s (store_code f.reduces mode slot value) (word_shows f.reduces f) word.state
               (Stb slot ∷ []) (store_shows bound) word.state word.walked
               (walked-stb o depth f homes.profile word.state slot bound (word.slots slot ∙ holds) stored);
           carries = word.carries;
@@ -163,7 +200,7 @@ module _ (o : Parts) (f : Setting) (homes : HasHomes o f) (depth : ℕ) where
     -- a value is written to a secret scalar, by the register that holds it
     word-goes : (s : SymState) (value : ℕ) (x : List ℕ) → context_of f.decls x ≡ Some (Secret, Scalar)
         → CarriesInArm f s
-        → Goes o f depth s (write_code None Secret mode (home_of f x) value) (write_shows f None) no_loads
+        → Goes o f depth s (write_code f.reduces None Secret mode (home_of f x) value) (write_shows f None) no_loads
     word-goes s value x declared carries =
         let h = home_of f x in
         let scalar = homes.scalars x Secret declared in
@@ -171,30 +208,56 @@ module _ (o : Parts) (f : Setting) (homes : HasHomes o f) (depth : ℕ) where
         let stored = resident-hidden o f homes place.state x Scalar place.carries declared scalar.resident in
         goes-then o f depth s (Li 1 (pos h.word) ∷ []) (Gap 1 ∷ []) no_loads
         (goes-leaves o f depth s (Li 1 (pos h.word) ∷ []) (Gap 1 ∷ []) 1 (Some (Const (pos h.word))) no_loads place)
-        (store_code mode h.slot value) (word_gap f ∷ word_gap f ∷ []) no_loads
+        (store_code f.reduces mode h.slot value) (word_shows f.reduces f) no_loads
         (store-goes place.state h.slot value place.carries stored)
+
+    -- an operation without a tree leaves its result in the register that holds a secret scalar, or in register 0
+    left-goes : (s : SymState) (x : List ℕ) → context_of f.decls x ≡ Some (Secret, Scalar) → (r : ℕ)
+        → register_for f x ≡ Some r → (op : Op) (left right : ℕ) (a b : Option Value) → CarriesInArm f s
+        → tree_held s left ≡ a → tree_held s right ≡ b → applied_trees op a b ≡ None
+        → Goes o f depth s (Alu op (target mode r) left right ∷ []) (operation_gap f op ∷ []) no_loads
+    left-goes s x declared r is op left right a b carries first second none = by mode
+      where
+        slots : (t : SymState) → t.slots ≡ s.slots → (k : ℕ) → slot_held t k ≡ slot_held s k
+        slots t same k = ap (λ (slots : List SymSlot). get_or slots k AnySlot) same
+
+        held : Goes o f depth s (Alu op r left right ∷ []) (operation_gap f op ∷ []) no_loads
+        held =
+            let sets = sets-alu o depth f homes.profile s op r left right a b carries.registers
+            (register-low f homes.held x Secret Scalar declared r is) first second in
+            record {
+              state = sets.state;
+              walked = sets.walked;
+              carries
+                  = carries-copied f s sets.state r Secret carries sets.slots sets.other sets.registers
+                  (register-label f homes.held x Secret Scalar declared r is) (sets.held ∙ none);
+              slots = slots sets.state sets.slots;
+            }
+
+        by : (m : Mode) → Goes o f depth s (Alu op (target m r) left right ∷ []) (operation_gap f op ∷ []) no_loads
+        by modes.Public = held
+        by modes.Real = held
+        by modes.Mirrored =
+            let sets = sets-alu o depth f homes.profile s op 0 left right a b carries.registers (omega arith) first second in
+            record {
+              state = sets.state;
+              walked = sets.walked;
+              carries = carries-same f s sets.state carries sets.slots
+                  (λ q high. sets.other q (λ e. absurd (omega (arith, high, e)))) sets.registers;
+              slots = slots sets.state sets.slots;
+            }
 
     copy-goes : (s : SymState) (value : ℕ) (x : List ℕ) → context_of f.decls x ≡ Some (Secret, Scalar) → (r : ℕ)
         → register_for f x ≡ Some r → CarriesInArm f s
-        → Goes o f depth s (write_code (Some r) Secret mode (home_of f x) value) (write_shows f (Some r)) no_loads
+        → Goes o f depth s (write_code f.reduces (Some r) Secret mode (home_of f x) value) (write_shows f (Some r)) no_loads
     copy-goes s value x declared r is carries =
-        let from = copied_from mode r value in
         let zero = zero-label f homes.held x Secret Scalar declared r is Secret in
-        let copied = sets-alu o depth f homes.profile s Add r from secret_zero (tree_held s from) None carries.registers
-        (register-low f homes.held x Secret Scalar declared r is) refl (carries.held secret_zero Secret zero) in
-        record {
-          state = copied.state;
-          walked = copied.walked;
-          carries
-              = carries-copied f s copied.state r Secret carries copied.slots copied.other copied.registers
-              (register-label f homes.held x Secret Scalar declared r is)
-              (copied.held ∙ hidden_copy (tree_held s from));
-          slots = λ k. ap (λ (slots : List SymSlot). get_or slots k AnySlot) copied.slots;
-        }
+        left-goes s x declared r is Add value secret_zero (tree_held s value) None carries refl
+        (carries.held secret_zero Secret zero) (hidden_copy (tree_held s value))
 
     write-goes : (s : SymState) (value : ℕ) (x : List ℕ) → context_of f.decls x ≡ Some (Secret, Scalar)
         → (found : Option ℕ) → register_for f x ≡ found → CarriesInArm f s
-        → Goes o f depth s (write_code found Secret mode (home_of f x) value) (write_shows f found) no_loads
+        → Goes o f depth s (write_code f.reduces found Secret mode (home_of f x) value) (write_shows f found) no_loads
     write-goes s value x declared None is carries = word-goes s value x declared carries
     write-goes s value x declared (Some r) is carries = copy-goes s value x declared r is carries
 
@@ -208,13 +271,51 @@ module _ (o : Parts) (f : Setting) (homes : HasHomes o f) (depth : ℕ) where
         operand-leaves o f homes depth mode e typed (operand f e) (is-operand f e) s to carries
         (expr-leaves o f homes depth mode secret e s to typed public low carries)
 
-    -- an assignment to a scalar
-    variable-goes : (s : SymState) (x : List ℕ) (e : Tree)
+    -- an operation whose result is left in the register that holds a secret scalar
+    straight-goes : (s : SymState) (x : List ℕ) → context_of f.decls x ≡ Some (Secret, Scalar) → (r : ℕ) (op : Op)
+        (a b : Tree) → IsStraight f x r op a b → label_of (context_of f.decls) (Operation op a b) ≡ Secret
+        → TypedTree (context_of f.decls) (Operation op a b) → HasPublicIndexes f (Operation op a b)
+        → height_of (Operation op a b) ≤ 17 → CarriesInArm f s
+        → Goes o f depth s (straight_code f mode (target mode r) (Operation op a b))
+        (shows_of_expr f (Operation op a b)) (slots_of_expr f (Operation op a b))
+    straight-goes s x declared r op a b is secret_value typed public low carries =
+        let q = operand f a in
+        let p = operand f b in
+        let left = operand_tree f q (tree_of_expr f a) in
+        let right = operand_tree f p (tree_of_expr f b) in
+        let from = operand_register q 0 in
+        let by = operand_register p 1 in
+        let one_code = operand_part q (expr_code f mode 0 a) in
+        let two_code = operand_part p (expr_code f mode 1 b) in
+        let last = Alu op (target mode r) from by ∷ [] in
+        let gap = operation_gap f op ∷ [] in
+        let first = value-leaves a s 0 typed.0 public.0 (omega (arith, low)) carries in
+        let second = value-leaves b first.state 1 typed.1 public.1 (omega (arith, low)) first.carries in
+        let stays = operand-stays o f homes depth a typed.0 q (is-operand f a) 0 (tree_of_expr f a) first.state second.state
+        second.carries first.held second.below in
+        let none : applied_trees op left right ≡ None =
+        sym (ap (λ (found : Option (List Step)). operation_tree op found
+        (operand_tree f (operand_unless (is_some found) q) (tree_of_expr f a)) right) is.plain)
+        ∙ tree-hidden o f homes (Operation op a b) typed secret_value in
+        let three = left-goes second.state x declared r is.held op from by left right second.carries stays second.held none in
+        let one = goes-leaves o f depth s one_code (operand_part q (shows_of_expr f a)) 0 left (slots_of_expr f a) first in
+        let two = goes-leaves o f depth first.state two_code (operand_part p (shows_of_expr f b)) 1 right
+        (slots_of_expr f b) second in
+        subst (λ (found : Option (List Step)). Goes o f depth s (one_code ++ (two_code ++ last))
+        (operand_part (operand_unless (is_some found) q) (shows_of_expr f a)
+        ++ operation_shows f op found (operand_part p (shows_of_expr f b)))
+        (then_loads (slots_of_expr f a) (operation_loads found (slots_of_expr f b)))) (sym is.plain)
+        (goes-then o f depth s one_code (operand_part q (shows_of_expr f a)) (slots_of_expr f a) one (two_code ++ last)
+        (operand_part p (shows_of_expr f b) ++ gap) (then_loads (slots_of_expr f b) no_loads)
+        (goes-then o f depth first.state two_code (operand_part p (shows_of_expr f b)) (slots_of_expr f b) two last gap
+        no_loads three))
+
+    -- one whose value is written after it is found
+    written-goes : (s : SymState) (x : List ℕ) (e : Tree)
         → TypedStatement (context_of f.decls) Secret (SetVariable x e) → SetHasPublicIndexes f (SetVariable x e)
         → LowStatement (SetVariable x e) → CarriesInArm f s
-        → Goes o f depth s (set_code f mode (SetVariable x e)) (shows_of_set f (SetVariable x e))
-        (slots_of_set f (SetVariable x e))
-    variable-goes s x e typed public low carries =
+        → Goes o f depth s (scalar_set None f mode x e) (scalar_set_shows None f x e) (slots_of_expr f e)
+    written-goes s x e typed public low carries =
         let found = register_for f x in
         let own = flows-secret (label_at (context_of f.decls) x) typed.1.1 in
         let same : label_at (context_of f.decls) x ≡ typed.0.0 = ap label_or_public typed.0.1 in
@@ -228,10 +329,35 @@ module _ (o : Parts) (f : Setting) (homes : HasHomes o f) (depth : ℕ) where
         value in
         let two = subst
         (λ (l : Label).
-        Goes o f depth value.state (write_code found l mode (home_of f x) from) (write_shows f found) no_loads) (sym own)
+        Goes o f depth value.state (write_code f.reduces found l mode (home_of f x) from) (write_shows f found) no_loads) (sym own)
         (write-goes value.state from x declared found refl value.carries) in
         goes-then o f depth s first shown (slots_of_expr f e) one
-        (write_code found (label_at (context_of f.decls) x) mode (home_of f x) from) (write_shows f found) no_loads two
+        (write_code f.reduces found (label_at (context_of f.decls) x) mode (home_of f x) from) (write_shows f found) no_loads two
+
+    -- an assignment to a scalar
+    variable-goes : (s : SymState) (x : List ℕ) (e : Tree)
+        → TypedStatement (context_of f.decls) Secret (SetVariable x e) → SetHasPublicIndexes f (SetVariable x e)
+        → LowStatement (SetVariable x e) → CarriesInArm f s
+        → Goes o f depth s (set_code f mode (SetVariable x e)) (shows_of_set f (SetVariable x e))
+        (slots_of_set f (SetVariable x e))
+    variable-goes s x e typed public low carries = by (straight f x e) refl
+      where
+        by : (found : Option ℕ) → straight f x e ≡ found
+            → Goes o f depth s (scalar_set found f mode x e) (scalar_set_shows found f x e) (slots_of_expr f e)
+        by None is = written-goes s x e typed public low carries
+        by (Some r) is =
+            let own = flows-secret (label_at (context_of f.decls) x) typed.1.1 in
+            let same : label_at (context_of f.decls) x ≡ typed.0.0 = ap label_or_public typed.0.1 in
+            let declared = subst (λ (l : Label). context_of f.decls x ≡ Some (l, Scalar)) (sym same ∙ own) typed.0.1 in
+            straight-by f x e r is
+            (λ t. TypedTree (context_of f.decls) t → HasPublicIndexes f t → height_of t ≤ 17
+            → Goes o f depth s (straight_code f mode (target mode r) t) (shows_of_expr f t) (slots_of_expr f t))
+            (λ op a b known typed_value public_value low_value.
+            straight-goes s x declared r op a b known
+            (kept-secret (label_of (context_of f.decls) (Operation op a b))
+            (sym (ap (λ (l : Label). keeps_label l (label_of (context_of f.decls) (Operation op a b))) own) ∙ known.keeps))
+            typed_value public_value low_value carries)
+            typed.1.0 public (omega (arith, low))
 
     -- a word is stored of a secret array that slots hold for the whole run
     stored_by-goes : (s : SymState) (x : List ℕ) (fixed : Option ℤ) (value : ℕ) (bound : SymSlot)
@@ -276,13 +402,13 @@ module _ (o : Parts) (f : Setting) (homes : HasHomes o f) (depth : ℕ) where
             }
 
     -- an index, in the register of an access to an array
-    index-leaves : (near : Bool) (i : Tree) (s : SymState) → TypedTree (context_of f.decls) i → HasPublicIndexes f i
+    index-leaves : (near : Bool) (x : List ℕ) (i : Tree) (s : SymState) → TypedTree (context_of f.decls) i → HasPublicIndexes f i
         → 1 + height_of i ≤ 17 → CarriesInArm f s
-        → LeavesIn o f depth s (operand_part (index_by near f i) (expr_code f mode 1 i))
-        (operand_part (index_by near f i) (shows_of_expr f i)) 1 (operand_register (index_by near f i) 1)
-        (operand_tree f (index_by near f i) (tree_of_expr f i)) (slots_of_expr f i)
-    index-leaves near i s typed public low carries =
-        operand-leaves o f homes depth mode i typed (index_by near f i) (is-index f near i) s 1 carries
+        → LeavesIn o f depth s (operand_part (index_by near f (home_of f x) i) (expr_code f mode 1 i))
+        (operand_part (index_by near f (home_of f x) i) (shows_of_expr f i)) 1 (operand_register (index_by near f (home_of f x) i) 1)
+        (operand_tree f (index_by near f (home_of f x) i) (tree_of_expr f i)) (slots_of_expr f i)
+    index-leaves near x i s typed public low carries =
+        operand-leaves o f homes depth mode i typed (index_by near f (home_of f x) i) (is-index f near (home_of f x) i) s 1 carries
         (expr-leaves o f homes depth mode secret i s 1 typed public low carries)
 
     -- an assignment to an element, after the code of its value
@@ -290,28 +416,28 @@ module _ (o : Parts) (f : Setting) (homes : HasHomes o f) (depth : ℕ) where
         → context_of f.decls x ≡ Some (Secret, Array) → TypedTree (context_of f.decls) i
         → IndexIsPublic f x i → HasPublicIndexes f i → 1 + height_of i ≤ 17 → IsOutside 1 4 value → CarriesInArm f s
         → Goes o f depth s
-        (access_by b (numbering_by near false) f mode (home_of f x) 1 (operand_register (index_by near f i) 1)
-        (fixed_index (home_of f x) i) (operand_part (index_by near f i) (expr_code f mode 1 i))
+        (access_by b (numbering_by near false) f mode (home_of f x) 1 (operand_register (index_by near f (home_of f x) i) 1)
+        (fixed_index (home_of f x) i) (operand_part (index_by near f (home_of f x) i) (expr_code f mode 1 i))
         ++ stored_by b f mode (home_of f x) (fixed_index (home_of f x) i) value)
         (shows_by b near f (home_of f x) (fixed_index (home_of f x) i)
-        (operand_tree f (index_by near f i) (tree_of_expr f i)) (operand_part (index_by near f i) (shows_of_expr f i))
+        (operand_tree f (index_by near f (home_of f x) i) (tree_of_expr f i)) (operand_part (index_by near f (home_of f x) i) (shows_of_expr f i))
         ++ stored_shows_by b f (home_of f x) (fixed_index (home_of f x) i)
         (element_slot near f (home_of f x) (fixed_index (home_of f x) i)
-        (operand_tree f (index_by near f i) (tree_of_expr f i))))
+        (operand_tree f (index_by near f (home_of f x) i) (tree_of_expr f i))))
         (loads_by b near f (home_of f x) (fixed_index (home_of f x) i)
-        (operand_tree f (index_by near f i) (tree_of_expr f i)) (slots_of_expr f i))
+        (operand_tree f (index_by near f (home_of f x) i) (tree_of_expr f i)) (slots_of_expr f i))
     element_by-goes true near s x i value is declared typed shows public low outer carries =
         let h = home_of f x in
         let fixed = fixed_index h i in
-        let q = index_by near f i in
+        let q = index_by near f (home_of f x) i in
         let from = operand_register q 1 in
         let index = operand_tree f q (tree_of_expr f i) in
         let part = operand_part q (expr_code f mode 1 i) in
-        let number = index-leaves near i s typed public low carries in
+        let number = index-leaves near x i s typed public low carries in
         let place = placed-leaves o f homes depth near s 1 from h fixed index part (operand_part q (shows_of_expr f i))
         (slots_of_expr f i) carries number (omega arith)
-        (index-apart o f homes depth mode secret near i 1 (omega arith))
-        (index-own o f homes depth mode secret near i 1) in
+        (index-apart o f homes depth mode secret near h i 1 (omega arith))
+        (λ within begins. index-own o f homes depth mode secret near h i 1 within (offset-none h begins)) in
         let code = placed_code (numbering_by near false) f h 1 from fixed part in
         let shown = placed_shows near f h fixed (operand_part q (shows_of_expr f i)) in
         let loads = index_loads fixed (slots_of_expr f i) in
@@ -323,20 +449,21 @@ module _ (o : Parts) (f : Setting) (homes : HasHomes o f) (depth : ℕ) where
     element_by-goes false near s x i value is declared typed shows public low outer carries =
         let h = home_of f x in
         let fixed = fixed_index h i in
-        let q = index_by near f i in
+        let q = index_by near f (home_of f x) i in
         let from = operand_register q 1 in
         let index = operand_tree f q (tree_of_expr f i) in
         let part = operand_part q (expr_code f mode 1 i) in
         let home = homes.arrays x Secret declared is in
-        let number = index-leaves near i s typed public low carries in
+        let number = index-leaves near x i s typed public low carries in
         let seen =
-        block-seen near f h fixed index (λ cached. public-index o f homes near i typed
+        block-seen near f h fixed index (λ cached. public-index o f homes near h i typed
         (shows (shows-cached h is cached))) in
         let bound = element_slot near f h fixed index in
         let access = access-leaves o f homes depth mode secret near s 1 from x fixed index part
         (operand_part q (shows_of_expr f i)) (slots_of_expr f i) carries number (omega arith)
-        (index-apart o f homes depth mode secret near i 1 (omega arith))
-        (index-own o f homes depth mode secret near i 1) (Secret, declared) is seen in
+        (index-apart o f homes depth mode secret near h i 1 (omega arith))
+        (λ within. index-own o f homes depth mode secret near h i 1 within
+        (ap (λ (b : Bool). b && not (h.word == 0)) is)) (Secret, declared) is seen in
         let stored = stored-of_bank bound h.bank (loaded-bank f h.bank (block_tree near f h fixed index) seen)
         (λ e. let wrong : Secret ≡ Public = home.plain.0 e in let g : ◌≡◌ {A = Label} Secret Public = wrong in cc) in
         let code = access_by false (numbering_by near false) f mode h 1 from fixed part in
@@ -344,8 +471,8 @@ module _ (o : Parts) (f : Setting) (homes : HasHomes o f) (depth : ℕ) where
         let loads = loads_by false near f h fixed index (slots_of_expr f i) in
         let one = goes-leaves o f depth s code shown 1 (number_tree near f h fixed index) loads access.leaves in
         let two = store_block-goes access.leaves.state h.slot value bound access.leaves.carries access.holds stored in
-        goes-then o f depth s code shown loads one (store_code mode h.slot value ++ Stb h.slot ∷ [])
-        (word_gap f ∷ word_gap f ∷ store_shows bound) no_loads two
+        goes-then o f depth s code shown loads one (store_code f.reduces mode h.slot value ++ Stb h.slot ∷ [])
+        (word_shows f.reduces f ++ store_shows bound) no_loads two
 
     element-goes : (s : SymState) (x : List ℕ) (i e : Tree)
         → TypedStatement (context_of f.decls) Secret (SetElement x i e) → SetHasPublicIndexes f (SetElement x i e)
@@ -366,7 +493,7 @@ module _ (o : Parts) (f : Setting) (homes : HasHomes o f) (depth : ℕ) where
         let one = goes-leaves o f depth s first shown 0 (operand_tree f q (tree_of_expr f e)) (slots_of_expr f e)
         value in
         let near = is_within_home f h i in
-        let p = index_by near f i in
+        let p = index_by near f (home_of f x) i in
         let index = operand_tree f p (tree_of_expr f i) in
         let more = shows_by h.resident near f h (fixed_index h i) index (operand_part p (shows_of_expr f i))
         ++ stored_shows f h (fixed_index h i) (element_slot near f h (fixed_index h i) index) in

@@ -1,5 +1,5 @@
 -- The code of expressions and guards in secret code: walked in an arm, it shows what depends only on the expression.
-use Rattle.std.proofs.Common.{◌≡◌, ◌≢◌, ℕ, ◌+◌, ◌<◌, ◌≤◌, ◌/◌, ℤ, pos, Bool, true, false, ◌&&◌, ◌==◌, List, [], ◌∷◌, ◌++◌, length, map, get_or, Option, Some, None, refl, sym, ap, ◌∙◌, subst, arith}
+use Rattle.std.proofs.Common.{◌≡◌, ◌≢◌, ℕ, ◌+◌, ◌<◌, ◌≤◌, ◌/◌, ℤ, pos, Bool, true, false, not, ◌&&◌, ◌==◌, List, [], ◌∷◌, ◌++◌, length, map, get_or, Option, Some, None, refl, sym, ap, ◌∙◌, subst, arith}
 use Rattle.std.specs.Prelude.{All, IsTrue, is_some, if◌then◌else◌}
 use Rattle.std.specs.Option.{unwrap_or}
 use Rattle.std.proofs.lemmas.Bool.{eq-eqb}
@@ -22,7 +22,7 @@ use Rattle.stretches.proofs.ArmCode.{Walked, walked-none, walked-then}
 use Rattle.block_cache_gen.specs.declared.frames.Mode.{Mode}
 use Rattle.block_cache_gen.specs.Homes.{Home, Setting, home_of, words_a_block, blocks_set, HasHomes, held_label, label_by, register_for}
 use Rattle.block_cache_gen.specs.declared.indexes.Numbering.{Numbering}
-use Rattle.block_cache_gen.specs.Codes.{read_by, read_code, may_skip_loads, is_cached, held_number, applied_code, reducing, reducer, is_within_home, numbering_by, is_in_place, numbered_code, fixed_index, fixed_word, scalar_code, reduced_code, shift_code, offset_code, placed_code, fixed_code, located_code, load_code, skips, access_by, operand, operand_part, operand_register, operand_unless, indexed_code, operation_code, steps_at, expr_code, guard_code}
+use Rattle.block_cache_gen.specs.Codes.{read_by, read_code, may_skip_loads, is_cached, held_number, applied_code, reducing, reducer, is_within_home, numbering_by, is_in_place, numbered_code, numbered_register, has_offset, fixed_index, fixed_word, scalar_code, reduced_code, shift_code, offset_code, placed_code, fixed_code, located_code, load_code, skips, access_by, operand, operand_part, operand_register, operand_unless, indexed_code, operation_code, steps_at, expr_code, guard_code}
 use Rattle.lt_isa.specs.declared.profiles.Profile.{Profile}
 use Rattle.strength_reduction.specs.Steps.{Step, Constant, Compute, StepFits, reads_known, numbered, code_of}
 use Rattle.strength_reduction.proofs.Replacing.{result-alike}
@@ -41,7 +41,7 @@ use Rattle.held_registers.proofs.Found.{number-held}
 use Rattle.block_cache_gen.proofs.HeldLabels.{register-label, zero-label}
 use Rattle.block_cache_gen.proofs.HeldOperands.{IsOperandOf, operand-apart}
 use Rattle.block_cache_gen.proofs.OperandLabels.{is-operand, operand-label}
-use Rattle.block_cache_gen.proofs.HomeFacts.{shows-cached}
+use Rattle.block_cache_gen.proofs.HomeFacts.{offset-none, shows-cached}
 use Rattle.block_cache_gen.proofs.PublicTrees.{IsKnown, is-index, block-seen, public-index}
 
 -- a load holds in its own slot
@@ -60,6 +60,17 @@ shows-same : (f : Setting) (steps : List Step) → steps_show f.profile steps �
 shows-same f [] = refl
 shows-same f (Constant to value ∷ steps) = ap (λ xs. Gap 1 ∷ xs) (shows-same f steps)
 shows-same f (Compute op to left right ∷ steps) = ap (λ xs. operation_gap f op ∷ xs) (shows-same f steps)
+
+-- the register that has the number of a word
+number-at : (within : Bool) (to from : ℕ) → (within ≡ true → from ≡ to)
+    → numbered_register (numbering_by within false) to from ≡ to
+number-at true to from own = own refl
+number-at false to from own = refl
+
+number-apart : (within : Bool) (to from : ℕ) → from ≢ to + 1
+    → numbered_register (numbering_by within false) to from ≢ to + 1
+number-apart true to from apart = apart
+number-apart false to from apart = λ e. absurd (omega (arith, e))
 
 module _ (o : Parts) (f : Setting) (homes : HasHomes o f) (depth : ℕ) where
   -- code that sets a register, by itself and after other code
@@ -183,7 +194,7 @@ module _ (o : Parts) (f : Setting) (homes : HasHomes o f) (depth : ℕ) where
   }
 
   -- it keeps its tree while registers up to its own do
-  operand-stays : (e : Tree) → TypedTree (context_of f.decls) e → (q : Option ℕ) → IsOperandOf f e q → (to : ℕ)
+  pub operand-stays : (e : Tree) → TypedTree (context_of f.decls) e → (q : Option ℕ) → IsOperandOf f e q → (to : ℕ)
       (tree : Option Value) (s t : SymState) → CarriesInArm f t
       → tree_held s (operand_register q to) ≡ operand_tree f q tree
       → ((r : ℕ) → r < to + 1 → tree_held t r ≡ tree_held s r)
@@ -296,16 +307,16 @@ module _ (o : Parts) (f : Setting) (homes : HasHomes o f) (depth : ℕ) where
 
   -- so it is, unless it is the number of the word
   numbered-leaves : (s : SymState) (to from : ℕ) (h : Home) (index : Option Value) → CarriesInArm f s → to + 2 < 19
-      → from ≢ to + 1 → tree_held s from ≡ index → (within : Bool) → (within ≡ true → from ≡ to)
-      → LeavesTree o f depth s (numbered_code (numbering_by within false) f h to from) (numbered_shows within f h) to
-      (numbered_tree within f h index) no_loads
-  numbered-leaves s to from h index carries inside apart held false own =
+      → from ≢ to + 1 → tree_held s from ≡ index → (within : Bool)
+      → LeavesIn o f depth s (numbered_code (numbering_by within false) f h to from) (numbered_shows within f h) to
+      (numbered_register (numbering_by within false) to from) (numbered_tree within f h index) no_loads
+  numbered-leaves s to from h index carries inside apart held false =
       reduced-leaves s to from h index carries inside apart held
-  numbered-leaves s to from h index carries inside apart held true own = record {
+  numbered-leaves s to from h index carries inside apart held true = record {
     state = s;
     walked = walked-none o depth s;
     carries = carries;
-    held = ap (tree_held s) (sym (own refl)) ∙ held;
+    held = held;
     below = λ r lt. refl;
     slots = λ k. refl;
   }
@@ -320,7 +331,10 @@ module _ (o : Parts) (f : Setting) (homes : HasHomes o f) (depth : ℕ) where
         (numbered_tree within f h index) (shifted_tree f h (numbered_tree within f h index)) no_loads
     numbered-located s carries held =
         let number = numbered_tree within f h index in
-        let one = numbered-leaves s to from h index carries inside apart held within own in
+        let leaves = numbered-leaves s to from h index carries inside apart held within in
+        let one = subst
+        (λ (at : ℕ). LeavesIn o f depth s (numbered_code (numbering_by within false) f h to from)
+        (numbered_shows within f h) to at number no_loads) (number-at within to from own) leaves in
         two-leave s to number (shifted_tree f h number) (numbered_code (numbering_by within false) f h to from)
         (shift_code f h to) (numbered_shows within f h) (shifted_shows f h) no_loads no_loads one
         (block-leaves one.state to h number one.carries inside one.held)
@@ -350,43 +364,44 @@ module _ (o : Parts) (f : Setting) (homes : HasHomes o f) (depth : ℕ) where
     located s None code shows loads carries first = index-located s code shows loads first
 
   -- the number of the array's first word is added, unless that is 0
-  offset-leaves : (s : SymState) (to : ℕ) (h : Home) (tree : Option Value) → CarriesInArm f s → to + 2 < 19
-      → tree_held s to ≡ tree → (first : Bool)
-      → LeavesTree o f depth s (if first then [] else applied_code f Add to to (to + 1) (pos h.word))
+  offset-leaves : (s : SymState) (to at : ℕ) (h : Home) (tree : Option Value) → CarriesInArm f s → to + 2 < 19
+      → tree_held s at ≡ tree → at ≢ to + 1 → (first : Bool) → (first ≡ true → at ≡ to)
+      → LeavesTree o f depth s (if first then [] else applied_code f Add to at (to + 1) (pos h.word))
       (if first then [] else applied_shows f Add (pos h.word)) to
       (if first then tree else applied_trees Add tree (number_in f (pos h.word))) no_loads
-  offset-leaves s to h tree carries inside held true = record {
+  offset-leaves s to at h tree carries inside held apart true own = record {
     state = s;
     walked = walked-none o depth s;
     carries = carries;
-    held = held;
+    held = ap (tree_held s) (sym (own refl)) ∙ held;
     below = λ r lt. refl;
     slots = λ k. refl;
   }
-  offset-leaves s to h tree carries inside held false =
-      number-applied s Add to to (to + 1) (pos h.word) tree carries (omega arith) (omega arith)
-      (λ e. absurd (omega (arith, e))) held
+  offset-leaves s to at h tree carries inside held apart false own =
+      number-applied s Add to at (to + 1) (pos h.word) tree carries (omega arith) (omega arith) apart held
 
   -- the place of a resident array's word in its block
   pub placed-leaves : (within : Bool) (s : SymState) (to from : ℕ) (h : Home) (fixed : Option ℤ) (index : Option Value)
       (code : List Instr) (shows : List Show) (loads : Loads) → CarriesInArm f s
       → LeavesIn o f depth s code shows to from index loads → to + 2 < 19 → from ≢ to + 1
-      → (within ≡ true → from ≡ to)
+      → (within ≡ true → (h.word == 0) ≡ true → from ≡ to)
       → LeavesTree o f depth s (placed_code (numbering_by within false) f h to from fixed code)
       (placed_shows within f h fixed shows) to (placed_tree within f h fixed index) (index_loads fixed loads)
   placed-leaves within s to from h (Some z) index code shows loads carries first inside apart own =
       number-leaves s to (pos (h.word + fixed_word h z)) carries (omega arith)
   placed-leaves within s to from h None index code shows loads carries first inside apart own =
       let number = numbered_tree within f h index in
+      let at = numbered_register (numbering_by within false) to from in
       let numbers = numbered_code (numbering_by within false) f h to from in
-      let one = numbered-leaves first.state to from h index first.carries inside apart first.held within own in
-      let two = offset-leaves one.state to h number one.carries inside one.held (h.word == 0) in
+      let one = numbered-leaves first.state to from h index first.carries inside apart first.held within in
+      let two = offset-leaves one.state to at h number one.carries inside one.held (number-apart within to from apart)
+      (h.word == 0) (λ begins. number-at within to from (λ near. own near begins)) in
       let tree = placed_tree within f h None index in
       let shown = numbered_shows within f h in
-      leaves-then s code shows to index loads first (numbers ++ offset_code f h to)
+      leaves-then s code shows to index loads first (numbers ++ offset_code f h to at)
       (shown ++ offset_shows f h) to tree no_loads (omega arith)
       (leaves-then first.state numbers shown to number no_loads one
-      (offset_code f h to) (offset_shows f h) to tree no_loads (omega arith) two)
+      (offset_code f h to at) (offset_shows f h) to tree no_loads (omega arith) two)
 
   module _ (mode : Mode) (secret : may_skip_loads mode ≡ false) where
     -- an access: its block is in the slot of its array
@@ -447,7 +462,7 @@ module _ (o : Parts) (f : Setting) (homes : HasHomes o f) (depth : ℕ) where
     element_by-leaves : (b near : Bool) (s : SymState) (to from : ℕ) (x : List ℕ) (fixed : Option ℤ)
         (index : Option Value) (code : List Instr) (shows : List Show) (loads : Loads) → (home_of f x).resident ≡ b
         → CarriesInArm f s → LeavesIn o f depth s code shows to from index loads → to + 3 < 19 → from ≢ to + 1
-        → (near ≡ true → from ≡ to)
+        → (near ≡ true → has_offset (home_of f x) ≡ false → from ≡ to)
         → UsedAs (context_of f.decls) x Array → (shows_index (home_of f x) ≡ true → IsKnown index)
         → LeavesTree o f depth s
         (access_by b (numbering_by near false) f mode (home_of f x) to from fixed code
@@ -458,7 +473,7 @@ module _ (o : Parts) (f : Setting) (homes : HasHomes o f) (depth : ℕ) where
         let h = home_of f x in
         let place = placed_tree near f h fixed index in
         let there = placed-leaves near s to from h fixed index code shows loads carries first (omega (arith, inside))
-        apart own in
+        apart (λ within begins. own within (offset-none h begins)) in
         leaves-then s (placed_code (numbering_by near false) f h to from fixed code) (placed_shows near f h fixed shows)
         to place (index_loads fixed loads) there (read_by true f h fixed to) (read_shows_by true f h fixed) to
         (word_read f (pinned_slot h) place) no_loads (omega arith)
@@ -469,7 +484,7 @@ module _ (o : Parts) (f : Setting) (homes : HasHomes o f) (depth : ℕ) where
         let number = number_tree near f h fixed index in
         let seen = block-seen near f h fixed index (λ low. known (shows-cached h is low)) in
         let access = access-leaves near s to from x fixed index code shows loads carries first (omega (arith, inside))
-        apart own used is seen in
+        apart (λ within. own within (ap (λ (b : Bool). b && not (h.word == 0)) is)) used is seen in
         let there = access.leaves in
         let is_bound = bound-of_bank bound h.bank (loaded-bank f h.bank (block_tree near f h fixed index) seen) in
         let word = sets-ldw o depth f homes.profile there.state to h.slot to bound number there.carries.registers
@@ -479,30 +494,32 @@ module _ (o : Parts) (f : Setting) (homes : HasHomes o f) (depth : ℕ) where
         there (Ldw to h.slot to ∷ []) (word_gap f ∷ []) to (word_read f bound number) (omega arith) (omega arith) word
 
     -- an index is in no register that the code of an access sets before it is read
-    pub index-apart : (near : Bool) (i : Tree) (to : ℕ) → to + 2 < 19
-        → operand_register (index_by near f i) to ≢ to + 1
-    index-apart near i to low =
-        let apart = operand-apart f i (index_by near f i) (is-index f near i) to in
+    pub index-apart : (near : Bool) (h : Home) (i : Tree) (to : ℕ) → to + 2 < 19
+        → operand_register (index_by near f h i) to ≢ to + 1
+    index-apart near h i to low =
+        let apart = operand-apart f i (index_by near f h i) (is-index f near h i) to in
         apart.apart (to + 1) (omega arith) (omega arith)
 
-    -- and one that is the number of the word is where its code leaves it
-    pub index-own : (near : Bool) (i : Tree) (to : ℕ) → near ≡ true → operand_register (index_by near f i) to ≡ to
-    index-own near i to is =
-        ap (λ (b : Bool). operand_register (operand_unless (is_in_place (numbering_by b false)) (operand f i)) to) is
+    -- and one that is the number of the word in its block is where its code leaves it
+    pub index-own : (near : Bool) (h : Home) (i : Tree) (to : ℕ) → near ≡ true → has_offset h ≡ false
+        → operand_register (index_by near f h i) to ≡ to
+    index-own near h i to is free =
+        ap (λ (b : Bool). operand_register (operand_unless (is_in_place h (numbering_by b false)) (operand f i)) to) is
+        ∙ ap (λ (b : Bool). operand_register (operand_unless (not b) (operand f i)) to) free
 
     element-leaves : (s : SymState) (to : ℕ) (x : List ℕ) (i : Tree) → TypedTree (context_of f.decls) i
         → CarriesInArm f s
         → LeavesTree o f depth s (expr_code f mode to i) (shows_of_expr f i) to (tree_of_expr f i) (slots_of_expr f i)
         → to + 3 < 19 → UsedAs (context_of f.decls) x Array
         → (shows_index (home_of f x) ≡ true
-        → IsKnown (operand_tree f (index_by (is_within_home f (home_of f x) i) f i) (tree_of_expr f i)))
+        → IsKnown (operand_tree f (index_by (is_within_home f (home_of f x) i) f (home_of f x) i) (tree_of_expr f i)))
         → LeavesTree o f depth s (expr_code f mode to (Element x i)) (shows_of_expr f (Element x i)) to
         (tree_of_expr f (Element x i)) (slots_of_expr f (Element x i))
     element-leaves s to x i typed carries value inside used known =
         let h = home_of f x in
         let near = is_within_home f h i in
-        let q = index_by near f i in
-        let first = operand-leaves mode i typed q (is-index f near i) s to carries value in
+        let q = index_by near f h i in
+        let first = operand-leaves mode i typed q (is-index f near h i) s to carries value in
         subst (λ (n : Numbering). LeavesTree o f depth s
         (indexed_code f n mode h to i (expr_code f mode to i) ++ read_code f h (fixed_index h i) to)
         (shows_of_expr f (Element x i)) to (tree_of_expr f (Element x i)) (slots_of_expr f (Element x i)))
@@ -510,7 +527,7 @@ module _ (o : Parts) (f : Setting) (homes : HasHomes o f) (depth : ℕ) where
         (element_by-leaves h.resident near s to (operand_register q to) x (fixed_index h i)
         (operand_tree f q (tree_of_expr f i)) (operand_part q (expr_code f mode to i))
         (operand_part q (shows_of_expr f i)) (slots_of_expr f i) refl carries first inside
-        (index-apart near i to (omega (arith, inside))) (index-own near i to) used known)
+        (index-apart near h i to (omega (arith, inside))) (index-own near h i to) used known)
 
     -- an operation on two operands
     operation-leaves : (op : Op) (a b : Tree) → TypedTree (context_of f.decls) a → TypedTree (context_of f.decls) b
@@ -588,7 +605,7 @@ module _ (o : Parts) (f : Setting) (homes : HasHomes o f) (depth : ℕ) where
     expr-leaves (Element x i) s to typed public low carries =
         element-leaves s to x i typed.1.0 carries (expr-leaves i s to typed.1.0 public.1 (omega arith) carries)
         (omega (arith, height-some i)) typed.0
-        (λ cached. public-index o f homes (is_within_home f (home_of f x) i) i typed.1.0 (public.0 cached))
+        (λ cached. public-index o f homes (is_within_home f (home_of f x) i) (home_of f x) i typed.1.0 (public.0 cached))
     expr-leaves (Operation op a b) s to typed public low carries =
         either-leaves op a b typed.0 typed.1 s to (omega (arith, height-some b)) carries
         (expr-leaves a s to typed.0 public.0 (omega arith) carries)

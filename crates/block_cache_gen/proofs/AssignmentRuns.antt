@@ -1,11 +1,12 @@
 -- The code of an assignment, run, leaves the store that it means, or the same store in a mirrored arm.
-use Rattle.std.proofs.Common.{◌≡◌, ◌≢◌, ℕ, ◌+◌, ◌/◌, ◌%◌, ◌≤◌, Bool, true, false, ℤ, pos, List, [], ◌∷◌, ◌++◌, get_or, set, append_assoc, append-nil, Option, Some, None, refl, sym, ap, ◌∙◌, subst, arith}
+use Rattle.std.proofs.Common.{◌≡◌, ◌≢◌, ℕ, ◌+◌, ◌/◌, ◌%◌, ◌<◌, ◌≤◌, Bool, true, false, ℤ, pos, List, [], ◌∷◌, ◌++◌, get_or, set, append_assoc, append-nil, Option, Some, None, refl, sym, ap, ◌∙◌, subst, arith}
 use Rattle.std.proofs.lemmas.List.{get_or-set_same}
-use Rattle.gr_word.specs.Words.{IsWord}
+use Rattle.gr_word.specs.Words.{applied, IsWord}
+use Rattle.gr_word.specs.declared.operations.Op.{Op}
 use Rattle.gr_word.specs.declared.variables.Label.{Label}
 use Rattle.gr_word.specs.declared.variables.Shape.TheVariants.{Scalar, Array}
 use Rattle.lt_isa.specs.declared.instructions.Instr.{Instr}
-use Rattle.lt_isa.specs.declared.instructions.Instr.TheVariants.{Li, Stb}
+use Rattle.lt_isa.specs.declared.instructions.Instr.TheVariants.{Li, Alu, Stb}
 use Rattle.lt_isa.specs.Object.{Parts, block_words}
 use Rattle.lt_isa.specs.Ranges.{IsInRange}
 use Rattle.lt_isa.specs.Machine.{State, Unbound, Bound, register, slot, bank_blocks, word_in, write_event}
@@ -14,12 +15,12 @@ use Rattle.stretches.specs.Standing.{StandsAt}
 use Rattle.stretches.specs.Coming.{RunsThrough, Sets}
 use Rattle.lt_isa.proofs.Shapes.{IsWord-register}
 use Rattle.stretches.proofs.Coming.{comes-stb}
-use Rattle.stretches.proofs.RunningThrough.{runs-cons, runs-one, runs-append, runs-weaker, sets-li}
+use Rattle.stretches.proofs.RunningThrough.{runs-cons, runs-one, runs-append, runs-weaker, sets-li, sets-alu}
 use Rattle.src_tree.specs.Contexts.{context_of}
 use Rattle.src_tree.specs.Heights.{height_of}
 use Rattle.src_tree.specs.Labels.{label_of}
-use Rattle.src_tree.specs.Meaning.{Store, variable_number, words_of_number, scalar, evaluated, with_word}
-use Rattle.src_tree.specs.Trees.{Tree, Variable, SetVariable, SetElement}
+use Rattle.src_tree.specs.Meaning.{Store, variable_number, words_of_number, evaluated, with_word}
+use Rattle.src_tree.specs.Trees.{Tree, Variable, Operation, SetVariable, SetElement}
 use Rattle.src_tree.specs.Typing.{TypedTree}
 use Rattle.scratch_alloc.proofs.Serving.{serves-within}
 use Rattle.scalar_ranges.specs.Ranges.{AreWithin}
@@ -27,7 +28,7 @@ use Rattle.block_cache_gen.specs.declared.frames.Mode.{Mode}
 use Rattle.block_cache_gen.specs.declared.indexes.Numbering.{Numbering}
 use Rattle.block_cache_gen.specs.declared.frames.Mode.TheVariants.{Public, Real, Mirrored}
 use Rattle.block_cache_gen.specs.Homes.{Setting, HasHomes, home_of, words_a_block, register_for, further_slots}
-use Rattle.block_cache_gen.specs.Codes.{fixed_index, access_by, placed_code, index_operand, operand, operand_part, operand_register, expr_code, store_code, stored_by, set_code, is_in_place, numbering, zero_of, copy_code, copied_from, write_code}
+use Rattle.block_cache_gen.specs.Codes.{fixed_index, access_by, placed_code, index_operand, operand, operand_part, operand_register, expr_code, store_code, stored_by, set_code, is_in_place, numbering, zero_of, copy_code, target, write_code, scalar_set, straight, straight_code}
 use Rattle.block_cache_gen.specs.StandsFor.{StandsFor, FitsHomes}
 use Rattle.block_cache_gen.specs.Accesses.{access_of, accessed_by, accesses, word_number, block_in, slots_after, seen_of_all}
 use Rattle.block_cache_gen.specs.Assignments.{Assigns, assigned, by_mode, words_written, write_by, seen_of_set}
@@ -35,10 +36,11 @@ use Rattle.block_cache_gen.specs.LeavesWord.{LeavesWord}
 use Rattle.block_cache_gen.proofs.AccessLaws.{seen_of_all-append}
 use Rattle.block_cache_gen.proofs.HomeFacts.{block_words-is}
 use Rattle.held_registers.proofs.Copies.{runs-copy}
+use Rattle.block_cache_gen.proofs.StraightCodes.{straight-by}
 use Rattle.block_cache_gen.proofs.HeldScalars.{array-free}
 use Rattle.block_cache_gen.proofs.HeldOperands.{IsApart, operand-apart, operand-outside, operand-stays, operand-unless}
 use Rattle.block_cache_gen.proofs.OperandRuns.{LeavesAt, RunsValue, runs-operand}
-use Rattle.block_cache_gen.proofs.RegisterWrites.{register-inside, register-word, zero-word, stands-scalar_set}
+use Rattle.block_cache_gen.proofs.RegisterWrites.{register-inside, zero-word, stands-scalar_set}
 use Rattle.block_cache_gen.proofs.Stands.{stands-set}
 use Rattle.block_cache_gen.proofs.Stores.{fits-with_word, with_word-by_mode}
 use Rattle.block_cache_gen.proofs.IndexRuns.{FitsNumbering, fits-numbering}
@@ -52,46 +54,56 @@ use Rattle.block_cache_gen.proofs.ExpressionRuns.{runs-expression, element-word}
 
 module _ (o : Parts) (fits : IsInRange o) (f : Setting) (homes : HasHomes o f) (store : Store)
     (store_fits : FitsHomes f store) where
+  -- with the target of a mode set, the machine represents the store with the scalar, or the store as it was
+  assigns-left : (mode : Mode) (x : List ℕ) (label : Label) → context_of f.decls x ≡ Some (label, Scalar) → (r : ℕ)
+      → register_for f x ≡ Some r → (word : ℤ) (u : State) → StandsFor f u store → (t : State) → IsShaped o t
+      → Sets u (target mode r) word t
+      → Assigns f (by_mode mode (with_word store (variable_number f.decls x) 0 word) store) t
+  assigns-left mode x label known r held word u stands t shape = by mode
+    where
+      k : ℕ
+      k = variable_number f.decls x
+
+      written : Sets u r word t → Assigns f (with_word store k 0 word) t
+      written sets =
+          let is = subst IsWord sets.value (IsWord-register o t shape r) in
+          record {
+            stands = stands-scalar_set f homes.held u store stands x r held store_fits o homes label known word t sets;
+            fits = fits-with_word f store k 0 word is store_fits;
+          }
+
+      by : (m : Mode) → Sets u (target m r) word t → Assigns f (by_mode m (with_word store k 0 word) store) t
+      by Public sets = written sets
+      by Real sets = written sets
+      by Mirrored sets = record { stands = stands-set sets (omega arith) stands; fits = store_fits }
+
+  -- it is one of the machine's registers
+  target-inside : (mode : Mode) (x : List ℕ) (r : ℕ) → register_for f x ≡ Some r → (u : State) → StandsFor f u store
+      → target mode r < 32
+  target-inside Public x r held u stands = register-inside f homes.held u store stands x r held
+  target-inside Real x r held u stands = register-inside f homes.held u store stands x r held
+  target-inside Mirrored x r held u stands = omega arith
+
   -- a register that holds a scalar is written
   runs-copied : (mode : Mode) (x : List ℕ) (label : Label) → context_of f.decls x ≡ Some (label, Scalar) → (r : ℕ)
       → register_for f x ≡ Some r → (l : Label) (v : ℕ) (value : ℤ) (u : State) → IsShaped o u → StandsFor f u store
-      → register u v ≡ value → StandsAt o u.place (copy_code l r (copied_from mode r v))
-      → RunsThrough o u (copy_code l r (copied_from mode r v)) []
+      → register u v ≡ value → StandsAt o u.place (copy_code l (target mode r) v)
+      → RunsThrough o u (copy_code l (target mode r) v) []
       (Assigns f (by_mode mode (with_word store (variable_number f.decls x) 0 value) store))
   runs-copied mode x label known r held l v value u shaped stands first at =
-      let k = variable_number f.decls x in
-      let old = scalar store k in
-      let word = by_mode mode value old in
-      let has : register u (copied_from mode r v) ≡ word =
-      copied mode old first (register-word f homes.held u store stands x r held) in
-      let is : IsWord word = subst IsWord has (IsWord-register o u shaped (copied_from mode r v)) in
-      runs-weaker u (copy_code l r (copied_from mode r v)) [] [] (Sets u r word)
-      (Assigns f (by_mode mode (with_word store k 0 value) store))
-      (runs-copy o fits r (copied_from mode r v) (zero_of l) word u shaped
-      (register-inside f homes.held u store stands x r held) is has
+      let is : IsWord value = subst IsWord first (IsWord-register o u shaped v) in
+      runs-weaker u (copy_code l (target mode r) v) [] [] (Sets u (target mode r) value)
+      (Assigns f (by_mode mode (with_word store (variable_number f.decls x) 0 value) store))
+      (runs-copy o fits (target mode r) v (zero_of l) value u shaped (target-inside mode x r held u stands) is first
       (zero-word f homes.held u store stands x r held l) at)
       refl
-      (λ t shape sets. record {
-        stands =
-            subst (StandsFor f t) (with_word-by_mode mode store k 0 value)
-            (stands-scalar_set f homes.held u store stands x r held store_fits o homes label known word t sets);
-        fits =
-            let fits = subst IsWord first (IsWord-register o u shaped v) in
-            by_mode-fits mode f (with_word store k 0 value) store (fits-with_word f store k 0 value fits store_fits)
-            store_fits;
-      })
-    where
-      copied : (mode : Mode) (old : ℤ) → register u v ≡ value → register u r ≡ old
-          → register u (copied_from mode r v) ≡ by_mode mode value old
-      copied Public old first kept = first
-      copied Real old first kept = first
-      copied Mirrored old first kept = kept
+      (λ t shape sets. assigns-left mode x label known r held value u stands t shape sets)
 
   -- a scalar is written
   runs-written : (mode : Mode) (x : List ℕ) (label : Label) → context_of f.decls x ≡ Some (label, Scalar) → (l : Label)
       (v : ℕ) → IsApart 0 v → (value : ℤ) (t : State) → IsShaped o t → StandsFor f t store → register t v ≡ value
-      → (found : Option ℕ) → register_for f x ≡ found → StandsAt o t.place (write_code found l mode (home_of f x) v)
-      → RunsThrough o t (write_code found l mode (home_of f x) v) []
+      → (found : Option ℕ) → register_for f x ≡ found → StandsAt o t.place (write_code f.reduces found l mode (home_of f x) v)
+      → RunsThrough o t (write_code f.reduces found l mode (home_of f x) v) []
       (Assigns f (by_mode mode (with_word store (variable_number f.decls x) 0 value) store))
   runs-written mode x label known l v apart value t shaped stands first (Some r) held at =
       runs-copied mode x label known r held l v value t shaped stands first at
@@ -100,12 +112,12 @@ module _ (o : Parts) (fits : IsInRange o) (f : Setting) (homes : HasHomes o f) (
       let home = homes.scalars x label known in
       let base = Li 1 (pos h.word) in
       let is : IsWord value = subst IsWord first (IsWord-register o t shaped v) in
-      runs-cons t base (store_code mode h.slot v) [] [] (Sets t 1 (pos h.word))
+      runs-cons t base (store_code f.reduces mode h.slot v) [] [] (Sets t 1 (pos h.word))
       (Assigns f (by_mode mode (with_word store (variable_number f.decls x) 0 value) store)) at
       (sets-li o fits t shaped 1 (pos h.word) (omega arith))
       (λ u shape sets at'.
       subst
-      (λ k. StandsAt o u.place (store_code mode k v) → RunsThrough o u (store_code mode k v) []
+      (λ k. StandsAt o u.place (store_code f.reduces mode k v) → RunsThrough o u (store_code f.reduces mode k v) []
       (Assigns f (by_mode mode (with_word store (variable_number f.decls x) 0 value) store)))
       (single-slot h.slot (further_slots h) ((h.word + 0) / words_a_block f) home.single)
       (runs-put o fits f homes store store_fits mode x label Scalar known home.resident free 0 (omega (arith, home.length)) v
@@ -114,20 +126,76 @@ module _ (o : Parts) (fits : IsInRange o) (f : Setting) (homes : HasHomes o f) (
       (sets.value ∙ ap pos (omega arith)))
       at')
 
-  -- an assignment to a scalar
-  pub runs-set_variable : AreWithin f.ranges store → (mode : Mode) (x : List ℕ) (label : Label) → context_of f.decls x ≡ Some (label, Scalar)
-      → (e : Tree) → TypedTree (context_of f.decls) e → height_of e ≤ 17 → (s : State) → IsShaped o s
-      → StandsFor f s store → StandsAt o s.place (set_code f mode (SetVariable x e))
-      → RunsThrough o s (set_code f mode (SetVariable x e)) (seen_of_set f mode s.banks s.slots store (SetVariable x e))
+  -- an operation leaves its result in the register that holds a scalar
+  runs-straight : AreWithin f.ranges store → (mode : Mode) (x : List ℕ) (label : Label)
+      → context_of f.decls x ≡ Some (label, Scalar) → (r : ℕ) → register_for f x ≡ Some r → (op : Op) (a b : Tree)
+      → TypedTree (context_of f.decls) (Operation op a b) → height_of (Operation op a b) ≤ 17 → (s : State)
+      → IsShaped o s → StandsFor f s store → StandsAt o s.place (straight_code f mode (target mode r) (Operation op a b))
+      → RunsThrough o s (straight_code f mode (target mode r) (Operation op a b))
+      (seen_of_set f mode s.banks s.slots store (SetVariable x (Operation op a b)))
+      (Assigns f (by_mode mode (assigned f.decls (SetVariable x (Operation op a b)) store) store))
+  runs-straight in_ranges mode x label known r held op a b typed room s shaped stands at =
+      let q = operand f a in
+      let p = operand f b in
+      let ra = operand_register q 0 in
+      let rb = operand_register p 1 in
+      let to = target mode r in
+      let left = evaluated f.decls store a in
+      let right = evaluated f.decls store b in
+      let value = applied op left right in
+      let first = operand_part q (expr_code f mode 0 a) in
+      let second = operand_part p (expr_code f mode 1 b) in
+      let join = Alu op to ra rb in
+      let before = accesses f store a in
+      let then = accesses f store b in
+      let seen_first = seen_of_all mode s.banks s.slots before in
+      let seen_then = seen_of_all mode s.banks (slots_after s.banks s.slots before) then in
+      let Done : State → Type 0 =
+      Assigns f (by_mode mode (with_word store (variable_number f.decls x) 0 value) store) in
+      runs-weaker s (first ++ (second ++ join ∷ [])) (seen_first ++ (seen_then ++ []))
+      (seen_of_all mode s.banks s.slots (before ++ then) ++ []) Done Done
+      (runs-append s first (second ++ join ∷ []) seen_first (seen_then ++ []) (LeavesAt f store before 0 ra left s) Done at
+      (runs-operand o f store mode a q (λ r held. held) 0 s shaped stands
+      (runs-expression o fits f homes store store_fits in_ranges mode a typed.0 0 (omega (arith, room)) s shaped stands))
+      (λ t shape leaves at'.
+      runs-append t second (join ∷ []) seen_then [] (LeavesAt f store then 1 rb right t) Done at'
+      (λ at''.
+      runs-weaker t second (seen_of_all mode t.banks t.slots then) seen_then (LeavesAt f store then 1 rb right t)
+      (LeavesAt f store then 1 rb right t)
+      (runs-operand o f store mode b p (λ r held. held) 1 t shape leaves.stands
+      (runs-expression o fits f homes store store_fits in_ranges mode b typed.1 1 (omega (arith, room)) t shape
+      leaves.stands) at'')
+      (ap (λ l. seen_of_all mode l t.slots then) leaves.banks ∙ ap (λ l. seen_of_all mode s.banks l then) leaves.slots)
+      (λ u shape' h. h))
+      (λ u shape' leaves' at''.
+      let kept = operand-stays f store a q (λ r held. held) 0 t u leaves.stands leaves'.stands
+      (λ r under. leaves'.below r (omega arith)) in
+      let result : applied op (register u ra) (register u rb) ≡ value =
+      ap (λ v. applied op v (register u rb)) (kept ∙ leaves.value) ∙ ap (λ v. applied op left v) leaves'.value in
+      runs-weaker u (join ∷ []) [] [] (Sets u to value) Done
+      (runs-one u join [] (Sets u to value) at''
+      (sets-alu o fits u shape' op to ra rb value (target-inside mode x r held u leaves'.stands) result))
+      refl
+      (λ v shape'' sets. assigns-left mode x label known r held value u leaves'.stands v shape'' sets))))
+      (ap (λ l. seen_first ++ l) (append-nil seen_then)
+      ∙ sym (seen_of_all-append mode s.banks s.slots before then)
+      ∙ sym (append-nil (seen_of_all mode s.banks s.slots (before ++ then))))
+      (λ t shape done. done)
+
+  -- an assignment whose value is written after it is found
+  runs-set_written : AreWithin f.ranges store → (mode : Mode) (x : List ℕ) (label : Label)
+      → context_of f.decls x ≡ Some (label, Scalar) → (e : Tree) → TypedTree (context_of f.decls) e → height_of e ≤ 17
+      → (s : State) → IsShaped o s → StandsFor f s store → StandsAt o s.place (scalar_set None f mode x e)
+      → RunsThrough o s (scalar_set None f mode x e) (seen_of_set f mode s.banks s.slots store (SetVariable x e))
       (Assigns f (by_mode mode (assigned f.decls (SetVariable x e) store) store))
-  runs-set_variable in_ranges mode x label known e typed room s shaped stands at =
+  runs-set_written in_ranges mode x label known e typed room s shaped stands at =
       let h = home_of f x in
       let l = label_of (context_of f.decls) (Variable x) in
       let value = evaluated f.decls store e in
       let before = accesses f store e in
       let q = operand f e in
       let v = operand_register q 0 in
-      let write = write_code (register_for f x) l mode h v in
+      let write = write_code f.reduces (register_for f x) l mode h v in
       let Done : State → Type 0 =
       Assigns f (by_mode mode (with_word store (variable_number f.decls x) 0 value) store) in
       runs-append s (operand_part q (expr_code f mode 0 e)) write (seen_of_all mode s.banks s.slots before) []
@@ -138,12 +206,35 @@ module _ (o : Parts) (fits : IsInRange o) (f : Setting) (homes : HasHomes o f) (
       runs-written mode x label known l v (operand-apart f e q (λ r held. held) 0) value t shape leaves.stands leaves.value
       (register_for f x) refl at')
 
+  -- an assignment to a scalar
+  pub runs-set_variable : AreWithin f.ranges store → (mode : Mode) (x : List ℕ) (label : Label)
+      → context_of f.decls x ≡ Some (label, Scalar) → (e : Tree) → TypedTree (context_of f.decls) e → height_of e ≤ 17
+      → (s : State) → IsShaped o s → StandsFor f s store → StandsAt o s.place (set_code f mode (SetVariable x e))
+      → RunsThrough o s (set_code f mode (SetVariable x e)) (seen_of_set f mode s.banks s.slots store (SetVariable x e))
+      (Assigns f (by_mode mode (assigned f.decls (SetVariable x e) store) store))
+  runs-set_variable in_ranges mode x label known e typed room s shaped stands = by (straight f x e) refl
+    where
+      by : (found : Option ℕ) → straight f x e ≡ found → StandsAt o s.place (scalar_set found f mode x e)
+          → RunsThrough o s (scalar_set found f mode x e) (seen_of_set f mode s.banks s.slots store (SetVariable x e))
+          (Assigns f (by_mode mode (assigned f.decls (SetVariable x e) store) store))
+      by None is at = runs-set_written in_ranges mode x label known e typed room s shaped stands at
+      by (Some r) is at =
+          straight-by f x e r is
+          (λ t. TypedTree (context_of f.decls) t → height_of t ≤ 17
+          → StandsAt o s.place (straight_code f mode (target mode r) t)
+          → RunsThrough o s (straight_code f mode (target mode r) t)
+          (seen_of_set f mode s.banks s.slots store (SetVariable x t))
+          (Assigns f (by_mode mode (assigned f.decls (SetVariable x t) store) store)))
+          (λ op a b straight_is typed_value low at_value.
+          runs-straight in_ranges mode x label known r straight_is.held op a b typed_value low s shaped stands at_value)
+          typed room at
+
   -- the same where the array is resident or isn't
   runs-set_by : AreWithin f.ranges store → (mode : Mode) (x : List ℕ) (label : Label) → context_of f.decls x ≡ Some (label, Array)
       → (i e : Tree) → TypedTree (context_of f.decls) i → TypedTree (context_of f.decls) e → 1 + height_of i ≤ 17
       → height_of e ≤ 17 → (s : State) → IsShaped o s → StandsFor f s store
       → (way : Numbering) (resident : Bool) (from : ℕ) (index : List Instr) → from ≢ 2
-      → FitsNumbering way 1 from (evaluated f.decls store i) (home_of f x).length
+      → FitsNumbering way (home_of f x) 1 from (evaluated f.decls store i)
       → ((t : State) → IsShaped o t → StandsFor f t store → RunsValue o f store mode 1 from i index t)
       → (home_of f x).resident ≡ resident
       → StandsAt o s.place
@@ -231,7 +322,7 @@ module _ (o : Parts) (fits : IsInRange o) (f : Setting) (homes : HasHomes o f) (
       let apart = operand-apart f e q (λ r held. held) 0 in
       let first = operand_part q (expr_code f mode 0 e) in
       let access = access_by false way f mode h 1 from (fixed_index h i) index_code in
-      let store_word = store_code mode h.slot v in
+      let store_word = store_code f.reduces mode h.slot v in
       let store_block = Stb h.slot in
       let seen_first = seen_of_all mode s.banks s.slots before in
       let seen_then = seen_of_all mode s.banks (slots_after s.banks s.slots before) then in
@@ -265,7 +356,7 @@ module _ (o : Parts) (fits : IsInRange o) (f : Setting) (homes : HasHomes o f) (
       let written = words_written mode words (n % block_words o) value in
       let found = Bound h.bank b written in
       runs-append u store_word (store_block ∷ []) [] write (Binds h.slot found u) Done at''
-      (runs-store o fits mode h.slot v h.bank b n words value u shape' held
+      (runs-store o fits f.reduces mode h.slot v h.bank b n words value u shape' held
       (operand-stays f store e q (λ r held'. held') 0 t u leaves.stands accessed.leaves.stands
       (λ r under. accessed.leaves.below r (omega arith)) ∙ leaves.value)
       (apart.apart 2 (omega arith) (omega arith)) accessed.leaves.value)
@@ -316,11 +407,11 @@ module _ (o : Parts) (fits : IsInRange o) (f : Setting) (homes : HasHomes o f) (
       (Assigns f (by_mode mode (assigned f.decls (SetElement x i e) store) store))
   runs-set_element in_ranges mode x label known i e typed_index typed room_index room s shaped stands at =
       let way = numbering f mode (home_of f x) i in
-      let q = index_operand f way i in
-      let apart = operand-apart f i q (operand-unless f i (is_in_place way)) 1 in
+      let q = index_operand f way (home_of f x) i in
+      let apart = operand-apart f i q (operand-unless f i (is_in_place (home_of f x) way)) 1 in
       runs-set_by in_ranges mode x label known i e typed_index typed room_index room s shaped stands way (home_of f x).resident
       (operand_register q 1) (operand_part q (expr_code f mode 1 i)) (apart.apart 2 (omega arith) (omega arith))
       (fits-numbering f store in_ranges mode (home_of f x) i 1)
-      (λ t shape stands'. runs-operand o f store mode i q (operand-unless f i (is_in_place way)) 1 t shape stands'
+      (λ t shape stands'. runs-operand o f store mode i q (operand-unless f i (is_in_place (home_of f x) way)) 1 t shape stands'
       (runs-expression o fits f homes store store_fits in_ranges mode i typed_index 1 room_index t shape stands'))
       refl at

@@ -68,17 +68,19 @@ pub read-short : (f : Setting) (h : Home) (fixed : Option ℤ) (to : ℕ)
 read-short f h fixed to = read_by-short h.resident f h fixed to
 
 -- a store two at most if one slot has the word
-pub store_short : (mode : Mode) (slot value : ℕ)
-    → (1 ≤ length (store_code mode slot value)) × (length (store_code mode slot value) ≤ 2)
-store_short Public slot value = (omega arith, omega arith)
-store_short Real slot value = (omega arith, omega arith)
-store_short Mirrored slot value = (omega arith, omega arith)
+pub store_short : (once : Bool) (mode : Mode) (slot value : ℕ)
+    → (1 ≤ length (store_code once mode slot value)) × (length (store_code once mode slot value) ≤ 2)
+store_short once Public slot value = (omega arith, omega arith)
+store_short false Real slot value = (omega arith, omega arith)
+store_short true Real slot value = (omega arith, omega arith)
+store_short false Mirrored slot value = (omega arith, omega arith)
+store_short true Mirrored slot value = (omega arith, omega arith)
 
 -- and 44 at most with the store of the block
 among-short : (f : Setting) (mode : Mode) (slot value : ℕ) (more : List ℕ) → length more ≤ 4
     → (1 ≤ length (stored_among f mode slot more value)) × (length (stored_among f mode slot more value) ≤ 44)
 among-short f mode slot value [] few =
-    let store = store_short mode slot value in (store.0, omega (arith, store.1))
+    let store = store_short f.reduces mode slot value in (store.0, omega (arith, store.1))
 among-short f mode slot value (next ∷ more) few =
     let code = selected_write-short (effect_of mode) (words_a_block f) value slot (next ∷ more) 1 in
     (code.0, omega (arith, code.1, few))
@@ -86,11 +88,11 @@ among-short f mode slot value (next ∷ more) few =
 stored_by-short : (resident : Bool) (f : Setting) (mode : Mode) (h : Home) (fixed : Option ℤ) (value : ℕ)
     → (1 ≤ length (stored_by resident f mode h fixed value)) × (length (stored_by resident f mode h fixed value) ≤ 44)
 stored_by-short false f mode h fixed value =
-    let store = store_short mode h.slot value in
-    let whole = length-append (store_code mode h.slot value) (Stb h.slot ∷ []) in
+    let store = store_short f.reduces mode h.slot value in
+    let whole = length-append (store_code f.reduces mode h.slot value) (Stb h.slot ∷ []) in
     (omega (arith, store.0, whole), omega (arith, store.1, whole))
 stored_by-short true f mode h (Some z) value =
-    let store = store_short mode (slot_of_word f h (h.word + fixed_word h z)) value in
+    let store = store_short f.reduces mode (slot_of_word f h (h.word + fixed_word h z)) value in
     (store.0, omega (arith, store.1))
 stored_by-short true f mode h None value = among-short f mode h.slot value (further_slots h) (few-further h)
 

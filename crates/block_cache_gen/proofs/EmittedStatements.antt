@@ -1,46 +1,56 @@
 -- What is appended for guards and assignments, by their parts.
-use Rattle.std.proofs.Common.{Option, ◌≡◌, ℕ, ◌+◌, ◌*◌, ◌≤◌, List, ◌++◌, length, ap, ◌∙◌, subst, arith}
+use Rattle.std.proofs.Common.{Option, ◌≡◌, ℕ, ◌+◌, ◌*◌, ◌≤◌, List, ◌++◌, length, ap, ◌∙◌, subst, arith, [], ◌∷◌}
 use Rattle.gr_word.specs.declared.variables.Label.{Label}
 use Rattle.lt_isa.specs.Limits.{most_instructions}
 use Rattle.src_tree.specs.Contexts.{context_of}
-use Rattle.src_tree.specs.Labels.{label_at, label_of}
+use Rattle.src_tree.specs.Labels.{label_of}
 use Rattle.src_tree.specs.Limits.{tree_weight}
-use Rattle.src_tree.specs.Trees.{Tree, SetVariable, SetElement}
+use Rattle.src_tree.specs.Trees.{Tree, SetElement, Operation}
 use Rattle.block_cache_gen.specs.declared.frames.CodeBuf.{CodeBuf}
 use Rattle.block_cache_gen.specs.declared.frames.Mode.{Mode}
 use Rattle.block_cache_gen.specs.declared.frames.Mode.TheVariants.{Public}
-use Rattle.block_cache_gen.specs.Homes.{Home, Setting, home_of, register_for}
-use Rattle.block_cache_gen.specs.Codes.{indexed_code, numbering, operand, operand_part, operand_register, expr_code, fixed_index, stored_code, write_code}
+use Rattle.block_cache_gen.specs.Homes.{Home, Setting, home_of}
+use Rattle.block_cache_gen.specs.Codes.{indexed_code, numbering, operand, operand_part, operand_register, expr_code, fixed_index, stored_code}
 use Rattle.block_cache_gen.specs.Notes.{expr_notes, operand_mask, base_mask}
-use Rattle.block_cache_gen.specs.Emitted.{Appended, no_notes, notes_in, access_notes, EmitsOperand, EmitsAccess, EmitsSet}
+use Rattle.block_cache_gen.specs.Emitted.{Appended, no_notes, notes_in, access_notes, EmitsOperand, EmitsAccess, EmitsSet, EmitsStraight}
 use Rattle.block_cache_gen.proofs.Emitting.{silent_behind}
 use Rattle.block_cache_gen.proofs.EmittedTrees.{operand_then, room_for_right}
+use Rattle.gr_word.specs.declared.operations.Op.{Op}
+use Rattle.lt_isa.specs.declared.instructions.Instr.TheVariants.{Alu}
 
 -- what was made with the mask between statements
 pub with_base : (f : Setting) (mode : Mode) (q : Option ℕ) (e : Tree) (to base : ℕ) (a b : CodeBuf) → base ≡ base_mask f
     → EmitsOperand f mode base to q e a b → EmitsOperand f mode (base_mask f) to q e a b
 with_base f mode q e to base a b is emits = subst (λ m. EmitsOperand f mode m to q e a b) is emits
 
--- the pieces of an assignment to a variable are its code
-pub variable_set : (f : Setting) (mode : Mode) (x y : List ℕ) (e : Tree) (h : Home) (held q : Option ℕ) (label : Label)
-    (value : ℕ) (a b d : CodeBuf)
-    → y ≡ x → h ≡ home_of f y → held ≡ register_for f y → label ≡ label_at (context_of f.decls) y
-    → q ≡ operand f e → value ≡ operand_register q 0
-    → EmitsOperand f mode (base_mask f) 0 q e a b → Appended b d (write_code held label mode h value) no_notes
-    → EmitsSet f mode (SetVariable x e) a d
-variable_set f mode x y e h held q label value a b d same home register is_label is_q is_value emits write =
-    let P : Home → Option ℕ → Label → Option ℕ → ℕ → Type 0 = λ k r l p v. Appended a d
-    (operand_part p (expr_code f mode 0 e) ++ write_code r l mode k v)
-    (λ place. notes_in mode (operand_part p (expr_notes f (base_mask f) 0 place e))) in
-    let Q : Home → Option ℕ → Label → Type 0 = λ k r l. P k r l (operand f e) (operand_register (operand f e) 0) in
-    subst (λ n. Q (home_of f n) (register_for f n) (label_at (context_of f.decls) n)) same
-    (subst (Q (home_of f y) (register_for f y)) is_label
-    (subst (λ r. Q (home_of f y) r label) register
-    (subst (λ k. Q k held label) home
-    (subst (λ p. P h held label p (operand_register p 0)) is_q
-    (subst (P h held label q) is_value
-    (silent_behind a b d (operand_part q (expr_code f mode 0 e)) (write_code held label mode h value)
-    (λ place. notes_in mode (operand_part q (expr_notes f (base_mask f) 0 place e))) emits write))))))
+-- the pieces of an operation whose result is left in the register of a scalar
+pub straight_emitted : (f : Setting) (mode : Mode) (to : ℕ) (op : Op) (l r : Tree) (q p : Option ℕ) (label : Label)
+    (left right base other : ℕ) (a b c d : CodeBuf)
+    → q ≡ operand f l → p ≡ operand f r → left ≡ operand_register q 0 → right ≡ operand_register p 1
+    → base ≡ base_mask f → label ≡ label_of (context_of f.decls) l → other ≡ operand_mask q label base 0
+    → EmitsOperand f mode base 0 q l a b → EmitsOperand f mode other 1 p r b c
+    → Appended c d (Alu op to left right ∷ []) no_notes → EmitsStraight f mode to (Operation op l r) a d
+straight_emitted f mode to op l r q p label left right base other a b c d is_q is_p is_left is_right is_base is_label is_other
+    first second last =
+    let P : Option ℕ → Option ℕ → ℕ → ℕ → ℕ → ℕ → Type 0 = λ q p ra rb m n. Appended a d
+    (operand_part q (expr_code f mode 0 l) ++ (operand_part p (expr_code f mode 1 r) ++ Alu op to ra rb ∷ []))
+    (λ place. notes_in mode
+    (operand_part q (expr_notes f m 0 place l)
+    ++ operand_part p (expr_notes f n 1 (place + length (operand_part q (expr_code f Public 0 l))) r))) in
+    let own = label_of (context_of f.decls) l in
+    let mask = base_mask f in
+    subst (λ p. P (operand f l) p (operand_register (operand f l) 0) (operand_register p 1) mask
+    (operand_mask (operand f l) own mask 0)) is_p
+    (subst (λ q. P q p (operand_register q 0) (operand_register p 1) mask (operand_mask q own mask 0)) is_q
+    (subst (λ m. P q p (operand_register q 0) (operand_register p 1) m (operand_mask q own m 0)) is_base
+    (subst (λ k. P q p (operand_register q 0) (operand_register p 1) base (operand_mask q k base 0)) is_label
+    (subst (P q p (operand_register q 0) (operand_register p 1) base) is_other
+    (subst (λ rb. P q p (operand_register q 0) rb base other) is_right
+    (subst (λ ra. P q p ra right base other) is_left
+    (operand_then f mode base 0 q l (operand_part p (expr_code f mode 1 r) ++ Alu op to left right ∷ [])
+    (λ place. operand_part p (expr_notes f other 1 place r)) a b d first
+    (silent_behind b c d (operand_part p (expr_code f mode 1 r)) (Alu op to left right ∷ [])
+    (λ place. notes_in mode (operand_part p (expr_notes f other 1 place r))) second last))))))))
 
 -- the pieces of an assignment to an element are its code
 pub element_set : (f : Setting) (mode : Mode) (x y : List ℕ) (i e : Tree) (h : Home) (label : Label) (q : Option ℕ)

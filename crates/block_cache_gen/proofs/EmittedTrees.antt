@@ -22,19 +22,19 @@ use Rattle.block_cache_gen.specs.declared.indexes.Numbering.{Numbering}
 use Rattle.block_cache_gen.specs.declared.indexes.Numbering.TheVariants.{Reduced}
 use Rattle.block_cache_gen.specs.declared.frames.Mode.TheVariants.{Public, Real, Mirrored}
 use Rattle.block_cache_gen.specs.Homes.{Home, Setting, home_of}
-use Rattle.block_cache_gen.specs.Codes.{access_by, applied_code, found_by, is_cached, is_within_home, numbering, numbering_by, compared_code, least_word, numbered_code, offset_code, shift_code, fixed_code, load_code, skips, access_code, indexed_code, index_operand, fixed_index, operand, operand_part, operand_register, left_operand, operation_code, steps_at, expr_code, read_code}
+use Rattle.block_cache_gen.specs.Codes.{access_by, applied_code, found_by, is_cached, is_within_home, numbering, numbering_by, compared_code, least_word, numbered_code, numbered_register, offset_code, shift_code, fixed_code, load_code, skips, access_code, indexed_code, index_operand, fixed_index, operand, operand_part, operand_register, left_operand, operation_code, steps_at, expr_code, read_code}
 use Rattle.strength_reduction.specs.Steps.{Step, code_of}
 use Rattle.block_cache_gen.specs.Notes.{expr_notes, operand_mask, operation_notes, index_notes, compared_notes, loaded_notes, load_notes, access_mask, unmarked, note_of}
 use Rattle.block_cache_gen.specs.Emitted.{Appended, no_notes, notes_in, access_notes, OperationBy, EmitsOperation, EmitsOperand, EmitsExpr, EmitsAccess, EmitsFound}
 use Rattle.block_cache_gen.proofs.Emitting.{appended_then, appended_as, appended_length, silent_behind, silent_before, notes_both, notes_by}
 use Rattle.block_cache_gen.proofs.HeldOperands.{operand-short}
-use Rattle.block_cache_gen.proofs.Sizes.{expr_code_short}
+use Rattle.block_cache_gen.proofs.Sizes.{expr_code_short, offset_length}
 
 -- an access, by what is known of its index
 abbrev pub AccessBy : Setting → Mode → (way : Numbering) → Home → (mask to : ℕ) → Tree → Option ℤ → CodeBuf → CodeBuf
     → Type 0
 AccessBy f mode way h mask to i fixed a c =
-    let q = index_operand f way i in
+    let q = index_operand f way h i in
     let from = operand_register q to in
     Appended a c (access_code way f mode h to from fixed (operand_part q (expr_code f mode to i)))
     (λ place. notes_in mode
@@ -69,7 +69,7 @@ access_as : (f : Setting) (mode : Mode) (h : Home) (mask to : ℕ) (i : Tree) (a
 access_as f mode h mask to i a c x =
     let code : List Instr = indexed_code f (numbering f mode h i) mode h to i (expr_code f mode to i) in
     let notes : ℕ → Numbering → List Note = λ place way.
-    index_notes (fixed_index h i) (operand_part (index_operand f way i) (expr_notes f mask to place i))
+    index_notes (fixed_index h i) (operand_part (index_operand f way h i) (expr_notes f mask to place i))
     ++ load_notes way (fixed_index h i) f h mask to
     (place + length (indexed_code f way Public h to i (expr_code f Public to i))) in
     appended_as a c code code (λ place. notes_in mode (notes place (numbering f mode h i)))
@@ -125,7 +125,7 @@ access_fixed f mode h mask to i z a c is x =
     access_as f mode h mask to i a c (subst P (sym is) (by h.resident x))
   where
     q : Option ℕ
-    q = index_operand f (numbering f mode h i) i
+    q = index_operand f (numbering f mode h i) h i
 
     by : (r : Bool)
         → Appended a c (access_by r Reduced f mode h to to (Some z) [])
@@ -165,12 +165,12 @@ operand_then f mode mask to q l code second a b c x y =
 
 -- the pieces of an access by any other index are its code
 pub access_worked : (f : Setting) (mode : Mode) (h : Home) (mask to : ℕ) (i : Tree) (a b c : CodeBuf)
-    → fixed_index h i ≡ None → EmitsOperand f mode mask to (index_operand f (numbering f mode h i) i) i a b
+    → fixed_index h i ≡ None → EmitsOperand f mode mask to (index_operand f (numbering f mode h i) h i) i a b
     → EmitsFound f mode h mask to i b c → EmitsAccess f mode h mask to i a c
 access_worked f mode h mask to i a b c is x y =
     let P : Option ℤ → Type 0 = λ fixed. AccessBy f mode (numbering f mode h i) h mask to i fixed a c in
     access_as f mode h mask to i a c
-    (subst P (sym is) (by h.resident (numbering f mode h i) (index_operand f (numbering f mode h i) i) x y))
+    (subst P (sym is) (by h.resident (numbering f mode h i) (index_operand f (numbering f mode h i) h i) x y))
   where
     by : (r : Bool) (way : Numbering) (q : Option ℕ) → EmitsOperand f mode mask to q i a b
         → Appended b c (found_by r way f mode h to (operand_register q to))
@@ -257,15 +257,18 @@ shift_appended f h to log block a b c is_log is_block x y =
 
 -- what follows the code of the index of a resident array
 pub found_placed : (f : Setting) (mode : Mode) (h : Home) (mask to from : ℕ) (i : Tree) (b c : CodeBuf)
-    → from ≡ operand_register (index_operand f (numbering f mode h i) i) to → h.resident ≡ true
-    → Appended b c (numbered_code (numbering f mode h i) f h to from ++ offset_code f h to)
+    → from ≡ operand_register (index_operand f (numbering f mode h i) h i) to → h.resident ≡ true
+    → Appended b c (numbered_code (numbering f mode h i) f h to from
+    ++ offset_code f h to (numbered_register (numbering f mode h i) to from))
     (λ place. compared_notes (numbering f mode h i) None f mask to
     (place + length (numbered_code (numbering f mode h i) f h to from)))
     → EmitsFound f mode h mask to i b c
 found_placed f mode h mask to from i b c same is x =
     let way = numbering f mode h i in
     let number : List Instr = numbered_code way f h to from in
-    let offset : List Instr = offset_code f h to in
+    let own = numbered_register way to from in
+    let offset : List Instr = offset_code f h to own in
+    let shorter : List Instr = offset_code f h to to in
     let R : ℕ → Type 0 = λ own. Appended b c (found_by h.resident way f mode h to own)
     (λ place. notes_in mode
     (loaded_notes h.resident way None f h mask to
@@ -277,19 +280,20 @@ found_placed f mode h mask to from i b c same is x =
     (subst P (sym is)
     (appended_as b c (number ++ offset) (number ++ offset)
     (λ place. compared_notes way None f mask to (place + length number))
-    (λ place. notes_in mode (compared_notes way None f mask to (place + length (number ++ offset) - length offset)))
+    (λ place. notes_in mode (compared_notes way None f mask to (place + length (number ++ offset) - length shorter)))
     refl
     (λ place.
-    ap (compared_notes way None f mask to) (before place number offset)
-    ∙ compared_in mode f h i mask to (place + length (number ++ offset) - length offset))
+    ap (compared_notes way None f mask to) (before place number offset shorter (offset_length f h to own))
+    ∙ compared_in mode f h i mask to (place + length (number ++ offset) - length shorter))
     x))
   where
-    before : (place : ℕ) (xs ys : List Instr) → place + length xs ≡ place + length (xs ++ ys) - length ys
-    before place xs ys = let size = length-append xs ys in omega arith
+    before : (place : ℕ) (xs ys zs : List Instr) → length ys ≡ length zs
+        → place + length xs ≡ place + length (xs ++ ys) - length zs
+    before place xs ys zs same = let size = length-append xs ys in omega arith
 
 -- what follows the code of any other index
 pub found_loaded : (f : Setting) (mode : Mode) (h : Home) (mask to from : ℕ) (i : Tree) (b c d : CodeBuf)
-    → from ≡ operand_register (index_operand f (numbering f mode h i) i) to → h.resident ≡ false
+    → from ≡ operand_register (index_operand f (numbering f mode h i) h i) to → h.resident ≡ false
     → Appended b c (numbered_code (numbering f mode h i) f h to from ++ shift_code f h to)
     (λ place. compared_notes (numbering f mode h i) None f mask to
     (place + length (numbered_code (numbering f mode h i) f h to from)))

@@ -139,7 +139,7 @@ module _ (o : Parts) (fits : IsInRange o) (f : Setting) (homes : HasHomes o f) (
       → (to from : ℕ) (index : List Instr) → to + 3 < 19 → from ≢ to + 1 → (s : State) → IsShaped o s
       → StandsFor f s store → RunsValue o f store mode to from i index s
       → (way : Numbering) (resident : Bool)
-      → FitsNumbering way to from (evaluated f.decls store i) (home_of f x).length → (home_of f x).resident ≡ resident
+      → FitsNumbering way (home_of f x) to from (evaluated f.decls store i) → (home_of f x).resident ≡ resident
       → StandsAt o s.place
       (access_by resident way f mode (home_of f x) to from (fixed_index (home_of f x) i) index
       ++ read_by resident f (home_of f x) (fixed_index (home_of f x) i) to)
@@ -377,12 +377,12 @@ module _ (o : Parts) (fits : IsInRange o) (f : Setting) (homes : HasHomes o f) (
       runs-scalar x typed.0 typed.1 to (omega arith) s shaped stands (register_for f x) refl at
   runs-expression within mode (Element x i) typed to room s shaped stands at =
       let way = numbering f mode (home_of f x) i in
-      let q = index_operand f way i in
+      let q = index_operand f way (home_of f x) i in
       let low : to + 3 < 19 = omega (arith, height-some i) in
-      let apart = operand-apart f i q (operand-unless f i (is_in_place way)) to in
+      let apart = operand-apart f i q (operand-unless f i (is_in_place (home_of f x) way)) to in
       runs-element mode x i typed.0.0 typed.0.1 to (operand_register q to) (operand_part q (expr_code f mode to i)) low
       (apart.apart (to + 1) (omega arith) (omega arith)) s shaped stands
-      (runs-operand o f store mode i q (operand-unless f i (is_in_place way)) to s shaped stands
+      (runs-operand o f store mode i q (operand-unless f i (is_in_place (home_of f x) way)) to s shaped stands
       (runs-expression within mode i typed.1.0 to (omega arith) s shaped stands))
       way (home_of f x).resident (fits-numbering f store within mode (home_of f x) i to) refl at
   runs-expression within mode (Operation op left right) typed to room s shaped stands at =

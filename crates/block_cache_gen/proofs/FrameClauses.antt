@@ -21,15 +21,15 @@ use Rattle.block_cache_gen.specs.Codes.{may_skip_loads, expr_code, guard_code, s
 use Rattle.block_cache_gen.specs.Conditions.{IsStatementFor}
 use Rattle.block_cache_gen.specs.Emitted.{Appended, notes_in, EmitsExpr, EmitsGuard, EmitsSet}
 use Rattle.block_cache_gen.specs.Homes.{Setting}
-use Rattle.block_cache_gen.specs.InstructionsOf.{instructions_of_set}
+use Rattle.block_cache_gen.specs.InstructionsOf.{IsCodeOfSet}
 use Rattle.block_cache_gen.specs.Notes.{base_mask, expr_notes, guard_notes, set_notes}
 use Rattle.block_cache_gen.specs.PublicCode.{IsPassedAsExpr, IsPassedAsTest, IsPassedAsSet}
 use Rattle.block_cache_gen.specs.PublicIndexes.{HasPublicIndexes, TestHasPublicIndexes, SetHasPublicIndexes}
 use Rattle.block_cache_gen.specs.RunsOf.{Evaluates, EvaluatesTest, Performs}
 use Rattle.block_cache_gen.specs.SecretCode.{IsWalkedAsExpr, IsWalkedAsTest, IsWalkedAsSet}
 use Rattle.block_cache_gen.specs.Settings.{IsFrame, setting_of}
-use Rattle.block_cache_gen.specs.StoredWords.{stored_words, written_words, set_stores, registers_aside, set_writes}
-use Rattle.block_cache_gen.specs.Twins.{HasTwin, other_mode}
+use Rattle.block_cache_gen.specs.StoredWords.{stored_words, written_words, set_stores, mode_writes}
+use Rattle.block_cache_gen.specs.Twins.{AreTwins, HasTwin, other_mode}
 use Rattle.block_cache_gen.proofs.WrittenWords.{set-writes}
 use Rattle.block_cache_gen.proofs.FrameIndexes.{frame_public, set_of_statement}
 use Rattle.src_tree.proofs.ProgramStatements.{statement_typed, statement_low}
@@ -38,7 +38,7 @@ use Rattle.block_cache_gen.proofs.PublicExpressions.{expression-passes}
 use Rattle.block_cache_gen.proofs.NoteClaims.{leaves-base}
 use Rattle.block_cache_gen.proofs.PublicGuards.{guard-passes}
 use Rattle.block_cache_gen.proofs.RunsOf.{expression-evaluates, guard-evaluates, assignment-performs}
-use Rattle.block_cache_gen.proofs.SecretCodes.{expr-stores, guard-stores, variable-stores, element-stores, set_code-aside}
+use Rattle.block_cache_gen.proofs.SecretCodes.{expr-stores, guard-stores, variable-stores, element-stores, set_code-mirrors}
 use Rattle.block_cache_gen.proofs.SecretWalks.{expr-walked, guard-walked, set-walked}
 
 -- the rest is what was appended
@@ -79,7 +79,7 @@ pub record ExprPromises (f : Setting) (mode : Mode) (to : ℕ) (e : Tree) (place
   pub runs : Evaluates f mode to e code
   pub passes : mode ≡ Public → IsPassedAsExpr f to e place code notes
   pub walked : ¬ (mode ≡ Public) → IsWalkedAsExpr f to e code
-  pub stores : stored_words code ≡ 0
+  pub stores : stored_words f.reduces code ≡ 0
 
 -- what was appended for an expression does what is promised
 pub frame-expr_promises : (f : Frame) (s : Setting) (mode : Mode) (to : ℕ) (e : Tree) (a b : CodeBuf) → IsFrame f
@@ -100,7 +100,7 @@ frame-expr_promises f s mode to e a b is same typed public low x =
           λ m. IsPassedAsExpr g to e place (expr_code g m to e) (notes_in m (expr_notes g (base_mask g) to place e)) in
           subst P (sym public_mode) (expr-passed g is.typed.once to e typed public low place);
       walked = λ secret. expr-walked g mode (secret_mode mode secret) to e typed public low;
-      stores = expr-stores g mode to e;
+      stores = expr-stores g.reduces g mode to e;
     })
 
 -- The clauses for those of a guard.
@@ -109,7 +109,7 @@ pub record TestPromises (f : Setting) (mode : Mode) (to : ℕ) (t : Test) (place
   pub runs : EvaluatesTest f mode to t code
   pub passes : mode ≡ Public → IsPassedAsTest f to t place code notes
   pub walked : ¬ (mode ≡ Public) → IsWalkedAsTest f to t code
-  pub stores : stored_words code ≡ 0
+  pub stores : stored_words f.reduces code ≡ 0
 
 -- and what was appended for a guard
 pub frame-test_promises : (f : Frame) (s : Setting) (mode : Mode) (to : ℕ) (t : Test) (a b : CodeBuf) → IsFrame f
@@ -132,7 +132,7 @@ frame-test_promises f s mode to t a b is same typed public low lower x =
           (λ o comes holds homes stands here carries.
           guard-passes o g homes is.typed.once t typed public to place comes holds low lower stands here carries);
       walked = λ secret. guard-walked g mode (secret_mode mode secret) to t typed public low lower;
-      stores = guard-stores g mode to t;
+      stores = guard-stores g.reduces g mode to t;
     })
 
 -- The clauses for those of an assignment.
@@ -141,13 +141,13 @@ pub record SetPromises (f : Setting) (mode : Mode) (t : Statement) (place : ℕ)
   pub runs : Performs f mode t code
   pub passes : mode ≡ Public → IsPassedAsSet f place code notes
   pub walked : ¬ (mode ≡ Public) → IsWalkedAsSet f t code
-  pub stores : stored_words code ≡ set_stores f t
-  pub writes : written_words code ≡ set_writes f t
-  pub instructions : ¬ (mode ≡ Public) → registers_aside code ≡ instructions_of_set f t
+  pub stores : stored_words f.reduces code ≡ set_stores f t
+  pub writes : written_words f.reduces code ≡ mode_writes mode f t
+  pub instructions : IsCodeOfSet f mode t code
   pub twin : ¬ (mode ≡ Public) → HasTwin f mode t code
 
 set-stores : (f : Setting) (mode : Mode) (t : Statement) → IsAssignment t
-    → stored_words (set_code f mode t) ≡ set_stores f t
+    → stored_words f.reduces (set_code f mode t) ≡ set_stores f t
 set-stores f mode (SetVariable x e) is = variable-stores f mode x e
 set-stores f mode (SetElement x i e) is = element-stores f mode x i e
 set-stores f mode (Choice t a b) is = absurd is
@@ -164,18 +164,17 @@ set-passed f once code (SetElement x i e) is typed public low place o comes hold
 set-passed f once code (Choice t a b) is typed public low place o comes holds homes stands here carries = absurd is
 set-passed f once code (Loop t a) is typed public low place o comes holds homes stands here carries = absurd is
 
-own-aside : (f : Setting) → IsSoundHeld f.decls f.held → (mode : Mode) (t : Statement)
-    → ¬ (mode ≡ Public) → registers_aside (set_code f mode t) ≡ instructions_of_set f t
-own-aside f sound Public t secret = absurd (secret refl)
-own-aside f sound Real t secret = refl
-own-aside f sound Mirrored t secret = sym (set_code-aside f sound t)
+own-code : (f : Setting) → IsSoundHeld f.decls f.held → (mode : Mode) (t : Statement)
+    → IsCodeOfSet f mode t (set_code f mode t)
+own-code f sound Public t = tt
+own-code f sound Real t = refl
+own-code f sound Mirrored t = set_code-mirrors f sound t
 
-other-aside : (f : Setting) → IsSoundHeld f.decls f.held → (mode : Mode) (t : Statement)
-    → ¬ (mode ≡ Public)
-    → registers_aside (set_code f (other_mode mode) t) ≡ registers_aside (set_code f mode t)
-other-aside f sound Public t secret = absurd (secret refl)
-other-aside f sound Real t secret = sym (set_code-aside f sound t)
-other-aside f sound Mirrored t secret = set_code-aside f sound t
+are-twins : (f : Setting) → IsSoundHeld f.decls f.held → (mode : Mode) (t : Statement)
+    → AreTwins f.reduces mode (set_code f mode t) (set_code f (other_mode mode) t)
+are-twins f sound Public t = refl
+are-twins f sound Real t = set_code-mirrors f sound t
+are-twins f sound Mirrored t = set_code-mirrors f sound t
 
 -- an assignment for which secret code is made is in secret code
 secret_code : (p : Source) (mode : Mode) (t : Statement) (stands : IsStatementFor p mode t) → ¬ (mode ≡ Public)
@@ -209,10 +208,10 @@ frame-set_promises f s mode t a b is same assigns stands x =
       walked = λ secret. set-walked g mode (secret_mode mode secret) t (inside secret) public low;
       stores = set-stores g mode t assigns;
       writes = set-writes g is.held mode t assigns low;
-      instructions = own-aside g is.held mode t;
+      instructions = own-code g is.held mode t;
       twin = λ secret. record {
         twin = set_code g (other_mode mode) t;
-        same = other-aside g is.held mode t secret;
+        same = are-twins g is.held mode t;
         performs = assignment-performs g (other_mode mode) stands.code t assigns typed low;
         walked = set-walked g (other_mode mode) (other_secret mode secret) t (inside secret) public low;
       };

@@ -1,5 +1,6 @@
 -- What an object that has homes says of them: its blocks' sizes, the slots, and the blocks in which elements are.
-use Rattle.std.proofs.Common.{◌≡◌, ◌≢◌, Bool, true, false, Option, Some, None, ℕ, ◌+◌, ◌*◌, ◌/◌, ◌%◌, ◌^◌, ◌<◌, ◌≤◌, ◌⊎◌, inl, inr, refl, sym, ap, ◌∙◌, subst, ⊎_elim, arith, mul-le-mul_right, add-mul, div-add-mod', pow_pos, mod-lt}
+use Rattle.std.proofs.Common.{◌≡◌, ◌≢◌, not, ◌&&◌, ◌==◌, Bool, true, false, Option, Some, None, ℕ, ◌+◌, ◌*◌, ◌/◌, ◌%◌, ◌^◌, ◌<◌, ◌≤◌, ◌⊎◌, inl, inr, refl, sym, ap, ◌∙◌, subst, ⊎_elim, arith, mul-le-mul_right, add-mul, div-add-mod', pow_pos, mod-lt}
+use Rattle.std.proofs.Math.Bool.{and-false}
 use Rattle.std.proofs.lemmas.Bool.{cases_lt, lt-ltb, ltb-true}
 use Rattle.std.specs.Prelude.{nat_lt, if◌then◌else◌, List, ◌↔◌}
 use Rattle.std.proofs.lemmas.Nat.{div-mul-add, mod-mul-add}
@@ -12,9 +13,14 @@ use Rattle.bank_alloc.specs.Apart.{scalar_bank}
 use Rattle.lt_isa.specs.Object.{Parts, block_words, blocks_of}
 use Rattle.lt_isa.specs.Ranges.{IsInRange, ProfileFits}
 use Rattle.lt_isa.proofs.Cycles.{blocks-most}
+use Rattle.block_cache_gen.specs.Codes.{has_offset}
 use Rattle.block_cache_gen.specs.Homes.{Home, Setting, HasHomes, Pin, home_of, pin_at, IsArrayHome, Serves, PlainSlot, EncryptedSlot, ObliviousSlot, words_a_block, start_of_home}
 use Rattle.block_cache_gen.specs.StandsFor.{IsBlockOf}
 use Rattle.block_cache_gen.specs.PublicIndexes.{shows_index}
+
+-- an array that begins its block
+pub offset-none : (h : Home) → (h.word == 0) ≡ true → has_offset h ≡ false
+offset-none h begins = ap (λ (b : Bool). h.resident && not b) begins ∙ and-false h.resident
 
 -- the words of a block, as the object and as the setting say them
 pub block_words-is : {o : Parts} {f : Setting} → HasHomes o f → block_words o ≡ words_a_block f

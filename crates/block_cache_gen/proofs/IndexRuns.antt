@@ -1,5 +1,5 @@
 -- Runs of the code that finds the word of an element and its block.
-use Rattle.std.proofs.Common.{◌≡◌, ◌≢◌, ℕ, zero, suc, ◌+◌, ◌-◌, ◌/◌, ◌%◌, ◌^◌, ◌<◌, ◌≤◌, true, Bool, false, ◌==◌, ◌&&◌, eqb-true, ℤ, pos, ◌+ℤ◌, [], ◌∷◌, ◌++◌, length, Option, Some, None, refl, sym, ap, ◌∙◌, subst, ⊎_elim, arith}
+use Rattle.std.proofs.Common.{◌≡◌, ◌≢◌, ℕ, zero, suc, ◌+◌, ◌-◌, ◌/◌, ◌%◌, ◌^◌, ◌<◌, ◌≤◌, true, Bool, false, not, ◌==◌, ◌&&◌, eqb-true, ℤ, pos, ◌+ℤ◌, [], ◌∷◌, ◌++◌, length, Option, Some, None, refl, sym, ap, ◌∙◌, subst, ⊎_elim, arith}
 use Rattle.std.specs.Prelude.{if◌then◌else◌}
 use Rattle.std.specs.List.{range_with_len, list_any}
 use Rattle.std.proofs.lemmas.Bool.{or_cases, and_parts, false≢true}
@@ -32,7 +32,8 @@ use Rattle.block_cache_gen.specs.declared.indexes.Numbering.TheVariants.{Compare
 use Rattle.block_cache_gen.specs.Homes.{Home, Setting}
 use Rattle.block_cache_gen.specs.StandsFor.{StandsFor}
 use Rattle.block_cache_gen.proofs.Stands.{stands-like}
-use Rattle.block_cache_gen.specs.Codes.{is_power, is_masked, is_cached, is_in_place, is_within_home, index_operand, numbering, numbering_by, compares, operand, operand_unless, operand_part, operand_register, held_number, applied_code, reducing, reducer, reduced_code, least_word, compared_code, numbered_code, shift_code, fixed_code, fixed_word}
+use Rattle.block_cache_gen.specs.Codes.{numbered_register, is_power, is_masked, is_cached, is_in_place, is_within_home, index_operand, numbering, numbering_by, compares, operand, operand_unless, operand_part, operand_register, held_number, applied_code, reducing, reducer, reduced_code, least_word, compared_code, numbered_code, shift_code, fixed_code, fixed_word}
+use Rattle.block_cache_gen.proofs.HomeFacts.{offset-none}
 use Rattle.block_cache_gen.proofs.NearIndexes.{near-index, own-remainder}
 use Rattle.block_cache_gen.proofs.Kept.{Keeps, keeps-set, keeps-on, keeps-lower}
 use Rattle.block_cache_gen.proofs.OperandRuns.{runs-nothing}
@@ -44,16 +45,37 @@ pub record Locates (to n a : ℕ) (s t : State) : Type 0 where
   pub block : register t (to + 1) ≡ pos a
   pub keeps : Keeps to s t
 
--- only the word
-pub record Reduces (to n : ℕ) (s t : State) : Type 0 where
-  pub word : register t to ≡ pos n
+-- only the word, in a register
+pub record Numbers (at to n : ℕ) (s t : State) : Type 0 where
+  pub word : register t at ≡ pos n
   pub keeps : Keeps to s t
 
--- What a numbering asks of an index and its register: unless the index is reduced, it is in register `to`; and it is
--- below the size of its array if it is the number of the word.
-pub record FitsNumbering (n : Numbering) (to from : ℕ) (index : ℤ) (size : ℕ) : Type 0 where
-  pub own : is_in_place n ≡ true → from ≡ to
-  pub below : n ≡ Within → unsigned_of index < size
+abbrev pub Reduces : (to n : ℕ) (s t : State) → Type 0
+Reduces to n s t = Numbers to to n s t
+
+-- What a numbering asks of an index and its register: unless the index is reduced, or the number of the array's first
+-- word is added to it, it is in register `to`; and it is below the length of its array if it is the number of the word.
+pub record FitsNumbering (n : Numbering) (h : Home) (to from : ℕ) (index : ℤ) : Type 0 where
+  pub own : is_in_place h n ≡ true → from ≡ to
+  pub below : n ≡ Within → unsigned_of index < h.length
+
+-- the register that has the number of a word: of an array that isn't resident, or begins its block, it is `to`
+pub numbered-loaded : (n : Numbering) (h : Home) (to from : ℕ) (index : ℤ) → FitsNumbering n h to from index
+    → h.resident ≡ false → numbered_register n to from ≡ to
+numbered-loaded Compared h to from index by turn = refl
+numbered-loaded Reduced h to from index by turn = refl
+numbered-loaded Within h to from index by turn = by.own (ap (λ (b : Bool). not (b && not (h.word == 0))) turn)
+
+pub numbered-first : (n : Numbering) (h : Home) (to from : ℕ) (index : ℤ) → FitsNumbering n h to from index
+    → (h.word == 0) ≡ true → numbered_register n to from ≡ to
+numbered-first Compared h to from index by begins = refl
+numbered-first Reduced h to from index by begins = refl
+numbered-first Within h to from index by begins = by.own (ap not (offset-none h begins))
+
+pub numbered-apart : (n : Numbering) (to from : ℕ) → from ≢ to + 1 → numbered_register n to from ≢ to + 1
+numbered-apart Compared to from apart = λ e. absurd (omega (arith, e))
+numbered-apart Reduced to from apart = λ e. absurd (omega (arith, e))
+numbered-apart Within to from apart = apart
 
 within-of : (within compares : Bool) → numbering_by within compares ≡ Within → within ≡ true
 within-of true compares e = refl
@@ -62,8 +84,8 @@ within-of false false e = absurd (let g : ◌≡◌ {A = Numbering} Reduced With
 
 -- an index that is known to be below the length of its array is below it in each store that is within what is known
 pub fits-numbering : (f : Setting) (store : Store) → AreWithin f.ranges store → (mode : Mode) (h : Home) (i : Tree)
-    (to : ℕ) → FitsNumbering (numbering f mode h i) to
-    (operand_register (index_operand f (numbering f mode h i) i) to) (evaluated f.decls store i) h.length
+    (to : ℕ) → FitsNumbering (numbering f mode h i) h to
+    (operand_register (index_operand f (numbering f mode h i) h i) to) (evaluated f.decls store i)
 fits-numbering f store within mode h i to = record {
   own = λ e. ap (λ (b : Bool). operand_register (operand_unless b (operand f i)) to) e;
   below = λ e.
@@ -259,12 +281,12 @@ module _ (o : Parts) (fits : IsInRange o) (f : Setting) (store : Store) where
       below least most (compared Lt sum bound) test (near-index index h.length word (omega arith)) at3)))
 
   -- an index that is the number of the word
-  runs-within : (h : Home) (to : ℕ) (s : State) (index : ℤ) → IsShaped o s → register s to ≡ index
+  runs-within : (h : Home) (to from : ℕ) (s : State) (index : ℤ) → IsShaped o s → register s from ≡ index
       → h.length ≤ 1048576 → unsigned_of index < h.length
-      → RunsThrough o s [] [] (Reduces to (unsigned_of index % h.length) s)
-  runs-within h to s index shaped has most less =
-      let word : IsWord index = subst IsWord has (IsWord-register o s shaped to) in
-      runs-nothing s (Reduces to (unsigned_of index % h.length) s) shaped
+      → RunsThrough o s [] [] (Numbers from to (unsigned_of index % h.length) s)
+  runs-within h to from s index shaped has most less =
+      let word : IsWord index = subst IsWord has (IsWord-register o s shaped from) in
+      runs-nothing s (Numbers from to (unsigned_of index % h.length) s) shaped
       (record {
         word = has ∙ sym (own-remainder index h.length word (omega arith) less);
         keeps = record { below = λ r under. refl; above = λ r over. refl; slots = refl; banks = refl };
@@ -272,15 +294,16 @@ module _ (o : Parts) (fits : IsInRange o) (f : Setting) (store : Store) where
 
   -- by each numbering
   pub runs-numbered : (n : Numbering) (h : Home) (to from : ℕ) (s : State) (index : ℤ) → IsShaped o s
-      → StandsFor f s store → register s from ≡ index → from ≢ to + 1 → FitsNumbering n to from index h.length
+      → StandsFor f s store → register s from ≡ index → from ≢ to + 1 → FitsNumbering n h to from index
       → to + 2 < 19 → 1 ≤ h.length → h.length ≤ 1048576 → StandsAt o s.place (numbered_code n f h to from)
-      → RunsThrough o s (numbered_code n f h to from) [] (Reduces to (unsigned_of index % h.length) s)
+      → RunsThrough o s (numbered_code n f h to from) []
+      (Numbers (numbered_register n to from) to (unsigned_of index % h.length) s)
   runs-numbered Compared h to from s index shaped stands has other by below least most at =
       runs-compared h to s index shaped (ap (register s) (sym (by.own refl)) ∙ has) below least most at
   runs-numbered Reduced h to from s index shaped stands has other by below least most at =
       runs-reduced h to from s index shaped stands has other below least most at
   runs-numbered Within h to from s index shaped stands has other by below least most at =
-      runs-within h to s index shaped (ap (register s) (sym (by.own refl)) ∙ has) most (by.below refl)
+      runs-within h to from s index shaped has most (by.below refl)
 
   -- the block, from the word
   pub runs-block : (h : Home) (to : ℕ) (s : State) (word : ℕ) → IsShaped o s → StandsFor f s store

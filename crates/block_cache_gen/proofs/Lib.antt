@@ -16,6 +16,8 @@ pub mod Settled
 pub mod Stores
 pub mod Kept
 pub mod HeldScalars
+pub mod StraightCodes
+pub mod SecretTrees
 pub mod HeldOperands
 pub mod OperandRuns
 pub mod Stands

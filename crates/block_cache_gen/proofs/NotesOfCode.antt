@@ -8,11 +8,11 @@ use Rattle.src_tree.specs.Contexts.{context_of}
 use Rattle.src_tree.specs.Labels.{label_of}
 use Rattle.src_tree.specs.Trees.{Tree, Number, Variable, Element, Operation}
 use Rattle.stretches.proofs.Passed.{LieBetween, lie_wider, lie_both}
-use Rattle.block_cache_gen.specs.declared.frames.Mode.TheVariants.{Public, Real, Mirrored}
+use Rattle.block_cache_gen.specs.declared.frames.Mode.TheVariants.{Public}
 use Rattle.block_cache_gen.specs.Homes.{further_slots, Home, Setting, home_of, register_for}
 use Rattle.block_cache_gen.specs.declared.indexes.Numbering.{Numbering}
 use Rattle.block_cache_gen.specs.declared.indexes.Numbering.TheVariants.{Compared, Reduced, Within}
-use Rattle.block_cache_gen.specs.Codes.{read_by, read_code, stored_among, stored_by, stored_code, is_cached, numbering, compared_code, numbered_code, fixed_index, shift_code, offset_code, located_code, load_code, skips, access_by, access_code, operand, operand_part, operand_register, operand_unless, left_operand, index_operand, indexed_code, operation_code, steps_at, expr_code, scalar_code, write_code}
+use Rattle.block_cache_gen.specs.Codes.{read_by, read_code, stored_among, stored_by, stored_code, is_cached, numbering, compared_code, numbered_code, numbered_register, fixed_index, shift_code, offset_code, located_code, load_code, skips, access_by, access_code, operand, operand_part, operand_register, operand_unless, left_operand, index_operand, indexed_code, operation_code, steps_at, expr_code, scalar_code, write_code}
 use Rattle.gr_word.specs.declared.variables.Label.{Label}
 use Rattle.block_cache_gen.specs.declared.frames.Mode.{Mode}
 use Rattle.gr_word.specs.declared.operations.Op.{Op}
@@ -60,8 +60,8 @@ access-more true near f h to from (Some z) index = omega arith
 access-more true near f h to from None index =
     omega (
       arith,
-      length-append index (numbered_code near f h to from ++ offset_code f h to),
-      length-append (numbered_code near f h to from) (offset_code f h to),
+      length-append index (numbered_code near f h to from ++ offset_code f h to (numbered_register near to from)),
+      length-append (numbered_code near f h to from) (offset_code f h to (numbered_register near to from)),
     )
 access-more false near f h to from fixed index =
     let longer = located-longer near f h to from fixed index in
@@ -119,8 +119,8 @@ pub loaded-lie : (f : Setting) (h : Home) (mask to from p : ℕ) (resident : Boo
     (p + length (access_by resident near f Public h to from fixed index)))
 loaded-lie f h mask to from p true near (Some z) index = tt
 loaded-lie f h mask to from p true Compared None index =
-    let size = length-append index (compared_code h to ++ offset_code f h to) in
-    let rest = length-append (compared_code h to) (offset_code f h to) in
+    let size = length-append index (compared_code h to ++ offset_code f h to to) in
+    let rest = length-append (compared_code h to) (offset_code f h to to) in
     ((omega (arith, size, rest), omega (arith, size, rest)), tt)
 loaded-lie f h mask to from p true Reduced None index = tt
 loaded-lie f h mask to from p true Within None index = tt
@@ -230,12 +230,10 @@ expression-longer f (Operation op a b) to =
         omega (arith, length-append (expr_code f Public to a) (code_of to steps), some)
 
 -- so has what writes a scalar
-pub write-longer : (r : Option ℕ) (l : Label) (mode : Mode) (h : Home) (value : ℕ)
-    → 1 ≤ length (write_code r l mode h value)
-write-longer (Some r) l mode h value = omega arith
-write-longer None l Public h value = omega arith
-write-longer None l Real h value = omega arith
-write-longer None l Mirrored h value = omega arith
+pub write-longer : (once : Bool) (r : Option ℕ) (l : Label) (mode : Mode) (h : Home) (value : ℕ)
+    → 1 ≤ length (write_code once r l mode h value)
+write-longer once (Some r) l mode h value = omega arith
+write-longer once None l mode h value = omega arith
 
 -- the notes of an operation, by those of its sides
 operation-lie : (f : Setting) (op : Op) (to left right p : ℕ) (first : List Instr) (before : List Note)
@@ -267,7 +265,7 @@ pub array-lie : (f : Setting) (x : List ℕ) (i : Tree) (mask to p : ℕ)
 array-lie f x i mask to p lie =
     let h = home_of f x in
     let near = numbering f Public h i in
-    let q = index_operand f near i in
+    let q = index_operand f near h i in
     access-lie f near h mask to (operand_register q to) p (fixed_index h i) (operand_part q (expr_code f Public to i))
     (operand_part q (expr_notes f mask to p i))
     (operand-lie q p (expr_code f Public to i) (expr_notes f mask to p i) lie)

@@ -25,7 +25,7 @@ use Rattle.block_cache_gen.specs.declared.frames.Mode.TheVariants.{Public}
 use Rattle.block_cache_gen.specs.Homes.{Home, Setting, HasHomes, Serves, home_of, pin_of}
 use Rattle.block_cache_gen.specs.declared.indexes.Numbering.{Numbering}
 use Rattle.block_cache_gen.specs.declared.indexes.Numbering.TheVariants.{Compared, Reduced, Within}
-use Rattle.block_cache_gen.specs.Codes.{is_cached, is_masked, compares, is_within_home, numbering_by, is_in_place, numbering, reducing, reducer, compared_code, numbered_code, applied_code, fixed_index, reduced_code, shift_code, offset_code, placed_code, located_code, load_code, access_by, operand, operand_part, operand_register, operand_unless, index_operand, indexed_code, expr_code}
+use Rattle.block_cache_gen.specs.Codes.{is_cached, is_masked, compares, is_within_home, numbering_by, is_in_place, numbering, reducing, reducer, compared_code, numbered_code, numbered_register, applied_code, fixed_index, reduced_code, shift_code, offset_code, placed_code, located_code, load_code, access_by, operand, operand_part, operand_register, operand_unless, index_operand, indexed_code, expr_code}
 use Rattle.block_cache_gen.specs.Notes.{unmarked, access_mask, note_of, compared_notes, loading_code, loaded_notes, load_notes, index_notes, expr_notes}
 use Rattle.block_cache_gen.specs.Carries.{Carries}
 use Rattle.block_cache_gen.specs.PublicCode.{HasLabel}
@@ -38,8 +38,9 @@ use Rattle.block_cache_gen.proofs.NotesOfCode.{compared-lie, located-lie, index_
 use Rattle.block_cache_gen.proofs.BaseMarks.{unmarked-same, unmarked-other}
 use Rattle.block_cache_gen.proofs.KeptRegisters.{SameBelow, same-itself, same-set, same-bound, carries-same, kept-same}
 use Rattle.block_cache_gen.proofs.AccessLabels.{shifted-numbered, reduced-numbered, offset_by, compared_known, compared_same, compared_word, divided_known, divided_same, divided_word, compared-by, fixed-numbered, asked_known, asked_same, asked_block, skipped_by, loaded-by}
-use Rattle.block_cache_gen.proofs.Sizes.{applied_some, compared_some, shift_some}
-use Rattle.block_cache_gen.proofs.HomeFacts.{serves-oblivious, serves-cached, shows-cached, shown-low}
+use Rattle.block_cache_gen.proofs.IndexRuns.{numbered-apart}
+use Rattle.block_cache_gen.proofs.Sizes.{applied_some, compared_some, offset_length, shift_some}
+use Rattle.block_cache_gen.proofs.HomeFacts.{offset-none, serves-oblivious, serves-cached, shows-cached, shown-low}
 
 -- the code of an access, and its notes
 abbrev pub array_code : Setting → ℕ → List ℕ → Tree → List Instr
@@ -50,7 +51,7 @@ array_code f to x i =
 abbrev pub array_notes : Setting → (mask to p : ℕ) → List ℕ → Tree → List Note
 array_notes f mask to p x i =
     index_notes (fixed_index (home_of f x) i)
-    (operand_part (index_operand f (numbering f Public (home_of f x) i) i) (expr_notes f mask to p i))
+    (operand_part (index_operand f (numbering f Public (home_of f x) i) (home_of f x) i) (expr_notes f mask to p i))
     ++ load_notes (numbering f Public (home_of f x) i) (fixed_index (home_of f x) i) f (home_of f x) mask to
     (p + length (array_code f to x i))
 
@@ -71,14 +72,15 @@ record PlacedAt (o : Parts) (f : Setting) (h : Home) (mask to : ℕ) (p : ℕ) (
   kept : KeptBelow f mask to holds held
   word : shows_index h ≡ true → is_secret held to ≡ false
 
--- the number of a word is found, from an index of a label
-record NumberedAt (o : Parts) (f : Setting) (l : Label) (mask to : ℕ) (p : ℕ) (k holds : Known) (q : ℕ) : Type 0 where
+-- the number of a word is found, from an index of a label, in a register
+record NumberedAt (o : Parts) (f : Setting) (l : Label) (mask to at : ℕ) (p : ℕ) (k holds : Known)
+    (q : ℕ) : Type 0 where
   last : Known
   held : Known
   passes : Passes o p k q last
   here : HoldsAt o q last held
   kept : KeptBelow f mask to holds held
-  word : l ≡ label.Public → is_secret held to ≡ false
+  word : l ≡ label.Public → is_secret held at ≡ false
 
 -- the block of the word is in its slot
 pub record AccessPassed (o : Parts) (f : Setting) (h : Home) (mask to : ℕ) (p : ℕ) (k holds : Known)
@@ -105,7 +107,7 @@ module _ (o : Parts) (f : Setting) (homes : HasHomes o f) (once : DeclaredOnce f
 
     compared_at : HasLabel k to l → l ≡ label.Public → StandsAt o p (compared_code h to)
         → NotesBetween o p (p + 6 + 1) (note_of f (unmarked mask to) (p + 6) ∷ []) → p + 6 < length o.code
-        → NumberedAt o f l mask to p comes holds (p + 6)
+        → NumberedAt o f l mask to to p comes holds (p + 6)
     compared_at labelled public stands between inside =
         let r = p + 6 in
         let note = note_of f (unmarked mask to) r in
@@ -150,14 +152,15 @@ module _ (o : Parts) (f : Setting) (homes : HasHomes o f) (once : DeclaredOnce f
           word = λ e. claimed-register f (unmarked mask to) r to (omega arith) ∙ unmarked-same mask to (omega arith);
         }
 
-    -- an index that is compared, or taken as it is, isn't in a register that holds it for the whole run
+    -- an index that is compared isn't in a register that holds it for the whole run
     numbered_at : (q : Option ℕ) → operand_register q to ≢ to + 1 → HasLabel k (operand_register q to) l
-        → (near : Numbering) → (is_in_place near ≡ true → q ≡ None) → (near ≡ Compared → l ≡ label.Public)
+        → (near : Numbering) → (is_in_place h near ≡ true → q ≡ None) → (near ≡ Compared → l ≡ label.Public)
         → StandsAt o p (numbered_code near f h to (operand_register q to))
         → NotesBetween o p (p + length (numbered_code near f h to (operand_register q to)) + 1)
         (compared_notes near None f mask to (p + length (numbered_code near f h to (operand_register q to))))
         → p + length (numbered_code near f h to (operand_register q to)) < length o.code
-        → NumberedAt o f l mask to p comes holds (p + length (numbered_code near f h to (operand_register q to)))
+        → NumberedAt o f l mask to (numbered_register near to (operand_register q to)) p comes holds
+        (p + length (numbered_code near f h to (operand_register q to)))
     numbered_at q apart labelled Compared own public stands between inside =
         compared_at (ap (λ (r : Option ℕ). is_secret k (operand_register r to)) (sym (own refl)) ∙ labelled)
         (public refl) stands between inside
@@ -177,15 +180,14 @@ module _ (o : Parts) (f : Setting) (homes : HasHomes o f) (once : DeclaredOnce f
         }
     numbered_at q apart labelled Within own public stands between inside =
         let empty : p ≡ p + 0 = omega arith in
-        subst (NumberedAt o f l mask to p comes holds) empty
+        subst (NumberedAt o f l mask to (operand_register q to) p comes holds) empty
         (record {
           last = comes;
           held = k;
           passes = Done p comes;
           here = here;
           kept = kept;
-          word = λ e. ap (λ (r : Option ℕ). is_secret k (operand_register r to)) (sym (own refl)) ∙ labelled
-              ∙ ap secret_label e;
+          word = λ e. labelled ∙ ap secret_label e;
         })
 
   module _ (h : Home) (i : Tree) (typed : TypedTree (context_of f.decls) i) (mask to : ℕ) (low : to + 2 < 19) (p : ℕ)
@@ -208,8 +210,22 @@ module _ (o : Parts) (f : Setting) (homes : HasHomes o f) (once : DeclaredOnce f
     apart_of : (q : Option ℕ) → IsOperandOf f i q → operand_register q to ≢ to + 1
     apart_of q is = let apart = operand-apart f i q is to in apart.apart (to + 1) (omega arith) (omega arith)
 
+    -- The number of a word is in register `to` if the array isn't resident, or begins its block.
+    number_loaded : (q : Option ℕ) (near : Numbering) → (is_in_place h near ≡ true → q ≡ None) → h.resident ≡ false
+        → numbered_register near to (operand_register q to) ≡ to
+    number_loaded q Compared own turn = refl
+    number_loaded q Reduced own turn = refl
+    number_loaded q Within own turn =
+        ap (λ (r : Option ℕ). operand_register r to) (own (ap (λ (b : Bool). not (b && not (h.word == 0))) turn))
+
+    number_first : (q : Option ℕ) (near : Numbering) → (is_in_place h near ≡ true → q ≡ None) → (h.word == 0) ≡ true
+        → numbered_register near to (operand_register q to) ≡ to
+    number_first q Compared own begins = refl
+    number_first q Reduced own begins = refl
+    number_first q Within own begins = ap (λ (r : Option ℕ). operand_register r to) (own (ap not (offset-none h begins)))
+
     -- by the code of the index, or as a number
-    located_by : (q : Option ℕ) → IsOperandOf f i q → (near : Numbering) → (is_in_place near ≡ true → q ≡ None)
+    located_by : (q : Option ℕ) → IsOperandOf f i q → (near : Numbering) → (is_in_place h near ≡ true → q ≡ None)
         → (near ≡ Compared → label_of (context_of f.decls) i ≡ label.Public) → (fixed : Option ℤ)
         → StandsAt o p (located_code near f h to (operand_register q to) fixed (index_code q))
         → NotesBetween o p (p + length (located_code near f h to (operand_register q to) fixed (index_code q)))
@@ -219,9 +235,10 @@ module _ (o : Parts) (f : Setting) (homes : HasHomes o f) (once : DeclaredOnce f
         - length (shift_code f h to)))
         → p + length (located_code near f h to (operand_register q to) fixed (index_code q)) < length o.code
         → to + height_of i ≤ 17 → ExprPasses o f i → (h.bank < 2 → label_of (context_of f.decls) i ≡ label.Public)
+        → h.resident ≡ false
         → LocatedAt o f h mask to p k holds
         (p + length (located_code near f h to (operand_register q to) fixed (index_code q)))
-    located_by q is near own open_index (Some z) stands between inside high index public =
+    located_by q is near own open_index (Some z) stands between inside high index public turn =
         let l = fixed-numbered o to low f.profile.block_log h z p holds carries.registers in
         record {
           last = l.after;
@@ -230,7 +247,7 @@ module _ (o : Parts) (f : Setting) (homes : HasHomes o f) (once : DeclaredOnce f
           word = λ cached. l.word_is;
           block = λ cached. l.block_is;
         }
-    located_by q is near own open_index None stands between inside high index public =
+    located_by q is near own open_index None stands between inside high index public turn =
         let code = index_code q in
         let from = operand_register q to in
         let number = numbered_code near f h to from in
@@ -258,10 +275,13 @@ module _ (o : Parts) (f : Setting) (homes : HasHomes o f) (once : DeclaredOnce f
         let first = operand-passes o f homes i typed q is index mask to p k holds high (omega arith) last behind
         (standing-first code rest stands) all lie_wide (omega arith) (omega arith) here carries leaves in
         let stands_rest = standing-rest code rest stands in
-        let second = numbered_at h (label_of (context_of f.decls) i) mask to low mid first.last first.held holds
+        let found = numbered_at h (label_of (context_of f.decls) i) mask to low mid first.last first.held holds
         first.here leaves first.kept q (apart_of q is) first.labelled near own open_index
         (standing-first number shift stands_rest)
         (notes-within o mid last mid (next + 1) behind (omega arith) (omega arith) later) (omega arith) in
+        let second = subst
+        (λ (at : ℕ). NumberedAt o f (label_of (context_of f.decls) i) mask to at mid first.last holds next)
+        (number_loaded q near own turn) found in
         let l = shifted-numbered o f homes.held to low h next second.held second.kept.carries in
         let quiet_after : (r : ℕ) → next < r → r < last → claimed_at o r ≡ None = (λ r above below.
         later r (omega arith) below
@@ -391,16 +411,17 @@ module _ (o : Parts) (f : Setting) (homes : HasHomes o f) (once : DeclaredOnce f
 
     -- The place of a resident array's word is found.
     -- the number of the first word is added, unless that is 0
-    offset_at : (q : ℕ) (comes found : Known) → HoldsAt o q comes found → KeptBelow f mask to holds found
-        → (shows_index h ≡ true → is_secret found to ≡ false) → (first : Bool)
-        → StandsAt o q (if first then [] else applied_code f Add to to (to + 1) (pos h.word))
+    offset_at : (at : ℕ) → at ≢ to + 1 → (q : ℕ) (comes found : Known) → HoldsAt o q comes found
+        → KeptBelow f mask to holds found → (shows_index h ≡ true → is_secret found at ≡ false) → (first : Bool)
+        → (first ≡ true → at ≡ to)
+        → StandsAt o q (if first then [] else applied_code f Add to at (to + 1) (pos h.word))
         → ((r : ℕ) → q < r
-        → r < q + length (if first then [] else applied_code f Add to to (to + 1) (pos h.word)) + 1
+        → r < q + length (if first then [] else applied_code f Add to at (to + 1) (pos h.word)) + 1
         → claimed_at o r ≡ None)
-        → q + length (if first then [] else applied_code f Add to to (to + 1) (pos h.word)) < length o.code
+        → q + length (if first then [] else applied_code f Add to at (to + 1) (pos h.word)) < length o.code
         → PlacedAt o f h mask to q comes holds
-        (q + length (if first then [] else applied_code f Add to to (to + 1) (pos h.word)))
-    offset_at q comes found here kept word true stands quiet inside =
+        (q + length (if first then [] else applied_code f Add to at (to + 1) (pos h.word)))
+    offset_at at apart q comes found here kept word true own stands quiet inside =
         let empty : q ≡ q + 0 = omega arith in
         subst (PlacedAt o f h mask to q comes holds) empty
         (record {
@@ -409,12 +430,12 @@ module _ (o : Parts) (f : Setting) (homes : HasHomes o f) (once : DeclaredOnce f
           passes = Done q comes;
           here = here;
           kept = kept;
-          word = word;
+          word = λ shows. ap (is_secret found) (sym (own refl)) ∙ word shows;
         })
-    offset_at q comes found here kept word false stands quiet inside =
-        let offset = applied_code f Add to to (to + 1) (pos h.word) in
-        let some = applied_some f Add to to (to + 1) (pos h.word) in
-        let l = offset_by o f homes.held to low h q found kept.carries false in
+    offset_at at apart q comes found here kept word false own stands quiet inside =
+        let offset = applied_code f Add to at (to + 1) (pos h.word) in
+        let some = applied_some f Add to at (to + 1) (pos h.word) in
+        let l = offset_by o f homes.held to low h at apart q found kept.carries in
         record {
           last = l.after;
           held = l.after;
@@ -425,13 +446,13 @@ module _ (o : Parts) (f : Setting) (homes : HasHomes o f) (once : DeclaredOnce f
           word = λ shows. l.word_is ∙ word shows;
         }
 
-    placed_by : (q : Option ℕ) → IsOperandOf f i q → (near : Numbering) → (is_in_place near ≡ true → q ≡ None)
+    placed_by : (q : Option ℕ) → IsOperandOf f i q → (near : Numbering) → (is_in_place h near ≡ true → q ≡ None)
         → (near ≡ Compared → label_of (context_of f.decls) i ≡ label.Public) → (fixed : Option ℤ)
         → StandsAt o p (placed_code near f h to (operand_register q to) fixed (index_code q))
         → NotesBetween o p (p + length (placed_code near f h to (operand_register q to) fixed (index_code q)) + 1)
         (index_notes fixed (notes_of_index q)
         ++ compared_notes near fixed f mask to
-        (p + length (placed_code near f h to (operand_register q to) fixed (index_code q)) - length (offset_code f h to)))
+        (p + length (placed_code near f h to (operand_register q to) fixed (index_code q)) - length (offset_code f h to to)))
         → p + length (placed_code near f h to (operand_register q to) fixed (index_code q)) < length o.code
         → to + height_of i ≤ 17 → ExprPasses o f i
         → (shows_index h ≡ true → label_of (context_of f.decls) i ≡ label.Public)
@@ -454,7 +475,8 @@ module _ (o : Parts) (f : Setting) (homes : HasHomes o f) (once : DeclaredOnce f
         let code = index_code q in
         let from = operand_register q to in
         let number = numbered_code near f h to from in
-        let offset = offset_code f h to in
+        let at = numbered_register near to from in
+        let offset = offset_code f h to at in
         let rest = number ++ offset in
         let mid = p + length code in
         let next = mid + length number in
@@ -464,7 +486,7 @@ module _ (o : Parts) (f : Setting) (homes : HasHomes o f) (once : DeclaredOnce f
         let some_number = compared_some near f h to from in
         let before = notes_of_index q in
         let behind = compared_notes near None f mask to next in
-        let place : last - length offset ≡ next = omega arith in
+        let place : last - length (offset_code f h to to) ≡ next = omega (arith, offset_length f h to at) in
         let all : NotesBetween o p (last + 1) (before ++ behind) =
         subst (λ (n : ℕ). NotesBetween o p (last + 1) (before ++ compared_notes near None f mask to n)) place between in
         let lie_before : LieBetween p mid before = index_notes-lie q in
@@ -484,8 +506,8 @@ module _ (o : Parts) (f : Setting) (homes : HasHomes o f) (once : DeclaredOnce f
         let quiet_after : (r : ℕ) → next < r → r < last + 1 → claimed_at o r ≡ None = (λ r above below.
         later r (omega arith) below
         ∙ ap (option_map note_known) (no_note-behind mid (next + 1) r behind lie_behind (omega arith))) in
-        let third = offset_at next second.last second.held second.here second.kept
-        (λ shows. second.word (public shows)) (h.word == 0) (standing-rest number offset stands_rest)
+        let third = offset_at at (numbered-apart near to from (apart_of q is)) next second.last second.held second.here
+        second.kept (λ shows. second.word (public shows)) (h.word == 0) (number_first q near own) (standing-rest number offset stands_rest)
         (λ r above below. quiet_after r above (omega arith)) (omega arith) in
         let place_of_end : next + length offset ≡ last = omega arith in
         subst (PlacedAt o f h mask to p k holds) place_of_end
@@ -504,12 +526,12 @@ module _ (o : Parts) (f : Setting) (homes : HasHomes o f) (once : DeclaredOnce f
   -- a whole access, of an array that is resident or isn't
   abbrev code_by : (resident : Bool) → (near : Numbering) → ℕ → List ℕ → Tree → List Instr
   code_by b near to x i =
-      access_by b near f Public (home_of f x) to (operand_register (index_operand f near i) to)
-      (fixed_index (home_of f x) i) (operand_part (index_operand f near i) (expr_code f Public to i))
+      access_by b near f Public (home_of f x) to (operand_register (index_operand f near (home_of f x) i) to)
+      (fixed_index (home_of f x) i) (operand_part (index_operand f near (home_of f x) i) (expr_code f Public to i))
 
   -- an index that is copied is an operand in no register that holds it for the whole run
-  copied_own : (i : Tree) (near : Numbering) → is_in_place near ≡ true → index_operand f near i ≡ None
-  copied_own i near e = ap (λ (b : Bool). operand_unless b (operand f i)) e
+  copied_own : (h : Home) (i : Tree) (near : Numbering) → is_in_place h near ≡ true → index_operand f near h i ≡ None
+  copied_own h i near e = ap (λ (b : Bool). operand_unless b (operand f i)) e
 
   passes_by : (x : List ℕ) (l : Label) (i : Tree) → TypedTree (context_of f.decls) i → (mask to p : ℕ) (k holds : Known)
       → context_of f.decls x ≡ Some (l, Array) → (b : Bool) (near : Numbering) → (home_of f x).resident ≡ b
@@ -518,7 +540,7 @@ module _ (o : Parts) (f : Setting) (homes : HasHomes o f) (once : DeclaredOnce f
       → ExprPasses o f i → to + height_of i ≤ 17 → to + 2 < 19
       → StandsAt o p (code_by b near to x i)
       → NotesBetween o p (p + length (code_by b near to x i) + 1)
-      (index_notes (fixed_index (home_of f x) i) (operand_part (index_operand f near i) (expr_notes f mask to p i))
+      (index_notes (fixed_index (home_of f x) i) (operand_part (index_operand f near (home_of f x) i) (expr_notes f mask to p i))
       ++ loaded_notes b near (fixed_index (home_of f x) i) f (home_of f x) mask to (p + length (code_by b near to x i)))
       → p + length (code_by b near to x i) < length o.code → HoldsAt o p k holds → Carries f holds
       → LeavesPublic f mask to holds
@@ -526,8 +548,8 @@ module _ (o : Parts) (f : Setting) (homes : HasHomes o f) (once : DeclaredOnce f
   passes_by x l i typed mask to p k holds declared true near is open_index public index high low stands between inside here
       carries leaves =
       let h = home_of f x in
-      let found = placed_by h i typed mask to low p k holds here carries leaves (index_operand f near i)
-      (operand-unless f i (is_in_place near)) near (copied_own i near) open_index (fixed_index h i) stands between
+      let found = placed_by h i typed mask to low p k holds here carries leaves (index_operand f near (home_of f x) i)
+      (operand-unless f i (is_in_place h near)) near (copied_own h i near) open_index (fixed_index h i) stands between
       inside high index public in
       let home = homes.residents x l Array declared is in
       let pin = homes.pins h.slot (pin_of h) home.pinned in
@@ -544,7 +566,7 @@ module _ (o : Parts) (f : Setting) (homes : HasHomes o f) (once : DeclaredOnce f
       carries leaves =
       let h = home_of f x in
       let fixed = fixed_index h i in
-      let q_of_index = index_operand f near i in
+      let q_of_index = index_operand f near (home_of f x) i in
       let from = operand_register q_of_index to in
       let code = operand_part q_of_index (expr_code f Public to i) in
       let shift = shift_code f h to in
@@ -574,11 +596,11 @@ module _ (o : Parts) (f : Setting) (homes : HasHomes o f) (once : DeclaredOnce f
       let lie_behind : LieBetween q (r + 1) behind = load-lies f h mask to r q (r + 1) (is_cached h) (omega arith)
       (omega arith) in
       let found = located_by h i typed mask to low p k holds here carries leaves
-      q_of_index (operand-unless f i (is_in_place near)) near
-      (copied_own i near) open_index fixed
+      q_of_index (operand-unless f i (is_in_place h near)) near
+      (copied_own h i near) open_index fixed
       (standing-first first load stands)
       (notes-before o p q (r + 1) before behind lie_before lie_behind all (omega arith))
-      (omega arith) high index (λ low_bank. public (shows-cached h turn low_bank)) in
+      (omega arith) high index (λ low_bank. public (shows-cached h turn low_bank)) turn in
       let held = loaded_if h i typed mask to low p k holds here carries leaves x l declared turn q r found.last found.kept
       found.word
       found.block (no_note-there o p q (r + 1) before behind lie_before lie_behind all (omega arith) (omega arith))

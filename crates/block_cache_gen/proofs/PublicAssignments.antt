@@ -1,32 +1,35 @@
 -- The public code of an assignment is passed, at any place.
-use Rattle.std.proofs.Common.{◌≡◌, ◌≢◌, ℕ, ◌+◌, ◌<◌, ◌≤◌, Bool, false, ◌||◌, pos, List, [], ◌++◌, length, length-append, Option, Some, None, refl, sym, ap, ◌∙◌, subst, arith}
+use Rattle.std.proofs.Common.{◌≡◌, ◌≢◌, ℕ, ◌+◌, ◌<◌, ◌≤◌, Bool, true, false, ◌||◌, pos, List, [], ◌∷◌, ◌++◌, length, length-append, Option, Some, None, refl, sym, ap, ◌∙◌, subst, arith}
 use Rattle.std.specs.Option.{option_map}
 use Rattle.std.proofs.lemmas.List.{append-nil}
 use Rattle.gr_word.specs.declared.variables.Label.{Label}
 use Rattle.gr_word.specs.declared.variables.Label.TheVariants as label
 use Rattle.gr_word.specs.declared.variables.Shape.TheVariants.{Scalar, Array}
+use Rattle.gr_word.specs.declared.operations.Op.{Op}
 use Rattle.gr_word.specs.declared.operations.Op.TheVariants.{Add}
 use Rattle.lt_isa.specs.declared.instructions.Instr.{Instr}
+use Rattle.lt_isa.specs.declared.instructions.Instr.TheVariants.{Alu}
 use Rattle.lt_isa.specs.Object.{Parts}
 use Rattle.src_tree.specs.Contexts.{context_of}
 use Rattle.src_tree.specs.Heights.{height_of}
 use Rattle.src_tree.specs.Labels.{higher, label_or_public, label_at, label_of, secret_label}
-use Rattle.src_tree.specs.Trees.{Tree, Variable, SetVariable, SetElement}
-use Rattle.src_tree.specs.Typing.{TypedStatement, Flows, DeclaredOnce}
+use Rattle.src_tree.specs.Trees.{Tree, Variable, Operation, SetVariable, SetElement}
+use Rattle.src_tree.specs.Typing.{TypedTree, TypedStatement, Flows, DeclaredOnce}
 use Rattle.bank_alloc.specs.Apart.{scalar_bank}
 use Rattle.trace_patterns.specs.Known.{Known, is_secret, bank_known, set_secret, note_known}
 use Rattle.trace_patterns.specs.Rules.{claimed_at}
 use Rattle.stretches.specs.Passing.{HoldsAt, NotesBetween, Passes}
-use Rattle.stretches.proofs.Standing.{standing-first, standing-rest}
-use Rattle.stretches.proofs.Passed.{passes-then, passes-to, GoesOn, NoMore, One, rules-li, rules-alu, rules-stw, secret-same, secret-other, notes-behind, notes-within, no_note-behind, LieBetween, lie_wider, lie_both}
+use Rattle.stretches.proofs.Standing.{standing-head, standing-first, standing-rest}
+use Rattle.stretches.proofs.Passed.{passes-one, passes-then, passes-to, GoesOn, NoMore, One, rules-li, rules-alu, rules-stw, secret-same, secret-other, notes-behind, notes-within, no_note-behind, LieBetween, lie_wider, lie_both}
 use Rattle.block_cache_gen.specs.declared.frames.Mode.TheVariants.{Public}
 use Rattle.block_cache_gen.specs.Homes.{Setting, HasHomes, home_of, register_for}
-use Rattle.block_cache_gen.specs.Codes.{fixed_index, numbering, operand, operand_part, operand_register, index_operand, stored_code, expr_code, set_code, zero_of, write_code}
-use Rattle.block_cache_gen.specs.Notes.{operand_mask, expr_notes, set_notes, base_mask}
+use Rattle.block_cache_gen.specs.Codes.{fixed_index, numbering, operand, operand_part, operand_register, index_operand, stored_code, expr_code, set_code, zero_of, write_code, keeps_label, straight, straight_code, scalar_set}
+use Rattle.block_cache_gen.specs.Notes.{operand_mask, expr_notes, set_notes, straight_notes, scalar_set_notes, base_mask}
 use Rattle.block_cache_gen.specs.Carries.{Carries}
-use Rattle.block_cache_gen.specs.PublicIndexes.{SetHasPublicIndexes}
+use Rattle.block_cache_gen.specs.PublicIndexes.{HasPublicIndexes, SetHasPublicIndexes}
 use Rattle.block_cache_gen.specs.PublicCode.{HasLabel, StandsNoted, PassedSet}
 use Rattle.block_cache_gen.proofs.NotesOfCode.{store-longer, write-longer, operand-lie, expression-lies, access-lie}
+use Rattle.block_cache_gen.proofs.StraightCodes.{IsStraight, straight-by}
 use Rattle.block_cache_gen.proofs.HeldOperands.{operand-apart, operand-outside}
 use Rattle.block_cache_gen.proofs.SpreadPasses.{stored, store-passes}
 use Rattle.block_cache_gen.proofs.OperandLabels.{is-operand}
@@ -35,7 +38,7 @@ use Rattle.block_cache_gen.proofs.KeptRegisters.{same-itself, same-set, carries-
 use Rattle.block_cache_gen.proofs.HeldLabels.{register-label, register-low, zero-label}
 use Rattle.held_registers.proofs.Copies.{secret_copy}
 use Rattle.block_cache_gen.proofs.PublicAccesses.{array_code, array_notes, access-passes}
-use Rattle.block_cache_gen.proofs.PublicExpressions.{expression-passes, resident_bound}
+use Rattle.block_cache_gen.proofs.PublicExpressions.{expression-passes, higher_label, resident_bound}
 use Rattle.block_cache_gen.proofs.HomeFacts.{shows-plain, plain-array}
 use Rattle.block_cache_gen.proofs.NoteClaims.{leaves-base}
 
@@ -55,6 +58,12 @@ copied_label : (code value l : Label) → Flows (higher code value) l
 copied_label code value label.Public flows = ap (λ (b : Bool). b || false) (flows_public code value flows)
 copied_label code value label.Secret flows = secret_copy (secret_label value)
 
+-- a result that keeps the label of a scalar has that label
+kept_label : (code value l : Label) → Flows (higher code value) l → keeps_label l value ≡ true
+    → secret_label value ≡ secret_label l
+kept_label code value label.Public flows keeps = flows_public code value flows
+kept_label code value label.Secret flows keeps = keeps
+
 -- code that follows the value of an assignment is passed, and the setting is carried after it
 record WritePassed (o : Parts) (f : Setting) (p : ℕ) (code : List Instr) (k : Known) : Type 0 where
   last : Known
@@ -67,7 +76,7 @@ module _ (o : Parts) (f : Setting) (homes : HasHomes o f) (once : DeclaredOnce f
   WritePasses x found value =
       (from p : ℕ) (k : Known) → from ≢ 1 → Carries f k → HasLabel k from value
       → WritePassed o f p
-      (write_code found (label_of (context_of f.decls) (Variable x)) Public (home_of f x) from) k
+      (write_code f.reduces found (label_of (context_of f.decls) (Variable x)) Public (home_of f x) from) k
 
   module _ (code : Label) (x : List ℕ) (l value : Label) (declared : context_of f.decls x ≡ Some (l, Scalar))
       (flows : Flows (higher code value) (label_at (context_of f.decls) x)) where
@@ -127,24 +136,89 @@ module _ (o : Parts) (f : Setting) (homes : HasHomes o f) (once : DeclaredOnce f
   value_apart e =
       let apart = operand-apart f e (operand f e) (is-operand f e) 0 in apart.apart 1 (omega arith) (omega arith)
 
-  -- an assignment to a variable is passed in public code
-  pub set_variable-passes : (code : Label) (x : List ℕ) (e : Tree)
+  -- an operation that leaves its result in the register that holds a scalar
+  straight_passes : (x : List ℕ) (l : Label) → context_of f.decls x ≡ Some (l, Scalar) → (r : ℕ) (op : Op) (a b : Tree)
+      → IsStraight f x r op a b → secret_label (label_of (context_of f.decls) (Operation op a b)) ≡ secret_label l
+      → TypedTree (context_of f.decls) (Operation op a b) → HasPublicIndexes f (Operation op a b)
+      → height_of (Operation op a b) ≤ 16 → (p : ℕ) (k holds : Known)
+      → StandsNoted o p (straight_code f Public r (Operation op a b)) (straight_notes f p (Operation op a b))
+      → HoldsAt o p k holds → Carries f holds → PassedSet o f p (straight_code f Public r (Operation op a b)) k
+  straight_passes x l declared r op a b is own typed public low p k holds stands here carries =
+      let known = context_of f.decls in
+      let q = operand f a in
+      let q' = operand f b in
+      let mask = base_mask f in
+      let first = operand_part q (expr_code f Public 0 a) in
+      let second = operand_part q' (expr_code f Public 1 b) in
+      let from = operand_register q 0 in
+      let by = operand_register q' 1 in
+      let join = Alu op r from by ∷ [] in
+      let size : length (first ++ (second ++ join)) ≡ length first + (length second + 1) = length-append first
+      (second ++ join)
+      ∙ ap (λ (n : ℕ). length first + n) (length-append second join) in
+      let behind = stands.behind in
+      let mid = p + length first in
+      let end = mid + length second in
+      let mask' = operand_mask q (label_of known a) mask 0 in
+      let before = operand_part q (expr_notes f mask 0 p a) in
+      let later = operand_part q' (expr_notes f mask' 1 mid b) in
+      let whole = p + length (first ++ (second ++ join)) in
+      let lie_before : LieBetween p mid before =
+      operand-lie q p (expr_code f Public 0 a) (expr_notes f mask 0 p a) (expression-lies f a mask 0 p) in
+      let lie_end : LieBetween mid end later =
+      operand-lie q' mid (expr_code f Public 1 b) (expr_notes f mask' 1 mid b) (expression-lies f b mask' 1 mid) in
+      let lie_later : LieBetween mid whole later = lie_wider mid end mid whole later (omega arith) (omega arith) lie_end in
+      let rest = standing-rest first (second ++ join) stands.code_stands in
+      let leaves = leaves-base f 0 holds in
+      let v = operand-passes o f homes a typed.0 q (is-operand f a) (expression-passes o f homes once a typed.0 public.0)
+      mask 0 p k holds (omega (arith, low)) (omega arith) whole later (standing-first first (second ++ join) stands.code_stands)
+      stands.noted lie_later (omega arith) (omega arith) here carries leaves in
+      let leaves' = leaves-operand f q (label_of known a) mask 0 v.held (omega arith) (leaves-base f 0 v.held) v.labelled in
+      let between : NotesBetween o mid whole (later ++ []) =
+      subst (NotesBetween o mid whole) (sym (append-nil later))
+      (notes-behind o p mid whole before later lie_before lie_later stands.noted (omega arith)) in
+      let w = operand-passes o f homes b typed.1 q' (is-operand f b) (expression-passes o f homes once b typed.1 public.1)
+      mask' 1 mid v.last v.held (omega (arith, low)) (omega arith) whole [] (standing-first second join rest) between tt
+      (omega arith) (omega arith) v.here v.kept.carries leaves' in
+      let joined = is_secret w.held from || is_secret w.held by in
+      let last = set_secret w.held r joined in
+      let step : Passes o end w.last (end + 1) last = passes-one o end w.last w.held last (Alu op r from by)
+      w.here (standing-head (Alu op r from by) [] (standing-rest second join rest))
+      (rules-alu o end w.held op r from by) (omega arith) in
+      record {
+        last = last;
+        passes = passes-then o p k mid v.last v.passes whole last
+            (passes-then o mid v.last end w.last w.passes whole last
+            (passes-to o end w.last (end + 1) whole last (omega arith) step));
+        carries
+            = carries-copied f w.held r l joined w.kept.carries (register-label f homes.held x l Scalar declared r is.held)
+            (register-low f homes.held x l Scalar declared r is.held)
+            (ap (λ (c : Bool). c || is_secret w.held by)
+            (operand-later o f homes a typed.0 q (is-operand f a) mask 0 1 v.held w.held (omega arith) (omega arith)
+            v.labelled w.kept)
+            ∙ ap (λ (c : Bool). secret_label (label_of known a) || c) w.labelled
+            ∙ higher_label (label_of known a) (label_of known b)
+            ∙ own);
+      }
+
+  -- an assignment to a variable whose value is written after it is found
+  set_written-passes : (code : Label) (x : List ℕ) (e : Tree)
       → TypedStatement (context_of f.decls) code (SetVariable x e)
       → SetHasPublicIndexes f (SetVariable x e) → height_of e ≤ 16 → (p : ℕ) (k holds : Known)
-      → StandsNoted o p (set_code f Public (SetVariable x e)) (set_notes f p (SetVariable x e)) → HoldsAt o p k holds
-      → Carries f holds → PassedSet o f p (set_code f Public (SetVariable x e)) k
-  set_variable-passes code x e typed public low p k holds stands here carries =
+      → StandsNoted o p (scalar_set None f Public x e) (scalar_set_notes None f p e) → HoldsAt o p k holds
+      → Carries f holds → PassedSet o f p (scalar_set None f Public x e) k
+  set_written-passes code x e typed public low p k holds stands here carries =
       let known = context_of f.decls in
       let q = operand f e in
       let from = operand_register q 0 in
       let first = operand_part q (expr_code f Public 0 e) in
-      let store = write_code (register_for f x) (label_of known (Variable x)) Public (home_of f x) from in
+      let store = write_code f.reduces (register_for f x) (label_of known (Variable x)) Public (home_of f x) from in
       let notes = operand_part q (expr_notes f (base_mask f) 0 p e) in
       let size : length (first ++ store) ≡ length first + length store = length-append first store in
       let inside = stands.behind in
       let mid = p + length first in
       let whole = p + length (first ++ store) in
-      let more = write-longer (register_for f x) (label_of known (Variable x)) Public (home_of f x) from in
+      let more = write-longer f.reduces (register_for f x) (label_of known (Variable x)) Public (home_of f x) from in
       let lie : LieBetween p mid notes = operand-lie q p (expr_code f Public 0 e) (expr_notes f (base_mask f) 0 p e)
       (expression-lies f e (base_mask f) 0 p) in
       let v = operand-passes o f homes e typed.1.0 q (is-operand f e)
@@ -166,6 +240,34 @@ module _ (o : Parts) (f : Setting) (homes : HasHomes o f) (once : DeclaredOnce f
             (passes-then o p k mid v.last v.passes (mid + length store) w.last behind);
         carries = w.carries;
       }
+
+  -- an assignment to a variable is passed in public code
+  pub set_variable-passes : (code : Label) (x : List ℕ) (e : Tree)
+      → TypedStatement (context_of f.decls) code (SetVariable x e)
+      → SetHasPublicIndexes f (SetVariable x e) → height_of e ≤ 16 → (p : ℕ) (k holds : Known)
+      → StandsNoted o p (set_code f Public (SetVariable x e)) (set_notes f p (SetVariable x e)) → HoldsAt o p k holds
+      → Carries f holds → PassedSet o f p (set_code f Public (SetVariable x e)) k
+  set_variable-passes code x e typed public low p k holds stands here carries = by (straight f x e) refl stands
+    where
+      by : (found : Option ℕ) → straight f x e ≡ found
+          → StandsNoted o p (scalar_set found f Public x e) (scalar_set_notes found f p e)
+          → PassedSet o f p (scalar_set found f Public x e) k
+      by None is stands = set_written-passes code x e typed public low p k holds stands here carries
+      by (Some r) is stands =
+          let used = typed.0 in
+          let label_is : label_at (context_of f.decls) x ≡ used.0 = ap label_or_public used.1 in
+          straight-by f x e r is
+          (λ t. Flows (higher code (label_of (context_of f.decls) t)) (label_at (context_of f.decls) x)
+          → TypedTree (context_of f.decls) t → HasPublicIndexes f t → height_of t ≤ 16
+          → StandsNoted o p (straight_code f Public r t) (straight_notes f p t)
+          → PassedSet o f p (straight_code f Public r t) k)
+          (λ op a b known flows typed_value public_value low_value standing.
+          straight_passes x used.0 used.1 r op a b known
+          (kept_label code (label_of (context_of f.decls) (Operation op a b)) (label_at (context_of f.decls) x) flows
+          known.keeps
+          ∙ ap secret_label label_is)
+          typed_value public_value low_value p k holds standing here carries)
+          typed.1.1 typed.1.0 public low stands
 
   -- an assignment to an element is passed in public code
   pub set_element-passes : (code : Label) (x : List ℕ) (i e : Tree)
@@ -196,7 +298,7 @@ module _ (o : Parts) (f : Setting) (homes : HasHomes o f) (once : DeclaredOnce f
       let whole = p + length (first ++ (access ++ store)) in
       let before = operand_part q (expr_notes f (base_mask f) 0 p e) in
       let later = array_notes f mask 1 mid x i in
-      let q_of_index = index_operand f near i in
+      let q_of_index = index_operand f near (home_of f x) i in
       let lie_before : LieBetween p mid before = operand-lie q p (expr_code f Public 0 e)
       (expr_notes f (base_mask f) 0 p e) (expression-lies f e (base_mask f) 0 p) in
       let lie_access : LieBetween mid (r + 1) later = access-lie f near h mask 1 (operand_register q_of_index 1) mid _

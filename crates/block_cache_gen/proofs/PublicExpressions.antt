@@ -74,7 +74,7 @@ element_label label.Secret i bank word plain back public known =
     ap (λ (b : Bool). not b || word)
     (ne_eqb bank 0 (λ e. absurd (let f : ◌≡◌ {A = Label} label.Secret label.Public = plain e in cc)))
 
-higher_label : (a b : Label) → (secret_label a || secret_label b) ≡ secret_label (higher a b)
+pub higher_label : (a b : Label) → (secret_label a || secret_label b) ≡ secret_label (higher a b)
 higher_label label.Public b = refl
 higher_label label.Secret b = refl
 

@@ -158,8 +158,8 @@ steps-known steps value reads known =
     at i e = subst (λ (c : Bool). IsKnown (if c then value else None)) (sym e) known
 
 -- the register of an index is the index's
-pub is-index : (f : Setting) (within : Bool) (i : Tree) → IsOperandOf f i (index_by within f i)
-is-index f within i = operand-unless f i (is_in_place (numbering_by within false))
+pub is-index : (f : Setting) (within : Bool) (h : Home) (i : Tree) → IsOperandOf f i (index_by within f h i)
+is-index f within h i = operand-unless f i (is_in_place h (numbering_by within false))
 
 module _ (o : Parts) (f : Setting) (homes : HasHomes o f) where
   -- a scalar that is public, by the register that holds it
@@ -215,10 +215,10 @@ module _ (o : Parts) (f : Setting) (homes : HasHomes o f) where
       let index = public-right (label_at known x) (label_of known i) public in
       let plain = plain-array o f homes x typed.0.0 typed.0.1 in
       let within = is_within_home f (home_of f x) i in
-      let q = index_by within f i in
+      let q = index_by within f (home_of f x) i in
       element_by-known (home_of f x).resident within (home_of f x) (fixed_index (home_of f x) i)
       (operand_tree f q (tree_of_expr f i)) (plain.1 (sym same ∙ array))
-      (operand-known i typed.1.0 q (is-index f within i) index (public-tree i typed.1.0 index))
+      (operand-known i typed.1.0 q (is-index f within (home_of f x) i) index (public-tree i typed.1.0 index))
   public-tree (Operation op a b) typed public =
       by (steps_at f op b) refl (public-tree a typed.0 public_left) (public-tree b typed.1 public_right)
     where
@@ -244,7 +244,8 @@ module _ (o : Parts) (f : Setting) (homes : HasHomes o f) where
           steps-known steps (tree_of_expr f a) replaces.reads left
 
   -- so is that of a public index
-  pub public-index : (within : Bool) (i : Tree) → TypedTree (context_of f.decls) i
-      → label_of (context_of f.decls) i ≡ Public → IsKnown (operand_tree f (index_by within f i) (tree_of_expr f i))
-  public-index within i typed public =
-      operand-known i typed (index_by within f i) (is-index f within i) public (public-tree i typed public)
+  pub public-index : (within : Bool) (h : Home) (i : Tree) → TypedTree (context_of f.decls) i
+      → label_of (context_of f.decls) i ≡ Public
+      → IsKnown (operand_tree f (index_by within f h i) (tree_of_expr f i))
+  public-index within h i typed public =
+      operand-known i typed (index_by within f h i) (is-index f within h i) public (public-tree i typed public)

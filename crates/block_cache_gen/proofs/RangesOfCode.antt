@@ -33,7 +33,7 @@ use Rattle.held_registers.specs.Held.{secret_zero, public_zero, IsSoundHeld}
 use Rattle.block_cache_gen.specs.TreeWords.{HasWords}
 use Rattle.block_cache_gen.specs.declared.indexes.Numbering.{Numbering}
 use Rattle.block_cache_gen.specs.declared.indexes.Numbering.TheVariants as numbers
-use Rattle.block_cache_gen.specs.Codes.{is_masked, held_number, applied_code, reducing, reducer, is_in_place, numbering, least_word, numbered_code, fixed_index, fixed_word, shift_code, fixed_code, located_code, load_code, skips, access_by, placed_code, offset_code, stored_code, access_code, index_operand, indexed_code, operand, operand_part, operand_register, left_operand, expr_code, guard_code, store_code, set_code, operation_code, steps_at, copy_code, scalar_code, copied_from, write_code, read_by, read_code, stored_among, stored_by, effect_of}
+use Rattle.block_cache_gen.specs.Codes.{is_masked, held_number, applied_code, reducing, reducer, is_in_place, numbering, least_word, numbered_code, numbered_register, fixed_index, fixed_word, shift_code, fixed_code, located_code, load_code, skips, access_by, placed_code, offset_code, stored_code, access_code, index_operand, indexed_code, operand, operand_part, operand_register, left_operand, expr_code, guard_code, store_code, set_code, operation_code, steps_at, copy_code, scalar_code, write_code, read_by, read_code, stored_among, stored_by, effect_of, straight, scalar_set, straight_code, target}
 use Rattle.strength_reduction.specs.Steps.{Step, Constant, Compute, StepFits, numbered, code_of}
 use Rattle.step_code.proofs.Registers.{numbered-low}
 use Rattle.word_selection.specs.SlotSteps.{IsOutside}
@@ -46,6 +46,7 @@ use Rattle.block_cache_gen.proofs.HeldScalars.{held-inside}
 use Rattle.block_cache_gen.proofs.HeldOperands.{operand-inside, operand-low, operand-outside, operand-unless}
 use Rattle.block_cache_gen.proofs.StepsAt.{steps-of}
 use Rattle.block_cache_gen.proofs.WordSlots.{few-further, got}
+use Rattle.block_cache_gen.proofs.StraightCodes.{straight-by}
 
 -- a home in its ranges, if there are this many banks
 pub record HomeFits (banks : ℕ) (h : Home) : Type 0 where
@@ -231,11 +232,17 @@ module _ (banks : ℕ) where
         both index (numbered_code near f h to from ++ shift_code f h to) fit
         (both (numbered_code near f h to from) (shift_code f h to) (numbered_by near from inside) block_by)
 
-    offset_by : (first : Bool) → CodeFits banks (if first then [] else applied_code f Add to to (to + 1) (pos h.word))
-    offset_by true = none
-    offset_by false =
+    numbered-inside : (near : Numbering) (from : ℕ) → from < 32 → numbered_register near to from < 32
+    numbered-inside numbers.Compared from inside = omega arith
+    numbered-inside numbers.Reduced from inside = omega arith
+    numbered-inside numbers.Within from inside = inside
+
+    offset_by : (from : ℕ) → from < 32 → (first : Bool)
+        → CodeFits banks (if first then [] else applied_code f Add to from (to + 1) (pos h.word))
+    offset_by from inside true = none
+    offset_by from inside false =
         let small = home.word in
-        applied_by Add to to (to + 1) (pos h.word) (omega arith) (omega arith) (omega arith)
+        applied_by Add to from (to + 1) (pos h.word) (omega arith) inside (omega arith)
         (small-word h.word (omega arith))
 
     placed_by : (near : Numbering) (from : ℕ) (fixed : Option ℤ) (index : List Instr) → from < 32 → CodeFits banks index
@@ -247,8 +254,10 @@ module _ (banks : ℕ) where
         let below : fixed_word h z < h.length = mod-lt (unsigned_of z) (omega arith) in
         li to (pos (h.word + fixed_word h z)) [] (omega arith) (small-word (h.word + fixed_word h z) (omega arith)) none
     placed_by near from None index inside fit =
-        both index (numbered_code near f h to from ++ offset_code f h to) fit
-        (both (numbered_code near f h to from) (offset_code f h to) (numbered_by near from inside) (offset_by (h.word == 0)))
+        let at = numbered_register near to from in
+        both index (numbered_code near f h to from ++ offset_code f h to at) fit
+        (both (numbered_code near f h to from) (offset_code f h to at) (numbered_by near from inside)
+        (offset_by at (numbered-inside near from inside) (h.word == 0)))
 
     pub access-fits : (near : Numbering) (mode : Mode) (from : ℕ) (fixed : Option ℤ) (index : List Instr) → from < 32
         → CodeFits banks index → CodeFits banks (access_code near f mode h to from fixed index)
@@ -329,11 +338,11 @@ module _ (banks : ℕ) where
   expression-fits f mode homes to (Element x i) typed words high =
       let home = homes.homes x typed.0.0 _ typed.0.1 in
       let near = numbering f mode (home_of f x) i in
-      let q = index_operand f near i in
+      let q = index_operand f near (home_of f x) i in
       both (indexed_code f near mode (home_of f x) to i (expr_code f mode to i)) _
       (access-fits f homes (home_of f x) home to (omega (arith, height-some i)) near mode
       (operand_register q to) (fixed_index (home_of f x) i) (operand_part q (expr_code f mode to i))
-      (operand-inside f homes.held i q (operand-unless f i (is_in_place near)) to (omega arith))
+      (operand-inside f homes.held i q (operand-unless f i (is_in_place (home_of f x) near)) to (omega arith))
       (operand-fits q (expr_code f mode to i) (expression-fits f mode homes to i typed.1.0 words (omega arith))))
       (read-fits f (home_of f x) home homes.block_log to (omega (arith, height-some i)) (fixed_index (home_of f x) i))
   expression-fits f mode homes to (Operation op a b) typed words high =
@@ -357,19 +366,22 @@ module _ (banks : ℕ) where
       (expression-fits f mode homes to t.left typed.0 left high)
       (expression-fits f mode homes (to + 1) t.right typed.1 right higher)
 
-  store_by : (mode : Mode) (slot value : ℕ) → slot < 8 → value < 32 → CodeFits banks (store_code mode slot value)
-  store_by Public slot value low inside = stw value slot 1 [] inside low (omega arith) none
-  store_by Real slot value low inside =
+  store_by : (once : Bool) (mode : Mode) (slot value : ℕ) → slot < 8 → value < 32
+      → CodeFits banks (store_code once mode slot value)
+  store_by once Public slot value low inside = stw value slot 1 [] inside low (omega arith) none
+  store_by false Real slot value low inside =
       ldw 2 slot 1 _ (omega arith) low (omega arith) (stw value slot 1 [] inside low (omega arith) none)
-  store_by Mirrored slot value low inside =
+  store_by true Real slot value low inside = stw value slot 1 [] inside low (omega arith) none
+  store_by false Mirrored slot value low inside =
       ldw 2 slot 1 _ (omega arith) low (omega arith) (stw 2 slot 1 [] (omega arith) low (omega arith) none)
+  store_by true Mirrored slot value low inside = ldw 0 slot 1 [] (omega arith) low (omega arith) none
 
   element-fits : (f : Setting) (mode : Mode) (h : Home) → HomeFits banks h → f.profile.block_log ≤ 9 → (value : ℕ)
       → value < 32 → IsOutside 1 4 value → (fixed : Option ℤ) → CodeFits banks (stored_code f mode h fixed value)
   element-fits f mode h home log value inside apart fixed = by h.resident fixed
     where
       among : (more : List ℕ) → further_slots h ≡ more → CodeFits banks (stored_among f mode h.slot more value)
-      among [] is = store_by mode h.slot value home.slot inside
+      among [] is = store_by f.reduces mode h.slot value home.slot inside
       among (next ∷ rest) is =
           let count : length (next ∷ rest) ≡ length (further_slots h) = ap length (sym is) in
           all-code banks (selected_write (effect_of mode) (words_a_block f) value (h.slot ∷ next ∷ rest) 1)
@@ -379,39 +391,66 @@ module _ (banks : ℕ) where
 
       by : (b : Bool) (fixed : Option ℤ) → CodeFits banks (stored_by b f mode h fixed value)
       by false fixed =
-          both (store_code mode h.slot value) (Stb h.slot ∷ []) (store_by mode h.slot value home.slot inside)
+          both (store_code f.reduces mode h.slot value) (Stb h.slot ∷ []) (store_by f.reduces mode h.slot value home.slot inside)
           (stb h.slot [] home.slot none)
       by true (Some z) =
           let n = h.word + fixed_word h z in
-          store_by mode (slot_of_word f h n) value (word-slot banks f h home n) inside
+          store_by f.reduces mode (slot_of_word f h n) value (word-slot banks f h home n) inside
       by true None = among (further_slots h) refl
 
-  write-fits : (h : Home) → HomeFits banks h → (l : Label) (mode : Mode) (found : Option ℕ)
+  -- the register of an instruction whose result is for another one
+  target-fits : (mode : Mode) (r : ℕ) → r < 32 → target mode r < 32
+  target-fits Public r low = low
+  target-fits Real r low = low
+  target-fits Mirrored r low = omega arith
+
+  write-fits : (once : Bool) (h : Home) → HomeFits banks h → (l : Label) (mode : Mode) (found : Option ℕ)
       → ((r : ℕ) → found ≡ Some r → r < 32) → (value : ℕ) → value < 32
-      → CodeFits banks (write_code found l mode h value)
-  write-fits h home l mode (Some r) register value inside =
-      copy-fits l r (copied_from mode r value) (register r refl) (from mode (register r refl))
-    where
-      from : (mode : Mode) → r < 32 → copied_from mode r value < 32
-      from Public low = inside
-      from Real low = inside
-      from Mirrored low = low
-  write-fits h home l mode None register value inside =
+      → CodeFits banks (write_code once found l mode h value)
+  write-fits once h home l mode (Some r) register value inside =
+      copy-fits l (target mode r) value (target-fits mode r (register r refl)) inside
+  write-fits once h home l mode None register value inside =
       let small = home.word in
-      li 1 (pos h.word) _ (omega arith) (small-word h.word (omega arith)) (store_by mode h.slot value home.slot inside)
+      li 1 (pos h.word) _ (omega arith) (small-word h.word (omega arith)) (store_by once mode h.slot value home.slot inside)
+
+  -- an operation with its result in any register
+  straight-fits : (f : Setting) (mode : Mode) → HomesFit banks f → (to : ℕ) → to < 32 → (op : Op) (a b : Tree)
+      → TypedTree (context_of f.decls) (Operation op a b) → HasWords (Operation op a b)
+      → height_of (Operation op a b) ≤ 17 → CodeFits banks (straight_code f mode to (Operation op a b))
+  straight-fits f mode homes to inside op a b typed words low =
+      let q = operand f a in
+      let p = operand f b in
+      both (operand_part q (expr_code f mode 0 a)) _
+      (operand-fits q (expr_code f mode 0 a) (expression-fits f mode homes 0 a typed.0 words.0 (omega (arith, low))))
+      (both (operand_part p (expr_code f mode 1 b)) _
+      (operand-fits p (expr_code f mode 1 b) (expression-fits f mode homes 1 b typed.1 words.1 (omega (arith, low))))
+      (alu op to (operand_register q 0) (operand_register p 1) [] inside
+      (operand-inside f homes.held a q (λ r held. held) 0 (omega arith))
+      (operand-inside f homes.held b p (λ r held. held) 1 (omega arith)) none))
 
   -- assignments
   pub set_variable-fits : (f : Setting) (mode : Mode) → HomesFit banks f → (x : List ℕ) (label : Label) (shape : Shape)
       (e : Tree)
       → context_of f.decls x ≡ Some (label, shape) → TypedTree (context_of f.decls) e → HasWords e → height_of e ≤ 17
       → CodeFits banks (set_code f mode (SetVariable x e))
-  set_variable-fits f mode homes x label shape e declared typed words low =
-      let q = operand f e in
-      both (operand_part q (expr_code f mode 0 e)) _
-      (operand-fits q (expr_code f mode 0 e) (expression-fits f mode homes 0 e typed words (omega arith)))
-      (write-fits (home_of f x) (homes.homes x label shape declared) (label_of (context_of f.decls) (Variable x)) mode
-      (register_for f x) (operand-low f homes.held (Variable x)) (operand_register q 0)
-      (operand-inside f homes.held e q (λ r held. held) 0 (omega arith)))
+  set_variable-fits f mode homes x label shape e declared typed words low = by (straight f x e) refl
+    where
+      by : (found : Option ℕ) → straight f x e ≡ found → CodeFits banks (scalar_set found f mode x e)
+      by (Some r) is =
+          straight-by f x e r is
+          (λ t. TypedTree (context_of f.decls) t → HasWords t → height_of t ≤ 17
+          → CodeFits banks (straight_code f mode (target mode r) t))
+          (λ op a b known typed_value words_value low_value.
+          straight-fits f mode homes (target mode r)
+          (target-fits mode r (operand-low f homes.held (Variable x) r known.held)) op a b typed_value words_value low_value)
+          typed words low
+      by None is =
+          let q = operand f e in
+          both (operand_part q (expr_code f mode 0 e)) _
+          (operand-fits q (expr_code f mode 0 e) (expression-fits f mode homes 0 e typed words (omega arith)))
+          (write-fits f.reduces (home_of f x) (homes.homes x label shape declared) (label_of (context_of f.decls) (Variable x)) mode
+          (register_for f x) (operand-low f homes.held (Variable x)) (operand_register q 0)
+          (operand-inside f homes.held e q (λ r held. held) 0 (omega arith)))
 
   -- the code of an assignment to an element is in its ranges
   pub set_element-fits : (f : Setting) (mode : Mode) → HomesFit banks f → (x : List ℕ) (i e : Tree)
@@ -421,13 +460,13 @@ module _ (banks : ℕ) where
       let home = homes.homes x typed.0.0 _ typed.0.1 in
       let near = numbering f mode (home_of f x) i in
       let q = operand f e in
-      let p = index_operand f near i in
+      let p = index_operand f near (home_of f x) i in
       both (operand_part q (expr_code f mode 0 e)) _
       (operand-fits q (expr_code f mode 0 e) (expression-fits f mode homes 0 e value words (omega arith)))
       (both (indexed_code f near mode (home_of f x) 1 i (expr_code f mode 1 i)) _
       (access-fits f homes (home_of f x) home 1 (omega arith) near mode (operand_register p 1)
       (fixed_index (home_of f x) i) (operand_part p (expr_code f mode 1 i))
-      (operand-inside f homes.held i p (operand-unless f i (is_in_place near)) 1 (omega arith))
+      (operand-inside f homes.held i p (operand-unless f i (is_in_place (home_of f x) near)) 1 (omega arith))
       (operand-fits p (expr_code f mode 1 i) (expression-fits f mode homes 1 i typed.1.0 index (omega arith))))
       (element-fits f mode (home_of f x) home homes.block_log (operand_register q 0)
       (operand-inside f homes.held e q (λ r held. held) 0 (omega arith)) (operand-outside f e q (λ r held. held))

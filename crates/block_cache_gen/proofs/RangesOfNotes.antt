@@ -24,15 +24,16 @@ use Rattle.block_cache_gen.specs.declared.frames.Mode.TheVariants.{Public}
 use Rattle.block_cache_gen.specs.Homes.{Pin, pin_at, Home, Setting, home_of, Held, label_by, register_for}
 use Rattle.block_cache_gen.specs.declared.indexes.Numbering.{Numbering}
 use Rattle.block_cache_gen.specs.declared.indexes.Numbering.TheVariants.{Compared, Reduced, Within}
-use Rattle.block_cache_gen.specs.Codes.{is_cached, numbering, compared_code, shift_code, load_code, offset_code, access_by, fixed_index, stored_code, access_code, operand, operand_part, operand_register, left_operand, index_operand, operation_code, steps_at, expr_code, guard_code, set_code, write_code, read_code}
+use Rattle.block_cache_gen.specs.Codes.{is_cached, numbering, compared_code, shift_code, load_code, offset_code, access_by, fixed_index, stored_code, access_code, operand, operand_part, operand_register, left_operand, index_operand, operation_code, steps_at, expr_code, guard_code, set_code, write_code, read_code, straight, scalar_set, straight_code}
 use Rattle.gr_word.specs.declared.operations.Op.{Op}
 use Rattle.strength_reduction.specs.Steps.{Step, code_of}
-use Rattle.block_cache_gen.specs.Notes.{unmarked, marked_by, operand_mask, is_used, claimed_where_used, claim_by, slot_claims, note_of, access_mask, compared_notes, loading_code, loaded_notes, load_notes, index_notes, operation_notes, expr_notes, guard_notes, set_notes, is_public, mask_to, base_mask}
+use Rattle.block_cache_gen.specs.Notes.{unmarked, marked_by, operand_mask, is_used, claimed_where_used, claim_by, slot_claims, note_of, access_mask, compared_notes, loading_code, loaded_notes, load_notes, index_notes, operation_notes, expr_notes, guard_notes, set_notes, is_public, mask_to, base_mask, scalar_set_notes}
 use Rattle.block_cache_gen.proofs.ElementCodes.{read-short, stored-short}
 use Rattle.block_cache_gen.proofs.NotesOfCode.{index_length, located-longer, access-longer, access-more, loading-behind, expression-longer}
 use Rattle.block_cache_gen.proofs.HeldOperands.{operand-short}
 use Rattle.block_cache_gen.proofs.Sizes.{shift_some}
 use Rattle.block_cache_gen.proofs.PublicAccesses.{array_code, array_notes}
+use Rattle.block_cache_gen.proofs.StraightCodes.{straight-length, straight-notes}
 
 -- Notes from one place on and before another, which rise, with masks of 32 registers, and the claims of a setting.
 abbrev pub NotesRise : Setting → (low high : ℕ) → List Note → Type 0
@@ -94,8 +95,8 @@ loaded_rises : (f : Setting) (h : Home) (mask to from p : ℕ) (b : Bool) (near 
     (p + length (access_by b near f Public h to from fixed index)))
 loaded_rises f h mask to from p true near (Some z) index small = tt
 loaded_rises f h mask to from p true Compared None index small =
-    let size = length-append index (compared_code h to ++ offset_code f h to) in
-    let rest = length-append (compared_code h to) (offset_code f h to) in
+    let size = length-append index (compared_code h to ++ offset_code f h to to) in
+    let rest = length-append (compared_code h to) (offset_code f h to to) in
     ((omega (arith, size, rest), omega (arith, size, rest)), (unmarked_below mask to small, refl), tt)
 loaded_rises f h mask to from p true Reduced None index small = tt
 loaded_rises f h mask to from p true Within None index small = tt
@@ -197,7 +198,7 @@ expression-rises f (Variable x) mask to p small = tt
 expression-rises f (Element x i) mask to p small =
     let h = home_of f x in
     let near = numbering f Public h i in
-    let q = index_operand f near i in
+    let q = index_operand f near h i in
     let code = array_code f to x i in
     let notes = expr_notes f mask to p (Element x i) in
     let read = read_code f h (fixed_index h i) to in
@@ -257,22 +258,30 @@ guard-rises f to p t =
 -- the notes of an assignment rise
 pub set-rises : (f : Setting) (p : ℕ) (s : Statement)
     → NotesRise f (p + 1) (p + length (set_code f Public s)) (set_notes f p s)
-set-rises f p (SetVariable x e) =
-    let q = operand f e in
-    let first = operand_part q (expr_code f Public 0 e) in
-    let notes = operand_part q (expr_notes f (base_mask f) 0 p e) in
-    let store = write_code (register_for f x) (label_of (context_of f.decls) (Variable x)) Public (home_of f x)
-    (operand_register q 0) in
-    let size : length (first ++ store) ≡ length first + length store = length-append first store in
-    rise-wider f (p + 1) (p + length first) (p + 1) (p + length (first ++ store)) notes
-    (omega arith) (omega arith)
-    (operand-rises f q p (expr_code f Public 0 e) (expr_notes f (base_mask f) 0 p e)
-    (expression-rises f e (base_mask f) 0 p (base_mask-below f)))
+set-rises f p (SetVariable x e) = by (straight f x e) refl
+  where
+    by : (found : Option ℕ) → straight f x e ≡ found
+        → NotesRise f (p + 1) (p + length (scalar_set found f Public x e)) (scalar_set_notes found f p e)
+    by (Some r) is =
+        subst (NotesRise f (p + 1) (p + length (straight_code f Public r e))) (sym (straight-notes f x e r is p))
+        (subst (λ (n : ℕ). NotesRise f (p + 1) (p + n) (expr_notes f (base_mask f) 0 p e))
+        (sym (straight-length f x e r is Public r)) (expression-rises f e (base_mask f) 0 p (base_mask-below f)))
+    by None is =
+        let q = operand f e in
+        let first = operand_part q (expr_code f Public 0 e) in
+        let notes = operand_part q (expr_notes f (base_mask f) 0 p e) in
+        let store = write_code f.reduces (register_for f x) (label_of (context_of f.decls) (Variable x)) Public (home_of f x)
+        (operand_register q 0) in
+        let size : length (first ++ store) ≡ length first + length store = length-append first store in
+        rise-wider f (p + 1) (p + length first) (p + 1) (p + length (first ++ store)) notes
+        (omega arith) (omega arith)
+        (operand-rises f q p (expr_code f Public 0 e) (expr_notes f (base_mask f) 0 p e)
+        (expression-rises f e (base_mask f) 0 p (base_mask-below f)))
 set-rises f p (SetElement x i e) =
     let h = home_of f x in
     let near = numbering f Public h i in
     let q = operand f e in
-    let q_of_index = index_operand f near i in
+    let q_of_index = index_operand f near h i in
     let first = operand_part q (expr_code f Public 0 e) in
     let before = operand_part q (expr_notes f (base_mask f) 0 p e) in
     let access = array_code f 1 x i in
@@ -387,7 +396,7 @@ compared_count Within None f mask to place = omega arith
 loaded_count : (f : Setting) (h : Home) (mask to behind : ℕ) (b : Bool) (near : Numbering) (fixed : Option ℤ)
     → length (loaded_notes b near fixed f h mask to behind) ≤ 2
 loaded_count f h mask to behind true near fixed =
-    let count = compared_count near fixed f mask to (behind - length (offset_code f h to)) in omega arith
+    let count = compared_count near fixed f mask to (behind - length (offset_code f h to to)) in omega arith
 loaded_count f h mask to behind false near fixed =
     let place = behind - length (loading_code f h to) in
     let load = if is_cached h then note_of f (access_mask mask to) behind ∷ [] else [] in
@@ -423,7 +432,7 @@ expression-count f (Number z) mask to p = omega arith
 expression-count f (Variable x) mask to p = omega arith
 expression-count f (Element x i) mask to p =
     let near = numbering f Public (home_of f x) i in
-    let q = index_operand f near i in
+    let q = index_operand f near (home_of f x) i in
     let notes = expr_notes f mask to p i in
     let count = access-count f near (home_of f x) mask to (p + length (array_code f to x i))
     (fixed_index (home_of f x) i) (operand_part q notes) in
@@ -460,9 +469,14 @@ guard-count f to p t =
 -- so has an assignment to a variable
 pub set_variable-count : (f : Setting) (p : ℕ) (x : List ℕ) (e : Tree)
     → length (set_notes f p (SetVariable x e)) ≤ 2 * tree_weight e
-set_variable-count f p x e =
-    let notes = expr_notes f (base_mask f) 0 p e in
-    omega (arith, operand-short (operand f e) notes, expression-count f e (base_mask f) 0 p)
+set_variable-count f p x e = by (straight f x e) refl
+  where
+    by : (found : Option ℕ) → straight f x e ≡ found → length (scalar_set_notes found f p e) ≤ 2 * tree_weight e
+    by (Some r) is =
+        omega (arith, ap length (straight-notes f x e r is p), expression-count f e (base_mask f) 0 p)
+    by None is =
+        let notes = expr_notes f (base_mask f) 0 p e in
+        omega (arith, operand-short (operand f e) notes, expression-count f e (base_mask f) 0 p)
 
 -- and one to an element
 pub set_element-count : (f : Setting) (p : ℕ) (x : List ℕ) (i e : Tree)
@@ -470,7 +484,7 @@ pub set_element-count : (f : Setting) (p : ℕ) (x : List ℕ) (i e : Tree)
 set_element-count f p x i e =
     let near = numbering f Public (home_of f x) i in
     let q = operand f e in
-    let q_of_index = index_operand f near i in
+    let q_of_index = index_operand f near (home_of f x) i in
     let mid = p + length (operand_part q (expr_code f Public 0 e)) in
     let mask = operand_mask q (label_of (context_of f.decls) e) (base_mask f) 0 in
     let before = expr_notes f (base_mask f) 0 p e in

@@ -23,7 +23,7 @@ use Rattle.src_tree.specs.Trees.{Tree}
 use Rattle.block_cache_gen.specs.declared.frames.Mode.{Mode}
 use Rattle.block_cache_gen.specs.declared.indexes.Numbering.{Numbering}
 use Rattle.block_cache_gen.specs.Homes.{pin_at, slot_of_word, words_a_block, Home, Setting, HasHomes, home_of, register_for}
-use Rattle.block_cache_gen.specs.Codes.{applied_code, fixed_index, fixed_word, numbered_code, offset_code, placed_code}
+use Rattle.block_cache_gen.specs.Codes.{applied_code, fixed_index, fixed_word, numbered_code, numbered_register, offset_code, placed_code}
 use Rattle.scratch_alloc.specs.Plans.{pin_to}
 use Rattle.block_cache_gen.specs.StandsFor.{StandsFor, FitsHomes, HoldsBlock}
 use Rattle.block_cache_gen.specs.Accesses.{accesses, word_number, seen_of_all}
@@ -31,31 +31,31 @@ use Rattle.block_cache_gen.specs.LeavesWord.{LeavesWord}
 use Rattle.block_cache_gen.proofs.HomeFacts.{block_words-is}
 use Rattle.block_cache_gen.proofs.WordSlots.{word-pinned, words-few}
 use Rattle.block_cache_gen.proofs.Stands.{stands-like, stands-set}
-use Rattle.block_cache_gen.proofs.IndexRuns.{FitsNumbering, Reduces, Computes, runs-applied, runs-numbered}
+use Rattle.block_cache_gen.proofs.IndexRuns.{FitsNumbering, Numbers, Reduces, Computes, numbered-apart, numbered-first, runs-applied, runs-numbered}
 use Rattle.block_cache_gen.proofs.OperandRuns.{LeavesAt, RunsValue, runs-nothing}
 use Rattle.block_cache_gen.proofs.AccessRuns.{fixed-is}
 
 -- the first word of a variable is added to a number, unless that is 0
-runs-offset : (o : Parts) (fits : IsInRange o) (f : Setting) (store : Store) (h : Home) (to n : ℕ) (s : State)
-    → IsShaped o s → StandsFor f s store → register s to ≡ pos n
-    → to + 2 < 19 → h.word + n < 2 ^ 63 → StandsAt o s.place (offset_code f h to)
-    → RunsThrough o s (offset_code f h to) [] (Reduces to (h.word + n) s)
-runs-offset o fits f store h to n s shaped stands has below small =
-    cond_both (h.word == 0) [] (applied_code f Add to to (to + 1) (pos h.word))
+runs-offset : (o : Parts) (fits : IsInRange o) (f : Setting) (store : Store) (h : Home) (to from n : ℕ) (s : State)
+    → IsShaped o s → StandsFor f s store → register s from ≡ pos n → from ≢ to + 1 → ((h.word == 0) ≡ true → from ≡ to)
+    → to + 2 < 19 → h.word + n < 2 ^ 63 → StandsAt o s.place (offset_code f h to from)
+    → RunsThrough o s (offset_code f h to from) [] (Reduces to (h.word + n) s)
+runs-offset o fits f store h to from n s shaped stands has apart own below small =
+    cond_both (h.word == 0) [] (applied_code f Add to from (to + 1) (pos h.word))
     (λ code. StandsAt o s.place code → RunsThrough o s code [] (Reduces to (h.word + n) s))
     (λ none at.
     let first : h.word ≡ 0 = eqb-true h.word 0 none in
     runs-nothing s (Reduces to (h.word + n) s) shaped
     (record {
-      word = has ∙ ap pos (let e : n ≡ h.word + n = omega arith in e);
+      word = ap (register s) (sym (own none)) ∙ has ∙ ap pos (let e : n ≡ h.word + n = omega arith in e);
       keeps = record { below = λ r under. refl; above = λ r over. refl; slots = refl; banks = refl };
     }))
     (λ some at.
     let value = pos (h.word + n) in
-    let code = applied_code f Add to to (to + 1) (pos h.word) in
+    let code = applied_code f Add to from (to + 1) (pos h.word) in
     runs-weaker s code [] [] (Computes to value s) (Reduces to (h.word + n) s)
-    (runs-applied o fits f store Add to to (to + 1) (pos h.word) (pos n) value s shaped stands has
-    (λ same. absurd (omega (arith, same))) (omega arith) (omega arith)
+    (runs-applied o fits f store Add to from (to + 1) (pos h.word) (pos n) value s shaped stands has apart (omega arith)
+    (omega arith)
     (add_small n h.word (omega arith) ∙ ap pos (omega arith)) at)
     refl
     (λ t shape done. record { word = done.word; keeps = done.keeps }))
@@ -122,7 +122,7 @@ module _ (o : Parts) (fits : IsInRange o) (f : Setting) (homes : HasHomes o f) (
   -- the place of the word is found, after the code of the index
   pub runs-placed : (mode : Mode) (to from : ℕ) (i : Tree) (code : List Instr) (s : State) → IsShaped o s
       → StandsFor f s store → to + 2 < 19 → from ≢ to + 1 → RunsValue o f store mode to from i code s
-      → (way : Numbering) → FitsNumbering way to from (evaluated f.decls store i) (home_of f x).length
+      → (way : Numbering) → FitsNumbering way (home_of f x) to from (evaluated f.decls store i)
       → (fixed : Option ℤ) → fixed_index (home_of f x) i ≡ fixed
       → StandsAt o s.place (placed_code way f (home_of f x) to from fixed code)
       → RunsThrough o s (placed_code way f (home_of f x) to from fixed code)
@@ -157,23 +157,26 @@ module _ (o : Parts) (fits : IsInRange o) (f : Setting) (homes : HasHomes o f) (
       let before = accesses f store i in
       let seen = seen_of_all mode s.banks s.slots before in
       let number = numbered_code way f h to from in
+      let at_number = numbered_register way to from in
+      let added = offset_code f h to at_number in
       let Done : State → Type 0 = LeavesWord f store before to (pos (h.word + n)) s in
       let small_place : h.word + n < 2 ^ 63 =
       let most = pow_below o.profile.block_log 10 (omega (arith, fits.profile.block_log)) in
       let few = words-few f (block_words o) label h home in
       omega (arith, few, resident-within index, most) in
-      runs-weaker s (code ++ (number ++ offset_code f h to)) (seen ++ []) seen Done Done
-      (runs-append s code (number ++ offset_code f h to) seen [] (LeavesAt f store before to from index s) Done at
+      runs-weaker s (code ++ (number ++ added)) (seen ++ []) seen Done Done
+      (runs-append s code (number ++ added) seen [] (LeavesAt f store before to from index s) Done at
       run
       (λ t shape leaves at'.
-      runs-append t number (offset_code f h to) [] []
-      (Reduces to (unsigned_of index % h.length) t) Done at'
+      runs-append t number added [] []
+      (Numbers at_number to (unsigned_of index % h.length) t) Done at'
       (runs-numbered o fits f store way h to from t index shape leaves.stands leaves.value other own small home.length.0 home.length.1)
       (λ u shape' reduces at''.
-      let word : register u to ≡ pos n = reduces.word ∙ ap pos (resident_number-is index) in
+      let word : register u at_number ≡ pos n = reduces.word ∙ ap pos (resident_number-is index) in
       let stands' = stands-like f t u store reduces.keeps.slots reduces.keeps.banks reduces.keeps.above leaves.stands in
-      runs-weaker u (offset_code f h to) [] [] (Reduces to (h.word + n) u) Done
-      (runs-offset o fits f store h to n u shape' stands' word small small_place at'')
+      runs-weaker u added [] [] (Reduces to (h.word + n) u) Done
+      (runs-offset o fits f store h to at_number n u shape' stands' word (numbered-apart way to from other)
+      (numbered-first way h to from index own) small small_place at'')
       refl
       (λ v shape'' offset.
       let banks = offset.keeps.banks ∙ reduces.keeps.banks in

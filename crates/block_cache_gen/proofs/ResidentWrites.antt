@@ -1,5 +1,6 @@
 -- A word of a resident variable is written in its slot, and the machine then represents the store that is assigned.
-use Rattle.std.proofs.Common.{◌≡◌, ◌≢◌, ℕ, ◌+◌, ◌/◌, ◌%◌, ◌<◌, ◌≤◌, true, ℤ, pos, List, [], ◌∷◌, length, get_or, set, Some, None, refl, sym, ap, ◌∙◌, subst, arith}
+use Rattle.std.proofs.Common.{◌≡◌, ◌≢◌, ℕ, ◌+◌, ◌/◌, ◌%◌, ◌<◌, ◌≤◌, Bool, true, false, ℤ, pos, List, [], ◌∷◌, length, get_or, set, Some, None, refl, sym, ap, ◌∙◌, subst, arith}
+use Rattle.std.proofs.lemmas.List.{set-get_or}
 use Rattle.gr_word.specs.Words.{IsWord}
 use Rattle.gr_word.specs.declared.variables.Label.{Label}
 use Rattle.gr_word.specs.declared.variables.Shape.{Shape}
@@ -81,16 +82,42 @@ module _ (o : Parts) (fits : IsInRange o) where
         banks = binds.banks ∙ sets.banks;
       }))
 
-  pub runs-store : (mode : Mode) (k v b a n : ℕ) (words : List ℤ) (value : ℤ) (s : State)
+  -- the old word is read in place of its store, into register 0
+  runs-only_read : (k b a n : ℕ) (words : List ℤ) (s : State) → IsShaped o s → slot s k ≡ Bound b a words
+      → register s 1 ≡ pos n → StandsAt o s.place (Ldw 0 k 1 ∷ [])
+      → RunsThrough o s (Ldw 0 k 1 ∷ []) []
+      (Binds k (Bound b a (set words (n % block_words o) (word_in words (n % block_words o)))) s)
+  runs-only_read k b a n words s shaped held place at =
+      let i = n % block_words o in
+      let old = word_in words i in
+      let found = Bound b a (set words i old) in
+      let same : found ≡ slot s k = ap (λ l. Bound b a l) (set-get_or words i (pos 0)) ∙ sym held in
+      runs-weaker s (Ldw 0 k 1 ∷ []) [] [] (Sets s 0 old) (Binds k found s)
+      (runs-one s (Ldw 0 k 1) [] (Sets s 0 old) at
+      (sets-ldw o fits s shaped 0 k 1 b a words old (omega arith) held
+      (ap (λ word. word_in words (word_named o word)) place)))
+      refl
+      (λ t shape sets. record {
+        above = λ r over. sets.others r (λ e. absurd (omega (arith, over, e)));
+        slots = sets.slots ∙ sym (set-get_or s.slots k Unbound) ∙ ap (λ bound. set s.slots k bound) (sym same);
+        banks = sets.banks;
+      })
+
+  pub runs-store : (once : Bool) (mode : Mode) (k v b a n : ℕ) (words : List ℤ) (value : ℤ) (s : State)
       → IsShaped o s → slot s k ≡ Bound b a words
-      → register s v ≡ value → v ≢ 2 → register s 1 ≡ pos n → StandsAt o s.place (store_code mode k v) → RunsThrough o s
-      (store_code mode k v) [] (Binds k (Bound b a (words_written mode words (n % block_words o) value)) s)
-  runs-store Public k v b a n words value s shaped held has other place at =
+      → register s v ≡ value → v ≢ 2 → register s 1 ≡ pos n → StandsAt o s.place (store_code once mode k v)
+      → RunsThrough o s
+      (store_code once mode k v) [] (Binds k (Bound b a (words_written mode words (n % block_words o) value)) s)
+  runs-store once Public k v b a n words value s shaped held has other place at =
       runs-stw v k b a n words value s shaped held has place at
-  runs-store Real k v b a n words value s shaped held has other place at =
+  runs-store false Real k v b a n words value s shaped held has other place at =
       runs-rewrite v k b a n words value s shaped held (λ t sets. sets.others v other ∙ has) place at
-  runs-store Mirrored k v b a n words value s shaped held has other place at =
+  runs-store true Real k v b a n words value s shaped held has other place at =
+      runs-stw v k b a n words value s shaped held has place at
+  runs-store false Mirrored k v b a n words value s shaped held has other place at =
       runs-rewrite 2 k b a n words (word_in words (n % block_words o)) s shaped held (λ t sets. sets.value) place at
+  runs-store true Mirrored k v b a n words value s shaped held has other place at =
+      runs-only_read k b a n words s shaped held place at
 
 module _ (o : Parts) (fits : IsInRange o) (f : Setting) (homes : HasHomes o f) (store : Store)
     (store_fits : FitsHomes f store) where
@@ -141,8 +168,8 @@ module _ (o : Parts) (fits : IsInRange o) (f : Setting) (homes : HasHomes o f) (
       → (home_of f x).resident ≡ true → register_for f x ≡ None → (n : ℕ) → n < (home_of f x).length → (v : ℕ)
       → v ≢ 2 → (value : ℤ) → IsWord value → (u : State) → IsShaped o u → StandsFor f u store → register u v ≡ value
       → register u 1 ≡ pos ((home_of f x).word + n)
-      → StandsAt o u.place (store_code mode (slot_of_word f (home_of f x) ((home_of f x).word + n)) v)
-      → RunsThrough o u (store_code mode (slot_of_word f (home_of f x) ((home_of f x).word + n)) v) []
+      → StandsAt o u.place (store_code f.reduces mode (slot_of_word f (home_of f x) ((home_of f x).word + n)) v)
+      → RunsThrough o u (store_code f.reduces mode (slot_of_word f (home_of f x) ((home_of f x).word + n)) v) []
       (Assigns f (by_mode mode (with_word store (variable_number f.decls x) n value) store))
   runs-put mode x label shape known resident free n within v other value is u shaped stands has place at =
       let h = home_of f x in
@@ -151,9 +178,9 @@ module _ (o : Parts) (fits : IsInRange o) (f : Setting) (homes : HasHomes o f) (
       let block = h.block + number / words_a_block f in
       let held = resident-held o fits f homes store store_fits x label shape known resident n within u stands in
       let found = Bound h.bank block (words_written mode held.words (number % block_words o) value) in
-      runs-weaker u (store_code mode slot v) [] [] (Binds slot found u)
+      runs-weaker u (store_code f.reduces mode slot v) [] [] (Binds slot found u)
       (Assigns f (by_mode mode (with_word store (variable_number f.decls x) n value) store))
-      (runs-store o fits mode slot v h.bank block number held.words value u shaped held.holds has other place at)
+      (runs-store o fits f.reduces mode slot v h.bank block number held.words value u shaped held.holds has other place at)
       refl
       (λ after shape'' binds.
       put-done mode x label shape known resident free n within value is u shaped stands held after binds.slots binds.banks

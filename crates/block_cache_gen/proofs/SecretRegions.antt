@@ -1,19 +1,17 @@
--- A branch on a secret in an arm, whose own arms show the same and leave the same in the slots.
-use Rattle.std.proofs.Common.{◌≡◌, ℕ, ◌+◌, ◌<◌, ◌≤◌, pos, List, length, Option, sym, ap, ◌∙◌, subst}
+-- A branch on a secret in an arm, whose own two ways show the same and leave the same in the slots.
+use Rattle.std.proofs.Common.{◌≡◌, ℕ, ◌+◌, ◌<◌, pos, List, length, Option, sym, ◌∙◌}
 use Rattle.std.specs.Option.{unwrap_or}
 use Rattle.gr_word.specs.declared.operations.Cmp.{Cmp}
-use Rattle.lt_isa.specs.declared.profiles.Profile.{Profile}
 use Rattle.lt_isa.specs.declared.instructions.Instr.{Instr}
 use Rattle.lt_isa.specs.Object.{Parts}
 use Rattle.symbolic_values.specs.Trees.{Value}
 use Rattle.trace_patterns.specs.Shape.{most_regions}
-use Rattle.trace_patterns.specs.Walk.{CrossesTo}
-use Rattle.stretches.specs.Shows.{Show, pattern_of, region_shows}
+use Rattle.trace_patterns.specs.Walk.{CrossesTo, untaken_way, taken_way}
+use Rattle.stretches.specs.Shows.{Show, pattern_of}
 use Rattle.stretches.specs.InArms.{StandsInArm}
 use Rattle.trace_patterns.specs.SymStates.{SymSlot, SymState, tree_held, slot_held, common_tree, common_slot, common}
 use Rattle.trace_patterns.proofs.SymStateLaws.{IsSized, tree-common, slot-common, sized-common, own_tree, own_slot}
-use Rattle.stretches.proofs.ArmCode.{Walked}
-use Rattle.stretches.proofs.ArmRegions.{first_arm, region_code, region-crosses, walked-region}
+use Rattle.stretches.proofs.ArmRegions.{region_code, region-crosses, walked-region}
 use Rattle.block_cache_gen.specs.Homes.{Setting}
 use Rattle.block_cache_gen.specs.Carries.{CarriesInArm, held_tree}
 use Rattle.block_cache_gen.specs.PatternsOf.{Loads}
@@ -36,34 +34,23 @@ common-tree : (left right : SymState) (r : ℕ) (tree : Option Value) → tree_h
 common-tree left right r tree one other =
     tree-common left right r ∙ (λ i. common_tree (one i) (other i)) ∙ own_tree tree
 
-module _ (o : Parts) (f : Setting) (profile : o.profile ≡ f.profile) (depth : ℕ) (s : SymState) (cmp : Cmp) (ra rb : ℕ)
-    (first second : List Instr) (shows : List Show) (loads : Loads) (some : 1 ≤ f.profile.taken)
-    (around : depth < most_regions) (one : Goes o f (depth + 1) s first shows loads)
-    (other : Goes o f (depth + 1) s second shows loads) where
-  same_taken : o.profile.taken ≡ f.profile.taken
-  same_taken = ap (λ (p : Profile). p.taken) profile
-
-  some_taken : 1 ≤ o.profile.taken
-  some_taken = subst (λ (taken : ℕ). 1 ≤ taken) (sym same_taken) some
-
+module _ (o : Parts) (f : Setting) (depth : ℕ) (s : SymState) (cmp : Cmp) (ra rb : ℕ) (first second : List Instr)
+    (xs ys shows : List Show) (loads : Loads) (around : depth < most_regions)
+    (one : Goes o f (depth + 1) s first xs loads) (other : Goes o f (depth + 1) s second ys loads)
+    (one_way : untaken_way o (pattern_of xs) ≡ pattern_of shows)
+    (other_way : taken_way o (pattern_of ys) ≡ pattern_of shows) where
   -- what the loads of both arms left is in the slots there
   pub joined-slots : (k : ℕ) → slot_held (common one.state other.state) k ≡ unwrap_or (loads k) (slot_held s k)
   joined-slots k =
       common-held one.state other.state k (unwrap_or (loads k) (slot_held s k)) (one.slots k) (other.slots k)
 
   -- it is crossed
-  pub region-crossed : (p : ℕ) → StandsInArm o p (region_code f.profile.taken cmp ra rb first second)
-      → CrossesTo o depth (p + length (region_code f.profile.taken cmp ra rb first second)) p
-      (pos (length (first_arm f.profile.taken first) + 2)) s (pattern_of (region_shows f.profile.taken shows))
-      (p + length (region_code f.profile.taken cmp ra rb first second)) (common one.state other.state)
+  pub region-crossed : (p : ℕ) → StandsInArm o p (region_code cmp ra rb first second)
+      → CrossesTo o depth (p + length (region_code cmp ra rb first second)) p (pos (length first + 2)) s
+      (pattern_of shows) (p + length (region_code cmp ra rb first second)) (common one.state other.state)
   region-crossed p =
-      subst (λ (taken : ℕ).
-      StandsInArm o p (region_code taken cmp ra rb first second)
-      → CrossesTo o depth (p + length (region_code taken cmp ra rb first second)) p
-      (pos (length (first_arm taken first) + 2)) s (pattern_of (region_shows taken shows))
-      (p + length (region_code taken cmp ra rb first second)) (common one.state other.state)) same_taken
-      (region-crosses o some_taken depth around s cmp ra rb first second shows one.state other.state one.walked
-      other.walked p)
+      region-crosses o depth around s cmp ra rb first second xs ys shows one.state other.state one.walked other.walked
+      one_way other_way p
 
   -- and the setting is carried at its join
   pub joined-carries : CarriesInArm f (common one.state other.state)
@@ -78,15 +65,11 @@ module _ (o : Parts) (f : Setting) (profile : o.profile ≡ f.profile) (depth : 
       sized.registers sized.slots
 
   -- so it continues there
-  pub goes-region : Goes o f depth s (region_code f.profile.taken cmp ra rb first second)
-      (region_shows f.profile.taken shows) loads
+  pub goes-region : Goes o f depth s (region_code cmp ra rb first second) shows loads
   goes-region = record {
     state = common one.state other.state;
-    walked = subst (λ (taken : ℕ).
-        Walked o depth s (region_code taken cmp ra rb first second) (region_shows taken shows)
-        (common one.state other.state)) same_taken
-        (walked-region o some_taken depth around s cmp ra rb first second shows one.state other.state one.walked
-        other.walked);
+    walked = walked-region o depth around s cmp ra rb first second xs ys shows one.state other.state one.walked
+        other.walked one_way other_way;
     carries = joined-carries;
     slots = joined-slots;
   }

@@ -1,5 +1,5 @@
 -- How long the code of expressions, guards and assignments is, and how many notes it has.
-use Rattle.std.proofs.Common.{◌≡◌, ℕ, ◌+◌, ◌*◌, ◌≤◌, Bool, true, false, List, [], ◌∷◌, ◌++◌, length, Option, Some, None, ℤ, pos, arith, length-append}
+use Rattle.std.proofs.Common.{refl, ◌≡◌, ℕ, ◌+◌, ◌*◌, ◌≤◌, Bool, true, false, List, [], ◌∷◌, ◌++◌, length, Option, Some, None, ℤ, pos, arith, length-append}
 use Rattle.std.specs.Prelude.{if◌then◌else◌, ◌==◌}
 use Rattle.gr_word.specs.declared.variables.Label.{Label}
 use Rattle.lt_isa.specs.declared.instructions.Instr.{Instr}
@@ -15,10 +15,11 @@ use Rattle.block_cache_gen.specs.Assignments.{IsAssignment}
 use Rattle.block_cache_gen.specs.Homes.{Home, Setting, home_of, register_for}
 use Rattle.block_cache_gen.specs.declared.indexes.Numbering.{Numbering}
 use Rattle.block_cache_gen.specs.declared.indexes.Numbering.TheVariants.{Compared, Reduced, Within}
-use Rattle.block_cache_gen.specs.Codes.{read_code, held_number, applied_code, reducing, reducer, numbering, numbered_code, shift_code, offset_code, placed_code, stored_code, located_code, load_code, skips, access_by, access_code, index_operand, indexed_code, fixed_index, operand, operand_part, operand_register, left_operand, operation_code, steps_at, expr_code, guard_code, set_code, scalar_code, write_code}
+use Rattle.block_cache_gen.specs.Codes.{read_code, held_number, applied_code, reducing, reducer, numbering, numbered_code, numbered_register, shift_code, offset_code, placed_code, stored_code, located_code, load_code, skips, access_by, access_code, index_operand, indexed_code, fixed_index, operand, operand_part, operand_register, left_operand, operation_code, steps_at, expr_code, guard_code, set_code, scalar_code, write_code, straight, scalar_set, target}
 use Rattle.block_cache_gen.proofs.HeldOperands.{operand-short}
 use Rattle.block_cache_gen.proofs.ElementCodes.{read-short, store_short, stored-short}
 use Rattle.block_cache_gen.proofs.StepsAt.{operation-short}
+use Rattle.block_cache_gen.proofs.StraightCodes.{straight-length}
 
 -- an operation on a number takes two instructions at most, and one at least
 applied_short : (f : Setting) (op : Op) (to from own : ℕ) (z : ℤ) → length (applied_code f op to from own z) ≤ 2
@@ -87,12 +88,26 @@ located_short near f h to from None index =
       shift_short f h to,
     )
 
-pub offset_short : (f : Setting) (h : Home) (to : ℕ) → length (offset_code f h to) ≤ 2
-offset_short f h to = by (h.word == 0)
+pub offset_short : (f : Setting) (h : Home) (to from : ℕ) → length (offset_code f h to from) ≤ 2
+offset_short f h to from = by (h.word == 0)
   where
-    by : (first : Bool) → length (if first then [] else applied_code f Add to to (to + 1) (pos h.word)) ≤ 2
+    by : (first : Bool) → length (if first then [] else applied_code f Add to from (to + 1) (pos h.word)) ≤ 2
     by true = omega arith
-    by false = applied_short f Add to to (to + 1) (pos h.word)
+    by false = applied_short f Add to from (to + 1) (pos h.word)
+
+-- as long by each register
+pub offset_length : (f : Setting) (h : Home) (to from : ℕ)
+    → length (offset_code f h to from) ≡ length (offset_code f h to to)
+offset_length f h to from = by (h.word == 0) (held_number f (pos h.word))
+  where
+    by : (first : Bool) (q : Option ℕ)
+        → length (if first then []
+        else operand_part q (Li (to + 1) (pos h.word) ∷ []) ++ Alu Add to from (operand_register q (to + 1)) ∷ [])
+        ≡ length (if first then []
+        else operand_part q (Li (to + 1) (pos h.word) ∷ []) ++ Alu Add to to (operand_register q (to + 1)) ∷ [])
+    by true q = refl
+    by false None = refl
+    by false (Some r) = refl
 
 pub scalar_short : (r : Option ℕ) (h : Home) (to : ℕ) → length (scalar_code r h to) ≤ 2
 scalar_short None h to = omega arith
@@ -106,12 +121,13 @@ access_short near f mode h to from fixed index = by h.resident
     placed : (g : Option ℤ) → length (placed_code near f h to from g index) ≤ length index + 13
     placed (Some z) = omega arith
     placed None =
+        let at = numbered_register near to from in
         omega (
           arith,
-          length-append index (numbered_code near f h to from ++ offset_code f h to),
-          length-append (numbered_code near f h to from) (offset_code f h to),
+          length-append index (numbered_code near f h to from ++ offset_code f h to at),
+          length-append (numbered_code near f h to from) (offset_code f h to at),
           numbered_short near f h to from,
-          offset_short f h to,
+          offset_short f h to at,
         )
 
     by : (b : Bool) → length (access_by b near f mode h to from fixed index) ≤ length index + 13
@@ -126,7 +142,7 @@ access_short near f mode h to from fixed index = by h.resident
 pub indexed_short : (f : Setting) (near : Numbering) (mode : Mode) (h : Home) (to : ℕ) (i : Tree) (index : List Instr)
     → length (indexed_code f near mode h to i index) ≤ length index + 13
 indexed_short f near mode h to i index =
-    let q = index_operand f near i in
+    let q = index_operand f near h i in
     let s = access_short near f mode h to (operand_register q to) (fixed_index h i)
     (operand_part q index) in
     let l = operand-short q index in
@@ -169,24 +185,32 @@ guard_code_short f mode to t =
     let k = expr_code_short f mode (to + 1) t.right in
     omega arith
 
-pub write_short : (r : Option ℕ) (l : Label) (mode : Mode) (h : Home) (value : ℕ)
-    → length (write_code r l mode h value) ≤ 3
-write_short (Some r) l mode h value = omega arith
-write_short None l mode h value = omega (arith, (store_short mode h.slot value).1)
+pub write_short : (once : Bool) (r : Option ℕ) (l : Label) (mode : Mode) (h : Home) (value : ℕ)
+    → length (write_code once r l mode h value) ≤ 3
+write_short once (Some r) l mode h value = omega arith
+write_short once None l mode h value = omega (arith, (store_short once mode h.slot value).1)
 
 -- at most 57 instructions a unit of an assignment's weight
 pub set_code_short : (f : Setting) (mode : Mode) (known : Context) (code : Label) (s : Statement) → IsAssignment s
     → length (set_code f mode s) ≤ 57 * statement_weight known code s
-set_code_short f mode known code (SetVariable x e) is =
-    let h = home_of f x in
-    let label = label_of (context_of f.decls) (Variable x) in
-    let value = operand_register (operand f e) 0 in
-    let write = write_code (register_for f x) label mode h value in
-    let l = length-append (operand_part (operand f e) (expr_code f mode 0 e)) write in
-    let k = expr_code_short f mode 0 e in
-    let p = operand-short (operand f e) (expr_code f mode 0 e) in
-    let s = write_short (register_for f x) label mode h value in
-    omega arith
+set_code_short f mode known code (SetVariable x e) is = by (straight f x e) refl
+  where
+    by : (found : Option ℕ) → straight f x e ≡ found
+        → length (scalar_set found f mode x e) ≤ 57 * statement_weight known code (SetVariable x e)
+    by (Some r) found =
+        let l = straight-length f x e r found mode (target mode r) in
+        let k = expr_code_short f mode 0 e in
+        omega arith
+    by None found =
+        let h = home_of f x in
+        let label = label_of (context_of f.decls) (Variable x) in
+        let value = operand_register (operand f e) 0 in
+        let write = write_code f.reduces (register_for f x) label mode h value in
+        let l = length-append (operand_part (operand f e) (expr_code f mode 0 e)) write in
+        let k = expr_code_short f mode 0 e in
+        let p = operand-short (operand f e) (expr_code f mode 0 e) in
+        let s = write_short f.reduces (register_for f x) label mode h value in
+        omega arith
 set_code_short f mode known code (SetElement x i e) is =
     let h = home_of f x in
     let index = expr_code f mode 1 i in

@@ -14,7 +14,8 @@ use Rattle.block_cache_gen.specs.declared.frames.Mode.{Mode}
 use Rattle.block_cache_gen.specs.Assignments.{IsAssignment}
 use Rattle.block_cache_gen.specs.Homes.{Home, Setting, home_of, register_for}
 use Rattle.block_cache_gen.proofs.ElementCodes.{read-short, stored-short}
-use Rattle.block_cache_gen.specs.Codes.{may_skip_loads, is_masked, is_within_home, numbering_by, numbering, scalar_code, expr_code, fixed_index, guard_code, read_code, set_code, stored_code, write_code, indexed_code, operand, operand_part, operand_register, operand_unless, left_operand, operation_code, steps_at}
+use Rattle.block_cache_gen.specs.Codes.{may_skip_loads, is_masked, is_within_home, numbering_by, numbering, scalar_code, expr_code, fixed_index, guard_code, read_code, set_code, stored_code, write_code, indexed_code, operand, operand_part, operand_register, operand_unless, left_operand, operation_code, steps_at, straight, scalar_set, target}
+use Rattle.block_cache_gen.proofs.StraightCodes.{straight-length}
 
 scalar_code-some : (r : Option ℕ) (h : Home) (to : ℕ) → 1 ≤ length (scalar_code r h to)
 scalar_code-some (Some r) h to = omega arith
@@ -55,21 +56,26 @@ guard_code-some f m to t =
     omega
     (arith, expr_code-some f m to t.left, length-append (expr_code f m to t.left) (expr_code f m (to + 1) t.right))
 
-write_code-some : (r : Option ℕ) (l : Label) (m : Mode) (h : Home) (value : ℕ) → 1 ≤ length (write_code r l m h value)
-write_code-some (Some r) l m h value = omega arith
-write_code-some None l m h value = omega arith
+write_code-some : (once : Bool) (r : Option ℕ) (l : Label) (m : Mode) (h : Home) (value : ℕ)
+    → 1 ≤ length (write_code once r l m h value)
+write_code-some once (Some r) l m h value = omega arith
+write_code-some once None l m h value = omega arith
 
 -- no assignment is made into no code
 pub set_code-some : (f : Setting) (m : Mode) (s : Statement) → IsAssignment s → 1 ≤ length (set_code f m s)
-set_code-some f m (SetVariable x e) is =
-    let value = operand_register (operand f e) 0 in
-    let label = label_of (context_of f.decls) (Variable x) in
-    let write = write_code (register_for f x) label m (home_of f x) value in
-    omega (
-      arith,
-      write_code-some (register_for f x) label m (home_of f x) value,
-      length-append (operand_part (operand f e) (expr_code f m 0 e)) write,
-    )
+set_code-some f m (SetVariable x e) is = by (straight f x e) refl
+  where
+    by : (found : Option ℕ) → straight f x e ≡ found → 1 ≤ length (scalar_set found f m x e)
+    by (Some r) known = omega (arith, straight-length f x e r known m (target m r), expr_code-some f m 0 e)
+    by None known =
+        let value = operand_register (operand f e) 0 in
+        let label = label_of (context_of f.decls) (Variable x) in
+        let write = write_code f.reduces (register_for f x) label m (home_of f x) value in
+        omega (
+          arith,
+          write_code-some f.reduces (register_for f x) label m (home_of f x) value,
+          length-append (operand_part (operand f e) (expr_code f m 0 e)) write,
+        )
 set_code-some f m (SetElement x i e) is =
     let h = home_of f x in
     let store = stored_code f m h (fixed_index h i) (operand_register (operand f e) 0) in

@@ -193,8 +193,8 @@ module _ (o : Parts) (fits : IsInRange o) (f : Setting) (homes : HasHomes o f) (
 
   single : (mode : Mode) (v : ℕ) (apart : IsOutside 1 4 v) (value : ℤ) → IsWord value → register s v ≡ value
       → register s 1 ≡ pos ((home_of f x).word + n)
-      → StandsAt o s.place (store_code mode (slot_of_word f (home_of f x) ((home_of f x).word + n)) v)
-      → RunsThrough o s (store_code mode (slot_of_word f (home_of f x) ((home_of f x).word + n)) v) []
+      → StandsAt o s.place (store_code f.reduces mode (slot_of_word f (home_of f x) ((home_of f x).word + n)) v)
+      → RunsThrough o s (store_code f.reduces mode (slot_of_word f (home_of f x) ((home_of f x).word + n)) v) []
       (Assigns f (by_mode mode (with_word store (variable_number f.decls x) n value) store))
   single mode v apart value is has place at =
       runs-put o fits f homes store store_fits mode x label shape known resident free n within v (outside-two v apart) value
@@ -240,8 +240,8 @@ module _ (o : Parts) (fits : IsInRange o) (f : Setting) (homes : HasHomes o f) (
   runs-stored_by mode v apart value is has place (Some z) fixed at =
       let h = home_of f x in
       subst
-      (λ m. StandsAt o s.place (store_code mode (slot_of_word f h (h.word + m)) v)
-      → RunsThrough o s (store_code mode (slot_of_word f h (h.word + m)) v) []
+      (λ m. StandsAt o s.place (store_code f.reduces mode (slot_of_word f h (h.word + m)) v)
+      → RunsThrough o s (store_code f.reduces mode (slot_of_word f h (h.word + m)) v) []
       (Assigns f (by_mode mode (with_word store (variable_number f.decls x) n value) store)))
       (sym (fixed z refl)) (λ at. single mode v apart value is has place at) at
   runs-stored_by mode v apart value is has place None fixed at = by (further_slots (home_of f x)) refl at
@@ -253,8 +253,8 @@ module _ (o : Parts) (fits : IsInRange o) (f : Setting) (homes : HasHomes o f) (
       by [] none at =
           let h = home_of f x in
           subst
-          (λ k. StandsAt o s.place (store_code mode k v)
-          → RunsThrough o s (store_code mode k v) []
+          (λ k. StandsAt o s.place (store_code f.reduces mode k v)
+          → RunsThrough o s (store_code f.reduces mode k v) []
           (Assigns f (by_mode mode (with_word store (variable_number f.decls x) n value) store)))
           (single-slot h.slot (further_slots h) ((h.word + n) / words_a_block f) none)
           (λ at. single mode v apart value is has place at) at

@@ -54,7 +54,7 @@ operation-short f op to ra rb b right short = by (steps_at f op b) refl
         omega arith
 
 -- steps store no word
-pub steps-stores : (to : ℕ) (steps : List Step) → stored_words (code_of to steps) ≡ 0
-steps-stores to [] = refl
-steps-stores to (Constant rd value ∷ steps) = steps-stores to steps
-steps-stores to (Compute op rd left right ∷ steps) = steps-stores to steps
+pub steps-stores : (once : Bool) (to : ℕ) (steps : List Step) → stored_words once (code_of to steps) ≡ 0
+steps-stores once to [] = refl
+steps-stores once to (Constant rd value ∷ steps) = steps-stores once to steps
+steps-stores once to (Compute op rd left right ∷ steps) = steps-stores once to steps

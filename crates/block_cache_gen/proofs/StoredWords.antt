@@ -1,118 +1,73 @@
--- Two codes that have the same instructions but for registers that are stored or copied, of which one writes once.
+-- Code without effect that mirrors code with an effect, which writes once.
 use Rattle.std.proofs.Common.{◌≡◌, Bool, true, false, List, [], ◌∷◌, refl, sym, ap, ◌∙◌, arith}
-use Rattle.std.specs.Prelude.{if◌then◌else◌}
 use Rattle.std.proofs.lemmas.Bool.{true≢false}
 use Rattle.lt_isa.specs.declared.instructions.Instr.{Instr}
-use Rattle.lt_isa.specs.declared.instructions.Instr.TheVariants.{Alu, Stw}
-use Rattle.src_tree.specs.Trees.{Statement}
-use Rattle.block_cache_gen.specs.Homes.{Setting}
-use Rattle.block_cache_gen.specs.InstructionsOf.{instructions_of_set}
-use Rattle.block_cache_gen.specs.StoredWords.{is_held_register, is_write, written_words, register_aside, registers_aside, DifferInLastStored}
+use Rattle.block_cache_gen.specs.StoredWords.{is_write, written_words}
+use Rattle.block_cache_gen.specs.Twins.{IsInstead, Itself, Stored, Read, Dropped, Mirrors, Ends, Goes, DifferInLastWritten}
 use Rattle.block_cache_gen.proofs.WrittenWords.{written-append, written-one}
 
--- an instruction that writes no scalar and no element is left as it is
-aside-plain : (i : Instr) → is_write i ≡ false → register_aside i ≡ i
-aside-plain (Stw rs slot ro) is = absurd (true≢false is)
-aside-plain (Alu op rd ra rb) is = ap (λ (b : Bool). if b then Alu op rd 0 rb else Alu op rd ra rb) is
-aside-plain _ is = refl
+module _ (once : Bool) where
+  -- an instruction counts for nothing, and another for one
+  plain-counts : (i : Instr) → is_write once i ≡ false → written_words once (i ∷ []) ≡ 0
+  plain-counts i is = written-one once i false is
 
-aside-writes : (i : Instr) → is_write (register_aside i) ≡ is_write i
-aside-writes (Stw rs slot ro) = refl
-aside-writes (Alu op rd ra rb) = by (is_held_register rd)
-  where
-    by : (b : Bool) → is_write (if b then Alu op rd 0 rb else Alu op rd ra rb) ≡ is_held_register rd
-    by true = refl
-    by false = refl
-aside-writes _ = refl
+  written-counts : (i : Instr) → is_write once i ≡ true → written_words once (i ∷ []) ≡ 1
+  written-counts i is = written-one once i true is
 
--- of two that are the same but for the register, both write or neither
-aside-both : (i j : Instr) → register_aside i ≡ register_aside j → is_write j ≡ is_write i
-aside-both i j same = sym (aside-writes j) ∙ sym (ap is_write same) ∙ aside-writes i
+  -- an instruction that writes nothing stays as it is
+  plain-same : (i j : Instr) → IsInstead once i j → is_write once i ≡ false → i ≡ j
+  plain-same i j (Itself k) is = refl
+  plain-same i j (Stored rs old slot ro) is = absurd (true≢false is)
+  plain-same i j (Read rs slot only) is = absurd (true≢false is)
+  plain-same i j (Dropped op r ra rb held) is = absurd (true≢false (sym held ∙ is))
 
-plain-same : (i j : Instr) → is_write i ≡ false → register_aside i ≡ register_aside j → i ≡ j
-plain-same i j is same = sym (aside-plain i is) ∙ same ∙ aside-plain j (aside-both i j same ∙ is)
+  -- and so does code that writes nothing
+  none-same : (one other : List Instr) → Mirrors once one other → written_words once one ≡ 0 → one ≡ other
+  none-same one other Ends none = refl
+  none-same one other (Goes i j xs ys instead rest) none = by (is_write once i) refl (none-same xs ys rest)
+    where
+      by : (b : Bool) → is_write once i ≡ b → (written_words once xs ≡ 0 → xs ≡ ys) → i ∷ xs ≡ j ∷ ys
+      by true is more =
+          absurd (omega (arith, written-append once (i ∷ []) xs, written-counts i is, none))
+      by false is more =
+          let head = plain-same i j instead is in
+          let tail = more (omega (arith, written-append once (i ∷ []) xs, plain-counts i is, none)) in
+          λ k. head k ∷ tail k
 
--- it counts for nothing, and another for one
-plain-counts : (i : Instr) → is_write i ≡ false → written_words (i ∷ []) ≡ 0
-plain-counts i is = written-one i false is
-
-written-counts : (i : Instr) → is_write i ≡ true → written_words (i ∷ []) ≡ 1
-written-counts i is = written-one i true is
-
--- codes that write nothing are one
-none-same : (xs ys : List Instr) → written_words xs ≡ 0 → registers_aside xs ≡ registers_aside ys → xs ≡ ys
-none-same [] [] none same = refl
-none-same [] (j ∷ ys) none same =
-    absurd (let e : ◌≡◌ {A = List Instr} [] (register_aside j ∷ registers_aside ys) = same in cc)
-none-same (i ∷ xs) [] none same =
-    absurd (let e : ◌≡◌ {A = List Instr} (register_aside i ∷ registers_aside xs) [] = same in cc)
-none-same (i ∷ xs) (j ∷ ys) none same = by (is_write i) refl (none-same xs ys)
-  where
-    both : ◌≡◌ {A = List Instr} (register_aside i ∷ registers_aside xs) (register_aside j ∷ registers_aside ys)
-    both = same
-
-    by : (b : Bool) → is_write i ≡ b → (written_words xs ≡ 0 → registers_aside xs ≡ registers_aside ys → xs ≡ ys)
-        → i ∷ xs ≡ j ∷ ys
-    by true is more =
-        absurd (omega (arith, written-append (i ∷ []) xs, written-counts i is, none))
-    by false is more =
-        let e = both in
-        let first : register_aside i ≡ register_aside j = cc in
-        let rest : registers_aside xs ≡ registers_aside ys = cc in
-        let head = plain-same i j is first in
-        let tail = more (omega (arith, written-append (i ∷ []) xs, plain-counts i is, none)) rest in
-        λ k. head k ∷ tail k
-
--- two codes of which one writes once differ only in the register that is stored or copied
-one-differs : (xs ys : List Instr) → written_words xs ≡ 1 → registers_aside xs ≡ registers_aside ys
-    → DifferInLastStored xs ys
-one-differs [] ys one same = absurd (omega (arith, one))
-one-differs (i ∷ xs) [] one same =
-    absurd (let e : ◌≡◌ {A = List Instr} (register_aside i ∷ registers_aside xs) [] = same in cc)
-one-differs (i ∷ xs) (j ∷ ys) one same = by (is_write i) refl (one-differs xs ys)
-  where
-    both : ◌≡◌ {A = List Instr} (register_aside i ∷ registers_aside xs) (register_aside j ∷ registers_aside ys)
-    both = same
-
-    head : register_aside i ≡ register_aside j
-    head = let e = both in cc
-
-    rest : registers_aside xs ≡ registers_aside ys
-    rest = let e = both in cc
-
-    by : (b : Bool) → is_write i ≡ b
-        → (written_words xs ≡ 1 → registers_aside xs ≡ registers_aside ys → DifferInLastStored xs ys)
-        → DifferInLastStored (i ∷ xs) (j ∷ ys)
-    by true is more =
-        let none : written_words xs ≡ 0 = omega (arith, written-append (i ∷ []) xs, written-counts i is, one) in
-        record {
-          before = [];
-          after = xs;
-          written = i;
-          instead = j;
-          write = is;
-          alike = head;
-          first = refl;
-          second = ap (λ (code : List Instr). j ∷ code) (sym (none-same xs ys none rest));
-          last = none;
-        }
-    by false is more =
-        let d = more (omega (arith, written-append (i ∷ []) xs, plain-counts i is, one)) rest in
-        let same_head = sym (plain-same i j is head) in
-        record {
-          before = i ∷ d.before;
-          after = d.after;
-          written = d.written;
-          instead = d.instead;
-          write = d.write;
-          alike = d.alike;
-          first = ap (λ (code : List Instr). i ∷ code) d.first;
-          second = let others = d.second in λ k. same_head k ∷ others k;
-          last = d.last;
-        }
-
--- so do two codes of one assignment
-pub twins-differ : (f : Setting) (s : Statement) (one other : List Instr) → written_words one ≡ 1
-    → registers_aside one ≡ instructions_of_set f s → registers_aside other ≡ instructions_of_set f s
-    → DifferInLastStored one other
-twins-differ f s one other writes first second = one-differs one other writes (first ∙ sym second)
+  -- so of code that writes once only this instruction may differ
+  pub mirrors-differ : (one other : List Instr) → Mirrors once one other → written_words once one ≡ 1
+      → DifferInLastWritten once one other
+  mirrors-differ one other Ends writes = absurd (omega (arith, writes))
+  mirrors-differ one other (Goes i j xs ys instead rest) writes =
+      by (is_write once i) refl (mirrors-differ xs ys rest)
+    where
+      by : (b : Bool) → is_write once i ≡ b → (written_words once xs ≡ 1 → DifferInLastWritten once xs ys)
+          → DifferInLastWritten once (i ∷ xs) (j ∷ ys)
+      by true is more =
+          let none : written_words once xs ≡ 0 =
+          omega (arith, written-append once (i ∷ []) xs, written-counts i is, writes) in
+          record {
+            before = [];
+            after = xs;
+            written = i;
+            instead = j;
+            write = is;
+            mirrors = instead;
+            first = refl;
+            second = ap (λ (code : List Instr). j ∷ code) (sym (none-same xs ys rest none));
+            last = none;
+          }
+      by false is more =
+          let d = more (omega (arith, written-append once (i ∷ []) xs, plain-counts i is, writes)) in
+          let same = sym (plain-same i j instead is) in
+          record {
+            before = i ∷ d.before;
+            after = d.after;
+            written = d.written;
+            instead = d.instead;
+            write = d.write;
+            mirrors = d.mirrors;
+            first = ap (λ (code : List Instr). i ∷ code) d.first;
+            second = let others = d.second in λ k. same k ∷ others k;
+            last = d.last;
+          }

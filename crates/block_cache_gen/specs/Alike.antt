@@ -6,7 +6,7 @@ use Rattle.gr_word.specs.declared.operations.Op.{Op}
 use Rattle.symbolic_values.specs.Sameness.{same_op}
 use Rattle.src_tree.specs.Trees.{Tree, Number, Variable, Element, Operation, Statement, SetVariable, SetElement, Block, Then}
 use Rattle.block_cache_gen.specs.Homes.{further_slots, Home, Setting, home_of}
-use Rattle.block_cache_gen.specs.Codes.{is_cached, is_masked, is_within_home, may_step, operand, held_number, reducer}
+use Rattle.block_cache_gen.specs.Codes.{is_cached, is_masked, is_within_home, may_step, operand, held_number, reducer, straight}
 pub use Rattle.block_cache_gen.specs.Codes.{is_product}
 
 -- registers hold two numbers for the whole run, or neither
@@ -63,12 +63,17 @@ pub data Alike (f : Setting) : Tree → Tree → Type 0 where
   ByNumber : (op : Op) (a c : Tree) (z : ℤ)
       → Alike f a c → Alike f (Operation op a (Number z)) (Operation op c (Number z))
 
--- Two assignments pair if both are to scalars, of alike expressions; or to elements, of alike expressions: with alike
--- indexes, of one oblivious bank or of resident arrays whose indexes are reduced alike; or with the same index, of one
--- array of encrypted memory.
+-- the last instruction of the values of two scalars leaves each in its register, or neither does
+abbrev pub AreBothStraight : Setting → (x y : List ℕ) → (e g : Tree) → Type 0
+AreBothStraight f x y e g = is_some (straight f x e) ≡ is_some (straight f y g)
+
+-- Two assignments pair if both are to scalars, of alike expressions, both straight or neither; or to elements, of alike
+-- expressions: with alike indexes, of one oblivious bank or of resident arrays whose indexes are reduced alike; or with
+-- the same index, of one array of encrypted memory.
 pub data Pair (f : Setting) : Statement → Statement → Type 0 where
   ToScalars : (x y : List ℕ) (e g : Tree)
-      → AreHeldAlike f (Variable x) (Variable y) → Alike f e g → Pair f (SetVariable x e) (SetVariable y g)
+      → AreHeldAlike f (Variable x) (Variable y) → AreBothStraight f x y e g → Alike f e g
+      → Pair f (SetVariable x e) (SetVariable y g)
   ToOblivious : (x y : List ℕ) (i j e g : Tree) → InOneBank f x y → Alike f i j → Alike f e g
       → Pair f (SetElement x i e) (SetElement y j g)
   ToResidents : (x y : List ℕ) (i j e g : Tree) → AreReducedAlike f x y i j → Alike f i j → Alike f e g
@@ -154,8 +159,12 @@ is_alike f (Operation op a b) (Operation oq c d) =
     && (by_same_number op b oq d || (are_plain f op b oq d && (both_products op oq && is_alike f b d)))
 is_alike f _ _ = false
 
+abbrev pub straight_alike : Setting → (x y : List ℕ) → (e g : Tree) → Bool
+straight_alike f x y e g = same_flag (is_some (straight f x e)) (is_some (straight f y g))
+
 abbrev pub is_pair : Setting → Statement → Statement → Bool
-is_pair f (SetVariable x e) (SetVariable y g) = held_alike f (Variable x) (Variable y) && is_alike f e g
+is_pair f (SetVariable x e) (SetVariable y g) =
+    held_alike f (Variable x) (Variable y) && (straight_alike f x y e g && is_alike f e g)
 is_pair f (SetElement x i e) (SetElement y j g) =
     is_alike f e g
     && (((in_one_bank f x y || reduced_alike f x y i j) && is_alike f i j)

@@ -177,15 +177,26 @@ load_code false h to = Ldb h.slot h.bank (to + 1) ∷ []
 abbrev pub skips : Mode → Home → Bool
 skips mode h = may_skip_loads mode && is_cached h
 
--- The number of a word in a resident array, in register `to`, becomes its number in the block: the number of the
--- array's first word is added, unless that is 0.
-abbrev pub offset_code : Setting → Home → ℕ → List Instr
-offset_code f h to = if h.word == 0 then [] else applied_code f Add to to (to + 1) (pos h.word)
+-- the register that has the number of the word then
+abbrev pub numbered_register : Numbering → (to from : ℕ) → ℕ
+numbered_register Compared to from = to
+numbered_register Reduced to from = to
+numbered_register Within to from = from
+
+-- The number of a word in a resident array, in register `from`, becomes its number in the block, in register `to`: the
+-- number of the array's first word is added, unless that is 0 and both are one register.
+abbrev pub offset_code : Setting → Home → (to from : ℕ) → List Instr
+offset_code f h to from = if h.word == 0 then [] else applied_code f Add to from (to + 1) (pos h.word)
+
+-- a resident array that doesn't begin its block
+abbrev pub has_offset : Home → Bool
+has_offset h = h.resident && not (h.word == 0)
 
 -- the number of a word of a resident array in its block, in register `to`
 abbrev pub placed_code : Numbering → Setting → Home → (to from : ℕ) → Option ℤ → List Instr → List Instr
 placed_code n f h to from (Some z) index = Li to (pos (h.word + fixed_word h z)) ∷ []
-placed_code n f h to from None index = index ++ (numbered_code n f h to from ++ offset_code f h to)
+placed_code n f h to from None index =
+    index ++ (numbered_code n f h to from ++ offset_code f h to (numbered_register n to from))
 
 -- the number of the word in its block in register `to`, with the block in the home's slot
 abbrev pub access_by : (resident : Bool) → Numbering → Setting → Mode → Home → (to from : ℕ) → Option ℤ → List Instr
@@ -196,26 +207,28 @@ access_by false n f mode h to from fixed index =
 
 -- the part of it that follows the code of the index
 abbrev pub found_by : (resident : Bool) → Numbering → Setting → Mode → Home → (to from : ℕ) → List Instr
-found_by true n f mode h to from = numbered_code n f h to from ++ offset_code f h to
+found_by true n f mode h to from =
+    numbered_code n f h to from ++ offset_code f h to (numbered_register n to from)
 found_by false n f mode h to from =
     numbered_code n f h to from ++ shift_code f h to ++ load_code (skips mode h) h to
 
 abbrev pub access_code : Numbering → Setting → Mode → Home → (to from : ℕ) → Option ℤ → List Instr → List Instr
 access_code n f mode h to from fixed index = access_by h.resident n f mode h to from fixed index
 
--- An index that is compared with the length, or is the number of the word, must be in register `to`.
-abbrev pub is_in_place : Numbering → Bool
-is_in_place Compared = true
-is_in_place Reduced = false
-is_in_place Within = true
+-- An index that is compared with the length, or is the number of the word, must be in register `to`. If it is added to
+-- the number of the array's first word, it may be in any register.
+abbrev pub is_in_place : Home → Numbering → Bool
+is_in_place h Compared = true
+is_in_place h Reduced = false
+is_in_place h Within = not (has_offset h)
 
-abbrev pub index_operand : Setting → Numbering → Tree → Option ℕ
-index_operand f n i = operand_unless (is_in_place n) (operand f i)
+abbrev pub index_operand : Setting → Numbering → Home → Tree → Option ℕ
+index_operand f n h i = operand_unless (is_in_place h n) (operand f i)
 
 abbrev pub indexed_code : Setting → Numbering → Mode → Home → ℕ → Tree → List Instr → List Instr
 indexed_code f n mode h to i index =
-    access_code n f mode h to (operand_register (index_operand f n i) to)
-    (fixed_index h i) (operand_part (index_operand f n i) index)
+    access_code n f mode h to (operand_register (index_operand f n h i) to)
+    (fixed_index h i) (operand_part (index_operand f n h i) index)
 
 -- Register `to` has the number of an element's word, and becomes that word. If slots hold the array for the whole run, an
 -- index that is a number names the slot; otherwise the word is selected among those of all its slots.
@@ -281,22 +294,67 @@ abbrev pub guard_code : Setting → Mode → ℕ → Test → List Instr
 guard_code f mode to t = expr_code f mode to t.left ++ expr_code f mode (to + 1) t.right
 
 -- The value in a register, or the old word, becomes the word that register 1 names of a slot. In secret code the old
--- word is read in both modes.
-abbrev pub store_code : Mode → (slot value : ℕ) → List Instr
-store_code Public slot value = Stw value slot 1 ∷ []
-store_code Real slot value = Ldw 2 slot 1 ∷ Stw value slot 1 ∷ []
-store_code Mirrored slot value = Ldw 2 slot 1 ∷ Stw 2 slot 1 ∷ []
+-- word is read in both modes, or `once` only: then code with an effect stores the value, and code without reads the old
+-- word into register 0, which takes as many cycles.
+abbrev pub store_code : (once : Bool) → Mode → (slot value : ℕ) → List Instr
+store_code once Public slot value = Stw value slot 1 ∷ []
+store_code false Real slot value = Ldw 2 slot 1 ∷ Stw value slot 1 ∷ []
+store_code true Real slot value = Stw value slot 1 ∷ []
+store_code false Mirrored slot value = Ldw 2 slot 1 ∷ Stw 2 slot 1 ∷ []
+store_code true Mirrored slot value = Ldw 0 slot 1 ∷ []
 
--- The value in a register becomes that of a scalar. A register that holds it gets a copy, in mirrored code of itself;
--- otherwise its word is in register 1.
-abbrev pub copied_from : Mode → (r value : ℕ) → ℕ
-copied_from Public r value = value
-copied_from Real r value = value
-copied_from Mirrored r value = r
+-- An instruction whose result is for a register that holds a scalar leaves it in register 0 in mirrored code.
+abbrev pub target : Mode → (r : ℕ) → ℕ
+target Public r = r
+target Real r = r
+target Mirrored r = 0
 
-abbrev pub write_code : Option ℕ → Label → Mode → Home → (value : ℕ) → List Instr
-write_code (Some r) l mode h value = copy_code l r (copied_from mode r value)
-write_code None l mode h value = Li 1 (pos h.word) ∷ store_code mode h.slot value
+-- The value in a register becomes that of a scalar. A register that holds it gets a copy; otherwise its word is in
+-- register 1.
+abbrev pub write_code : (once : Bool) → Option ℕ → Label → Mode → Home → (value : ℕ) → List Instr
+write_code once (Some r) l mode h value = copy_code l (target mode r) value
+write_code once None l mode h value = Li 1 (pos h.word) ∷ store_code once mode h.slot value
+
+-- A result has the label of a scalar without being copied, if it is assigned to a public scalar or is secret itself.
+abbrev pub keeps_label : (own value : Label) → Bool
+keeps_label label.Public value = true
+keeps_label label.Secret value = secret_label value
+
+-- The register that holds a scalar, if the last instruction of the code of a value leaves the value in it: an operation
+-- that no steps may replace.
+abbrev pub straight_if : Bool → Option ℕ → Option ℕ
+straight_if true q = q
+straight_if false q = None
+
+abbrev pub is_straight : Setting → List ℕ → Op → (a b : Tree) → Bool
+is_straight f x op a b =
+    f.reduces
+    && (not (may_step f op b)
+    && keeps_label (label_of (context_of f.decls) (Variable x)) (label_of (context_of f.decls) (Operation op a b)))
+
+abbrev pub straight : Setting → List ℕ → Tree → Option ℕ
+straight f x (Number z) = None
+straight f x (Variable y) = None
+straight f x (Element y i) = None
+straight f x (Operation op a b) = straight_if (is_straight f x op a b) (register_for f x)
+
+-- the code of such an operation, with the result in register r
+abbrev pub straight_code : Setting → Mode → (r : ℕ) → Tree → List Instr
+straight_code f mode r (Number z) = []
+straight_code f mode r (Variable y) = []
+straight_code f mode r (Element y i) = []
+straight_code f mode r (Operation op a b) =
+    operand_part (operand f a) (expr_code f mode 0 a)
+    ++ operation_code op r (operand_register (operand f a) 0) (operand_register (operand f b) 1) None
+    (operand_part (operand f b) (expr_code f mode 1 b))
+
+-- an assignment to a scalar: the value in register 0 or in the one that holds it, and then written, if not straight
+abbrev pub scalar_set : Option ℕ → Setting → Mode → List ℕ → Tree → List Instr
+scalar_set None f mode x e =
+    operand_part (operand f e) (expr_code f mode 0 e)
+    ++ write_code f.reduces (register_for f x) (label_of (context_of f.decls) (Variable x)) mode (home_of f x)
+    (operand_register (operand f e) 0)
+scalar_set (Some r) f mode x e = straight_code f mode (target mode r) e
 
 -- a word is selected among those of several slots to be stored, or of one slot stored
 abbrev pub effect_of : Mode → Effect
@@ -305,15 +363,16 @@ effect_of Real = Stores
 effect_of Mirrored = Keeps
 
 abbrev pub stored_among : Setting → Mode → (slot : ℕ) → (more : List ℕ) → (value : ℕ) → List Instr
-stored_among f mode slot [] value = store_code mode slot value
+stored_among f mode slot [] value = store_code f.reduces mode slot value
 stored_among f mode slot (next ∷ slots) value =
     selected_write (effect_of mode) (words_a_block f) value (slot ∷ next ∷ slots) 1
 
 -- An element's word, whose number is in register 1, becomes a value. After that its block is stored, unless slots hold
 -- the array for the whole run.
 abbrev pub stored_by : (resident : Bool) → Setting → Mode → Home → Option ℤ → (value : ℕ) → List Instr
-stored_by false f mode h fixed value = store_code mode h.slot value ++ Stb h.slot ∷ []
-stored_by true f mode h (Some z) value = store_code mode (slot_of_word f h (h.word + fixed_word h z)) value
+stored_by false f mode h fixed value = store_code f.reduces mode h.slot value ++ Stb h.slot ∷ []
+stored_by true f mode h (Some z) value =
+    store_code f.reduces mode (slot_of_word f h (h.word + fixed_word h z)) value
 stored_by true f mode h None value = stored_among f mode h.slot (further_slots h) value
 
 abbrev pub stored_code : Setting → Mode → Home → Option ℤ → (value : ℕ) → List Instr
@@ -321,10 +380,7 @@ stored_code f mode h fixed value = stored_by h.resident f mode h fixed value
 
 -- an assignment: a value that no register holds in register 0, the word of an element in register 1
 abbrev pub set_code : Setting → Mode → Statement → List Instr
-set_code f mode (SetVariable x e) =
-    operand_part (operand f e) (expr_code f mode 0 e)
-    ++ write_code (register_for f x) (label_of (context_of f.decls) (Variable x)) mode (home_of f x)
-    (operand_register (operand f e) 0)
+set_code f mode (SetVariable x e) = scalar_set (straight f x e) f mode x e
 set_code f mode (SetElement x i e) =
     operand_part (operand f e) (expr_code f mode 0 e)
     ++ (indexed_code f (numbering f mode (home_of f x) i) mode (home_of f x) 1 i (expr_code f mode 1 i)

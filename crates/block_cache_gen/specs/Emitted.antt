@@ -11,8 +11,8 @@ use Rattle.block_cache_gen.specs.declared.frames.Mode.{Mode}
 use Rattle.block_cache_gen.specs.declared.frames.Mode.TheVariants.{Public, Real, Mirrored}
 pub use Rattle.block_cache_gen.specs.Behind.{CodeGrows}
 use Rattle.block_cache_gen.specs.Homes.{Home, Setting}
-use Rattle.block_cache_gen.specs.Codes.{operand, operand_part, operand_register, operation_code, steps_at, expr_code, guard_code, set_code, index_operand, indexed_code, found_by, fixed_index, numbering}
-use Rattle.block_cache_gen.specs.Notes.{operation_notes, expr_notes, guard_notes, set_notes, index_notes, loaded_notes, load_notes}
+use Rattle.block_cache_gen.specs.Codes.{operand, operand_part, operand_register, operation_code, steps_at, expr_code, guard_code, set_code, straight_code, index_operand, indexed_code, found_by, fixed_index, numbering}
+use Rattle.block_cache_gen.specs.Notes.{operation_notes, expr_notes, guard_notes, set_notes, straight_notes, index_notes, loaded_notes, load_notes}
 
 -- code was appended, and notes that go by the place where that code begins
 pub record Appended (before after : CodeBuf) (more : List Instr) (noted : ℕ → List Note) : Type 0 where
@@ -32,7 +32,7 @@ notes_in Mirrored notes = []
 abbrev pub access_notes : Setting → Home → (mask to : ℕ) → Tree → ℕ → List Note
 access_notes f h mask to i place =
     index_notes (fixed_index h i)
-    (operand_part (index_operand f (numbering f Public h i) i) (expr_notes f mask to place i))
+    (operand_part (index_operand f (numbering f Public h i) h i) (expr_notes f mask to place i))
     ++ load_notes (numbering f Public h i) (fixed_index h i) f h mask to
     (place + length (indexed_code f (numbering f Public h i) Public h to i (expr_code f Public to i)))
 
@@ -68,7 +68,7 @@ EmitsAccess f mode h mask to i before after =
 -- the part of an access that follows the code of its index, where the index is no number that needs no code
 abbrev pub EmitsFound : Setting → Mode → Home → (mask to : ℕ) → Tree → CodeBuf → CodeBuf → Type 0
 EmitsFound f mode h mask to i before after =
-    let from = operand_register (index_operand f (numbering f mode h i) i) to in
+    let from = operand_register (index_operand f (numbering f mode h i) h i) to in
     Appended before after (found_by h.resident (numbering f mode h i) f mode h to from)
     (λ place. notes_in mode
     (loaded_notes h.resident (numbering f mode h i) None f h mask to
@@ -77,6 +77,10 @@ EmitsFound f mode h mask to i before after =
 abbrev pub EmitsGuard : Setting → Mode → ℕ → Test → CodeBuf → CodeBuf → Type 0
 EmitsGuard f mode to t before after =
     Appended before after (guard_code f mode to t) (λ place. notes_in mode (guard_notes f to place t))
+
+abbrev pub EmitsStraight : Setting → Mode → ℕ → Tree → CodeBuf → CodeBuf → Type 0
+EmitsStraight f mode to e before after =
+    Appended before after (straight_code f mode to e) (λ place. notes_in mode (straight_notes f place e))
 
 abbrev pub EmitsSet : Setting → Mode → Statement → CodeBuf → CodeBuf → Type 0
 EmitsSet f mode s before after =

@@ -19,7 +19,7 @@ use Rattle.block_cache_gen.specs.declared.frames.Mode.TheVariants as mode
 use Rattle.block_cache_gen.specs.declared.indexes.Numbering.{Numbering}
 use Rattle.block_cache_gen.specs.declared.indexes.Numbering.TheVariants.{Compared, Reduced, Within}
 use Rattle.block_cache_gen.specs.Homes.{Home, Pin, Setting, pin_at, home_of, Held, label_by}
-use Rattle.block_cache_gen.specs.Codes.{is_cached, fixed_index, numbering, offset_code, shift_code, load_code, operand, operand_part, left_operand, index_operand, steps_at, expr_code, indexed_code}
+use Rattle.block_cache_gen.specs.Codes.{is_cached, fixed_index, numbering, offset_code, shift_code, load_code, operand, operand_part, left_operand, index_operand, steps_at, straight, expr_code, indexed_code}
 use Rattle.strength_reduction.specs.Steps.{Step}
 
 -- every register may hold a secret
@@ -103,7 +103,7 @@ loading_code f h to = shift_code f h to ++ load_code (is_cached h) h to
 -- comparison, and if the array isn't resident the one that follows the load.
 abbrev pub loaded_notes : (resident : Bool) → Numbering → Option ℤ → Setting → Home → (mask to behind : ℕ) → List Note
 loaded_notes true n fixed f h mask to behind =
-    compared_notes n fixed f mask to (behind - length (offset_code f h to))
+    compared_notes n fixed f mask to (behind - length (offset_code f h to to))
 loaded_notes false n fixed f h mask to behind =
     compared_notes n fixed f mask to (behind - length (loading_code f h to))
     ++ (if is_cached h then note_of f (access_mask mask to) behind ∷ [] else [])
@@ -126,7 +126,7 @@ expr_notes f mask to place (Number z) = []
 expr_notes f mask to place (Variable x) = []
 expr_notes f mask to place (Element x i) =
     index_notes (fixed_index (home_of f x) i)
-    (operand_part (index_operand f (numbering f mode.Public (home_of f x) i) i) (expr_notes f mask to place i))
+    (operand_part (index_operand f (numbering f mode.Public (home_of f x) i) (home_of f x) i) (expr_notes f mask to place i))
     ++ load_notes (numbering f mode.Public (home_of f x) i) (fixed_index (home_of f x) i) f (home_of f x) mask to
     (place + length (indexed_code f (numbering f mode.Public (home_of f x) i) mode.Public (home_of f x) to i
     (expr_code f mode.Public to i)))
@@ -146,13 +146,29 @@ guard_notes f to place t =
     (place + length (expr_code f mode.Public to t.left))
     t.right
 
+-- the notes of an operation whose last instruction leaves its result in the register of a scalar
+abbrev pub straight_notes : Setting → (place : ℕ) → Tree → List Note
+straight_notes f place (Number z) = []
+straight_notes f place (Variable y) = []
+straight_notes f place (Element y i) = []
+straight_notes f place (Operation op a b) =
+    operand_part (operand f a) (expr_notes f (base_mask f) 0 place a)
+    ++ operand_part (operand f b)
+    (expr_notes f (operand_mask (operand f a) (label_of (context_of f.decls) a) (base_mask f) 0) 1
+    (place + length (operand_part (operand f a) (expr_code f mode.Public 0 a)))
+    b)
+
+abbrev pub scalar_set_notes : Option ℕ → Setting → (place : ℕ) → Tree → List Note
+scalar_set_notes None f place e = operand_part (operand f e) (expr_notes f (base_mask f) 0 place e)
+scalar_set_notes (Some r) f place e = straight_notes f place e
+
 -- the notes of an assignment: the index of an element stands behind its value
 abbrev pub set_notes : Setting → ℕ → Statement → List Note
-set_notes f place (SetVariable x e) = operand_part (operand f e) (expr_notes f (base_mask f) 0 place e)
+set_notes f place (SetVariable x e) = scalar_set_notes (straight f x e) f place e
 set_notes f place (SetElement x i e) =
     operand_part (operand f e) (expr_notes f (base_mask f) 0 place e)
     ++ (index_notes (fixed_index (home_of f x) i)
-    (operand_part (index_operand f (numbering f mode.Public (home_of f x) i) i)
+    (operand_part (index_operand f (numbering f mode.Public (home_of f x) i) (home_of f x) i)
     (expr_notes f (operand_mask (operand f e) (label_of (context_of f.decls) e) (base_mask f) 0) 1
     (place + length (operand_part (operand f e) (expr_code f mode.Public 0 e))) i))
     ++ load_notes (numbering f mode.Public (home_of f x) i) (fixed_index (home_of f x) i) f (home_of f x)

@@ -20,7 +20,7 @@ use Rattle.held_registers.specs.Held.{public_zero}
 use Rattle.word_selection.specs.Selection as selection
 use Rattle.block_cache_gen.specs.Homes.{Home, Setting, held_label, home_of, register_for, words_a_block, blocks_set, slots_of_home, further_slots}
 use Rattle.block_cache_gen.specs.Carries.{held_tree}
-use Rattle.block_cache_gen.specs.Codes.{fixed_index, fixed_word, held_number, is_within_home, numbering_by, reducer, reducing, operand, operand_part, index_operand, left_operand, steps_at}
+use Rattle.block_cache_gen.specs.Codes.{fixed_index, fixed_word, held_number, is_within_home, numbering_by, reducer, reducing, operand, operand_part, index_operand, left_operand, steps_at, straight}
 use Rattle.strength_reduction.specs.Steps.{Step, Constant, Compute, left_by}
 
 -- the cycles of an operation, and of a word that is read or written in a slot
@@ -189,9 +189,9 @@ element_by true within f h fixed index = word_read f (pinned_slot h) (placed_tre
 element_by false within f h fixed index =
     word_read f (element_slot within f h fixed index) (number_tree within f h fixed index)
 
--- the register of an index that is held for the whole run, unless the index is the number of the word
-abbrev pub index_by : (within : Bool) → Setting → Tree → Option ℕ
-index_by within f i = index_operand f (numbering_by within false) i
+-- the register of an index that is held for the whole run, unless the index is the number of the word in its block
+abbrev pub index_by : (within : Bool) → Setting → Home → Tree → Option ℕ
+index_by within f h i = index_operand f (numbering_by within false) h i
 
 -- the cycles of reading it
 abbrev pub read_shows_by : (resident : Bool) → Setting → Home → Option ℤ → List Show
@@ -202,14 +202,20 @@ read_shows_by true f h None = selection.read_shows f.profile (length (slots_of_h
 abbrev pub read_shows : Setting → Home → Option ℤ → List Show
 read_shows f h fixed = read_shows_by h.resident f h fixed
 
--- the same of a write, with the store of its block, where an array's block is stored back unless slots hold the array for the whole run
+-- the cycles of a store of a word in secret code, which takes one access or two
+abbrev pub word_shows : (once : Bool) → Setting → List Show
+word_shows false f = word_gap f ∷ word_gap f ∷ []
+word_shows true f = word_gap f ∷ []
+
+-- The same of an element, with the store of its block, where an array's block is stored back unless slots hold the array
+-- for the whole run.
 abbrev pub shows_among : Setting → (more : ℕ) → List Show
-shows_among f zero = word_gap f ∷ word_gap f ∷ []
+shows_among f zero = word_shows f.reduces f
 shows_among f (suc more) = selection.write_shows f.profile (more + 2)
 
 abbrev pub stored_shows_by : (resident : Bool) → Setting → Home → Option ℤ → SymSlot → List Show
-stored_shows_by false f h fixed bound = word_gap f ∷ word_gap f ∷ store_shows bound
-stored_shows_by true f h (Some z) bound = word_gap f ∷ word_gap f ∷ []
+stored_shows_by false f h fixed bound = word_shows f.reduces f ++ store_shows bound
+stored_shows_by true f h (Some z) bound = word_shows f.reduces f
 stored_shows_by true f h None bound = shows_among f (length (further_slots h))
 
 abbrev pub stored_shows : Setting → Home → Option ℤ → SymSlot → List Show
@@ -243,7 +249,7 @@ tree_of_expr f (Variable x) = scalar_tree f (register_for f x) (home_of f x)
 tree_of_expr f (Element x i) =
     let within = is_within_home f (home_of f x) i in
     element_by (home_of f x).resident within f (home_of f x) (fixed_index (home_of f x) i)
-    (operand_tree f (index_by within f i) (tree_of_expr f i))
+    (operand_tree f (index_by within f (home_of f x) i) (tree_of_expr f i))
 tree_of_expr f (Operation op a b) =
     operation_tree op (steps_at f op b) (operand_tree f (left_operand f op a b) (tree_of_expr f a))
     (operand_tree f (operand f b) (tree_of_expr f b))
@@ -255,7 +261,7 @@ scalar_shows f None = Gap 1 ∷ word_gap f ∷ []
 
 abbrev pub write_shows : Setting → Option ℕ → List Show
 write_shows f (Some r) = operation_gap f Add ∷ []
-write_shows f None = Gap 1 ∷ word_gap f ∷ word_gap f ∷ []
+write_shows f None = Gap 1 ∷ word_shows f.reduces f
 
 -- what its code shows
 abbrev pub shows_of_expr : Setting → Tree → List Show
@@ -264,8 +270,8 @@ shows_of_expr f (Variable x) = scalar_shows f (register_for f x)
 shows_of_expr f (Element x i) =
     let within = is_within_home f (home_of f x) i in
     access_shows within f (home_of f x) (fixed_index (home_of f x) i)
-    (operand_tree f (index_by within f i) (tree_of_expr f i))
-    (operand_part (index_by within f i) (shows_of_expr f i))
+    (operand_tree f (index_by within f (home_of f x) i) (tree_of_expr f i))
+    (operand_part (index_by within f (home_of f x) i) (shows_of_expr f i))
     ++ read_shows f (home_of f x) (fixed_index (home_of f x) i)
 shows_of_expr f (Operation op a b) =
     operand_part (left_operand f op a b) (shows_of_expr f a)
@@ -278,7 +284,7 @@ slots_of_expr f (Variable x) = no_loads
 slots_of_expr f (Element x i) =
     let within = is_within_home f (home_of f x) i in
     access_loads within f (home_of f x) (fixed_index (home_of f x) i)
-    (operand_tree f (index_by within f i) (tree_of_expr f i))
+    (operand_tree f (index_by within f (home_of f x) i) (tree_of_expr f i))
     (slots_of_expr f i)
 slots_of_expr f (Operation op a b) =
     then_loads (slots_of_expr f a) (operation_loads (steps_at f op b) (slots_of_expr f b))
@@ -291,18 +297,21 @@ abbrev pub slots_of_test : Setting → Test → Loads
 slots_of_test f t = then_loads (slots_of_expr f t.left) (slots_of_expr f t.right)
 
 -- the same of an assignment in secret code, where an array's block is stored back
+abbrev pub scalar_set_shows : Option ℕ → Setting → List ℕ → Tree → List Show
+scalar_set_shows None f x e = operand_part (operand f e) (shows_of_expr f e) ++ write_shows f (register_for f x)
+scalar_set_shows (Some r) f x e = shows_of_expr f e
+
 abbrev pub shows_of_set : Setting → Statement → List Show
-shows_of_set f (SetVariable x e) =
-    operand_part (operand f e) (shows_of_expr f e) ++ write_shows f (register_for f x)
+shows_of_set f (SetVariable x e) = scalar_set_shows (straight f x e) f x e
 shows_of_set f (SetElement x i e) =
     let within = is_within_home f (home_of f x) i in
     operand_part (operand f e) (shows_of_expr f e)
     ++ (access_shows within f (home_of f x) (fixed_index (home_of f x) i)
-    (operand_tree f (index_by within f i) (tree_of_expr f i))
-    (operand_part (index_by within f i) (shows_of_expr f i))
+    (operand_tree f (index_by within f (home_of f x) i) (tree_of_expr f i))
+    (operand_part (index_by within f (home_of f x) i) (shows_of_expr f i))
     ++ stored_shows f (home_of f x) (fixed_index (home_of f x) i)
     (element_slot within f (home_of f x) (fixed_index (home_of f x) i)
-    (operand_tree f (index_by within f i) (tree_of_expr f i))))
+    (operand_tree f (index_by within f (home_of f x) i) (tree_of_expr f i))))
 shows_of_set f (Choice t a b) = []
 shows_of_set f (Loop t a) = []
 
@@ -312,7 +321,7 @@ slots_of_set f (SetElement x i e) =
     let within = is_within_home f (home_of f x) i in
     then_loads (slots_of_expr f e)
     (access_loads within f (home_of f x) (fixed_index (home_of f x) i)
-    (operand_tree f (index_by within f i) (tree_of_expr f i))
+    (operand_tree f (index_by within f (home_of f x) i) (tree_of_expr f i))
     (slots_of_expr f i))
 slots_of_set f (Choice t a b) = no_loads
 slots_of_set f (Loop t a) = no_loads

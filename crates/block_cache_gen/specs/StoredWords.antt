@@ -1,32 +1,40 @@
--- The instructions that store a word in a slot, and those that write a scalar in its slot or its register. (This
--- project's own padding counts them.)
-use Rattle.std.specs.Prelude.{◌≡◌, ℕ, nat_lt, is_some, Bool, true, false, if◌then◌else◌, ℤ, List, ◌∷◌, ◌++◌, length, count_by, map, Option, Some, None}
+-- The instructions that store a word in a slot, and those that write a scalar in its slot or its register. If accesses are
+-- made `once`, a read of the word counts as its store in code without effect. (This project's own padding counts them.)
+use Rattle.std.specs.Prelude.{ℕ, ◌==◌, ◌&&◌, nat_lt, is_some, Bool, true, false, if◌then◌else◌, ℤ, List, length, count_by, Option, Some, None}
 use Rattle.lt_isa.specs.declared.instructions.Instr.{Instr}
-use Rattle.lt_isa.specs.declared.instructions.Instr.TheVariants.{Alu, Stw}
+use Rattle.lt_isa.specs.declared.instructions.Instr.TheVariants.{Alu, Ldw, Stw}
 use Rattle.src_tree.specs.Trees.{Statement, SetVariable, SetElement, Choice, Loop}
 use Rattle.held_registers.specs.Held.{public_zero}
 use Rattle.block_cache_gen.specs.Homes.{Home, Setting, home_of, slots_of_home, register_for}
+use Rattle.block_cache_gen.specs.declared.frames.Mode.{Mode}
+use Rattle.block_cache_gen.specs.Assignments.{by_mode}
 use Rattle.block_cache_gen.specs.Codes.{fixed_index}
 
-abbrev pub is_stw : Instr → Bool
-is_stw (Stw rs slot ro) = true
-is_stw _ = false
+-- a read of the word that register 1 names, into register 0, counts as a store of it
+abbrev pub counts_as_store : (rd ro : ℕ) → Bool
+counts_as_store rd ro = ro == 1 && rd == 0
+
+abbrev pub is_store : (once : Bool) → Instr → Bool
+is_store once (Stw rs slot ro) = true
+is_store once (Ldw rd slot ro) = counts_as_store rd ro && once
+is_store once _ = false
 
 -- how many there are among some instructions
-abbrev pub stored_words : List Instr → ℕ
-stored_words code = count_by is_stw code
+abbrev pub stored_words : (once : Bool) → List Instr → ℕ
+stored_words once code = count_by (is_store once) code
 
 -- a register that holds a scalar or a number for the whole run is written
 abbrev pub is_held_register : ℕ → Bool
 is_held_register r = nat_lt public_zero r
 
-abbrev pub is_write : Instr → Bool
-is_write (Stw rs slot ro) = true
-is_write (Alu op rd ra rb) = is_held_register rd
-is_write _ = false
+abbrev pub is_write : (once : Bool) → Instr → Bool
+is_write once (Stw rs slot ro) = true
+is_write once (Ldw rd slot ro) = counts_as_store rd ro && once
+is_write once (Alu op rd ra rb) = is_held_register rd
+is_write once _ = false
 
-abbrev pub written_words : List Instr → ℕ
-written_words code = count_by is_write code
+abbrev pub written_words : (once : Bool) → List Instr → ℕ
+written_words once code = count_by (is_write once) code
 
 -- how many words of an element's array are stored: one of each of its slots if they hold it for the whole run, and the
 -- index isn't a number that names the slot
@@ -52,24 +60,6 @@ set_writes f (SetElement x i e) = set_stores f (SetElement x i e)
 set_writes f (Choice t a b) = 0
 set_writes f (Loop t a) = 0
 
--- an instruction but for the register that it stores or copies
-abbrev pub register_aside : Instr → Instr
-register_aside (Stw rs slot ro) = Stw 0 slot ro
-register_aside (Alu op rd ra rb) = if is_held_register rd then Alu op rd 0 rb else Alu op rd ra rb
-register_aside i = i
-
-abbrev pub registers_aside : List Instr → List Instr
-registers_aside code = map register_aside code
-
--- two codes are the same but for the register that the last instruction stores or copies that writes a scalar or an
--- element
-pub record DifferInLastStored (one other : List Instr) : Type 0 where
-  pub before : List Instr
-  pub after : List Instr
-  pub written : Instr
-  pub instead : Instr
-  pub write : is_write written ≡ true
-  pub alike : register_aside written ≡ register_aside instead
-  pub first : one ≡ before ++ (written ∷ after)
-  pub second : other ≡ before ++ (instead ∷ after)
-  pub last : written_words after ≡ 0
+-- How many words it writes in a mode: without effect it stores as many words, and writes no register that holds a scalar.
+abbrev pub mode_writes : Mode → Setting → Statement → ℕ
+mode_writes mode f s = by_mode mode (set_writes f s) (set_stores f s)

@@ -3,7 +3,7 @@ ghost use Rattle.std.specs.List.{list_any, range_with_len};
 ghost use Rattle.gr_word.specs.Words.{unsigned_of};
 ghost use Rattle.src_tree.specs.Labels.{secret_label};
 ghost use Rattle.src_tree.specs.Trees.{expr_tree};
-ghost use Rattle.block_cache_gen.specs.Codes.{access_by, copy_code, compares, is_within_home, numbering, numbered_code, placed_code, offset_code, shift_code, fixed_code, fixed_index, fixed_word, index_operand, is_cached, is_masked, is_power, may_skip_loads, literal, load_code, operand_register, scalar_code, skips};
+ghost use Rattle.block_cache_gen.specs.Codes.{access_by, copy_code, compares, is_within_home, numbering, numbered_code, placed_code, has_offset, numbered_register, offset_code, shift_code, fixed_code, fixed_index, fixed_word, index_operand, is_cached, is_masked, is_power, may_skip_loads, literal, load_code, operand_register, scalar_code, skips};
 ghost use Rattle.block_cache_gen.specs.declared.indexes.Numbering.TheVariants.{Reduced};
 ghost use Rattle.block_cache_gen.specs.Notes.{access_mask, compared_notes, loaded_notes, marked_by, unmarked};
 ghost use Rattle.block_cache_gen.specs.Emitted.{Appended, CodeGrows, EmitsFound, no_notes, notes_in};
@@ -12,7 +12,7 @@ ghost use Rattle.block_cache_gen.specs.Variables.{home_in};
 
 use crate::emitter::{Emitter, label_of};
 use crate::frames::{CodeBuf, Mode};
-use crate::indexes::{Numbering, put_applied, put_note_behind, put_numbered};
+use crate::indexes::{Numbering, numbered_register, put_applied, put_note_behind, put_numbered};
 use crate::variables::Variable;
 use gr_base::Memory;
 use gr_word::{Cmp, Label, Op};
@@ -270,15 +270,24 @@ fn put_placed_word(
     }])
 }
 
-// The number of a resident array's first word is added to that of a word.
+/// Whether a variable is a resident array that doesn't begin its block.
+pub(crate) fn has_offset(array: Variable) -> bool
+    ensures { result ≡ has_offset (home_in array) }
+{
+    is_resident(array) && array.place.word != 0
+}
+
+// The number of a resident array's first word is added to that of a word, in register `from`.
 fn put_offset(
     emitter: &Emitter<'_, '_, '_>,
     out: &mut CodeBuf,
     array: Variable,
     to: u8,
+    from: u8,
 ) -> Result<(), Memory>
     requires registers { to + 2 < 19 }
-    ensures appended { OnOk result (Appended out.old out.new (offset_code emitter.now (home_in array) to) no_notes) }
+    ensures appended { OnOk result
+        (Appended out.old out.new (offset_code emitter.now (home_in array) to from) no_notes) }
     ensures grows { CodeGrows out.old out.new }
 {
     if array.place.word == 0 {
@@ -289,7 +298,7 @@ fn put_offset(
         out,
         Op::Add,
         to,
-        to,
+        from,
         to + 1,
         i64::from(array.place.word),
     )
@@ -308,13 +317,20 @@ fn put_placed(
     requires registers { to + 2 < 19 }
     requires room { length out.old.code.items + 6 < 2 ^ 32 }
     ensures appended { OnOk result (Appended out.old out.new
-        (numbered_code numbering emitter.now (home_in array) to from ++ offset_code emitter.now (home_in array) to)
+        (numbered_code numbering emitter.now (home_in array) to from
+        ++ offset_code emitter.now (home_in array) to (numbered_register numbering to from))
         (λ place. compared_notes numbering None emitter.now mask to
         (place + length (numbered_code numbering emitter.now (home_in array) to from)))) }
     ensures grows { CodeGrows out.old out.new }
 {
     put_numbered(emitter, out, array, to, from, numbering, mask)?;
-    put_offset(emitter, out, array, to)
+    put_offset(
+        emitter,
+        out,
+        array,
+        to,
+        numbered_register(numbering, to, from),
+    )
 }
 
 // The number of the block of the word that a register names, in the next register.
@@ -456,7 +472,7 @@ pub(crate) fn put_found_access<'a>(
 ) -> Result<(), Memory>
     requires registers { to + 2 < 19 }
     requires from { from ≡ operand_register (index_operand emitter.now
-        (numbering emitter.now mode (home_in array) (expr_tree index.now)) (expr_tree index.now)) to }
+        (numbering emitter.now mode (home_in array) (expr_tree index.now)) (home_in array) (expr_tree index.now)) to }
     requires room { length out.old.code.items + 16 < 2 ^ 32 }
     ensures appended { OnOk result
         (EmitsFound emitter.now mode (home_in array) mask to (expr_tree index.now) out.old out.new) }

@@ -6,7 +6,7 @@ ghost use Rattle.src_tree.specs.Trees.{block_of_all, statement_of, expr_tree};
 ghost use Rattle.src_tree.specs.Trees as trees;
 ghost use Rattle.src_tree.specs.Typing.{TypedBlock, TypedStatement, TypedTree};
 ghost use Rattle.symbolic_values.specs.Sameness.{same_op};
-ghost use Rattle.block_cache_gen.specs.Alike.{held_alike, numbers_alike, are_plain, by_same_number, is_same_number, same_flag, numbered_alike, reduced_alike, both_products, in_one_bank, is_alike, is_pair, is_product, is_same, pair_count};
+ghost use Rattle.block_cache_gen.specs.Alike.{held_alike, numbers_alike, are_plain, by_same_number, is_same_number, same_flag, straight_alike, numbered_alike, reduced_alike, both_products, in_one_bank, is_alike, is_pair, is_product, is_same, pair_count};
 ghost use Rattle.block_cache_gen.specs.Codes.{is_cached, is_masked, is_within_home, reducer};
 ghost use Rattle.block_cache_gen.specs.Variables.{home_in};
 ghost use Rattle.block_cache_gen.specs.Homes.{further_slots, home_of};
@@ -14,7 +14,7 @@ ghost use Rattle.block_cache_gen.specs.Homes.{further_slots, home_of};
 use crate::accesses::{is_cached, is_masked, is_resident, is_within_home};
 use crate::emitter::Emitter;
 use crate::indexes::reducer;
-use crate::operands::operand;
+use crate::operands::{operand, straight};
 use crate::steps::{is_product, may_step};
 use crate::variables::Variable;
 use gr_word::{Name, Op};
@@ -340,6 +340,24 @@ fn targets_alike<'a>(emitter: &Emitter<'a, '_, '_>, x: &'a Name, y: &'a Name) ->
     same_flag(one.is_some(), other.is_some())
 }
 
+// Whether the values of two assignments are left in the registers of their targets, or neither.
+fn straight_alike<'a>(
+    emitter: &Emitter<'a, '_, '_>,
+    x: &'a Name,
+    y: &'a Name,
+    e: &'a Expr,
+    other: &'a Expr,
+) -> bool
+    requires first { is_some (context_of emitter.now.decls x.now) ≡ true }
+    requires second { is_some (context_of emitter.now.decls y.now) ≡ true }
+    ensures { result ≡ straight_alike emitter.now x.now y.now (expr_tree e.now) (expr_tree other.now) }
+{
+    same_flag(
+        straight(emitter, x, e).is_some(),
+        straight(emitter, y, other).is_some(),
+    )
+}
+
 // Whether two expressions show the same in secret code.
 fn is_alike<'a>(emitter: &Emitter<'a, '_, '_>, e: &'a Expr, other: &'a Expr) -> bool
     requires first { TypedTree (context_of emitter.now.decls) (expr_tree e.now) }
@@ -391,7 +409,10 @@ fn is_pair<'a>(emitter: &Emitter<'a, '_, '_>, s: &'a Stmt, other: &'a Stmt) -> b
 {
     match s {
         Stmt::Set(x, e) => match other {
-            Stmt::Set(y, g) => targets_alike(emitter, x, y) && is_alike(emitter, e, g),
+            Stmt::Set(y, g) => {
+                targets_alike(emitter, x, y)
+                    && (straight_alike(emitter, x, y, e, g) && is_alike(emitter, e, g))
+            }
             Stmt::Put(_, _, _) => false,
             Stmt::If(_, _, _) => false,
             Stmt::While(_, _) => false,

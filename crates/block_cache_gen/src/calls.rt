@@ -11,13 +11,13 @@ ghost use Rattle.block_cache_gen.specs.Assignments.{IsAssignment, IsEffect, assi
 ghost use Rattle.block_cache_gen.specs.Behind.{CodeGrows, code_behind, notes_behind};
 ghost use Rattle.block_cache_gen.specs.Conditions.{IsStatementFor};
 ghost use Rattle.block_cache_gen.specs.Extends.{Extends};
-ghost use Rattle.block_cache_gen.specs.InstructionsOf.{instructions_of_set};
+ghost use Rattle.block_cache_gen.specs.InstructionsOf.{IsCodeOfSet};
 ghost use Rattle.block_cache_gen.specs.PublicCode.{IsPassedAsExpr, IsPassedAsSet, IsPassedAsTest};
 ghost use Rattle.block_cache_gen.specs.PublicIndexes.{HasPublicIndexes, TestHasPublicIndexes};
 ghost use Rattle.block_cache_gen.specs.RunsOf.{Evaluates, EvaluatesTest, Performs};
 ghost use Rattle.block_cache_gen.specs.SecretCode.{IsWalkedAsExpr, IsWalkedAsSet, IsWalkedAsTest};
 ghost use Rattle.block_cache_gen.specs.Settings.{IsFrame, setting_of};
-ghost use Rattle.block_cache_gen.specs.StoredWords.{registers_aside, set_stores, set_writes, stored_words, written_words};
+ghost use Rattle.block_cache_gen.specs.StoredWords.{mode_writes, set_stores, stored_words, written_words};
 ghost use Rattle.block_cache_gen.specs.TreeWords.{HasWords, SetHasWords, TestHasWords};
 ghost use Rattle.block_cache_gen.specs.Twins.{HasTwin};
 
@@ -52,7 +52,7 @@ pub fn emit_expr<'a>(
     ensures walked { OnOk result
         (¬ (mode ≡ modes.Public) → IsWalkedAsExpr (setting_of f.now) to (expr_tree e.now)
         (code_behind out.old out.new)) }
-    ensures stores { OnOk result (stored_words (code_behind out.old out.new) ≡ 0) }
+    ensures stores { OnOk result (stored_words (setting_of f.now).reduces (code_behind out.old out.new) ≡ 0) }
     ensures words { OnOk result (HasWords (expr_tree e.now)) }
     ensures extends { OnOk result
         (Extends (length f.now.places.now.blocks.items) mode (tree_weight (expr_tree e.now)) out.old out.new) }
@@ -86,7 +86,7 @@ pub fn emit_guard<'a>(
         (length out.old.code.items) (code_behind out.old out.new) (notes_behind out.old out.new)) }
     ensures walked { OnOk result
         (¬ (mode ≡ modes.Public) → IsWalkedAsTest (setting_of f.now) to (test_of g.now) (code_behind out.old out.new)) }
-    ensures stores { OnOk result (stored_words (code_behind out.old out.new) ≡ 0) }
+    ensures stores { OnOk result (stored_words (setting_of f.now).reduces (code_behind out.old out.new) ≡ 0) }
     ensures words { OnOk result (TestHasWords (test_of g.now)) }
     ensures extends { OnOk result
         (Extends (length f.now.places.now.blocks.items) mode (test_weight (test_of g.now)) out.old out.new) }
@@ -99,7 +99,7 @@ pub fn emit_guard<'a>(
 
 /// Makes the code of an assignment of a program, and appends it and its notes. In public code, and with its effect in
 /// secret code, it leaves the store of the assignment; without effect in secret code it leaves the store as it was. The
-/// two codes of secret code differ only in the registers that they store or copy, of which there is one unless slots hold
+/// two codes of secret code differ only in the registers that they store or write, of which there is one unless slots hold
 /// several blocks of an array for the whole run ([`twin_laws`](crate::twin_laws)). After want of memory what was there
 /// before is still a prefix. The clause `words` serves the proofs of callers.
 #[tactic(auto, using(crate::proofs::AssignmentsMean::assignment_means))]
@@ -124,11 +124,13 @@ pub fn emit_set<'a>(
     ensures walked { OnOk result (¬ (mode ≡ modes.Public)
         → IsWalkedAsSet (setting_of f.now) (statement_of s.now) (code_behind out.old out.new)) }
     ensures stores { OnOk result
-        (stored_words (code_behind out.old out.new) ≡ set_stores (setting_of f.now) (statement_of s.now)) }
+        (stored_words (setting_of f.now).reduces (code_behind out.old out.new)
+        ≡ set_stores (setting_of f.now) (statement_of s.now)) }
     ensures writes { OnOk result
-        (written_words (code_behind out.old out.new) ≡ set_writes (setting_of f.now) (statement_of s.now)) }
-    ensures instructions { OnOk result (¬ (mode ≡ modes.Public) → registers_aside (code_behind out.old out.new)
-        ≡ instructions_of_set (setting_of f.now) (statement_of s.now)) }
+        (written_words (setting_of f.now).reduces (code_behind out.old out.new)
+        ≡ mode_writes mode (setting_of f.now) (statement_of s.now)) }
+    ensures instructions { OnOk result
+        (IsCodeOfSet (setting_of f.now) mode (statement_of s.now) (code_behind out.old out.new)) }
     ensures twin { OnOk result
         (¬ (mode ≡ modes.Public) → HasTwin (setting_of f.now) mode (statement_of s.now) (code_behind out.old out.new)) }
     ensures words { OnOk result (SetHasWords (statement_of s.now)) }

@@ -109,9 +109,16 @@ fn effect_of(mode: Mode) -> Effect
 }
 
 /// Appends the store of a word to a slot, at the place that register 1 has: the word in register `value`, or in mirrored
-/// code the word that was there, so that nothing changes.
-pub(crate) fn put_store(out: &mut CodeBuf, slot: u8, value: u8, mode: Mode) -> Result<(), Memory>
-    ensures appended { OnOk result (Appended out.old out.new (store_code mode slot value) no_notes) }
+/// code the word that was there, so that nothing changes. Secret code reads that word before, or in mirrored code in
+/// place of the store if code may access a word `once` only.
+pub(crate) fn put_store(
+    out: &mut CodeBuf,
+    once: bool,
+    slot: u8,
+    value: u8,
+    mode: Mode,
+) -> Result<(), Memory>
+    ensures appended { OnOk result (Appended out.old out.new (store_code once mode slot value) no_notes) }
     ensures grows { CodeGrows out.old out.new }
 {
     let read = Instr::Ldw {
@@ -129,10 +136,17 @@ pub(crate) fn put_store(out: &mut CodeBuf, slot: u8, value: u8, mode: Mode) -> R
         slot,
         off: 1,
     };
-    match mode {
-        Mode::Public => out.put(&[write]),
-        Mode::Real => out.put(&[read, write]),
-        Mode::Mirrored => out.put(&[read, write_back]),
+    let only_read = Instr::Ldw {
+        rd: 0,
+        slot,
+        off: 1,
+    };
+    match (once, mode) {
+        (_, Mode::Public) => out.put(&[write]),
+        (true, Mode::Real) => out.put(&[write]),
+        (true, Mode::Mirrored) => out.put(&[only_read]),
+        (false, Mode::Real) => out.put(&[read, write]),
+        (false, Mode::Mirrored) => out.put(&[read, write_back]),
     }
 }
 
@@ -150,7 +164,7 @@ fn put_stored_among(
     ensures grows { CodeGrows out.old out.new }
 {
     if array.further == 0 {
-        return put_store(out, array.slot, value, mode);
+        return put_store(out, emitter.reduces(), array.slot, value, mode);
     }
     let slots = slots_of(array);
     let slots = &slots[..usize::from(array.further) + 1];
@@ -183,14 +197,14 @@ pub(crate) fn put_stored<'a>(
     ensures grows { CodeGrows out.old out.new }
 {
     if !is_resident(array) {
-        put_store(out, array.slot, value, mode)?;
+        put_store(out, emitter.reduces(), array.slot, value, mode)?;
         return out.put(&[Instr::Stb { slot: array.slot }]);
     }
     match fixed_index(array, index) {
         None => put_stored_among(emitter, out, array, value, mode),
         Some(number) => {
             let slot = slot_of_word(emitter, array, fixed_number(array, number));
-            put_store(out, slot, value, mode)
+            put_store(out, emitter.reduces(), slot, value, mode)
         }
     }
 }

@@ -78,8 +78,8 @@ impl<'a, 'p, 'k> Emitter<'a, 'p, 'k> {
         self.prepared.variable(name)
     }
 
-    // The label of a name, public if it isn't declared.
-    fn label_at(&self, name: &'a [u8]) -> Label
+    /// The label of a name, public if it isn't declared.
+    pub(crate) fn label_at(&self, name: &'a [u8]) -> Label
         ensures { result ≡ label_at (context_of self.now.decls) name.now }
     {
         self.prepared.label_at(name)

@@ -50,7 +50,7 @@ pub enum Mode {
     Public,
     /// In secret code, with its effect. Every access loads its block.
     Real,
-    /// In secret code, without effect: each store writes back the old word.
+    /// In secret code, without effect: each store writes back the old word, or with `reduces` is a read of it.
     Mirrored,
 }
 

@@ -1,5 +1,5 @@
 ghost use Rattle.std.specs.Prelude.{ℕ, ◌≡◌, ◌+◌, ◌^◌, ◌<◌, [], ◌∷◌, None, pos, ◌+ℤ◌, OnOk, length};
-ghost use Rattle.block_cache_gen.specs.Codes.{applied_code, compared_code, least_word, numbered_code, reduced_code, reducer, reducing};
+ghost use Rattle.block_cache_gen.specs.Codes.{applied_code, compared_code, least_word, numbered_code, numbered_register, reduced_code, reducer, reducing};
 ghost use Rattle.block_cache_gen.specs.Notes.{compared_notes, note_of, unmarked};
 ghost use Rattle.block_cache_gen.specs.Emitted.{Appended, CodeGrows, no_notes};
 ghost use Rattle.block_cache_gen.specs.Settings.{home_at};
@@ -43,8 +43,20 @@ pub(crate) fn put_note_behind(
     })
 }
 
-/// Appends what leaves the number of the word that the index in register `from` names in register `to`. Unless the index
-/// is reduced, both are one register. The only error is want of memory.
+/// The register in which the number of a word is left.
+pub(crate) fn numbered_register(numbering: Numbering, to: u8, from: u8) -> u8
+    ensures { result ≡ numbered_register numbering to from }
+{
+    match numbering {
+        Numbering::Compared => to,
+        Numbering::Reduced => to,
+        Numbering::Within => from,
+    }
+}
+
+/// Appends what leaves the number of the word that the index in register `from` names in register `to`, or in `from` if
+/// it is known to be below the length. If the index is compared with the length, both are one register. The only error is
+/// want of memory.
 pub(crate) fn put_numbered(
     emitter: &Emitter<'_, '_, '_>,
     out: &mut CodeBuf,

@@ -1,4 +1,4 @@
-ghost use Rattle.std.specs.Prelude.{◌≡◌, List};
+ghost use Rattle.std.specs.Prelude.{◌≡◌, Bool, List};
 ghost use Rattle.gr_word.specs.declared.variables.Label.TheVariants.{Secret};
 ghost use Rattle.lt_isa.specs.Object.{Parts};
 ghost use Rattle.lt_isa.specs.declared.instructions.Instr.{Instr};
@@ -9,10 +9,10 @@ ghost use Rattle.bank_alloc.specs.Layout.{IsLaidOut};
 ghost use Rattle.block_cache_gen.specs.declared.frames.Frame.{Frame};
 ghost use Rattle.block_cache_gen.specs.Alike.{Alike, IsPairCount, Pair, pair_count};
 ghost use Rattle.block_cache_gen.specs.Homes.{HasHomes, Setting};
-ghost use Rattle.block_cache_gen.specs.InstructionsOf.{instructions_of_set};
 ghost use Rattle.block_cache_gen.specs.PatternsOf.{pattern_of_expr, pattern_of_set, slots_of_expr, slots_of_set};
 ghost use Rattle.block_cache_gen.specs.Settings.{IsFrame, setting_of};
-ghost use Rattle.block_cache_gen.specs.StoredWords.{DifferInLastStored, registers_aside, written_words};
+ghost use Rattle.block_cache_gen.specs.StoredWords.{written_words};
+ghost use Rattle.block_cache_gen.specs.Twins.{DifferInLastWritten, Mirrors};
 
 /// Does nothing; its clause says of which objects the calls' clauses speak: each that has the profile of a frame, and its
 /// variables at the frame's places, has the homes of its variables.
@@ -42,13 +42,12 @@ pub fn pair_laws()
         → (pattern_of_set f s ≡ pattern_of_set f t) × (slots_of_set f s ≡ slots_of_set f t) }
 {}
 
-/// Does nothing; its clause says what it means that two codes have the instructions of one assignment of secret code, as
-/// those of two calls have. If one of them writes once, only their last instruction that writes a scalar or an element
-/// may differ, and only in the register that it stores or copies.
+/// Does nothing; its clause says what it means that code without effect mirrors code with an effect, as the codes of two
+/// calls for one assignment do. If the one writes once, only this instruction may differ, and only in the register that it
+/// stores or writes, or in that the word is read in place of its store.
 pub fn twin_laws()
-    ensures differ { (f : Setting) (s : Statement) (one other : List Instr)
-        → written_words one ≡ 1
-        → registers_aside one ≡ instructions_of_set f s
-        → registers_aside other ≡ instructions_of_set f s
-        → DifferInLastStored one other }
+    ensures differ { (once : Bool) (one other : List Instr)
+        → written_words once one ≡ 1
+        → Mirrors once one other
+        → DifferInLastWritten once one other }
 {}

@@ -3,12 +3,12 @@ ghost use Rattle.gr_word.specs.declared.variables.Label.{Label};
 ghost use Rattle.src_tree.specs.Contexts.{context_of};
 ghost use Rattle.src_tree.specs.Heights.{height_of};
 ghost use Rattle.src_tree.specs.Limits.{LowStatement, statement_weight, test_weight, tree_weight};
-ghost use Rattle.src_tree.specs.Trees.{statement_of, test_of, expr_tree, SetVariable, SetElement};
-ghost use Rattle.src_tree.specs.Typing.{TypedStatement, TypedTest};
+ghost use Rattle.src_tree.specs.Trees.{statement_of, test_of, expr_tree, Operation, SetVariable, SetElement};
+ghost use Rattle.src_tree.specs.Typing.{TypedStatement, TypedTest, TypedTree};
 ghost use Rattle.lt_isa.specs.Limits.{most_instructions};
 ghost use Rattle.block_cache_gen.specs.Assignments.{IsAssignment};
-ghost use Rattle.block_cache_gen.specs.Codes.{copied_from, store_code, stored_code, write_code};
-ghost use Rattle.block_cache_gen.specs.Emitted.{Appended, EmitsGuard, EmitsSet, CodeGrows, no_notes};
+ghost use Rattle.block_cache_gen.specs.Codes.{store_code, stored_code, target, write_code};
+ghost use Rattle.block_cache_gen.specs.Emitted.{Appended, EmitsGuard, EmitsSet, EmitsStraight, CodeGrows, no_notes};
 ghost use Rattle.block_cache_gen.specs.Variables.{home_in};
 ghost use Rattle.block_cache_gen.specs.TreeWords.{HasWords, SetHasWords, TestHasWords};
 
@@ -17,10 +17,10 @@ use crate::elements::{put_store, put_stored};
 use crate::emitter::{Emitter, label_of};
 use crate::expressions::{put_access, put_expr, put_operand};
 use crate::frames::{CodeBuf, Mode};
-use crate::operands::{operand, operand_mask, operand_register};
+use crate::operands::{StraightOperation, operand, operand_mask, operand_register, straight};
 use crate::variables::Variable;
 use gr_base::Memory;
-use gr_word::Name;
+use gr_word::{Name, Op};
 use lt_isa::Instr;
 use src_tree::{Expr, Guard, Stmt};
 
@@ -47,32 +47,71 @@ pub fn put_guard<'a>(
     put_expr(emitter, out, &g.right, to + 1, mode, mask)
 }
 
-// What a register that holds a scalar is copied from: the value's register, or in mirrored code the register itself.
-fn copied_from(mode: Mode, register: u8, value: u8) -> u8
-    ensures { result ≡ copied_from mode register value }
+// The register of an instruction whose result is for one that holds a scalar: register 0 in mirrored code.
+fn target(mode: Mode, register: u8) -> u8
+    ensures { result ≡ target mode register }
 {
     match mode {
-        Mode::Public => value,
-        Mode::Real => value,
-        Mode::Mirrored => register,
+        Mode::Public => register,
+        Mode::Real => register,
+        Mode::Mirrored => 0,
     }
 }
 
 // Appends the write of the value in a register to a scalar.
-fn put_write(out: &mut CodeBuf, scalar: Variable, value: u8, mode: Mode) -> Result<(), Memory>
+fn put_write(
+    emitter: &Emitter<'_, '_, '_>,
+    out: &mut CodeBuf,
+    scalar: Variable,
+    value: u8,
+    mode: Mode,
+) -> Result<(), Memory>
     ensures appended { OnOk result (Appended out.old out.new
-        (write_code scalar.held scalar.label mode (home_in scalar) value) no_notes) }
+        (write_code emitter.now.reduces scalar.held scalar.label mode (home_in scalar) value) no_notes) }
     ensures grows { CodeGrows out.old out.new }
 {
     if let Some(register) = scalar.held {
-        let from = copied_from(mode, register, value);
-        return put_copy(out, scalar.label, register, from);
+        return put_copy(out, scalar.label, target(mode, register), value);
     }
     out.put(&[Instr::Li {
         rd: 1,
         value: i64::from(scalar.place.word),
     }])?;
-    put_store(out, scalar.slot, value, mode)
+    put_store(out, emitter.reduces(), scalar.slot, value, mode)
+}
+
+// Appends the code of an operation that leaves its result in a register.
+fn put_straight<'a>(
+    emitter: &Emitter<'a, '_, '_>,
+    out: &mut CodeBuf,
+    op: Op,
+    left: &'a Expr,
+    right: &'a Expr,
+    to: u8,
+    mode: Mode,
+) -> Result<(), Memory>
+    requires typed { TypedTree (context_of emitter.now.decls)
+        (Operation op (expr_tree left.now) (expr_tree right.now)) }
+    requires low { height_of (Operation op (expr_tree left.now) (expr_tree right.now)) ≤ 17 }
+    requires room { length out.old.code.items
+        + 120 * tree_weight (Operation op (expr_tree left.now) (expr_tree right.now)) ≤ most_instructions }
+    ensures emitted { OnOk result (EmitsStraight emitter.now mode to
+        (Operation op (expr_tree left.now) (expr_tree right.now)) out.old out.new) }
+    ensures words { OnOk result (HasWords (Operation op (expr_tree left.now) (expr_tree right.now))) }
+    ensures grows { CodeGrows out.old out.new }
+{
+    let base = emitter.base_mask();
+    let first = operand(emitter, left);
+    put_operand(emitter, out, left, first, 0, mode, base)?;
+    let mask = operand_mask(first, label_of(emitter, left), base, 0);
+    let second = operand(emitter, right);
+    put_operand(emitter, out, right, second, 1, mode, mask)?;
+    out.put(&[Instr::Alu {
+        op,
+        rd: to,
+        ra: operand_register(first, 0),
+        rb: operand_register(second, 1),
+    }])
 }
 
 /// Appends the code of an assignment to a variable. It serves `branch_padding` and `code_gen`: its clause names the
@@ -93,11 +132,22 @@ pub fn put_set_variable<'a>(
     ensures words { OnOk result (HasWords (expr_tree value.now)) }
     ensures grows { CodeGrows out.old out.new }
 {
+    if let Some(
+        StraightOperation {
+            register,
+            op,
+            left,
+            right,
+        },
+    ) = straight(emitter, name, value)
+    {
+        return put_straight(emitter, out, op, left, right, target(mode, register), mode);
+    }
     let scalar = emitter.variable(name.bytes());
     let base = emitter.base_mask();
     let held = operand(emitter, value);
     put_operand(emitter, out, value, held, 0, mode, base)?;
-    put_write(out, scalar, operand_register(held, 0), mode)
+    put_write(emitter, out, scalar, operand_register(held, 0), mode)
 }
 
 /// Appends the code of an assignment to an element. The block is stored at once. It serves `branch_padding` and

@@ -1,6 +1,6 @@
 -- What is appended for statements of secret code: part by part, and how much room they take.
-use Rattle.std.proofs.Common.{◌≡◌, ℕ, Bool, true, false, cond, zero, suc, ◌+◌, ◌-◌, ◌*◌, ◌<◌, ◌≤◌, pos, List, [], ◌∷◌, ◌++◌, length, take, drop, get_or, set, Option, Some, None, refl, sym, ap, ◌∙◌, subst, arith, append_assoc, length-append, append-nil}
-use Rattle.std.proofs.lemmas.List.{take_more, take_all, take-append-drop, length-set, length-replicate, length-drop, get_or-drop}
+use Rattle.std.proofs.Common.{◌≡◌, ℕ, Bool, true, false, cond, zero, suc, ◌+◌, ◌-◌, ◌*◌, ◌<◌, ◌≤◌, pos, List, [], ◌∷◌, ◌++◌, length, take, drop, get_or, set, Option, refl, sym, ap, ◌∙◌, subst, arith, append_assoc, length-append, append-nil}
+use Rattle.std.proofs.lemmas.List.{take_more, take_all, take-append-drop, length-drop, get_or-drop}
 use Rattle.std.proofs.Math.Seq.{set-append_seam}
 use Rattle.gr_word.specs.declared.operations.Cmp.{Cmp}
 use Rattle.gr_word.specs.declared.variables.Label.{Label}
@@ -23,12 +23,10 @@ use Rattle.block_cache_gen.specs.Alike.{is_pair, pair_count}
 use Rattle.block_cache_gen.specs.Emitted.{Appended, EmitsGuard, no_notes, notes_in}
 use Rattle.block_cache_gen.proofs.Emitting.{appended_as, appended_length, silent_behind}
 use Rattle.branch_padding.specs.declared.cycles.Slack.{Slack}
-use Rattle.branch_padding.specs.Cycles.{cycles_of_all, slack_of}
+use Rattle.branch_padding.specs.Cycles.{slack_of}
 use Rattle.branch_padding.specs.Padded.{idle, in_a_row, arm_mode, untaken_arm, taken_arm, first_padded, second_padded, first_arm, second_arm, region_code, padded_code, padded_codes, first_of, second_of}
-use Rattle.branch_padding.specs.EmittedBranches.{both_weights}
 use Rattle.branch_padding.specs.Rows.{row_between}
-use Rattle.branch_padding.proofs.QuietStatements.{slack-between}
-use Rattle.branch_padding.proofs.Lengths.{guard-short, row-append, first-short, second-short, untaken-short, taken-short, statement-short, row-short}
+use Rattle.branch_padding.proofs.Lengths.{row-append, statement-short, row-short}
 
 -- an arm in an arm, and an arm's code has no notes
 pub arm-arm : (mode : Mode) → arm_mode (arm_mode mode) ≡ arm_mode mode
@@ -396,100 +394,6 @@ pub idling-appended : (f : Setting) (mode : Mode) (part : List Stmt) (all cycles
 idling-appended f mode part all cycles a b c is x y =
     silent_behind a b c (in_a_row (padded_codes f mode (block_of_all part))) (idle cycles) no_notes
     (rest-appended f mode part a b 0 all is x) y
-
--- how far the code reaches after each part of a branch
-pub guard-behind : (f : Setting) (mode : Mode) (t : Test) (a b : CodeBuf) → EmitsGuard f mode 0 t a b
-    → length b.code.items ≤ length a.code.items + 48 * test_weight t
-guard-behind f mode t a b x =
-    omega (
-      arith,
-      appended_length a b (guard_code f mode 0 t) (λ place. notes_in mode (guard_notes f 0 place t)) x,
-      guard-short f mode t,
-    )
-
--- one instruction more
-pub one-behind : (a b : CodeBuf) (i : Instr) → Appended a b (i ∷ []) no_notes
-    → length b.code.items ≡ length a.code.items + 1
-one-behind a b i x = appended_length a b (i ∷ []) no_notes x
-
--- this many more instructions
-pub idle-behind : (a b : CodeBuf) (n : ℕ) → Appended a b (idle n) no_notes
-    → length b.code.items ≡ length a.code.items + n
-idle-behind a b n x = omega (arith, appended_length a b (idle n) no_notes x, length-replicate n Nop)
-
--- with one instruction set the code is as long
-pub set-behind : (xs ys : List Instr) (k : ℕ) (i : Instr) → ys ≡ set xs k i → length ys ≡ length xs
-set-behind xs ys k i is = ap length is ∙ length-set xs k i
-
-module _ (f : Setting) (few : f.profile.taken ≤ 32) (mode : Mode) (first second : Block) (k : ℕ) (a b : CodeBuf) where
-  -- how long the code is after an arm of both parts
-  arm-behind : (code : List Instr) (one two : Mode)
-      → length code
-      ≤ f.profile.taken + (length (in_a_row (padded_codes f one first)) + length (in_a_row (padded_codes f two second)))
-      → Appended a b code no_notes → length b.code.items ≤ length a.code.items + 32 + 120 * both_weights f first second
-  arm-behind code one two short x =
-      omega (
-        arith,
-        appended_length a b code no_notes x,
-        few,
-        short,
-        row-short f few first one,
-        row-short f few second two,
-      )
-
-  -- the arm that isn't taken
-  pub untaken-behind : (slack : Option Slack) → slack ≡ slack_of f first second → Appended a b
-      (first_arm slack f.profile.taken k (padded_codes f mode second) (padded_codes f modes.Mirrored first)) no_notes
-      → length b.code.items ≤ length a.code.items + 50 + 120 * both_weights f first second
-  untaken-behind None is x =
-      let arm = untaken_arm k (padded_codes f mode second) (padded_codes f modes.Mirrored first) in
-      omega (
-        arith,
-        arm-behind (first_padded f.profile.taken arm) modes.Mirrored mode
-            (omega (
-              arith,
-              first-short f.profile.taken arm,
-              untaken-short k (padded_codes f mode second) (padded_codes f modes.Mirrored first),
-            )) x,
-      )
-  untaken-behind (Some slack) is x =
-      let even = slack-between f.reduces (cycles_of_all f first) (cycles_of_all f second) slack (sym is) in
-      let row = in_a_row (padded_codes f mode second) in
-      omega (
-        arith,
-        appended_length a b (row ++ idle slack.untaken) no_notes x,
-        length-append row (idle slack.untaken),
-        length-replicate slack.untaken Nop,
-        even.untaken_few,
-        row-short f few second mode,
-      )
-
-  -- and the one that is
-  pub taken-behind : (slack : Option Slack) → slack ≡ slack_of f first second → Appended a b
-      (second_arm slack f.profile.taken k (padded_codes f mode first) (padded_codes f modes.Mirrored second)) no_notes
-      → length b.code.items ≤ length a.code.items + 50 + 120 * both_weights f first second
-  taken-behind None is x =
-      let arm = taken_arm k (padded_codes f mode first) (padded_codes f modes.Mirrored second) in
-      omega (
-        arith,
-        arm-behind (second_padded f.profile.taken arm) mode modes.Mirrored
-            (omega (
-              arith,
-              second-short f.profile.taken arm,
-              taken-short k (padded_codes f mode first) (padded_codes f modes.Mirrored second),
-            )) x,
-      )
-  taken-behind (Some slack) is x =
-      let even = slack-between f.reduces (cycles_of_all f first) (cycles_of_all f second) slack (sym is) in
-      let row = in_a_row (padded_codes f mode first) in
-      omega (
-        arith,
-        appended_length a b (row ++ idle slack.taken) no_notes x,
-        length-append row (idle slack.taken),
-        length-replicate slack.taken Nop,
-        even.taken_few,
-        row-short f few first mode,
-      )
 
 -- a statement of a part weighs no more than the part
 pub weight-at : (known : Context) (part : List Stmt) (i : ℕ) (d : Stmt) → i < length part

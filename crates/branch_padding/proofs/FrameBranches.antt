@@ -119,7 +119,7 @@ pub record BranchPromises (f : Setting) (mode : Mode) (s : Statement) (place : �
   pub passes : mode ≡ Public → IsPassedAsBranch f place code notes
   pub walked : ¬ (mode ≡ Public) → IsWalkedAsStatement f s code
   pub region : IsRegionOf f mode s place code notes
-  pub stores : stored_words code ≡ stores_of f (code_for mode) s
+  pub stores : stored_words f.reduces code ≡ stores_of f (code_for mode) s
 
 module _ (f : Frame) (is : IsFrame f) (mode : Mode) (t : Test) (a b : Block)
     (branch : IsBranchFor (source_of f.program.now) mode (Choice t a b)) where
@@ -232,7 +232,7 @@ choice-promises f is mode t a b branch place =
     single = frame-single f is
 
     stored : (m : Mode) → IsBranchFor (source_of f.program.now) m (Choice t a b)
-        → stored_words (padded_code (setting_of f) m (Choice t a b))
+        → stored_words (setting_of f).reduces (padded_code (setting_of f) m (Choice t a b))
         ≡ stores_of (setting_of f) (code_for m) (Choice t a b)
     stored Public at = public_choice-stores (setting_of f) single t a b (typed f is Public t a b at) at.secret
     stored Real at = statement-stores (setting_of f) single (Choice t a b) Real (typed_secret f is Real t a b at)

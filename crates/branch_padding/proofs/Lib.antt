@@ -1,5 +1,4 @@
 pub mod SecretRows
-pub mod RegionWays
 pub mod QuietCode
 pub mod QuietStatements
 pub mod SecretStatements

@@ -17,11 +17,11 @@ use Rattle.block_cache_gen.specs.Codes.{may_skip_loads, guard_code}
 use Rattle.block_cache_gen.specs.Homes.{Setting, HasHomes}
 use Rattle.block_cache_gen.specs.PublicIndexes.{StatementHasPublicIndexes}
 use Rattle.block_cache_gen.proofs.ArmExpressions.{guard-leaves}
+use Rattle.block_cache_gen.proofs.SecretRegions.{joined-slots, region-crossed}
 use Rattle.branch_padding.specs.Nesting.{nesting_of}
 use Rattle.branch_padding.specs.Padded.{region_code, padded_code, first_of, second_of}
 use Rattle.branch_padding.specs.PatternsOfChoices.{shows_of_region, slots_of_arms, pattern_of_region}
 use Rattle.branch_padding.specs.Regions.{NestsRegion}
-use Rattle.branch_padding.proofs.RegionWays.{ways-crossed, ways-slots}
 use Rattle.branch_padding.proofs.PublicRegions.{branch_offset}
 use Rattle.branch_padding.proofs.SecretStatements.{arms-go, each-goes}
 
@@ -55,8 +55,8 @@ choice-nests o f homes some mode secret t a b typed public low depth p from stan
       crosses = subst (λ (q : ℕ).
           CrossesTo o depth q mid (branch_offset f mode a b) both.state (pattern_of_region f a b) q
           (common arms.untaken.state arms.taken.state)) same
-          (ways-crossed o f depth both.state t.cmp first second arms.xs arms.ys shows loads (omega arith)
+          (region-crossed o f depth both.state t.cmp 0 1 first second arms.xs arms.ys shows loads (omega arith)
           arms.untaken arms.taken arms.one_way arms.other_way mid (stands-rest o p guard region stands));
-      slots = ways-slots o f depth both.state t.cmp first second arms.xs arms.ys shows loads (omega arith)
+      slots = joined-slots o f depth both.state t.cmp 0 1 first second arms.xs arms.ys shows loads (omega arith)
           arms.untaken arms.taken arms.one_way arms.other_way;
     }

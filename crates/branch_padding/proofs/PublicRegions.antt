@@ -42,13 +42,13 @@ use Rattle.held_registers.specs.Held.{IsSoundHeld}
 use Rattle.block_cache_gen.proofs.HeldLabels.{label-low}
 use Rattle.block_cache_gen.proofs.NotesOfCode.{expression-longer}
 use Rattle.block_cache_gen.proofs.PublicGuards.{guard-lie, guard-passes}
+use Rattle.block_cache_gen.proofs.SecretRegions.{joined-carries, joined-slots, region-crossed}
 use Rattle.branch_padding.specs.Nesting.{nesting_of}
 use Rattle.branch_padding.specs.Cycles.{slack_of}
 use Rattle.branch_padding.specs.Padded.{region_code, padded_code, first_of, second_of}
 use Rattle.branch_padding.specs.PatternsOfChoices.{shows_of_region, slots_of_arms, pattern_of_region}
 use Rattle.branch_padding.specs.Regions.{OpensRegion}
 use Rattle.branch_padding.specs.SecretChoices.{PassedCode, IsPassedAnywhere}
-use Rattle.branch_padding.proofs.RegionWays.{ways-crossed, ways-slots, ways-carry}
 use Rattle.branch_padding.proofs.SecretStatements.{ArmsGo, arms-go, each-goes}
 
 -- at the entry, and back in public code, a setting is carried
@@ -199,7 +199,7 @@ module _ (o : Parts) (f : Setting) (homes : HasHomes o f) (some : 1 ≤ f.profil
       let none : 0 < most_regions = omega arith in
       let state = common go.untaken.state go.taken.state in
       let pattern = pattern_of_region f a b in
-      let crossed = ways-crossed o f 0 s t.cmp first second go.xs go.ys shows loads none go.untaken go.taken
+      let crossed = region-crossed o f 0 s t.cmp 0 1 first second go.xs go.ys shows loads none go.untaken go.taken
       go.one_way go.other_way mid stands in
       let inside : end ≤ length o.code - 1 = let behind = stands.behind in omega arith in
       let same : end ≡ p + length (guard ++ region) = omega (arith, length-append guard region) in
@@ -212,12 +212,12 @@ module _ (o : Parts) (f : Setting) (homes : HasHomes o f) (some : 1 ≤ f.profil
           state = state;
           crosses = subst (λ (q : ℕ). CrossesFrom o mid offset holds pattern q state) same
               (crosses-wider o 0 end mid offset s pattern end state crossed (length o.code - 1) inside);
-          slots = ways-slots o f 0 s t.cmp first second go.xs go.ys shows loads none go.untaken go.taken
+          slots = joined-slots o f 0 s t.cmp 0 1 first second go.xs go.ys shows loads none go.untaken go.taken
               go.one_way go.other_way;
         };
         unclaimed = unclaimed;
         carries = carried-out f state
-            (ways-carry o f 0 s t.cmp first second go.xs go.ys shows loads none go.untaken go.taken
+            (joined-carries o f 0 s t.cmp 0 1 first second go.xs go.ys shows loads none go.untaken go.taken
             go.one_way go.other_way);
       }
 

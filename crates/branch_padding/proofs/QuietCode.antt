@@ -1,32 +1,39 @@
--- Straight code without events shows its cycles, and leaves the slots as they were. That is read from a walk of it: in an
--- object of this code alone, if it isn't at any place of the given one.
-use Rattle.std.proofs.Common.{◌≡◌, ℕ, ◌+◌, ◌<◌, ◌^◌, Bool, true, false, nat_lt, List, [], ◌∷◌, ◌++◌, length, Option, Some, None, refl, sym, ap, ◌∙◌, subst, arith, length-append}
+-- Straight code without events shows its cycles, and leaves the slots as they were. This follows from a walk of it, in an
+-- object that has only this code: the given object may not contain it.
+use Rattle.std.proofs.Common.{◌≡◌, ℕ, ◌+◌, ◌^◌, Bool, true, false, nat_lt, List, [], ◌∷◌, ◌++◌, length, Option, Some, None, refl, sym, ap, ◌∙◌, subst, arith, length-append}
 use Rattle.std.specs.Prelude.{if◌then◌else◌, slice_get}
 use Rattle.std.specs.Option.{unwrap_or}
 use Rattle.std.proofs.lemmas.Option.{none-some}
-use Rattle.gr_word.specs.declared.operations.Cmp.{Cmp}
 use Rattle.lt_isa.specs.declared.instructions.Instr.{Instr}
 use Rattle.lt_isa.specs.declared.instructions.Instr.TheVariants.{Nop, Halt, Li, Alu, Ldb, Stb, Idb, Ldw, Stw, Jmp, Br}
 use Rattle.lt_isa.specs.declared.profiles.Profile.{Profile}
 use Rattle.lt_isa.specs.Object.{Parts}
 use Rattle.lt_checker.proofs.Singles.{OnSingle, on_single, on_bound, on_stored}
-use Rattle.trace_patterns.specs.Patterns.{Shown, no_events, joined}
+use Rattle.trace_patterns.specs.Patterns.{Shown, no_events, with_gap, joined}
 use Rattle.trace_patterns.specs.Events.{TreeEvent}
 use Rattle.trace_patterns.specs.SymStates.{SymState, slot_held}
-use Rattle.trace_patterns.specs.Single.{gap, single, quietly}
+use Rattle.trace_patterns.specs.Single.{gap, single}
 use Rattle.trace_patterns.specs.Walk.{WalksTo, AtEnd, Onward, Across}
+use Rattle.trace_patterns.proofs.PatternLaws.{shown-same, joined-no_events, joined-gap, with_gap-more}
 use Rattle.stretches.specs.InArms.{StandsInArm}
 use Rattle.stretches.specs.Shows.{Show, pattern_of}
 use Rattle.stretches.specs.Standing.{StandsAt}
 use Rattle.stretches.proofs.ShowLaws.{pattern_of-append}
 use Rattle.stretches.proofs.Standing.{standing-first, standing-head, standing-tail, standing-whole}
-use Rattle.block_cache_gen.specs.Carries.{CarriesInArm}
-use Rattle.block_cache_gen.specs.Homes.{Setting, HasHomes, IsPin, IsArrayHome}
+use Rattle.block_cache_gen.specs.Homes.{Setting, HasHomes}
 use Rattle.block_cache_gen.specs.PatternsOf.{Loads, no_loads, then_loads}
 use Rattle.block_cache_gen.proofs.ArmAssignments.{Goes}
 use Rattle.block_cache_gen.proofs.ArmStates.{then_loads-held}
 use Rattle.branch_padding.specs.Cycles.{quiet_cost, added, quiet_cycles}
-use Rattle.branch_padding.proofs.RegionWays.{no_gap, gaps-joined}
+
+-- gaps in sequence add up
+no_gap : gap 0 ≡ no_events
+no_gap = shown-same (gap 0) no_events refl (omega arith)
+
+pub gaps-joined : (m n : ℕ) → joined (gap m) (gap n) ≡ gap (m + n)
+gaps-joined m n =
+    joined-gap (gap m) no_events n ∙ ap (λ (p : Shown TreeEvent). with_gap p n) (joined-no_events (gap m))
+    ∙ with_gap-more no_events m n
 
 pub same_number : (m n : ℕ) → ◌≡◌ {A = Option ℕ} (Some m) (Some n) → m ≡ n
 same_number m n is = cc
@@ -106,7 +113,7 @@ quiet-walk o depth end p s pattern t (Across d e p' s' cmp ra rb offset shown jo
     sym (ap (quiet_cost o.profile) (same_instr o p (Br cmp ra rb offset) j code here at)) ∙ parts.first in
     absurd (none-some parts.one none)
 
--- an object of some code alone, with the same memory
+-- an object that has only this code, with the same memory
 abbrev pub object_of : Parts → List Instr → Parts
 object_of o code = record {
   profile = o.profile;
@@ -154,7 +161,7 @@ alone o code = record {
   quiet = refl;
 }
 
--- What is shown from a state is so many cycles, and what was in the slots is there again.
+-- From a state, only this number of cycles is shown, and the slots hold afterwards what they held before.
 pub record IsQuiet (s : SymState) (shows : List Show) (loads : Loads) (cycles : ℕ) : Type 0 where
   pub shown : pattern_of shows ≡ gap cycles
   pub slots : (k : ℕ) → unwrap_or (loads k) (slot_held s k) ≡ slot_held s k

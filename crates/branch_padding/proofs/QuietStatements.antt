@@ -1,6 +1,6 @@
 -- Statements of secret code whose cycles are known show only these cycles, from any state, and leave the slots as they
 -- were.
-use Rattle.std.proofs.Common.{◌≡◌, ℕ, ◌+◌, ◌-◌, ◌≤◌, Bool, true, false, ◌&&◌, List, [], ◌∷◌, ◌++◌, Option, Some, None, refl, sym, ap, ◌∙◌, subst, arith}
+use Rattle.std.proofs.Common.{◌≡◌, ℕ, ◌+◌, ◌-◌, ◌≤◌, Bool, true, false, ◌&&◌, List, [], ◌∷◌, ◌++◌, Option, Some, None, refl, ap, ◌∙◌, subst, arith}
 use Rattle.std.specs.Prelude.{if◌then◌else◌, nat_le}
 use Rattle.std.proofs.lemmas.Bool.{and_parts, leb-true}
 use Rattle.std.proofs.lemmas.Option.{none-some}
@@ -10,8 +10,7 @@ use Rattle.src_tree.specs.Contexts.{context_of}
 use Rattle.src_tree.specs.Limits.{LowStatement, LowBlock}
 use Rattle.src_tree.specs.Trees.{Statement, SetVariable, SetElement, Choice, Loop, Block, Nothing, Then}
 use Rattle.src_tree.specs.Typing.{TypedStatement, TypedBlock}
-use Rattle.trace_patterns.specs.Patterns.{Shown, joined}
-use Rattle.trace_patterns.specs.Events.{TreeEvent}
+use Rattle.trace_patterns.specs.Patterns.{joined}
 use Rattle.trace_patterns.specs.SymStates.{SymState}
 use Rattle.trace_patterns.specs.Single.{gap}
 use Rattle.stretches.specs.Shows.{Show, Gap, pattern_of}
@@ -28,8 +27,7 @@ use Rattle.block_cache_gen.proofs.ArmExpressions.{guard-leaves}
 use Rattle.branch_padding.specs.declared.cycles.Slack.{Slack}
 use Rattle.branch_padding.specs.Cycles.{most_slack, quiet_cycles, slack_by, slack_between, region_cycles, cycles_of, cycles_of_all, slack_of}
 use Rattle.branch_padding.specs.PatternsOfChoices.{shown_in_a_row, loaded_in_a_row, padded_shows, padded_loads, shows_of, shows_of_each, shows_of_region, slots_of, slots_of_each, slots_of_arms}
-use Rattle.branch_padding.proofs.RegionWays.{gaps-joined}
-use Rattle.branch_padding.proofs.QuietCode.{same_number, added-parts, object_of, homes-in, IsQuiet, quiet-none, quiet-then, quiet-code}
+use Rattle.branch_padding.proofs.QuietCode.{gaps-joined, same_number, added-parts, object_of, homes-in, IsQuiet, quiet-none, quiet-then, quiet-code}
 
 -- With what they idle, both ways take the same cycles, and neither idles long.
 pub record IsSlack (x y : Option ℕ) (slack : Slack) : Type 0 where

@@ -1,11 +1,13 @@
 -- How long the code is after each part of a branch on a secret: what the branch may take is enough for the rest. Its
 -- parts fit their arms.
-use Rattle.std.proofs.Common.{◌≡◌, ℕ, ◌+◌, ◌*◌, ◌≤◌, List, [], ◌∷◌, length, Option, sym, subst, arith}
+use Rattle.std.proofs.Common.{◌≡◌, ℕ, ◌+◌, ◌*◌, ◌≤◌, List, [], ◌∷◌, length, Option, sym, subst, arith, set, Some, None, ap, ◌∙◌, ◌++◌, length-append}
+use Rattle.std.proofs.lemmas.List.{length-set, length-replicate}
 use Rattle.gr_word.specs.declared.variables.Label.TheVariants as label
 use Rattle.lt_isa.specs.declared.instructions.Instr.TheVariants.{Nop}
+use Rattle.lt_isa.specs.declared.instructions.Instr.{Instr}
 use Rattle.src_tree.specs.declared.trees.Stmt.{Stmt}
 use Rattle.src_tree.specs.Contexts.{context_of}
-use Rattle.src_tree.specs.Limits.{LowStatement, statement_weight}
+use Rattle.src_tree.specs.Limits.{LowStatement, statement_weight, block_weight, test_weight}
 use Rattle.src_tree.specs.Trees.{Test, Choice, Block, block_of_all}
 use Rattle.src_tree.specs.Typing.{TypedStatement}
 use Rattle.block_cache_gen.specs.declared.frames.CodeBuf.{CodeBuf}
@@ -13,12 +15,110 @@ use Rattle.block_cache_gen.specs.declared.frames.Mode.{Mode}
 use Rattle.block_cache_gen.specs.declared.frames.Mode.TheVariants as modes
 use Rattle.block_cache_gen.specs.Homes.{Setting}
 use Rattle.block_cache_gen.specs.Alike.{pair_count}
-use Rattle.block_cache_gen.specs.Emitted.{Appended, EmitsGuard, no_notes}
+use Rattle.block_cache_gen.specs.Emitted.{Appended, EmitsGuard, no_notes, notes_in}
+use Rattle.block_cache_gen.specs.Codes.{guard_code}
+use Rattle.block_cache_gen.specs.Notes.{guard_notes}
+use Rattle.block_cache_gen.proofs.Emitting.{appended_length}
 use Rattle.branch_padding.specs.EmittedBranches.{PartsFit, both_weights}
 use Rattle.branch_padding.specs.declared.cycles.Slack.{Slack}
-use Rattle.branch_padding.specs.Cycles.{slack_of}
-use Rattle.branch_padding.specs.Padded.{arm_mode, first_arm, padded_codes}
-use Rattle.branch_padding.proofs.EmittedRegions.{arm-arm, guard-behind, one-behind, pairs-within, untaken-behind}
+use Rattle.branch_padding.specs.Cycles.{slack_of, most_slack, cycles_of_all}
+use Rattle.branch_padding.specs.Padded.{arm_mode, first_arm, padded_codes, idle, in_a_row, untaken_arm, taken_arm, first_padded, second_padded, second_arm}
+use Rattle.branch_padding.proofs.EmittedRegions.{arm-arm, pairs-within}
+use Rattle.branch_padding.proofs.QuietStatements.{slack-between}
+use Rattle.branch_padding.proofs.Lengths.{guard-short, first-short, second-short, untaken-short, taken-short, row-short}
+
+-- how far the code reaches after each part of a branch
+pub guard-behind : (f : Setting) (mode : Mode) (t : Test) (a b : CodeBuf) → EmitsGuard f mode 0 t a b
+    → length b.code.items ≤ length a.code.items + 48 * test_weight t
+guard-behind f mode t a b x =
+    omega (
+      arith,
+      appended_length a b (guard_code f mode 0 t) (λ place. notes_in mode (guard_notes f 0 place t)) x,
+      guard-short f mode t,
+    )
+
+-- one instruction more
+pub one-behind : (a b : CodeBuf) (i : Instr) → Appended a b (i ∷ []) no_notes
+    → length b.code.items ≡ length a.code.items + 1
+one-behind a b i x = appended_length a b (i ∷ []) no_notes x
+
+-- this many more instructions
+pub idle-behind : (a b : CodeBuf) (n : ℕ) → Appended a b (idle n) no_notes
+    → length b.code.items ≡ length a.code.items + n
+idle-behind a b n x = omega (arith, appended_length a b (idle n) no_notes x, length-replicate n Nop)
+
+-- with one instruction set the code is as long
+pub set-behind : (xs ys : List Instr) (k : ℕ) (i : Instr) → ys ≡ set xs k i → length ys ≡ length xs
+set-behind xs ys k i is = ap length is ∙ length-set xs k i
+
+module _ (f : Setting) (few : f.profile.taken ≤ 32) (mode : Mode) (first second : Block) (k : ℕ) (a b : CodeBuf) where
+  -- how long the code is after an arm of both parts
+  arm-behind : (code : List Instr) (one two : Mode)
+      → length code
+      ≤ f.profile.taken + (length (in_a_row (padded_codes f one first)) + length (in_a_row (padded_codes f two second)))
+      → Appended a b code no_notes → length b.code.items ≤ length a.code.items + 32 + 120 * both_weights f first second
+  arm-behind code one two short x =
+      omega (
+        arith,
+        appended_length a b code no_notes x,
+        few,
+        short,
+        row-short f few first one,
+        row-short f few second two,
+      )
+
+  -- and after an arm of one part that idles
+  idling-behind : (mode : Mode) (part : Block) (n : ℕ) → n ≤ most_slack
+      → Appended a b (in_a_row (padded_codes f mode part) ++ idle n) no_notes
+      → length b.code.items ≤ length a.code.items + 50 + 120 * block_weight (context_of f.decls) label.Secret part
+  idling-behind mode part n short x =
+      let row = in_a_row (padded_codes f mode part) in
+      omega (
+        arith,
+        appended_length a b (row ++ idle n) no_notes x,
+        length-append row (idle n),
+        length-replicate n Nop,
+        short,
+        row-short f few part mode,
+      )
+
+  -- the arm that isn't taken
+  pub untaken-behind : (slack : Option Slack) → slack ≡ slack_of f first second → Appended a b
+      (first_arm slack f.profile.taken k (padded_codes f mode second) (padded_codes f modes.Mirrored first)) no_notes
+      → length b.code.items ≤ length a.code.items + 50 + 120 * both_weights f first second
+  untaken-behind None is x =
+      let arm = untaken_arm k (padded_codes f mode second) (padded_codes f modes.Mirrored first) in
+      omega (
+        arith,
+        arm-behind (first_padded f.profile.taken arm) modes.Mirrored mode
+            (omega (
+              arith,
+              first-short f.profile.taken arm,
+              untaken-short k (padded_codes f mode second) (padded_codes f modes.Mirrored first),
+            )) x,
+      )
+  untaken-behind (Some slack) is x =
+      let even = slack-between f.reduces (cycles_of_all f first) (cycles_of_all f second) slack (sym is) in
+      omega (arith, idling-behind mode second slack.untaken even.untaken_few x)
+
+  -- and the one that is
+  pub taken-behind : (slack : Option Slack) → slack ≡ slack_of f first second → Appended a b
+      (second_arm slack f.profile.taken k (padded_codes f mode first) (padded_codes f modes.Mirrored second)) no_notes
+      → length b.code.items ≤ length a.code.items + 50 + 120 * both_weights f first second
+  taken-behind None is x =
+      let arm = taken_arm k (padded_codes f mode first) (padded_codes f modes.Mirrored second) in
+      omega (
+        arith,
+        arm-behind (second_padded f.profile.taken arm) mode modes.Mirrored
+            (omega (
+              arith,
+              second-short f.profile.taken arm,
+              taken-short k (padded_codes f mode first) (padded_codes f modes.Mirrored second),
+            )) x,
+      )
+  taken-behind (Some slack) is x =
+      let even = slack-between f.reduces (cycles_of_all f first) (cycles_of_all f second) slack (sym is) in
+      omega (arith, idling-behind mode first slack.taken even.taken_few x)
 
 module _ (f : Setting) (few : f.profile.taken ≤ 32) (mode : Mode) (t : Test) (first second : Block) (k : ℕ) where
   abbrev room : ℕ

@@ -32,13 +32,13 @@ use Rattle.block_cache_gen.proofs.AlikeShows.{pair-shows, pair-slots}
 use Rattle.block_cache_gen.proofs.AlikeTests.{counts_pairs}
 use Rattle.block_cache_gen.proofs.ArmExpressions.{guard-leaves}
 use Rattle.block_cache_gen.proofs.ArmAssignments.{Goes, goes-none, goes-leaves, goes-then, set-goes}
+use Rattle.block_cache_gen.proofs.SecretRegions.{goes-region}
 use Rattle.branch_padding.specs.Nesting.{nesting_of, nesting_of_block}
 use Rattle.branch_padding.specs.declared.cycles.Slack.{Slack}
 use Rattle.branch_padding.specs.Cycles.{cycles_of_all, slack_of}
 use Rattle.branch_padding.specs.Padded.{idle, arm_mode, in_a_row, untaken_arm, taken_arm, first_arm, second_arm, region_code, padded_code, padded_codes, first_of, second_of}
 use Rattle.branch_padding.specs.PatternsOfChoices.{shown_in_a_row, loaded_in_a_row, padded_shows, padded_loads, mirrored_shows, mirrored_loads, shows_of, shows_of_each, shows_of_region, slots_of, slots_of_each, slots_of_arms}
-use Rattle.branch_padding.proofs.RegionWays.{gaps-joined, ways-go}
-use Rattle.branch_padding.proofs.QuietCode.{IsQuiet}
+use Rattle.branch_padding.proofs.QuietCode.{gaps-joined, IsQuiet}
 use Rattle.branch_padding.proofs.QuietStatements.{IsSlack, slack-between, taken-cycles, block-quiet}
 use Rattle.branch_padding.proofs.SecretRows.{shown-rests, loaded-rests, GoesAnywhere, EachGoes, NoneGoes, OneGoes, row-goes, take-goes, drop-goes, three-go}
 
@@ -52,8 +52,8 @@ module _ (o : Parts) (f : Setting) (homes : HasHomes o f) where
   -- statements that pair show the same and leave the same
   pair-shows_of : (s t : Statement) → Pair f s t → TypedStatement (context_of f.decls) Secret s
       → TypedStatement (context_of f.decls) Secret t → shows_of f s ≡ shows_of f t
-  pair-shows_of s t (ToScalars x y e g one alike) left right =
-      pair-shows o f homes (SetVariable x e) (SetVariable y g) (ToScalars x y e g one alike) left right
+  pair-shows_of s t (ToScalars x y e g one both alike) left right =
+      pair-shows o f homes (SetVariable x e) (SetVariable y g) (ToScalars x y e g one both alike) left right
   pair-shows_of s t (ToOblivious x y i j e g one index value) left right =
       pair-shows o f homes (SetElement x i e) (SetElement y j g) (ToOblivious x y i j e g one index value) left right
   pair-shows_of s t (ToResidents x y i j e g one index value) left right =
@@ -63,8 +63,8 @@ module _ (o : Parts) (f : Setting) (homes : HasHomes o f) where
 
   pair-slots_of : (s t : Statement) → Pair f s t → TypedStatement (context_of f.decls) Secret s
       → TypedStatement (context_of f.decls) Secret t → slots_of f s ≡ slots_of f t
-  pair-slots_of s t (ToScalars x y e g one alike) left right =
-      pair-slots o f homes (SetVariable x e) (SetVariable y g) (ToScalars x y e g one alike) left right
+  pair-slots_of s t (ToScalars x y e g one both alike) left right =
+      pair-slots o f homes (SetVariable x e) (SetVariable y g) (ToScalars x y e g one both alike) left right
   pair-slots_of s t (ToOblivious x y i j e g one index value) left right =
       pair-slots o f homes (SetElement x i e) (SetElement y j g) (ToOblivious x y i j e g one index value) left right
   pair-slots_of s t (ToResidents x y i j e g one index value) left right =
@@ -195,7 +195,7 @@ module _ (o : Parts) (f : Setting) (homes : HasHomes o f) where
     slots = λ k. goes.slots k ∙ quiet.slots k;
   }
 
-  -- so many cycles after a quiet arm are shown with its own
+  -- idle cycles that follow a quiet arm are shown together with its own cycles
   idle-shown : (s : SymState) (shows : List Show) (loads : Loads) (n more : ℕ) → IsQuiet s shows loads n
       → pattern_of (shows ++ paused more) ≡ gap (n + more)
   idle-shown s shows loads n more quiet =
@@ -316,7 +316,7 @@ module _ (o : Parts) (f : Setting) (homes : HasHomes o f) where
         let from = both.leaves.state in
         let arms = arms-go some mode depth a b typed.1.0 typed.1.1 first second from both.leaves.carries public.1.0
         public.1.1 low.1.0 low.1.1 in
-        let region = ways-go o f depth from t.cmp (first_of f mode a b) (second_of f mode a b) arms.xs arms.ys
+        let region = goes-region o f depth from t.cmp 0 1 (first_of f mode a b) (second_of f mode a b) arms.xs arms.ys
         (shows_of_region f a b) (slots_of_arms f a b) around arms.untaken arms.taken arms.one_way arms.other_way in
         goes-then o f depth s (guard_code f mode 0 t) (shows_of_test f t) (slots_of_test f t) guard
         (region_code t.cmp (first_of f mode a b) (second_of f mode a b)) (shows_of_region f a b) (slots_of_arms f a b)

@@ -1,4 +1,4 @@
--- How many stores of a word the code of statements has.
+-- How many stores of a word the code of statements has, or also the reads that stand for stores.
 use Rattle.std.proofs.Common.{◌≡◌, ℕ, zero, suc, ◌+◌, ◌-◌, ◌≤◌, Bool, true, false, ℤ, pos, List, [], ◌∷◌, ◌++◌, length, map, take, drop, Option, Some, None, refl, sym, ap, ◌∙◌, subst, arith}
 use Rattle.std.specs.Prelude.{if◌then◌else◌, is_some}
 use Rattle.std.proofs.lemmas.List.{take-map, drop-map}
@@ -27,55 +27,57 @@ use Rattle.branch_padding.specs.declared.cycles.Slack.{Slack}
 use Rattle.branch_padding.specs.Cycles.{slack_of}
 use Rattle.branch_padding.specs.Stores.{added_up, arms_stores, choice_stores, stores_of, stores_of_each}
 
--- pieces in a row have the stores of all
-row-stores : (codes : List (List Instr)) → stored_words (in_a_row codes) ≡ added_up (map stored_words codes)
-row-stores [] = refl
-row-stores (code ∷ codes) =
-    stored-append code (in_a_row codes) ∙ ap (λ (n : ℕ). stored_words code + n) (row-stores codes)
-    ∙ sym (sum_by-append (λ n. n) (stored_words code ∷ []) (map stored_words codes) ∙ one)
-  where
-    one : added_up (stored_words code ∷ []) + added_up (map stored_words codes)
-        ≡ stored_words code + added_up (map stored_words codes)
-    one = omega arith
+module _ (once : Bool) where
+  -- pieces in a row have the stores of all
+  row-stores : (codes : List (List Instr))
+      → stored_words once (in_a_row codes) ≡ added_up (map (stored_words once) codes)
+  row-stores [] = refl
+  row-stores (code ∷ codes) =
+      stored-append once code (in_a_row codes) ∙ ap (λ (n : ℕ). stored_words once code + n) (row-stores codes)
+      ∙ sym (sum_by-append (λ n. n) (stored_words once code ∷ []) (map (stored_words once) codes) ∙ one)
+    where
+      one : added_up (stored_words once code ∷ []) + added_up (map (stored_words once) codes)
+          ≡ stored_words once code + added_up (map (stored_words once) codes)
+      one = omega arith
 
-idle-stores : (n : ℕ) → stored_words (idle n) ≡ 0
-idle-stores zero = refl
-idle-stores (suc n) = stored-append (Nop ∷ []) (idle n) ∙ ap (λ (m : ℕ). 0 + m) (idle-stores n)
+  idle-stores : (n : ℕ) → stored_words once (idle n) ≡ 0
+  idle-stores zero = refl
+  idle-stores (suc n) = stored-append once (Nop ∷ []) (idle n) ∙ ap (λ (m : ℕ). 0 + m) (idle-stores n)
 
--- a region has those of its arms
-region-stores : (cmp : Cmp) (first second : List Instr)
-    → stored_words (region_code cmp first second) ≡ stored_words first + stored_words second
-region-stores cmp first second =
-    let branch = Br cmp 0 1 (pos (length first + 2)) in
-    let jump = Jmp (pos (length second + 1)) in
-    let none_one : stored_words (branch ∷ []) ≡ 0 = refl in
-    let none_two : stored_words (jump ∷ []) ≡ 0 = refl in
-    omega (
-      arith,
-      stored-append (branch ∷ []) (first ++ (jump ∷ second)),
-      stored-append first (jump ∷ second),
-      stored-append (jump ∷ []) second,
-      none_one,
-      none_two,
-    )
+  -- a region has those of its arms
+  region-stores : (cmp : Cmp) (first second : List Instr)
+      → stored_words once (region_code cmp first second) ≡ stored_words once first + stored_words once second
+  region-stores cmp first second =
+      let branch = Br cmp 0 1 (pos (length first + 2)) in
+      let jump = Jmp (pos (length second + 1)) in
+      let none_one : stored_words once (branch ∷ []) ≡ 0 = refl in
+      let none_two : stored_words once (jump ∷ []) ≡ 0 = refl in
+      omega (
+        arith,
+        stored-append once (branch ∷ []) (first ++ (jump ∷ second)),
+        stored-append once first (jump ∷ second),
+        stored-append once (jump ∷ []) second,
+        none_one,
+        none_two,
+      )
 
--- the arms of a branch
-arm-stores : (k : ℕ) (whole first second : List (List Instr))
-    → stored_words (in_a_row (take k whole) ++ (in_a_row (drop k first) ++ in_a_row (drop k second)))
-    ≡ added_up (take k (map stored_words whole))
-    + (added_up (drop k (map stored_words first)) + added_up (drop k (map stored_words second)))
-arm-stores k whole first second =
-    let part : (codes : List (List Instr))
-    → stored_words (in_a_row (drop k codes)) ≡ added_up (drop k (map stored_words codes)) =
-    λ codes. row-stores (drop k codes) ∙ ap added_up (sym (drop-map stored_words k codes)) in
-    let start : stored_words (in_a_row (take k whole)) ≡ added_up (take k (map stored_words whole)) =
-    row-stores (take k whole) ∙ ap added_up (sym (take-map stored_words k whole)) in
-    let one = part first in
-    let two = part second in
-    stored-append (in_a_row (take k whole)) (in_a_row (drop k first) ++ in_a_row (drop k second))
-    ∙ ap (λ (n : ℕ). stored_words (in_a_row (take k whole)) + n)
-    (stored-append (in_a_row (drop k first)) (in_a_row (drop k second)))
-    ∙ λ i. start i + (one i + two i)
+  -- the arms of a branch
+  arm-stores : (k : ℕ) (whole first second : List (List Instr))
+      → stored_words once (in_a_row (take k whole) ++ (in_a_row (drop k first) ++ in_a_row (drop k second)))
+      ≡ added_up (take k (map (stored_words once) whole))
+      + (added_up (drop k (map (stored_words once) first)) + added_up (drop k (map (stored_words once) second)))
+  arm-stores k whole first second =
+      let part : (codes : List (List Instr))
+      → stored_words once (in_a_row (drop k codes)) ≡ added_up (drop k (map (stored_words once) codes)) =
+      λ codes. row-stores (drop k codes) ∙ ap added_up (sym (drop-map (stored_words once) k codes)) in
+      let start : stored_words once (in_a_row (take k whole)) ≡ added_up (take k (map (stored_words once) whole)) =
+      row-stores (take k whole) ∙ ap added_up (sym (take-map (stored_words once) k whole)) in
+      let one = part first in
+      let two = part second in
+      stored-append once (in_a_row (take k whole)) (in_a_row (drop k first) ++ in_a_row (drop k second))
+      ∙ ap (λ (n : ℕ). stored_words once (in_a_row (take k whole)) + n)
+      (stored-append once (in_a_row (drop k first)) (in_a_row (drop k second)))
+      ∙ λ i. start i + (one i + two i)
 
 -- the counts of several statements
 pub added-first : (n : ℕ) (counts : List ℕ) → added_up (n ∷ counts) ≡ n + added_up counts
@@ -120,7 +122,7 @@ module _ (f : Setting) (single : ObliviousAreSingle f) where
       ∙ sym (ap (λ (b : Bool). stores_by b g (fixed_index g i)) one.first)
 
   pair-stores : (s t : Statement) → Pair f s t → stores_of f label.Secret t ≡ stores_of f label.Secret s
-  pair-stores s t (ToScalars x y e g one alike) = ap (λ (b : Bool). if b then 0 else 1) (sym one)
+  pair-stores s t (ToScalars x y e g one both alike) = ap (λ (b : Bool). if b then 0 else 1) (sym one)
   pair-stores s t (ToOblivious x y i j e g one index value) = one-bank-stores x y i j one
   pair-stores s t (ToResidents x y i j e g one index value) = reduced-stores x y i j one index
   pair-stores s t (ToSame x i e g encrypted value) = refl
@@ -144,7 +146,7 @@ module _ (f : Setting) (single : ObliviousAreSingle f) where
 
   -- a branch in code of a label, whose arms are secret code
   abbrev PartStores : Block → Mode → Type 0
-  PartStores part mode = map stored_words (padded_codes f mode part) ≡ stores_of_each f label.Secret part
+  PartStores part mode = map (stored_words f.reduces) (padded_codes f mode part) ≡ stores_of_each f label.Secret part
 
   -- the arms, mirrored or idling
   abbrev before : Option Slack → Mode → Block → Block → List Instr
@@ -159,7 +161,7 @@ module _ (f : Setting) (single : ObliviousAreSingle f) where
 
   arms-counts : (mode : Mode) (t : Test) (a b : Block) → PartStores a (arm_mode mode) → PartStores a modes.Mirrored
       → PartStores b (arm_mode mode) → PartStores b modes.Mirrored → (slack : Option Slack)
-      → stored_words (region_code t.cmp (before slack mode a b) (behind slack mode a b))
+      → stored_words f.reduces (region_code t.cmp (before slack mode a b) (behind slack mode a b))
       ≡ arms_stores slack (pair_count f a b) (stores_of_each f label.Secret a) (stores_of_each f label.Secret b)
   arms-counts mode t a b first first_mirrored second second_mirrored None =
       let k = pair_count f a b in
@@ -170,22 +172,22 @@ module _ (f : Setting) (single : ObliviousAreSingle f) where
       let rests = added_up (drop k xs) + added_up (drop k ys) in
       let untaken = untaken_arm k (padded_codes f (arm_mode mode) b) (padded_codes f modes.Mirrored a) in
       let other = taken_arm k (padded_codes f (arm_mode mode) a) (padded_codes f modes.Mirrored b) in
-      let one : stored_words untaken ≡ paired + rests =
-      arm-stores k (padded_codes f (arm_mode mode) b) (padded_codes f modes.Mirrored a)
+      let one : stored_words f.reduces untaken ≡ paired + rests =
+      arm-stores f.reduces k (padded_codes f (arm_mode mode) b) (padded_codes f modes.Mirrored a)
       (padded_codes f (arm_mode mode) b)
       ∙ (λ i. added_up (take k (second i)) + (added_up (drop k (first_mirrored i)) + added_up (drop k (second i))))
       ∙ ap (λ (n : ℕ). n + rests) alike in
-      let two : stored_words other ≡ paired + rests =
-      arm-stores k (padded_codes f (arm_mode mode) a) (padded_codes f (arm_mode mode) a)
+      let two : stored_words f.reduces other ≡ paired + rests =
+      arm-stores f.reduces k (padded_codes f (arm_mode mode) a) (padded_codes f (arm_mode mode) a)
       (padded_codes f modes.Mirrored b)
       ∙ (λ i. added_up (take k (first i)) + (added_up (drop k (first i)) + added_up (drop k (second_mirrored i)))) in
-      region-stores t.cmp (before None mode a b) (behind None mode a b)
+      region-stores f.reduces t.cmp (before None mode a b) (behind None mode a b)
       ∙ omega (
         arith,
-        stored-append (idle (f.profile.taken - 1)) untaken,
-        stored-append other (idle f.profile.taken),
-        idle-stores (f.profile.taken - 1),
-        idle-stores f.profile.taken,
+        stored-append f.reduces (idle (f.profile.taken - 1)) untaken,
+        stored-append f.reduces other (idle f.profile.taken),
+        idle-stores f.reduces (f.profile.taken - 1),
+        idle-stores f.reduces f.profile.taken,
         one,
         two,
       )
@@ -194,32 +196,32 @@ module _ (f : Setting) (single : ObliviousAreSingle f) where
       let ys = stores_of_each f label.Secret b in
       let own = in_a_row (padded_codes f (arm_mode mode) b) in
       let other = in_a_row (padded_codes f (arm_mode mode) a) in
-      let one : stored_words own ≡ added_up ys =
-      row-stores (padded_codes f (arm_mode mode) b) ∙ ap added_up second in
-      let two : stored_words other ≡ added_up xs =
-      row-stores (padded_codes f (arm_mode mode) a) ∙ ap added_up first in
-      region-stores t.cmp (before (Some slack) mode a b) (behind (Some slack) mode a b)
+      let one : stored_words f.reduces own ≡ added_up ys =
+      row-stores f.reduces (padded_codes f (arm_mode mode) b) ∙ ap added_up second in
+      let two : stored_words f.reduces other ≡ added_up xs =
+      row-stores f.reduces (padded_codes f (arm_mode mode) a) ∙ ap added_up first in
+      region-stores f.reduces t.cmp (before (Some slack) mode a b) (behind (Some slack) mode a b)
       ∙ omega (
         arith,
-        stored-append own (idle slack.untaken),
-        stored-append other (idle slack.taken),
-        idle-stores slack.untaken,
-        idle-stores slack.taken,
+        stored-append f.reduces own (idle slack.untaken),
+        stored-append f.reduces other (idle slack.taken),
+        idle-stores f.reduces slack.untaken,
+        idle-stores f.reduces slack.taken,
         one,
         two,
       )
 
   choice-counts : (mode : Mode) (t : Test) (a b : Block) → PartStores a (arm_mode mode) → PartStores a modes.Mirrored
       → PartStores b (arm_mode mode) → PartStores b modes.Mirrored
-      → stored_words (padded_code f mode (Choice t a b))
+      → stored_words f.reduces (padded_code f mode (Choice t a b))
       ≡ choice_stores label.Secret (slack_of f a b) (pair_count f a b) (stores_of_each f label.Secret a)
       (stores_of_each f label.Secret b)
   choice-counts mode t a b first first_mirrored second second_mirrored =
       let guard = guard_code f mode 0 t in
       let region = region_code t.cmp (first_of f mode a b) (second_of f mode a b) in
       let arms = arms-counts mode t a b first first_mirrored second second_mirrored (slack_of f a b) in
-      stored-append guard region
-      ∙ (λ i. guard-stores f mode 0 t i + arms i)
+      stored-append f.reduces guard region
+      ∙ (λ i. guard-stores f.reduces f mode 0 t i + arms i)
       ∙ none (arms_stores (slack_of f a b) (pair_count f a b) (stores_of_each f label.Secret a)
       (stores_of_each f label.Secret b))
     where
@@ -229,7 +231,7 @@ module _ (f : Setting) (single : ObliviousAreSingle f) where
   mutual
     -- the stores of a statement in secret code
     pub statement-stores : (s : Statement) (mode : Mode) → TypedStatement (context_of f.decls) label.Secret s
-        → stored_words (padded_code f mode s) ≡ stores_of f label.Secret s
+        → stored_words f.reduces (padded_code f mode s) ≡ stores_of f label.Secret s
     statement-stores (SetVariable x e) mode typed = variable-stores f mode x e
     statement-stores (SetElement x i e) mode typed = element-stores f mode x i e
     statement-stores (Choice t a b) mode typed =
@@ -240,7 +242,7 @@ module _ (f : Setting) (single : ObliviousAreSingle f) where
         absurd (let g : ◌≡◌ {A = Label} label.Secret label.Public = wrong in cc)
 
     pub each-stores : (b : Block) (mode : Mode) → TypedBlock (context_of f.decls) label.Secret b
-        → map stored_words (padded_codes f mode b) ≡ stores_of_each f label.Secret b
+        → map (stored_words f.reduces) (padded_codes f mode b) ≡ stores_of_each f label.Secret b
     each-stores Nothing mode typed = refl
     each-stores (Then s rest) mode typed =
         let one = statement-stores s mode typed.0 in
@@ -250,7 +252,7 @@ module _ (f : Setting) (single : ObliviousAreSingle f) where
   -- and of a branch on a secret in public code
   pub public_choice-stores : (t : Test) (a b : Block) → TypedStatement (context_of f.decls) label.Public (Choice t a b)
       → label_of_test (context_of f.decls) t ≡ label.Secret
-      → stored_words (padded_code f modes.Public (Choice t a b)) ≡ stores_of f label.Public (Choice t a b)
+      → stored_words f.reduces (padded_code f modes.Public (Choice t a b)) ≡ stores_of f label.Public (Choice t a b)
   public_choice-stores t a b typed secret =
       let known = context_of f.decls in
       let first = subst (λ (l : Label). TypedBlock known l a) secret typed.1.0 in

@@ -44,8 +44,8 @@ quiet_cycles p (i ∷ code) = added (quiet_cost p i) (quiet_cycles p code)
 abbrev pub most_slack : ℕ
 most_slack = 50
 
--- How long each way of a branch idles if the first block takes so many cycles and the second so many. The way that isn't
--- taken costs one cycle more: that of the branch.
+-- How long each way of a branch idles, by the cycles of its two blocks. The way that isn't taken costs one cycle more:
+-- that of the branch.
 abbrev pub slack_by : (first second : ℕ) → Option Slack
 slack_by first second =
     if nat_le (first - (1 + second)) most_slack && nat_le ((1 + second) - first) most_slack
@@ -58,7 +58,7 @@ slack_between true None second = None
 slack_between true (Some first) None = None
 slack_between true (Some first) (Some second) = slack_by first second
 
--- the cycles of a quiet region, of which the first block takes so many
+-- the cycles of a quiet region, by those of its first block
 abbrev pub region_cycles : (taken : ℕ) → Option Slack → (first : Option ℕ) → Option ℕ
 region_cycles taken None first = None
 region_cycles taken (Some slack) first = added (Some (taken + slack.taken)) first

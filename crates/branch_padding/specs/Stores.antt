@@ -1,4 +1,5 @@
--- How many stores of a word the code of a statement has. (This project's own padding.)
+-- How many stores of a word the code of a statement has. With `--fast`, code without effect reads a word in place of
+-- storing it, and such a read counts as a store. (This project's own padding.)
 use Rattle.std.specs.Prelude.{ℕ, ◌+◌, ◌*◌, List, [], ◌∷◌, take, drop, sum_by, Option, Some, None}
 use Rattle.gr_word.specs.declared.variables.Label.{Label}
 use Rattle.gr_word.specs.declared.variables.Label.TheVariants.{Public, Secret}

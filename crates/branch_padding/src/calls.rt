@@ -88,7 +88,7 @@ pub fn emit_secret_if<'a>(
         → IsWalkedAsStatement (setting_of f.now) (statement_of s.now) (code_behind out.old out.new)) }
     ensures region { OnOk result (IsRegionOf (setting_of f.now) mode (statement_of s.now) (length out.old.code.items)
         (code_behind out.old out.new) (notes_behind out.old out.new)) }
-    ensures stores { OnOk result (stored_words (code_behind out.old out.new)
+    ensures stores { OnOk result (stored_words (setting_of f.now).reduces (code_behind out.old out.new)
         ≡ stores_of (setting_of f.now) (code_for mode) (statement_of s.now)) }
     ensures words { OnOk result (StatementHasWords (statement_of s.now)) }
     ensures extends { OnOk result (Extends (length f.now.places.now.blocks.items) mode

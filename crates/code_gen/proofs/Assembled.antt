@@ -119,7 +119,7 @@ pub record CompilePromises (p : Source) (plan : Plan) (given : Profile) (reduces
   pub implements : Implements p o
   pub machine : IsFor given l o
   pub size : length o.code ≤ 120 * weight_of p + (64 + 4 * length held)
-  pub stores : stored_words o.code ≡ stores_by p plan given reduces held
+  pub stores : stored_words reduces o.code ≡ stores_by p plan given reduces held
 
 module _ (p : Source) (plan : Plan) (given : Profile) (reduces : Bool) (held : List Held) (l : Latencies)
     (typed : IsTyped p) (within : IsWithinLimits p) (sound : IsSoundPlan p given.block_log plan)
@@ -168,10 +168,10 @@ module _ (p : Source) (plan : Plan) (given : Profile) (reduces : Bool) (held : L
             (λ slot pin pinned. (sound.pins slot pin pinned).few) holds.few within.weight,
       )
 
-  made-stores : stored_words o.code ≡ stores_by p plan given reduces held
+  made-stores : stored_words reduces o.code ≡ stores_by p plan given reduces held
   made-stores =
       let single = oblivious-single p plan given reduces held sound in
-      ap stored_words made.code ∙ program-stored setting single p.body typed.body
+      ap (stored_words reduces) made.code ∙ program-stored setting single p.body typed.body
 
   -- all of it holds of what was made
   pub made-promises : CompilePromises p plan given reduces held l o

@@ -12,7 +12,7 @@ use Rattle.block_cache_gen.specs.declared.frames.Mode.TheVariants.{Public}
 use Rattle.block_cache_gen.specs.Homes.{Setting}
 use Rattle.block_cache_gen.specs.Emitted.{Appended, no_notes, EmitsGuard}
 use Rattle.block_cache_gen.proofs.Emitting.{appended_length}
-use Rattle.branch_padding.proofs.EmittedRegions.{set-behind}
+use Rattle.branch_padding.proofs.RegionLengths.{set-behind}
 use Rattle.code_gen.proofs.EmittedParts.{guard-length, guard_code-short, choice_weight-public}
 
 module _ (f : Setting) (t : Test) (a b : Block) (public : label_of_test (context_of f.decls) t ≡ label.Public) where

@@ -175,7 +175,7 @@ module _ (o : Parts) (fits : IsInRange o) (f : Setting) (known : Ranges) (p : â„
 
   -- From the state before the loop, what is known there holds.
   module _ (first : Left) (begins : AreWithin known first.store) where
-    -- the states in which the run comes to the guard
+    -- the states in which the run reaches the guard
     abbrev Returned : Left â†’ Type 0
     Returned now = Returns f.decls t a first now
 

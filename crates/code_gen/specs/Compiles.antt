@@ -37,9 +37,9 @@ pub record IsFor (given : Profile) (l : Latencies) (o : Parts) : Type 0 where
   pub profile : o.profile ≡ given
   pub latencies : (b : ℕ) → b < length o.banks → latency_of o b ≡ latency_for l b
 
--- the stores of a word that the code of a program has, by a plan of its memory, with or without steps in the place of
+-- The stores of a word that the code of a program has, by a plan of its memory, with or without steps in the place of
 -- operations by numbers, and with what registers hold: those of its statements, and one for each scalar that a register
--- holds
+-- holds. With such steps, each read that is in place of a store is counted too.
 abbrev pub stores_by : Source → Plan → Profile → Bool → List Held → ℕ
 stores_by p plan profile reduces held =
     added_up (stores_of_each (at_start (setting_for p plan profile reduces held)) Public p.body) + scalars_among held

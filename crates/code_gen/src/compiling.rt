@@ -176,7 +176,7 @@ pub fn compile(alloc: Global, t: &Typed, p: &Profile, l: &Latencies) -> Result<O
     ensures laid_out { IfOk result (λ o. HasLayout (source_of t.now) p.now.block_log o) }
     ensures machine { IfOk result (λ o. IsFor p.now l.now o) }
     ensures size { IfOk result (λ o. length o.code ≤ 120 * weight_of (source_of t.now) + 64) }
-    ensures stores { IfOk result (λ o. stored_words o.code ≡ stores_in (source_of t.now) p.now) }
+    ensures stores { IfOk result (λ o. stored_words false o.code ≡ stores_in (source_of t.now) p.now) }
     ensures in_range { IfOk result (λ o. IsInRange o) }
     ensures fits { OnOk result (Fits (source_of t.now) p.now.block_log) }
     ensures refused { IfErr result (λ e. ExplainsRoom e (source_of t.now) p.now.block_log) }
@@ -196,7 +196,7 @@ pub fn compile(alloc: Global, t: &Typed, p: &Profile, l: &Latencies) -> Result<O
 /// operands there. Expressions are made cheaper ([`source_folding::folded`]), and steps replace products, quotients and
 /// remainders by numbers (`strength_reduction`). Each variable is at the place that [`fast_plan`] gives it. A program is
 /// rejected exactly if its variables lack room before arrays of several blocks are spread over slots, with the first
-/// cause.
+/// cause. In an arm without its effect, a word may be read in place of being stored: `stores` counts such reads too.
 pub fn compile_fast(
     alloc: Global,
     t: &Typed,
@@ -210,7 +210,7 @@ pub fn compile_fast(
     ensures laid_out { IfOk result (λ o. HasFastLayout (source_of t.now) p.now.block_log o) }
     ensures machine { IfOk result (λ o. IsFor p.now l.now o) }
     ensures size { IfOk result (λ o. length o.code ≤ 120 * weight_of (source_of t.now) + 116) }
-    ensures stores { IfOk result (λ o. stored_words o.code ≡ stores_with_residents (source_of t.now) p.now) }
+    ensures stores { IfOk result (λ o. stored_words true o.code ≡ stores_with_residents (source_of t.now) p.now) }
     ensures in_range { IfOk result (λ o. IsInRange o) }
     ensures fits { OnOk result (ResidentsFit (source_of t.now) p.now.block_log) }
     ensures refused { IfErr result (λ e. ExplainsResidents e (source_of t.now) p.now.block_log) }

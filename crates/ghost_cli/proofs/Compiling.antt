@@ -1,5 +1,5 @@
 -- From a program and its object file to the text that is printed.
-use Rattle.std.proofs.Common.{◌≡◌, Bool, inl, inr, ℕ, ◌≤◌, List, length, Some, Result, Ok, Err, IfOk, refl, sym, subst, arith}
+use Rattle.std.proofs.Common.{◌≡◌, Bool, inl, inr, ℕ, ◌≤◌, List, length, Some, Result, Ok, Err, IfOk, OnOk, refl, sym, subst, arith}
 use Rattle.gr_base.specs.Lists.{Within}
 use Rattle.gr_outside.specs.Shelf.{ShelfSeen}
 use Rattle.gr_outside.specs.Sink.{SinkSeen}
@@ -59,7 +59,7 @@ usual-latencies latencies is = subst LatenciesFit (sym is) (record {
 pub spelling-compiled : (p : Source) (target : Target) (latencies : Latencies) (o : Parts)
     → latencies ≡ usual_latencies → HasRoom target.fast p target.profile.block_log → IsInRange o → Accepts o
     → Implements p o → HasLayoutFor target.fast p target.profile.block_log o → IsFor target.profile latencies o
-    → stored_words o.code
+    → stored_words target.fast o.code
     ≡ stores_by (source_for target.fast p) (plan_for target.fast p target.profile.block_log) target.profile target.fast
     (held_for target.fast p target.profile.block_log)
     → length o.code ≤ most_code target.fast p → IsCompiledTo p target (spelling o)
@@ -74,6 +74,30 @@ spelling-compiled p target latencies o usually room ranges accepted implements l
   stores = stores;
   size = size;
 }
+
+-- the same by whether the target is fast, of what a compiler promises
+module _ (p : Source) (target : Target) (latencies : Latencies) (usually : latencies ≡ usual_latencies) where
+  abbrev w : ℕ
+  w = target.profile.block_log
+
+  abbrev IsMade : Bool → Parts → Type 0
+  IsMade fast o =
+      HasRoom fast p w → IsInRange o → Accepts o → Implements p o → HasLayoutFor fast p w o
+      → IsFor target.profile latencies o
+      → stored_words fast o.code
+      ≡ stores_by (source_for fast p) (plan_for fast p w) target.profile fast (held_for fast p w)
+      → length o.code ≤ most_code fast p → IsCompiledTo p target (spelling o)
+
+  pub compiled-for : (fast : Bool) → target.fast ≡ fast → (r : Result Parts CompileError) → OnOk r (HasRoom fast p w)
+      → IfOk r (λ o. IsInRange o) → IfOk r (λ o. Accepts o) → IfOk r (λ o. Implements p o)
+      → IfOk r (λ o. HasLayoutFor fast p w o) → IfOk r (λ o. IsFor target.profile latencies o)
+      → IfOk r (λ o. stored_words fast o.code
+      ≡ stores_by (source_for fast p) (plan_for fast p w) target.profile fast (held_for fast p w))
+      → IfOk r (λ o. length o.code ≤ most_code fast p) → IfOk r (λ o. IsCompiledTo p target (spelling o))
+  compiled-for fast is (Ok o) room ranges accepted implements layout machine stores size =
+      subst (λ (b : Bool). IsMade b o) is (spelling-compiled p target latencies o usually) room ranges accepted implements
+      layout machine stores size
+  compiled-for fast is (Err e) room ranges accepted implements layout machine stores size = tt
 
 -- ---- the printed text
 

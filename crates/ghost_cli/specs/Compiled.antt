@@ -55,8 +55,9 @@ held_for false p w = []
 held_for true p w = code.held_for (folded_source p) (fast_plan p w).places
 
 -- There is room for the program's variables. The bytes encode an object that is accepted, that computes what the
--- program means, and that has the program's layout for the profile's blocks, that profile with the usual latencies, the
--- number of stores of a word that the padding makes, and no more instructions than the program's weight allows.
+-- program means, and that has the program's layout for the profile's blocks, that profile with the usual latencies, and
+-- no more instructions than the program's weight allows. It stores as many words as the padding makes; with `--fast`
+-- the count includes the reads that padding has in place of stores.
 pub record IsCompiledTo (p : Source) (target : Target) (bytes : List ℕ) : Type 0 where
   pub room : HasRoom target.fast p target.profile.block_log
   pub o : Parts
@@ -65,7 +66,7 @@ pub record IsCompiledTo (p : Source) (target : Target) (bytes : List ℕ) : Type
   pub implements : Implements p o
   pub layout : HasLayoutFor target.fast p target.profile.block_log o
   pub machine : IsFor target.profile usual_latencies o
-  pub stores : stored_words o.code
+  pub stores : stored_words target.fast o.code
       ≡ stores_by (source_for target.fast p) (plan_for target.fast p target.profile.block_log) target.profile
       target.fast (held_for target.fast p target.profile.block_log)
   pub size : length o.code ≤ most_code target.fast p

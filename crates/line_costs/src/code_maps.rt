@@ -1,7 +1,8 @@
 //! Which statement each instruction of a compiled program belongs to.
 //!
-//! The code is read along the program: an assignment ends with its store, a guard with its branch, and the targets of
-//! branches and jumps say where loops, choices and arms end. Code of any other form has no map.
+//! The code is read along the program: an assignment ends with its store or its result in a register, a guard with its
+//! branch, and the targets of branches and jumps say where loops, choices and arms end. Code of an arm without effect has
+//! the map of the same code with the effect, which the other arm has. Code of any other form has no map.
 
 use crate::code_shapes::{Arms, CompiledCode, Region};
 use gr_base::Memory;
@@ -243,36 +244,63 @@ fn map_row(
     Some(at)
 }
 
-// Which statements of the blocks of a branch on a secret have code in the arm that isn't theirs: those of the first block
-// from one on, and those of the second. As many statements of the second as pair stand before the rest of the first.
+// How many statements of the blocks of a branch on a secret pair, and whether each arm has the code of the other block's
+// rest too, without its effect.
 #[derive(Clone, Copy)]
 struct Rests {
     pairs: usize,
-    first: usize,
-    second: usize,
+    are_mirrored: bool,
 }
 
-// The rests of blocks of these lengths. Mirrored arms have as many statements as each other, of which the first pair. In a
-// quiet branch each arm has only its own block.
-fn rests_of(arms: Arms, first: usize, second: usize) -> Option<Rests> {
-    if arms.untaken_count != arms.taken_count {
+// The rests of blocks of these lengths. If each arm has as many visible ends as its own block has statements, it only has
+// that block: other code either has such ends too, or follows the last of them.
+fn rests_of(
+    compiled: CompiledCode<'_>,
+    region: Region,
+    arms: Arms,
+    first: usize,
+    second: usize,
+) -> Option<Rests> {
+    let own = compiled.statements_between(arms.taken, region.end) == Some(first)
+        && compiled.statements_between(arms.untaken, region.jump) == Some(second);
+    if own {
         return Some(Rests {
-            pairs: second,
-            first,
-            second,
+            pairs: 0,
+            are_mirrored: false,
         });
     }
-    let pairs = first.checked_add(second)?.checked_sub(arms.untaken_count)?;
+    let count = compiled.statements_in_both(region, arms)?;
     Some(Rests {
-        pairs,
-        first: pairs,
-        second: pairs,
+        pairs: first.checked_add(second)?.checked_sub(count)?,
+        are_mirrored: true,
     })
 }
 
-// Maps a statement of an arm. A branch has its guard, two arms, a jump, and instructions that do nothing. The arm of a
-// branch that isn't taken has the second block, with the rest of the first after the pairs; the other arm has the first
-// block, and the rest of the second. One of the rests has its effect, and the other only pads.
+// Maps the code without effect of a rest, if there is any, which begins at a place, as the code with the effect between two
+// places; returns its end.
+fn map_mirrored(
+    owners: &mut Owners,
+    rests: Rests,
+    from: usize,
+    to: usize,
+    start: usize,
+) -> Option<usize> {
+    if !rests.are_mirrored {
+        return Some(start);
+    }
+    let mut at = start;
+    for place in from..to.max(from) {
+        if place < owners.len() && at < owners.len() {
+            owners[at] = owners[place].map(padding);
+        }
+        at = at.checked_add(1)?;
+    }
+    Some(at)
+}
+
+// Maps a statement of an arm, with its effect. A branch has its guard, two arms, a jump, and instructions that do nothing.
+// An arm begins with the statements of its own block that pair; the rest of the first block follows, and then that of the
+// second. The arm of a branch that isn't taken has the effect of the second block, and the other arm that of the first.
 #[cycle(padding)]
 fn map_padded(
     compiled: CompiledCode<'_>,
@@ -288,42 +316,26 @@ fn map_padded(
             let region = compiled.region_at(compiled.guard_end(from)?)?;
             let arms = compiled.arms_of(region)?;
             claim_region(owners, from, region, arms, owner);
-            let rests = rests_of(arms, first.len(), second.len())?;
+            let rests = rests_of(compiled, region, arms, first.len(), second.len())?;
+            let pairs = rests.pairs;
             let one = first_owner(owner);
+            let paired = map_row(compiled, owners, first, 0, pairs, one, arms.taken)?;
+            let own = map_row(compiled, owners, first, pairs, first.len(), one, paired)?;
             let other = second_owner(owner, first);
-            let pads = padding(one);
-            let at = map_row(
+            let at = map_row(compiled, owners, second, 0, pairs, other, arms.untaken)?;
+            let between = map_mirrored(owners, rests, paired, own, at)?;
+            let last = map_row(
                 compiled,
                 owners,
                 second,
-                0,
-                rests.pairs,
-                other,
-                arms.untaken,
-            )?;
-            let at = map_row(compiled, owners, first, rests.first, first.len(), pads, at)?;
-            let at = map_row(
-                compiled,
-                owners,
-                second,
-                rests.pairs,
+                pairs,
                 second.len(),
                 other,
-                at,
+                between,
             )?;
-            claim_idle(compiled, owners, at, region.jump, owner)?;
-            let pads = padding(other);
-            let at = map_row(compiled, owners, first, 0, first.len(), one, arms.taken)?;
-            let at = map_row(
-                compiled,
-                owners,
-                second,
-                rests.second,
-                second.len(),
-                pads,
-                at,
-            )?;
-            claim_idle(compiled, owners, at, region.end, owner)
+            let after = map_mirrored(owners, rests, between, last, own)?;
+            claim_idle(compiled, owners, last, region.jump, owner)?;
+            claim_idle(compiled, owners, after, region.end, owner)
         }
         Stmt::While(_, _) => None,
     }

@@ -28,14 +28,12 @@ pub(crate) struct Region {
 }
 
 /// Where the arms of a region begin: that of a branch that isn't taken, after instructions that do nothing, and that of
-/// one that is; and how many statements each has.
+/// one that is.
 #[derive(Clone, Copy)]
 pub(crate) struct Arms {
     pub(crate) idle: usize,
     pub(crate) untaken: usize,
     pub(crate) taken: usize,
-    pub(crate) untaken_count: usize,
-    pub(crate) taken_count: usize,
 }
 
 impl CompiledCode<'_> {
@@ -143,20 +141,28 @@ impl CompiledCode<'_> {
         }
     }
 
-    // The first place from one on that ends the code of an expression: a store of a word, a copy to a register that holds a
-    // scalar, a jump, a halt, or a branch other than one that skips the load of a cached block or a remainder.
-    fn expression_end(&self, from: usize) -> Option<usize> {
-        let mut tests_cache = false;
-        for (at, instruction) in self.code.iter().enumerate().skip(from) {
-            match instruction {
-                Instr::Stw { .. } | Instr::Jmp { .. } | Instr::Halt => return Some(at),
-                Instr::Alu { rd, .. } if *rd >= FIRST_HELD => return Some(at),
-                Instr::Br { .. } if !tests_cache && !self.skips_remainder(at) => return Some(at),
-                _ => {}
-            }
-            tests_cache = matches!(instruction, Instr::Idb { .. });
+    // Whether an instruction ends the code of an expression: a store of a word, a result in a register that holds a scalar,
+    // a jump, a halt, or a branch other than one that skips the load of a cached block or a remainder.
+    fn ends_expression(&self, at: usize) -> bool {
+        match self.code.get(at) {
+            Some(Instr::Stw { .. } | Instr::Jmp { .. } | Instr::Halt) => true,
+            Some(Instr::Alu { rd, .. }) => *rd >= FIRST_HELD,
+            Some(Instr::Br { .. }) => !self.tests_cache(at) && !self.skips_remainder(at),
+            _ => false,
         }
-        None
+    }
+
+    // Whether the branch at a place skips the load of a cached block.
+    fn tests_cache(&self, at: usize) -> bool {
+        match at.checked_sub(1) {
+            Some(before) => matches!(self.code.get(before), Some(Instr::Idb { .. })),
+            None => false,
+        }
+    }
+
+    // The first place from one on that ends the code of an expression.
+    fn expression_end(&self, from: usize) -> Option<usize> {
+        (from..self.code.len()).find(|at| self.ends_expression(*at))
     }
 
     /// The branch after a guard whose code begins at a place.
@@ -174,7 +180,7 @@ impl CompiledCode<'_> {
         Some(*self.slots.of_var.as_slice().get(number)?)
     }
 
-    /// The end of an assignment to a variable, whose code begins at a place: after its last store or its copy to a
+    /// The end of an assignment to a variable, whose code begins at a place: after its last store or its result in a
     /// register, and for an element of an array that no slot holds for the whole run after the store of its block.
     pub(crate) fn assignment_end(
         &self,
@@ -216,8 +222,9 @@ impl CompiledCode<'_> {
         last
     }
 
-    // The store of the next slot after the store of a slot. Before it the slot's word is read with the same register, and
-    // three operations choose between it and the new word; four instructions before them may make a mask.
+    // The store of the next slot after the store of a slot. Before it register 2 gets the slot's word, whose number is in the
+    // same register as that of the store, and three operations choose between that and the new word; four instructions before
+    // them may make a mask.
     fn next_store(&self, store: usize) -> Option<usize> {
         let number = self.number_of_store(store)?;
         let next = self.code.get(store.checked_add(1)?)?;
@@ -225,8 +232,14 @@ impl CompiledCode<'_> {
         let read = store.checked_add(masked)?;
         let write = read.checked_add(4)?;
         match (self.code.get(read)?, self.code.get(write)?) {
-            (Instr::Ldw { slot: one, off, .. }, Instr::Stw { slot: other, .. })
-                if *off == number && one == other && self.number_of_store(write)? == number => {
+            (
+                Instr::Ldw {
+                    rd: 2,
+                    slot: one,
+                    off,
+                },
+                Instr::Stw { slot: other, .. },
+            ) if *off == number && one == other && self.number_of_store(write)? == number => {
                 Some(write)
             }
             _ => None,
@@ -241,7 +254,7 @@ impl CompiledCode<'_> {
         }
     }
 
-    // The first place from one on, but not behind another, whose instruction does something.
+    // The first place from one on, but not past another, whose instruction does something.
     fn idle_end(&self, from: usize, to: usize) -> usize {
         for (at, instruction) in self.code.iter().enumerate().skip(from) {
             if to <= at {
@@ -265,23 +278,67 @@ impl CompiledCode<'_> {
         has_secret(self.decls, &guard.left) || has_secret(self.decls, &guard.right)
     }
 
-    // How many statements have their code between two places of an arm, before instructions that do nothing.
-    fn statements_between(&self, from: usize, to: usize) -> Option<usize> {
+    /// How many statements with their effect have their code between two places of an arm, before instructions that do
+    /// nothing.
+    pub(crate) fn statements_between(&self, from: usize, to: usize) -> Option<usize> {
         let mut at = from;
         let mut count = 0usize;
         for _ in 0..self.code.len() {
             if self.idles(at, to) {
                 return Some(count);
             }
-            at = self.statement_end(at)?;
+            if to < at {
+                return None;
+            }
+            at = self.statement_end(self.expression_end(at)?)?;
             count = count.saturating_add(1);
         }
         None
     }
 
-    // The end of the code of a statement of an arm.
-    fn statement_end(&self, from: usize) -> Option<usize> {
-        let end = self.expression_end(from)?;
+    /// How many statements have their code in both arms, before instructions that do nothing. At least one of the arms has
+    /// the effect of each.
+    pub(crate) fn statements_in_both(&self, region: Region, arms: Arms) -> Option<usize> {
+        let mut untaken = arms.untaken;
+        let mut taken = arms.taken;
+        let mut count = 0usize;
+        for _ in 0..self.code.len() {
+            if self.idles(untaken, region.jump) && self.idles(taken, region.end) {
+                return Some(count);
+            }
+            let length = self.length_in_both(untaken, taken, region)?;
+            untaken = untaken.checked_add(length)?;
+            taken = taken.checked_add(length)?;
+            count = count.saturating_add(1);
+        }
+        None
+    }
+
+    // The number of instructions of the statement whose code begins at these places of both arms. Without effect it may
+    // have no visible end.
+    fn length_in_both(&self, untaken: usize, taken: usize, region: Region) -> Option<usize> {
+        for offset in 0..region.jump.checked_sub(untaken)? {
+            let one = self.length_by_end(untaken, untaken.checked_add(offset)?);
+            let other = self.length_by_end(taken, taken.checked_add(offset)?);
+            match (one, other) {
+                (Some(first), Some(second)) => return Some(first.min(second)),
+                (Some(length), None) | (None, Some(length)) => return Some(length),
+                (None, None) => {}
+            }
+        }
+        None
+    }
+
+    // The number of instructions of a statement from its first place on, if its expression ends at another.
+    fn length_by_end(&self, from: usize, end: usize) -> Option<usize> {
+        if !self.ends_expression(end) {
+            return None;
+        }
+        self.statement_end(end)?.checked_sub(from)
+    }
+
+    // The end of the code of a statement of an arm, whose expression or guard ends at a place.
+    fn statement_end(&self, end: usize) -> Option<usize> {
         match self.code.get(end)? {
             Instr::Stw { .. } => {
                 let next = self.last_store(end).checked_add(1)?;
@@ -311,17 +368,13 @@ impl CompiledCode<'_> {
         Some(Region { branch, jump, end })
     }
 
-    /// Where the arms of a region begin, and how many statements they have.
+    /// Where the arms of a region begin.
     pub(crate) fn arms_of(&self, region: Region) -> Option<Arms> {
         let idle = region.branch.checked_add(1)?;
-        let untaken = self.idle_end(idle, region.jump);
-        let taken = region.jump.checked_add(1)?;
         Some(Arms {
             idle,
-            untaken,
-            taken,
-            untaken_count: self.statements_between(untaken, region.jump)?,
-            taken_count: self.statements_between(taken, region.end)?,
+            untaken: self.idle_end(idle, region.jump),
+            taken: region.jump.checked_add(1)?,
         })
     }
 }

@@ -65,7 +65,7 @@ pinned_from pins [] bank block = pins
 pinned_from pins (slot ∷ slots) bank block =
     pinned_from (slice_set pins slot (Some (pin_to bank block))) slots bank (block + 1)
 
--- the place after others of encrypted memory, which has so many blocks
+-- the place after others of encrypted memory, which has the given number of blocks
 abbrev pub place_behind : (blocks : ℕ) → Place → Place
 place_behind blocks q = record { bank = 1; block = blocks; word = 0; length = q.length }
 

@@ -224,7 +224,7 @@ walked-append n (c ∷ cs) ds =
     ∙ sym (after-both (next_call n (call_fault n c.arguments (procedure_named (reverse c.declared) c.name)))
     (λ m. walked m cs) (λ k. walked k ds))
 
--- two parts of statements, one after the other
+-- two parts of statements in sequence
 in-parts : (n : ℕ) (r : Result ℕ InlineError) (f : ℕ → Result ℕ InlineError) (cs ds : List FoundCall)
     → r ≡ walked n cs → ((m : ℕ) → f m ≡ walked m ds) → (r >>= f) ≡ walked n (cs ++ ds)
 in-parts n r f cs ds e h =

@@ -1,5 +1,5 @@
--- A branch on a secret whose arms show the same is crossed if both ways are padded to the same cycles: the first arm
--- begins with as many cycles as a taken branch costs more than one that isn't taken, and the second ends with the
+-- A branch on a secret is crossed if both ways through it show the same. Arms that show the same make such ways if the
+-- first begins with as many cycles as a taken branch costs more than one that isn't taken, and the second ends with the
 -- cycles of the jump.
 use Rattle.std.proofs.Common.{◌≡◌, ℕ, zero, suc, ◌+◌, ◌-◌, ◌<◌, ◌≤◌, pos, false, List, [], ◌∷◌, ◌++◌, length, replicate, Some, refl, sym, ap, ◌∙◌, subst, arith, length-append}
 use Rattle.std.specs.Prelude.{slice_get}
@@ -20,7 +20,7 @@ use Rattle.trace_patterns.specs.Walk.{WalksTo, AtEnd, Across, CrossesTo, BothArm
 use Rattle.trace_patterns.proofs.PatternLaws.{shown-same, no_events-joined, joined-no_events}
 use Rattle.stretches.proofs.ShowLaws.{pattern_of-append, pattern_of-gaps, pattern_of-gap}
 use Rattle.trace_patterns.proofs.Shapes.{shape-region}
-use Rattle.stretches.proofs.ArmCode.{stands-first, stands-rest, Walked, walked-none, walked-on, walked-then}
+use Rattle.stretches.proofs.ArmCode.{stands-first, stands-rest, Walked, walked-none, walked-on}
 
 -- instructions that only take cycles
 abbrev pub pauses : ℕ → List Instr
@@ -50,19 +50,10 @@ pattern_of-paused (suc n) shows =
 pub pattern_of-pause : (n : ℕ) → pattern_of (paused n) ≡ pattern_of (Gap n ∷ [])
 pattern_of-pause n = sym (ap pattern_of (append-nil (paused n))) ∙ pattern_of-paused n []
 
--- the code of the two arms of a branch on a secret
-abbrev pub first_arm : ℕ → List Instr → List Instr
-first_arm taken first = pauses (taken - 1) ++ first
-
-abbrev pub second_arm : ℕ → List Instr → List Instr
-second_arm taken second = second ++ pauses taken
-
 -- the code of a region: the branch, the first arm, the jump, the second arm
-abbrev pub region_code : ℕ → Cmp → (ra rb : ℕ) → (first second : List Instr) → List Instr
-region_code taken cmp ra rb first second =
-    Br cmp ra rb (pos (length (first_arm taken first) + 2))
-    ∷ (first_arm taken first
-    ++ (Jmp (pos (length (second_arm taken second) + 1)) ∷ second_arm taken second))
+abbrev pub region_code : Cmp → (ra rb : ℕ) → (first second : List Instr) → List Instr
+region_code cmp ra rb first second =
+    Br cmp ra rb (pos (length first + 2)) ∷ (first ++ (Jmp (pos (length second + 1)) ∷ second))
 
 module _ (o : Parts) (some : 1 ≤ o.profile.taken) where
   -- what the two ways show
@@ -85,77 +76,67 @@ module _ (o : Parts) (some : 1 ≤ o.profile.taken) where
       (pattern_of-append shows (paused taken) ∙ ap (joined (pattern_of shows)) (pattern_of-pause taken)
       ∙ sym (pattern_of-append shows (Gap taken ∷ [])))
 
-  module _ (depth : ℕ) (around : depth < most_regions) (s : SymState) (cmp : Cmp) (ra rb : ℕ)
-      (first second : List Instr) (shows : List Show) (left right : SymState)
-      (one : Walked o (depth + 1) s first shows left) (other : Walked o (depth + 1) s second shows right) where
-    abbrev whole : List Instr
-    whole = region_code o.profile.taken cmp ra rb first second
+-- a region whose ways show the same
+module _ (o : Parts) (depth : ℕ) (around : depth < most_regions) (s : SymState) (cmp : Cmp) (ra rb : ℕ)
+    (first second : List Instr) (xs ys shows : List Show) (left right : SymState)
+    (one : Walked o (depth + 1) s first xs left) (other : Walked o (depth + 1) s second ys right)
+    (one_way : untaken_way o (pattern_of xs) ≡ pattern_of shows)
+    (other_way : taken_way o (pattern_of ys) ≡ pattern_of shows) where
+  abbrev whole : List Instr
+  whole = region_code cmp ra rb first second
 
-    -- a region of two arms that show the same is crossed to its join
-    pub region-crosses : (p : ℕ) → StandsInArm o p whole
-        → CrossesTo o depth (p + length whole) p (pos (length (first_arm o.profile.taken first) + 2)) s
-        (pattern_of (region_shows o.profile.taken shows)) (p + length whole) (common left right)
-    region-crosses p stands =
-        let taken = o.profile.taken in
-        let arm = first_arm taken first in
-        let on = length arm + 2 in
-        let ahead = second_arm taken second in
-        let back = length ahead + 1 in
-        let branch = Br cmp ra rb (pos on) in
-        let jump = Jmp (pos back) in
-        let inner = stands-rest o p (branch ∷ []) (arm ++ jump ∷ ahead) stands in
-        let at = p + length (branch ∷ []) in
-        let mid = at + length arm in
-        let last = mid + length (jump ∷ []) in
-        let arm_stands = stands-first o at arm (jump ∷ ahead) inner in
-        let rest = stands-rest o at arm (jump ∷ ahead) inner in
-        let ahead_stands = stands-rest o mid (jump ∷ []) ahead rest in
-        let all : length whole ≡ suc (length arm + suc (length ahead)) =
-        ap suc (length-append arm (jump ∷ ahead)) in
-        let next : at ≡ p + 1 = omega arith in
-        let jumps : mid ≡ p + on - 1 = omega arith in
-        let begins : last ≡ p + on = omega arith in
-        let join : p + on - 1 + back ≡ p + length whole = omega (arith, all) in
-        let ends : last + length ahead ≡ p + length whole = omega (arith, all) in
-        let shaped : shape o depth (p + length whole) p (pos on) ≡ Arms (p + on) (p + length whole) =
-        shape-region o depth (p + length whole) p on back around (omega arith) (omega arith)
-        (subst (λ (q : ℕ). slice_get o.code q ≡ Some jump) jumps (standing-head jump ahead rest.at)) (omega arith)
-        (omega (arith, join))
-        (subst (λ (q : ℕ). q < length o.code) (sym join) stands.behind)
-        (subst (λ (q : ℕ). has_note_between o p q ≡ false) (sym join) stands.quiet)
-        ∙ ap (Arms (p + on)) join in
-        let first_walk = walked-then o (depth + 1) s (pauses (taken - 1)) (paused (taken - 1)) s first shows left
-        (walked-pauses o (depth + 1) s (taken - 1)) one in
-        let second_walk = walked-then o (depth + 1) s second shows right (pauses taken) (paused taken) right other
-        (walked-pauses o (depth + 1) right taken) in
-        let one_way = pattern_of (paused (taken - 1) ++ shows) in
-        let other_way = pattern_of (shows ++ paused taken) in
-        let there : WalksTo o (depth + 1) (p + on - 1) (p + 1) s one_way left =
-        subst (λ (q : ℕ). WalksTo o (depth + 1) (p + on - 1) q s one_way left) next
-        (subst (λ (q : ℕ). WalksTo o (depth + 1) q at s one_way left) jumps (first_walk.walks at arm_stands)) in
-        let behind : WalksTo o (depth + 1) (p + length whole) (p + on) s other_way right =
-        subst (λ (q : ℕ). WalksTo o (depth + 1) (p + length whole) q s other_way right) begins
-        (subst (λ (q : ℕ). WalksTo o (depth + 1) q last s other_way right) ends
-        (second_walk.walks last ahead_stands)) in
-        subst (λ (q : Shown TreeEvent).
-        CrossesTo o depth (p + length whole) p (pos on) s q (p + length whole) (common left right))
-        (untaken-shows shows)
-        (BothArms depth (p + length whole) p (pos on) s (p + on) (p + length whole) one_way left other_way right shaped
-        there behind (untaken-shows shows ∙ sym (taken-shows shows)))
+  -- it is crossed to its join
+  pub region-crosses : (p : ℕ) → StandsInArm o p whole
+      → CrossesTo o depth (p + length whole) p (pos (length first + 2)) s (pattern_of shows) (p + length whole)
+      (common left right)
+  region-crosses p stands =
+      let on = length first + 2 in
+      let back = length second + 1 in
+      let branch = Br cmp ra rb (pos on) in
+      let jump = Jmp (pos back) in
+      let inner = stands-rest o p (branch ∷ []) (first ++ jump ∷ second) stands in
+      let at = p + length (branch ∷ []) in
+      let mid = at + length first in
+      let last = mid + length (jump ∷ []) in
+      let first_stands = stands-first o at first (jump ∷ second) inner in
+      let rest = stands-rest o at first (jump ∷ second) inner in
+      let second_stands = stands-rest o mid (jump ∷ []) second rest in
+      let all : length whole ≡ suc (length first + suc (length second)) =
+      ap suc (length-append first (jump ∷ second)) in
+      let next : at ≡ p + 1 = omega arith in
+      let jumps : mid ≡ p + on - 1 = omega arith in
+      let begins : last ≡ p + on = omega arith in
+      let join : p + on - 1 + back ≡ p + length whole = omega (arith, all) in
+      let ends : last + length second ≡ p + length whole = omega (arith, all) in
+      let shaped : shape o depth (p + length whole) p (pos on) ≡ Arms (p + on) (p + length whole) =
+      shape-region o depth (p + length whole) p on back around (omega arith) (omega arith)
+      (subst (λ (q : ℕ). slice_get o.code q ≡ Some jump) jumps (standing-head jump second rest.at)) (omega arith)
+      (omega (arith, join))
+      (subst (λ (q : ℕ). q < length o.code) (sym join) stands.behind)
+      (subst (λ (q : ℕ). has_note_between o p q ≡ false) (sym join) stands.quiet)
+      ∙ ap (Arms (p + on)) join in
+      let there : WalksTo o (depth + 1) (p + on - 1) (p + 1) s (pattern_of xs) left =
+      subst (λ (q : ℕ). WalksTo o (depth + 1) (p + on - 1) q s (pattern_of xs) left) next
+      (subst (λ (q : ℕ). WalksTo o (depth + 1) q at s (pattern_of xs) left) jumps (one.walks at first_stands)) in
+      let behind : WalksTo o (depth + 1) (p + length whole) (p + on) s (pattern_of ys) right =
+      subst (λ (q : ℕ). WalksTo o (depth + 1) (p + length whole) q s (pattern_of ys) right) begins
+      (subst (λ (q : ℕ). WalksTo o (depth + 1) q last s (pattern_of ys) right) ends
+      (other.walks last second_stands)) in
+      subst (λ (q : Shown TreeEvent).
+      CrossesTo o depth (p + length whole) p (pos on) s q (p + length whole) (common left right)) one_way
+      (BothArms depth (p + length whole) p (pos on) s (p + on) (p + length whole) (pattern_of xs) left (pattern_of ys)
+      right shaped there behind (one_way ∙ sym other_way))
 
-    -- the check walks such a region to its join
-    pub walked-region : Walked o depth s whole (region_shows o.profile.taken shows) (common left right)
-    walked-region = record {
-      walks = λ p stands.
-          let taken = o.profile.taken in
-          let arm = first_arm taken first in
-          let ahead = second_arm taken second in
-          let on = length arm + 2 in
-          let rest = arm ++ (Jmp (pos (length ahead + 1)) ∷ ahead) in
-          let end = p + length whole in
-          let shown = pattern_of (region_shows taken shows) in
-          subst (λ (q : Shown TreeEvent). WalksTo o depth end p s q (common left right)) (joined-no_events shown)
-          (Across depth end p s cmp ra rb (pos on) shown end (common left right) no_events (common left right)
-          (omega arith) (standing-head (Br cmp ra rb (pos on)) rest stands.at) (region-crosses p stands)
-          (AtEnd depth end (common left right)));
-    }
+  -- the check walks it to its join
+  pub walked-region : Walked o depth s whole shows (common left right)
+  walked-region = record {
+    walks = λ p stands.
+        let on = length first + 2 in
+        let rest = first ++ (Jmp (pos (length second + 1)) ∷ second) in
+        let end = p + length whole in
+        let shown = pattern_of shows in
+        subst (λ (q : Shown TreeEvent). WalksTo o depth end p s q (common left right)) (joined-no_events shown)
+        (Across depth end p s cmp ra rb (pos on) shown end (common left right) no_events (common left right)
+        (omega arith) (standing-head (Br cmp ra rb (pos on)) rest stands.at) (region-crosses p stands)
+        (AtEnd depth end (common left right)));
+  }

@@ -3,7 +3,7 @@ use Rattle.std.proofs.lemmas.Result.{on_ok_weaker}
 use Rattle.std.proofs.Common.{length, ◌+◌, ◌++◌, None}
 use Rattle.src_tree.specs.Trees.{expr_tree}
 use Rattle.block_cache_gen.specs.declared.indexes.Numbering.{Numbering}
-use Rattle.block_cache_gen.specs.Codes.{numbered_code, offset_code, shift_code}
+use Rattle.block_cache_gen.specs.Codes.{numbered_code, numbered_register, offset_code, shift_code}
 use Rattle.block_cache_gen.specs.Emitted.{Appended}
 use Rattle.block_cache_gen.specs.Notes.{compared_notes}
 use Rattle.block_cache_gen.specs.Variables.{home_in}
@@ -18,7 +18,8 @@ returns-then-is_resident-clause-appended c =
     found_placed c.args.emitter.now c.args.mode h c.args.mask c.args.to c.args.from (expr_tree c.args.index.now)
     c.args.out.now c.put_placed.new.out c.requires.from (sym c.is_resident.ensures ∙ c.if-is_resident.true)
     (subst (λ (way : Numbering). Appended c.args.out.now c.put_placed.new.out
-    (numbered_code way c.args.emitter.now h c.args.to c.args.from ++ offset_code c.args.emitter.now h c.args.to)
+    (numbered_code way c.args.emitter.now h c.args.to c.args.from
+    ++ offset_code c.args.emitter.now h c.args.to (numbered_register way c.args.to c.args.from))
     (λ place. compared_notes way None c.args.emitter.now c.args.mask c.args.to
     (place + length (numbered_code way c.args.emitter.now h c.args.to c.args.from)))) c.numbering-numbering.ensures x))
     c.put_placed.ensures.appended

@@ -10,12 +10,12 @@ use Rattle.src_tree.specs.Typing.{TypedStatement}
 use Rattle.block_cache_gen.specs.declared.frames.Mode.TheVariants as modes
 use Rattle.block_cache_gen.specs.Emitted.{Appended, no_notes}
 use Rattle.block_cache_gen.proofs.Emitting.{grows_then}
-use Rattle.branch_padding.specs.Padded.{idle, first_padded, second_padded, untaken_arm, taken_arm, padded_code, padded_codes}
+use Rattle.branch_padding.specs.Padded.{idle, padded_code, padded_codes}
 use Rattle.branch_padding.specs.EmittedBranches.{both_weights}
 use Rattle.branch_padding.specs.Rows.{HaveWords, row_between}
 use Rattle.block_cache_gen.specs.ProgramWords.{StatementHasWords}
-use Rattle.branch_padding.proofs.EmittedRegions.{weight-at, guard-behind, idle-behind, choice-appended, first-made, second-made, idling-appended, typed-at, low-at, one-behind, set-behind, taken-behind, row-start, row-more, row-room, row-behind, untaken-appended, taken-appended_whole}
-use Rattle.branch_padding.proofs.RegionLengths.{behind-branch, behind-untaken, parts-fit}
+use Rattle.branch_padding.proofs.EmittedRegions.{weight-at, choice-appended, first-made, second-made, idling-appended, typed-at, low-at, row-start, row-more, row-room, row-behind, untaken-appended, taken-appended_whole}
+use Rattle.branch_padding.proofs.RegionLengths.{behind-branch, behind-untaken, parts-fit, guard-behind, idle-behind, one-behind, set-behind, taken-behind}
 use Rattle.branch_padding.proofs.GrowingRows.{appended-grows, branch-grows, grows_thrice, set-grows, grows-longer, words-none, words-more, words-both, words-all}
 use Rattle.branch_padding.proofs.choices.+padding.Goals as goal
 use Rattle.branch_padding.proofs.choices.+padding.Goals.{put_choice-In_ok-put_untaken, put_choice-After-set_branch, put_first_mirrored-In_ok-put_idle}

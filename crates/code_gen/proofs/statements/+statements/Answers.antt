@@ -13,7 +13,7 @@ use Rattle.branch_padding.specs.EmittedBranches.{choice_of}
 use Rattle.code_gen.specs.Emitted.{ClosesChoice, ClosesLoop, EmitsBlock, EmitsStatement, noted_behind}
 use Rattle.code_gen.specs.Statements.{block_ends_noted, ends_noted}
 use Rattle.branch_padding.specs.AfterStatements.{within_loop}
-use Rattle.branch_padding.proofs.EmittedRegions.{set-behind}
+use Rattle.branch_padding.proofs.RegionLengths.{set-behind}
 use Rattle.code_gen.proofs.ChoiceLengths.{Leaves, behind-branch, behind-first, behind-head}
 use Rattle.code_gen.proofs.EmittedParts.{guard-length, guard_code-short, choice_weight-public, unless-short, noted_behind-none, block-none, block-then, loop-emitted}
 use Rattle.code_gen.proofs.EmittedChoices.{block_code-some, block-more, block-past, block-empty, some-items, closes-any, closes-bare, closes-second, choice-emitted}
