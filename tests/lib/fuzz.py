@@ -27,7 +27,7 @@ PROGRAM_BYTES = 16 << 20
 
 # Two looping cores take about as long on a bus as in separate runs. The check of a large region takes up to seven bytes for each
 # byte of the object (docs/RUNNING.md), beside the program's own code.
-BUS_RATIO, REGION_BYTES, CODE_BYTES = 2, 9, 1 << 23
+BUS_RATIO, REGION_BYTES, CODE_BYTES = 2, 6, 1 << 23
 
 STATUSES = {
     'check': (0, 6, 7), 'trace': (0, 6, 7, 9, 10), 'run': (0, 6, 7, 9, 10), 'asm': (0, 12), 'dis': (0, 6),

@@ -36,4 +36,9 @@ def other_values():
     return region(constants(1), constants(ARM + 1))
 
 
-REGIONS = (same_events, same_values, other_values)
+def other_words():
+    """Each instruction makes two values: the place of a word, and the word."""
+    return region(*([f'li r3 {start}', 'ldb 2 D r1'] + ['ldw r3 2 r3'] * ARM for start in (1, 2)))
+
+
+REGIONS = (same_events, same_values, other_values, other_words)

@@ -9,31 +9,21 @@ use Rattle.lt_isa.specs.declared.instructions.Instr.TheVariants.{Nop, Halt, Li, 
 use Rattle.lt_isa.specs.declared.profiles.Profile.{Profile}
 use Rattle.lt_isa.specs.Object.{Parts}
 use Rattle.lt_checker.proofs.Singles.{OnSingle, on_single, on_bound, on_stored}
-use Rattle.trace_patterns.specs.Patterns.{Shown, no_events, with_gap, joined}
+use Rattle.trace_patterns.specs.Patterns.{Shown, joined}
 use Rattle.trace_patterns.specs.Events.{TreeEvent}
 use Rattle.trace_patterns.specs.SymStates.{SymState, slot_held}
 use Rattle.trace_patterns.specs.Single.{gap, single}
 use Rattle.trace_patterns.specs.Walk.{WalksTo, AtEnd, Onward, Across}
-use Rattle.trace_patterns.proofs.PatternLaws.{shown-same, joined-no_events, joined-gap, with_gap-more}
 use Rattle.stretches.specs.InArms.{StandsInArm}
 use Rattle.stretches.specs.Shows.{Show, pattern_of}
 use Rattle.stretches.specs.Standing.{StandsAt}
-use Rattle.stretches.proofs.ShowLaws.{pattern_of-append}
+use Rattle.stretches.proofs.ShowLaws.{no_gap, gaps-joined, pattern_of-append}
 use Rattle.stretches.proofs.Standing.{standing-first, standing-head, standing-tail, standing-whole}
 use Rattle.block_cache_gen.specs.Homes.{Setting, HasHomes}
 use Rattle.block_cache_gen.specs.PatternsOf.{Loads, no_loads, then_loads}
 use Rattle.block_cache_gen.proofs.ArmAssignments.{Goes}
 use Rattle.block_cache_gen.proofs.ArmStates.{then_loads-held}
 use Rattle.branch_padding.specs.Cycles.{quiet_cost, added, quiet_cycles}
-
--- gaps in sequence add up
-no_gap : gap 0 ≡ no_events
-no_gap = shown-same (gap 0) no_events refl (omega arith)
-
-pub gaps-joined : (m n : ℕ) → joined (gap m) (gap n) ≡ gap (m + n)
-gaps-joined m n =
-    joined-gap (gap m) no_events n ∙ ap (λ (p : Shown TreeEvent). with_gap p n) (joined-no_events (gap m))
-    ∙ with_gap-more no_events m n
 
 pub same_number : (m n : ℕ) → ◌≡◌ {A = Option ℕ} (Some m) (Some n) → m ≡ n
 same_number m n is = cc

@@ -14,7 +14,7 @@ use Rattle.trace_patterns.specs.Patterns.{joined}
 use Rattle.trace_patterns.specs.SymStates.{SymState}
 use Rattle.trace_patterns.specs.Single.{gap}
 use Rattle.stretches.specs.Shows.{Show, Gap, pattern_of}
-use Rattle.stretches.proofs.ShowLaws.{pattern_of-alone, pattern_of-append}
+use Rattle.stretches.proofs.ShowLaws.{gaps-joined, pattern_of-alone, pattern_of-append}
 use Rattle.block_cache_gen.specs.declared.frames.Mode.TheVariants as modes
 use Rattle.block_cache_gen.specs.Alike.{pair_count}
 use Rattle.block_cache_gen.specs.Carries.{CarriesInArm}
@@ -27,7 +27,7 @@ use Rattle.block_cache_gen.proofs.ArmExpressions.{guard-leaves}
 use Rattle.branch_padding.specs.declared.cycles.Slack.{Slack}
 use Rattle.branch_padding.specs.Cycles.{most_slack, quiet_cycles, slack_by, slack_between, region_cycles, cycles_of, cycles_of_all, slack_of}
 use Rattle.branch_padding.specs.PatternsOfChoices.{shown_in_a_row, loaded_in_a_row, padded_shows, padded_loads, shows_of, shows_of_each, shows_of_region, slots_of, slots_of_each, slots_of_arms}
-use Rattle.branch_padding.proofs.QuietCode.{gaps-joined, same_number, added-parts, object_of, homes-in, IsQuiet, quiet-none, quiet-then, quiet-code}
+use Rattle.branch_padding.proofs.QuietCode.{same_number, added-parts, object_of, homes-in, IsQuiet, quiet-none, quiet-then, quiet-code}
 
 -- With what they idle, both ways take the same cycles, and neither idles long.
 pub record IsSlack (x y : Option ℕ) (slack : Slack) : Type 0 where

@@ -19,7 +19,7 @@ use Rattle.trace_patterns.proofs.PatternLaws.{with_gap-more}
 use Rattle.stretches.specs.Shows.{Show, Gap, pattern_of, region_shows}
 use Rattle.stretches.proofs.ArmCode.{walked-then}
 use Rattle.stretches.proofs.ArmRegions.{paused, walked-pauses, pattern_of-pause, untaken-shows, taken-shows}
-use Rattle.stretches.proofs.ShowLaws.{pattern_of-alone, pattern_of-append}
+use Rattle.stretches.proofs.ShowLaws.{gaps-joined, pattern_of-alone, pattern_of-append}
 use Rattle.block_cache_gen.specs.declared.frames.Mode.{Mode}
 use Rattle.block_cache_gen.specs.declared.frames.Mode.TheVariants as modes
 use Rattle.block_cache_gen.specs.Homes.{Setting, HasHomes}
@@ -38,7 +38,7 @@ use Rattle.branch_padding.specs.declared.cycles.Slack.{Slack}
 use Rattle.branch_padding.specs.Cycles.{cycles_of_all, slack_of}
 use Rattle.branch_padding.specs.Padded.{idle, arm_mode, in_a_row, untaken_arm, taken_arm, first_arm, second_arm, region_code, padded_code, padded_codes, first_of, second_of}
 use Rattle.branch_padding.specs.PatternsOfChoices.{shown_in_a_row, loaded_in_a_row, padded_shows, padded_loads, mirrored_shows, mirrored_loads, shows_of, shows_of_each, shows_of_region, slots_of, slots_of_each, slots_of_arms}
-use Rattle.branch_padding.proofs.QuietCode.{gaps-joined, IsQuiet}
+use Rattle.branch_padding.proofs.QuietCode.{IsQuiet}
 use Rattle.branch_padding.proofs.QuietStatements.{IsSlack, slack-between, taken-cycles, block-quiet}
 use Rattle.branch_padding.proofs.SecretRows.{shown-rests, loaded-rests, GoesAnywhere, EachGoes, NoneGoes, OneGoes, row-goes, take-goes, drop-goes, three-go}
 

@@ -12,7 +12,7 @@ use lt_checker::Reason;
 use note_infer::InferError;
 use object_file::DecodeError;
 use serde_json::Value;
-use std::alloc::{AllocError, AllocFailed, Global};
+use std::alloc::{AllocError, Global};
 use std::fmt;
 use std::marker::Model;
 
@@ -142,18 +142,10 @@ pub enum Reply<'a> {
     Wrote(Done),
 }
 
-impl<'a> From<Memory> for Reply<'a> {
+impl<'a, E: Into<Memory> + Drop> From<E> for Reply<'a> {
     ghost from_gives = { λ _ reply. reply ≡ NoMemory };
 
-    fn from(_error: Memory) -> Reply<'a> {
-        Reply::NoMemory
-    }
-}
-
-impl<'a, T: Drop> From<AllocFailed<T>> for Reply<'a> {
-    ghost from_gives = { λ _ reply. reply ≡ NoMemory };
-
-    fn from(_error: AllocFailed<T>) -> Reply<'a> {
+    fn from(_error: E) -> Reply<'a> {
         Reply::NoMemory
     }
 }

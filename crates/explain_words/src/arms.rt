@@ -6,7 +6,8 @@
 use crate::refusals::{Refused, bank_of, is_secret};
 use crate::words::Words;
 use gr_word::Op;
-use lt_isa::{Instr, Note, Object, latency};
+use lt_isa::{Instr, Object, latency};
+use trace_patterns::Known;
 
 /// What is seen next on a way: an access, the cycles before it, and its place; at the join no access is left.
 #[derive(Clone, Copy)]
@@ -57,13 +58,13 @@ fn operation_number(op: Op) -> u64 {
 
 impl Way {
     // A way that begins at a place with some cycles, where this is known at the branch.
-    fn from(at: usize, join: usize, gap: u64, known: &Note) -> Way {
+    fn from(at: usize, join: usize, gap: u64, known: &Known) -> Way {
         let mut way = Way {
             at,
             join,
             gap,
             registers: [None; 32],
-            banks: known.slots,
+            banks: [255; 8],
             blocks: [None; 8],
         };
         for register in 0..32u8 {
@@ -72,8 +73,8 @@ impl Way {
             }
         }
         for slot in 0..8u8 {
-            if bank_of(known, slot) != 255 {
-                way.blocks[slot as usize] = Some(mixed(2, u64::from(slot)));
+            if let Some(bank) = bank_of(known, slot) {
+                way.load(slot, bank, Some(mixed(2, u64::from(slot))));
             }
         }
         way
@@ -206,7 +207,7 @@ fn cycles_of(object: &Object, instr: Instr) -> u64 {
 }
 
 // The two ways of the branch at a place, where it has two arms.
-fn ways_of(object: &Object, place: usize, known: &Note) -> Option<(Way, Way)> {
+fn ways_of(object: &Object, place: usize, known: &Known) -> Option<(Way, Way)> {
     let Some(Instr::Br { offset, .. }) = object.code().get(place) else {
         return None;
     };
@@ -224,9 +225,9 @@ fn ways_of(object: &Object, place: usize, known: &Note) -> Option<(Way, Way)> {
 }
 
 /// Adds where the two ways through the branch at a place first differ.
-pub(crate) fn put_difference(refused: &Refused<'_>, place: usize, known: Note, out: &mut Words) {
+pub(crate) fn put_difference(refused: &Refused<'_>, place: usize, known: &Known, out: &mut Words) {
     let object = refused.object;
-    let Some((mut first, mut second)) = ways_of(object, place, &known) else {
+    let Some((mut first, mut second)) = ways_of(object, place, known) else {
         return;
     };
     for _ in object.code() {

@@ -14,7 +14,6 @@ use crate::objects::{explain_file, object_in};
 use crate::refusals::{explain_inference, explain_refusal};
 use crate::sources::{Room, explain_source};
 use crate::texts::is_word_of;
-use crate::tokens::{Tokens, tokens_of};
 use crate::usage::{Sorted, explain_usage};
 use crate::warnings::warn_of_source;
 use crate::words::Words;
@@ -269,13 +268,7 @@ fn warn_of(alloc: Global, file: &File<'_>, out: &mut Words) {
     let text = file.bytes;
     match file.kind {
         Kind::Inputs => warn_of_inputs(alloc, name, text, out),
-        Kind::Source => match tokens_of(alloc, text) {
-            Ok(all) => {
-                let all = all.as_slice();
-                warn_of_source(alloc, Tokens { name, text, all }, out)
-            }
-            Err(_) => out.starve(),
-        },
+        Kind::Source => warn_of_source(alloc, name, text, out),
         Kind::Object => {}
         Kind::Assembly => {}
     }

@@ -42,6 +42,7 @@ mod typing;
 mod unexpected;
 mod usage;
 mod wanted;
+mod warned_tokens;
 mod warnings;
 mod words;
 

@@ -10,24 +10,16 @@ use gr_base::Memory;
 use gr_word::Label;
 use lt_assembler::disassemble;
 use lt_checker::{CheckError, Reason, check};
-use lt_isa::{Instr, Note, Object};
-use note_infer::{InferError, infer};
+use lt_isa::{Instr, Object};
+use note_infer::{InferError, infer, known_behind};
 use region_walk::{Crossing, RegionValues, cross};
 use std::alloc::Global;
 use trace_patterns::Known;
 
-/// What is known at the start: no register may hold a secret, and no slot's bank is known.
-const NOTHING_KNOWN: Note = Note {
-    pc: 0,
-    secrets: 0,
-    slots: [255; 8],
-};
-
-/// What is known at a place, in the form of a note, and the branch of the region that contains the place, if there is
-/// one.
-#[derive(Clone, Copy)]
+/// What is known at a place, and the branch of the region that contains the place, if there is one.
+#[derive(Drop)]
 struct Standing {
-    known: Note,
+    known: Known,
     branch: Option<usize>,
 }
 
@@ -154,9 +146,9 @@ impl Refused<'_> {
             let Ok(standing) = standing_at(alloc, self.object, place) else {
                 return out.starve();
             };
-            put_detail(self.object, place, reason, standing, out);
+            put_detail(self.object, place, reason, &standing, out);
             if reason == Reason::UnequalArms {
-                put_difference(self, place, standing.known, out);
+                put_difference(self, place, &standing.known, out);
             }
         }
         out.line(of_reason(reason))
@@ -177,66 +169,31 @@ impl Refused<'_> {
 }
 
 /// Whether a register may hold a secret.
-pub(crate) fn is_secret(known: &Note, register: u8) -> bool {
-    register < 32 && (known.secrets >> register) & 1 == 1
+pub(crate) fn is_secret(known: &Known, register: u8) -> bool {
+    register < 32 && known.is_secret(register)
 }
 
-/// The bank that a slot is bound to, and 255 where that isn't known.
-pub(crate) fn bank_of(known: &Note, slot: u8) -> u8 {
-    known.slots.get(slot as usize).copied().unwrap_or(255)
+/// The bank that a slot is bound to, if it is known.
+pub(crate) fn bank_of(known: &Known, slot: u8) -> Option<u8> {
+    if slot < 8 { known.bank(slot) } else { None }
 }
 
-fn label_register(known: &mut Note, register: u8, secret: bool) {
-    if register < 32 {
-        let bit = 1u32 << register;
-        known.secrets = if secret {
-            known.secrets | bit
-        } else {
-            known.secrets & !bit
-        };
-    }
-}
-
-// Binds a slot to a bank.
-fn bind(known: &mut Note, slot: u8, bank: u8) {
-    if slot < 8 {
-        known.slots[slot as usize] = bank;
-    }
-}
-
-// What is known after an instruction of public code.
-fn step(known: &mut Note, instr: Instr) {
-    match instr {
-        Instr::Li { rd, .. } => label_register(known, rd, false),
-        Instr::Alu { rd, ra, rb, .. } => {
-            let secret = is_secret(known, ra) || is_secret(known, rb);
-            label_register(known, rd, secret);
-        }
-        Instr::Ldb { slot, bank, .. } => bind(known, slot, bank),
-        Instr::Idb { rd, slot } => {
-            let secret = 2 <= bank_of(known, slot);
-            label_register(known, rd, secret);
-        }
-        Instr::Ldw { rd, slot, off } => {
-            let secret = bank_of(known, slot) != 0 || is_secret(known, off);
-            label_register(known, rd, secret);
-        }
-        _ => {}
-    }
-}
-
-fn note_at(object: &Object, place: usize) -> Option<Note> {
+// What the note at a place claims.
+fn claimed_at(object: &Object, place: usize) -> Option<Known> {
     let place = u32::try_from(place).ok()?;
     let notes = object.notes();
     let next = notes.partition_point(|note| note.pc < place);
-    let note = *notes.get(next)?;
-    if note.pc == place { Some(note) } else { None }
+    let note = notes.get(next)?;
+    if note.pc == place {
+        Some(Known::of_note(note))
+    } else {
+        None
+    }
 }
 
-// The join of the region of the branch at a place, if it is one on a secret, and what is known there.
+// The next place that the check visits, and what is known there. A region is entered only if it is refused.
 enum Led {
-    On,
-    Joins(usize, Note),
+    Reaches(usize, Known),
     Blocked,
 }
 
@@ -244,28 +201,30 @@ fn led_from(
     alloc: Global,
     object: &Object,
     shared: &mut RegionValues,
-    known: &Note,
+    known: &Known,
     place: usize,
 ) -> Result<Led, Memory>
     requires { place < length object.now.code }
 {
-    let Instr::Br { ra, rb, offset, .. } = object.code()[place] else {
-        return Ok(Led::On);
+    let instr = object.code()[place];
+    let Some(offset) = opening(known, instr) else {
+        let behind = known_behind(known, instr, object.banks().len());
+        return Ok(Led::Reaches(place.saturating_add(1), behind));
     };
-    if !is_secret(known, ra) && !is_secret(known, rb) {
-        return Ok(Led::On);
-    }
-    match cross(
-        alloc,
-        object,
-        shared,
-        &Known::of_note(known),
-        place as u32,
-        offset,
-    ) {
-        Crossing::Crosses { join, known } => Ok(Led::Joins(join as usize, known.note(join))),
+    match cross(alloc, object, shared, known, place as u32, offset) {
+        Crossing::Crosses { join, known } => Ok(Led::Reaches(join as usize, known)),
         Crossing::Blocked { .. } => Ok(Led::Blocked),
         Crossing::Memory => Err(Memory),
+    }
+}
+
+// The offset of a branch on a secret, which opens a region.
+fn opening(known: &Known, instr: Instr) -> Option<i32> {
+    match instr {
+        Instr::Br { ra, rb, offset, .. } if is_secret(known, ra) || is_secret(known, rb) => {
+            Some(offset)
+        }
+        _ => None,
     }
 }
 
@@ -282,20 +241,21 @@ fn standing_behind(
     shared: &mut RegionValues,
     place: usize,
 ) -> Result<Standing, Memory> {
-    let mut known = NOTHING_KNOWN;
-    let mut join = 0usize;
+    let mut known = Known::start();
+    let mut next = 0usize;
     for at in 0..object.code().len() {
-        if at < join {
+        if at < next {
             continue;
         }
         if at == place {
             break;
         }
-        known = note_at(object, at).unwrap_or(known);
+        if let Some(claimed) = claimed_at(object, at) {
+            known = claimed;
+        }
         match led_from(alloc, object, shared, &known, at)? {
-            Led::On => step(&mut known, object.code()[at]),
-            Led::Joins(behind, after) => {
-                join = behind;
+            Led::Reaches(behind, after) => {
+                next = behind;
                 known = after;
             }
             Led::Blocked => return Ok(Standing {
@@ -311,51 +271,51 @@ fn standing_behind(
 }
 
 // What the instruction does that is refused, by what is known there.
-fn put_detail(object: &Object, place: usize, reason: Reason, standing: Standing, out: &mut Words) {
+fn put_detail(object: &Object, place: usize, reason: Reason, standing: &Standing, out: &mut Words) {
     if let Some(branch) = standing.branch {
         out.fill(
             "It lies in the region of the branch on a secret at place {}.\n",
             &[branch as u64],
         );
     }
-    let claimed = note_at(object, place);
+    let claimed = claimed_at(object, place);
     if reason == Reason::NoteTooLow {
-        return put_misfit(object, place, standing.known, claimed, out);
+        return put_misfit(object, place, &standing.known, claimed, out);
     }
     let Some(instr) = object.code().get(place) else {
         return;
     };
-    let known = claimed.unwrap_or(standing.known);
+    let known = claimed.as_ref().unwrap_or(&standing.known);
     match *instr {
-        Instr::Ldb { reg, .. } => put_secret(&known, reg, out),
+        Instr::Ldb { reg, .. } => put_secret(known, reg, out),
         Instr::Stw { rs, slot, off } => {
-            put_slot(&known, slot, out);
-            put_secret(&known, rs, out);
+            put_slot(known, slot, out);
+            put_secret(known, rs, out);
             if off != rs {
-                put_secret(&known, off, out);
+                put_secret(known, off, out);
             }
         }
-        Instr::Stb { slot } => put_slot(&known, slot, out),
-        Instr::Idb { slot, .. } => put_slot(&known, slot, out),
-        Instr::Ldw { slot, .. } => put_slot(&known, slot, out),
+        Instr::Stb { slot } => put_slot(known, slot, out),
+        Instr::Idb { slot, .. } => put_slot(known, slot, out),
+        Instr::Ldw { slot, .. } => put_slot(known, slot, out),
         _ => put_target(object, place, *instr, reason, out),
     }
 }
 
-fn put_secret(known: &Note, register: u8, out: &mut Words) {
+fn put_secret(known: &Known, register: u8, out: &mut Words) {
     if is_secret(known, register) {
         out.fill("r{} may hold a secret here.\n", &[u64::from(register)]);
     }
 }
 
-fn put_slot(known: &Note, slot: u8, out: &mut Words) {
+fn put_slot(known: &Known, slot: u8, out: &mut Words) {
     let slots = [u64::from(slot)];
     match bank_of(known, slot) {
-        255 => out.fill(
+        None => out.fill(
             "It isn't known here which bank slot {} is bound to.\n",
             &slots,
         ),
-        0 => out.fill("Slot {} is bound to plain memory.\n", &slots),
+        Some(0) => out.fill("Slot {} is bound to plain memory.\n", &slots),
         _ => {}
     }
 }
@@ -393,22 +353,28 @@ fn put_target(object: &Object, place: usize, instr: Instr, reason: Reason, out: 
 }
 
 // The registers and slots that don't fit the note: the one at the place itself, or at the target of its jump.
-fn put_misfit(object: &Object, place: usize, known: Note, claimed: Option<Note>, out: &mut Words) {
-    if let Some(claim) = claimed {
-        if !Known::of_note(&known).fits(&Known::of_note(&claim)) {
-            return put_misfits(place, &known, &claim, out);
+fn put_misfit(
+    object: &Object,
+    place: usize,
+    known: &Known,
+    claimed: Option<Known>,
+    out: &mut Words,
+) {
+    if let Some(claim) = &claimed {
+        if !known.fits(claim) {
+            return put_misfits(place, known, claim, out);
         }
     }
     let Some(instr) = object.code().get(place) else {
         return;
     };
     let target = usize::try_from(target_of(place, *instr)).unwrap_or(0);
-    if let Some(claim) = note_at(object, target) {
-        put_misfits(target, &claimed.unwrap_or(known), &claim, out);
+    if let Some(claim) = claimed_at(object, target) {
+        put_misfits(target, claimed.as_ref().unwrap_or(known), &claim, out);
     }
 }
 
-fn put_misfits(place: usize, known: &Note, claim: &Note, out: &mut Words) {
+fn put_misfits(place: usize, known: &Known, claim: &Known, out: &mut Words) {
     out.fill("It comes to the note at place {}.\n", &[place as u64]);
     for register in 0..32u8 {
         if is_secret(known, register) && !is_secret(claim, register) {
@@ -419,18 +385,25 @@ fn put_misfits(place: usize, known: &Note, claim: &Note, out: &mut Words) {
         }
     }
     for slot in 0..8u8 {
-        let claimed = bank_of(claim, slot);
-        let bound = bank_of(known, slot);
-        if claimed != 255 && bound != claimed {
-            let words = if bound == 255 {
-                "The note claims bank {} of slot {}, which isn't known here.\n"
-            } else {
-                "The note claims bank {} of slot {}, which is bound to bank {} here.\n"
-            };
-            out.fill(
-                words,
-                &[u64::from(claimed), u64::from(slot), u64::from(bound)],
-            );
-        }
+        put_slot_misfit(slot, bank_of(known, slot), bank_of(claim, slot), out);
+    }
+}
+
+// A slot whose bank doesn't fit what the note claims.
+fn put_slot_misfit(slot: u8, bound: Option<u8>, claimed: Option<u8>, out: &mut Words) {
+    let Some(claimed) = claimed else {
+        return;
+    };
+    let numbers = [u64::from(claimed), u64::from(slot)];
+    match bound {
+        None => out.fill(
+            "The note claims bank {} of slot {}, which isn't known here.\n",
+            &numbers,
+        ),
+        Some(bound) if bound != claimed => out.fill(
+            "The note claims bank {} of slot {}, which is bound to bank {} here.\n",
+            &[numbers[0], numbers[1], u64::from(bound)],
+        ),
+        Some(_) => {}
     }
 }

@@ -5,6 +5,7 @@ use crate::procedures::{Procedure, Procedures};
 use crate::statements::Declared;
 use crate::texts::spot_at;
 use crate::tokens::Tokens;
+use crate::warned_tokens::tokens_to_warn;
 use crate::words::Words;
 use gr_base::Memory;
 use src_lexer::TokenKind;
@@ -46,13 +47,21 @@ impl Variable {
     fn is_secret_array(&self) -> bool {
         self.declared.is_secret && self.declared.is_array
     }
+
+    // Whether no further use of it matters: it is used, and it is no secret array that may have one secret index.
+    fn is_settled(&self) -> bool {
+        let Indexes { secret, public, .. } = self.indexes;
+        self.is_used && (!self.is_secret_array() || secret > 1 || public == u64::MAX)
+    }
 }
 
-/// The variables of the file in the order of declaration, and their numbers by their names.
+/// The variables of the file in the order of declaration, their numbers by their names, and how many of them aren't
+/// settled.
 #[derive(Drop)]
-struct Variables<'a> {
+pub(crate) struct Variables<'a> {
     all: Vec<Variable>,
     numbers: BTreeMap<&'a [u8], usize>,
+    unsettled: usize,
 }
 
 /// The warnings of a file that were found so far.
@@ -80,13 +89,16 @@ impl Count {
 }
 
 /// Warns of what a source that is accepted may not mean.
-pub(crate) fn warn_of_source(alloc: Global, tokens: Tokens<'_>, out: &mut Words) {
-    if warned(alloc, tokens, out).is_err() {
+pub(crate) fn warn_of_source(alloc: Global, name: &str, text: &[u8], out: &mut Words) {
+    if warned(alloc, name, text, out).is_err() {
         out.starve();
     }
 }
 
-fn warned(alloc: Global, tokens: Tokens<'_>, out: &mut Words) -> Result<(), Memory> {
+fn warned(alloc: Global, name: &str, text: &[u8], out: &mut Words) -> Result<(), Memory> {
+    let all = tokens_to_warn(alloc, name, text)?;
+    let all = all.as_slice();
+    let tokens = Tokens { name, text, all };
     let procedures = Procedures::of(alloc, tokens)?;
     let mut count = Count::NONE;
     for at in tokens.end_of_declarations()..tokens.all.len() {
@@ -100,8 +112,8 @@ fn warned(alloc: Global, tokens: Tokens<'_>, out: &mut Words) -> Result<(), Memo
 }
 
 impl<'a> Tokens<'a> {
-    // The number at a token.
-    fn number(&self, at: usize) -> Option<u64> {
+    /// The number at a token.
+    pub(crate) fn number(&self, at: usize) -> Option<u64> {
         match self.kind(at)? {
             TokenKind::Num(value) if *value >= 0 => Some(*value as u64),
             _ => None,
@@ -257,7 +269,29 @@ impl<'a> Variables<'a> {
                 indexes: Indexes::NONE,
             })?;
         }
-        Ok(Variables { all, numbers })
+        let unsettled = all.len();
+        Ok(Variables {
+            all,
+            numbers,
+            unsettled,
+        })
+    }
+
+    /// Whether no further use of the variables matters to a warning.
+    pub(crate) fn are_settled(&self) -> bool {
+        self.unsettled == 0
+    }
+
+    /// The least length of an array, or the greatest number if there is no array.
+    pub(crate) fn least_length(&self, tokens: Tokens<'a>) -> u64 {
+        let mut least = u64::MAX;
+        for variable in &self.all {
+            let Declared { name, is_array, .. } = variable.declared;
+            if is_array {
+                least = least.min(tokens.number(name.saturating_add(2)).unwrap_or(0));
+            }
+        }
+        least
     }
 
     // The variable of a name, and its number.
@@ -266,27 +300,30 @@ impl<'a> Variables<'a> {
         Some((number, *self.all.get(number)?))
     }
 
-    // Notes a use of the variable whose name is at a token. Returns whether it is the first.
-    fn note(&mut self, tokens: Tokens<'a>, at: usize, name: &'a [u8]) -> bool {
+    // Notes a use of the variable whose name is at a token.
+    fn note(&mut self, tokens: Tokens<'a>, at: usize, name: &'a [u8]) {
         let Some((number, variable)) = self.find(name) else {
-            return false;
+            return;
         };
-        if variable.is_used && !variable.is_secret_array() {
-            return false;
+        if variable.is_settled() {
+            return;
         }
         let indexes = if variable.is_secret_array() {
             self.with_index(tokens, at, variable.indexes)
         } else {
             variable.indexes
         };
+        let noted = Variable {
+            is_used: true,
+            indexes,
+            ..variable
+        };
         if number < self.all.len() {
-            self.all[number] = Variable {
-                is_used: true,
-                indexes,
-                ..variable
-            };
+            self.all[number] = noted;
         }
-        !variable.is_used
+        if noted.is_settled() {
+            self.unsettled = self.unsettled.saturating_sub(1);
+        }
     }
 
     // Whether a token is the name of a secret variable.
@@ -330,25 +367,18 @@ impl<'a> Variables<'a> {
 }
 
 impl<'a> Procedures<'a> {
-    // The variables of the file, with their uses in the file's own statements. Once each is used, only the indexes of
-    // secret arrays matter.
-    fn variables(&self, alloc: Global) -> Result<Variables<'a>, Memory> {
+    /// The variables of the file, with their uses in the file's own statements.
+    pub(crate) fn variables(&self, alloc: Global) -> Result<Variables<'a>, Memory> {
         let tokens = self.tokens;
         let mut variables = Variables::of(alloc, tokens)?;
-        let mut unused = variables.all.len();
-        let has_arrays = variables
-            .all
-            .iter()
-            .any(|variable| variable.is_secret_array());
         for at in self.main..tokens.all.len().max(self.main) {
-            if unused == 0 && !has_arrays {
+            if variables.are_settled() {
                 break;
             }
             if let Some(name) = tokens.name_at(at)
                 && !(tokens.is_call(at) && tokens.is_head(at))
-                && variables.note(tokens, at, name)
             {
-                unused = unused.saturating_sub(1);
+                variables.note(tokens, at, name);
             }
         }
         Ok(variables)

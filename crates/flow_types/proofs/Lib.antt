@@ -3,3 +3,4 @@ pub mod Capped
 pub mod KnownNames
 pub mod Judged
 pub mod Distinct
+pub mod Surveyed

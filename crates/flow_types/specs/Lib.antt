@@ -1,3 +1,4 @@
 pub mod Refusals
 pub mod Wants
 pub mod Walk
+pub mod Surveys

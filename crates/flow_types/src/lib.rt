@@ -7,10 +7,10 @@
 
 mod declarations;
 mod names;
+mod surveys;
 pub mod typing;
 mod walks;
 mod wants;
-mod weights;
 
 pub use src_tree::{TypeError, Which};
 pub use typing::{Typed, type_program};

@@ -30,7 +30,7 @@ pub(crate) fn place(number: u64) -> u32
     number.min(4294967295) as u32
 }
 
-fn same_shape(a: Shape, b: Shape) -> bool
+pub(crate) fn same_shape(a: Shape, b: Shape) -> bool
     ensures { result ≡ same_shape a b }
 {
     match a {

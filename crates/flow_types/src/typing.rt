@@ -6,13 +6,15 @@ ghost use Rattle.src_tree.specs.Limits.{weight_of, IsWithinLimits};
 ghost use Rattle.src_tree.specs.FirstFault.{first_fault, weight_fault};
 ghost use Rattle.flow_types.specs.Refusals.{ExplainsProgram};
 ghost use Rattle.flow_types.specs.Wants.{declared_wants};
+ghost use Rattle.gr_word.specs.declared.variables.Label.TheVariants.{Public};
+ghost use Rattle.flow_types.specs.Surveys.{is_faulty_block};
 ghost use Rattle.gr_base.specs.NameMaps.{found_under};
 ghost use Rattle.flow_types.specs.Walk.{fault_of, sizes_fault, found};
 
 use crate::declarations::{gather, length_fault, variables_fault, words_fault};
+use crate::surveys::{Weighed, survey_block};
 use crate::walks::{Question, walk_block, where_true};
 use crate::wants::declared_wants;
-use crate::weights::block_weight;
 use gr_base::Memory;
 use gr_word::{Label, Want};
 use src_tree::{Names, Program, TypeError, Which};
@@ -51,10 +53,18 @@ fn sizes_fault(p: &Program) -> Option<TypeError>
     }
 }
 
-// The first error of a program with these names and this weight.
-fn fault_in<'a>(names: &Names<'a>, weight: u64, p: &'a Program) -> Option<TypeError>
-    ensures { result ≡ found (found_under names.now) weight (source_of p.now) }
+// The first error of a program with these names, whose statements were surveyed. If the survey found none of them
+// faulty, there is no need to look for the first that is.
+fn fault_in<'a>(names: &Names<'a>, survey: Weighed, p: &'a Program) -> Option<TypeError>
+    requires { survey.faulty ≡ is_faulty_block (found_under names.now) Public (source_of p.now).body }
+    ensures { result ≡ found (found_under names.now) survey.weight (source_of p.now) }
 {
+    if !survey.faulty {
+        return match sizes_fault(p) {
+            Some(fault) => Some(fault),
+            None => weight_fault(survey.weight),
+        };
+    }
     let body = p.body.as_slice();
     match fault_of(walk_block(Question::IsTyped, names, Label::Public, 0, body)) {
         Some(fault) => Some(fault),
@@ -62,7 +72,7 @@ fn fault_in<'a>(names: &Names<'a>, weight: u64, p: &'a Program) -> Option<TypeEr
             Some(fault) => Some(fault),
             None => match fault_of(walk_block(Question::IsLow, names, Label::Public, 0, body)) {
                 Some(fault) => Some(fault),
-                None => weight_fault(weight),
+                None => weight_fault(survey.weight),
             },
         },
     }
@@ -77,10 +87,10 @@ fn judge(alloc: Global, p: &Program) -> Result<u64, TypeError>
     match gather(alloc, p.decls.as_slice()) {
         Err(fault) => Err(fault),
         Ok(names) => {
-            let weight = block_weight(&names, Label::Public, p.body.as_slice());
-            match fault_in(&names, weight, p) {
+            let survey = survey_block(&names, Label::Public, p.body.as_slice());
+            match fault_in(&names, survey, p) {
                 Some(fault) => Err(fault),
-                None => Ok(weight),
+                None => Ok(survey.weight),
             }
         }
     }

@@ -30,7 +30,7 @@ use gr_word::{Label, Name, Shape};
 use src_tree::{Expr, Guard, Names, Stmt, TypeError, Which, height, higher, label_at};
 
 // The greatest height of an expression.
-const MAX_HEIGHT: u32 = 16;
+pub(crate) const MAX_HEIGHT: u32 = 16;
 
 // The kind of error for which each statement is tested.
 #[derive(Clone, Copy)]

@@ -1,5 +1,5 @@
 -- From the text that a verb prints to its cause: the exits of a verb.
-use Rattle.std.proofs.Common.{◌≡◌, ◌⊎◌, inl, inr, ℕ, ℤ, Bool, true, false, List, [], ◌∷◌, length, map, Option, Some, None, is_some, Result, Ok, Err, IfOk, IfErr, OnErr, IsErrAnd, refl, sym, ap, ◌∙◌, subst, arith}
+use Rattle.std.proofs.Common.{◌≡◌, ◌⊎◌, inl, inr, ℕ, ℤ, Bool, true, false, List, [], ◌∷◌, length, map, Option, Some, None, is_some, Result, Ok, Err, IfOk, IfErr, IsErrAnd, refl, sym, ap, ◌∙◌, subst, arith}
 use Rattle.std.specs.Prelude.{option_and_then}
 use Rattle.std.specs.Borrow.{Bor}
 use Rattle.std.specs.Option.{option_map}
@@ -7,30 +7,25 @@ use Rattle.lt_isa.specs.Object.{Parts}
 use Rattle.lt_isa.specs.Start.{trace}
 use Rattle.gr_outside.specs.Shelf.{ShelfSeen}
 use Rattle.gr_outside.specs.Sink.{SinkSeen}
-use Rattle.lt_isa.specs.Trace.{HaltsAt}
 use Rattle.call_replies.specs.declared.replies.Verdict.{Verdict}
-use Rattle.call_replies.specs.declared.replies.Verdict.TheVariants.{Traced, Spent}
+use Rattle.call_replies.specs.declared.replies.Verdict.TheVariants.{Traced}
 use Rattle.call_replies.specs.declared.replies.Reply.{Reply}
 use Rattle.call_replies.specs.declared.replies.Done.{Done}
-use Rattle.call_replies.specs.declared.replies.Done.TheVariants.{Halted}
-use Rattle.call_replies.specs.Texts.{Said, usage, no_memory, comes_to, said}
+use Rattle.call_replies.specs.Texts.{Said, no_memory, said}
 use Rattle.ghost_cli.specs.Work.{Work, Ends, Writes, IsVerdict, IsWritten, Ended, Wrote, said_at}
 use Rattle.ghost_cli.specs.Outside.{Outside, outside, PutsSaid, LeftBy, Judged, Explains, NoWork, NoRoom, Worked}
 use Rattle.ghost_cli.specs.Questions.{IsRight, WhatIsShown, WhenItHalts}
 use Rattle.ghost_cli.specs.Showing.{Seen, events_alone, run_seen}
 use Rattle.ghost_cli.proofs.Watches.{kept-all, kept-events}
 use Rattle.processor.specs.Watching.{WatcherTold, AnEvent, events_in}
-use Rattle.processor.specs.Ends.{NoHalt}
-use Rattle.ghost_cli.specs.Runs.{run_outputs}
-use Rattle.ghost_cli.specs.Steps.{with_accepted, with_inputs}
 use Rattle.command_words.specs.Options.{texts}
-use Rattle.ghost_cli.specs.Trace.{trace_work, traces_on, shows_on}
-use Rattle.ghost_cli.specs.Run.{run_work, runs_on, on_halt}
+use Rattle.ghost_cli.specs.Trace.{traces_on, shows_on}
 use Rattle.ghost_cli.specs.Verbs.{work_of}
 use Rattle.ghost_cli.specs.Watched.{PutsTrace, kept}
-use Rattle.ghost_cli.specs.Progress.{HasLeft, Stops, LeavesToSay, NothingAsked, NoRoomYet, WorkStops}
+use Rattle.ghost_cli.specs.Reached.{ExplainsRest}
+use Rattle.ghost_cli.specs.Progress.{HasLeft, LeavesToSay, NothingAsked, NoRoomYet, WorkStops}
 use Rattle.ghost_cli.proofs.Promised.{same-only}
-use Rattle.ghost_cli.proofs.Progressing.{stopped, leads-on, leads-later, stops-later, ends-at}
+use Rattle.ghost_cli.proofs.Progressing.{stopped, leads-on}
 
 -- ---- what is left to say
 
@@ -41,14 +36,6 @@ pub passed-on : {T : Type 0} (result : Result T Reply) (reply : Reply) (before a
 passed-on (Ok x) reply before after asked is leaves = tt
 passed-on (Err r) reply before after asked is leaves =
     subst (λ (q : Reply). LeavesToSay before after asked (said q)) (sym is) leaves
-
--- memory ran out before a file was written
-pub starved-yet : (result : Result ℕ Reply) (shelf between now : ShelfSeen) (asked : Option Work)
-    → between ≡ shelf → OnErr result (now ≡ between) → IfErr result (λ reply. said reply ≡ no_memory)
-    → IfErr result (λ reply. LeavesToSay shelf now asked (said reply))
-starved-yet (Ok status) shelf between now asked same unwritten starved = tt
-starved-yet (Err reply) shelf between now asked same unwritten starved =
-    NoRoomYet (same-only (unwritten ∙ same)) starved
 
 -- the text that a call left to be printed was printed, and explains the call
 pub left-said : (shelf now : ShelfSeen) (before between after : SinkSeen) (status : ℕ) (asked : Option Work)
@@ -103,27 +90,6 @@ pub asked-is : {X : Type 0} (f : X → Work) (found : Option X) (x : X) (asked :
     → found ≡ Some x → option_map f found ≡ asked → asked ≡ Some (f x)
 asked-is f found x asked is works = sym works ∙ ap (option_map f) is
 
--- words that aren't found ask for none
-pub unasked : {X : Type 0} (f : X → Work) (found : Option X) (asked : Option Work) (shelf : ShelfSeen)
-    → found ≡ None → option_map f found ≡ asked → LeavesToSay shelf shelf asked usage
-unasked f found asked shelf is works = NothingAsked (sym works ∙ ap (option_map f) is) refl refl
-
--- the work that found words ask for was done, or this is left to say of it
-pub asked-done : {X : Type 0} (f : X → Work) (found : Option X) (x : X) (asked : Option Work) (before after : Outside)
-    (result : Result ℕ Reply) → found ≡ Some x → option_map f found ≡ asked
-    → IfOk result (λ status. Explains before after status (Some (f x)))
-    → IfOk result (λ status. Explains before after status asked)
-asked-done f found x asked before after result is works done =
-    subst (λ a. IfOk result (λ status. Explains before after status a)) (sym (asked-is f found x asked is works)) done
-
-pub asked-left : {X : Type 0} (f : X → Work) (found : Option X) (x : X) (asked : Option Work)
-    (before after : ShelfSeen) (result : Result ℕ Reply) → found ≡ Some x → option_map f found ≡ asked
-    → IfErr result (λ reply. LeavesToSay before after (Some (f x)) (said reply))
-    → IfErr result (λ reply. LeavesToSay before after asked (said reply))
-asked-left f found x asked before after result is works left =
-    subst (λ a. IfErr result (λ reply. LeavesToSay before after a (said reply)))
-    (sym (asked-is f found x asked is works)) left
-
 -- the same of what was found, where that asks for work or for none
 pub told-done : {X : Type 0} (f : X → Option Work) (found : Option X) (x : X) (asked : Option Work)
     (before after : Outside) (result : Result ℕ Reply) → found ≡ Some x → option_and_then f found ≡ asked
@@ -142,88 +108,37 @@ told-left f found x asked before after result is asks left =
 
 -- ---- the verbs
 
--- the inputs that were found of an object that was found
-pub given-leads : (shelf between : ShelfSeen) (object input : List ℕ) (o : Parts) (inputs : List (List ℤ))
-    (next : Parts → List (List ℤ) → Work)
-    → ((n : Parts → Work) → HasLeft shelf (with_accepted object n) (n o)) → between ≡ shelf
-    → ((n : List (List ℤ) → Work) → HasLeft between (with_inputs o input n) (n inputs))
-    → HasLeft shelf (with_accepted object (λ p. with_inputs p input (next p))) (next o inputs)
-given-leads shelf between object input o inputs next found same given =
-    leads-later shelf between (with_accepted object (λ p. with_inputs p input (next p))) (with_inputs o input (next o))
-    (next o inputs) same (found (λ p. with_inputs p input (next p))) (given (next o))
-
--- no inputs were found of an object that was found
-pub given-stops : (shelf between now : ShelfSeen) (object input : List ℕ) (o : Parts) (what : Said)
-    (next : Parts → List (List ℤ) → Work)
-    → ((n : Parts → Work) → HasLeft shelf (with_accepted object n) (n o)) → between ≡ shelf
-    → ((n : List (List ℤ) → Work) → Stops between now (with_inputs o input n) what)
-    → Stops shelf now (with_accepted object (λ p. with_inputs p input (next p))) what
-given-stops shelf between now object input o what next found same stops =
-    stops-later shelf between now (with_accepted object (λ p. with_inputs p input (next p)))
-    (with_inputs o input (next o)) what same (found (λ p. with_inputs p input (next p))) (stops (next o))
-
 -- the text of a trace was printed
-pub traced-said : (shelf now : ShelfSeen) (before after : SinkSeen) (status : ℕ) (object input : List ℕ)
-    (cycles seed : ℕ) (paths recursive : Bool) (o : Parts) (inputs : List (List ℤ)) (told : List WatcherTold)
-    (Are : List (List (Option ℕ)) → Type 0)
-    → HasLeft shelf (trace_work object input cycles seed paths recursive)
-    (traces_on paths recursive cycles seed o inputs)
-    → now ≡ shelf → events_in told ≡ trace o inputs cycles
+pub traced-said : (before after : SinkSeen) (status cycles seed : ℕ) (paths recursive : Bool) (o : Parts)
+    (inputs : List (List ℤ)) (told : List WatcherTold) (Are : List (List (Option ℕ)) → Type 0)
+    → events_in told ≡ trace o inputs cycles
     → (paths ≡ false → (levels : List (List (Option ℕ))) → Are levels → levels ≡ [])
     → (paths ≡ true → (levels : List (List (Option ℕ))) → Are levels
     → IsRight (WhatIsShown recursive o inputs cycles seed) (run_seen told levels))
     → PutsTrace before after (trace o inputs cycles) (kept paths told) Are status
-    → Explains (outside shelf before) (outside now after) status
-    (Some (trace_work object input cycles seed paths recursive))
-traced-said shelf now before after status object input cycles seed false recursive o inputs told Are leads same events
-    none right put =
+    → ExplainsRest before after status (traces_on paths recursive cycles seed o inputs)
+traced-said before after status cycles seed false recursive o inputs told Are events none right put shelf now work leads
+    same =
     let alone : run_seen (kept false told) put.levels ≡ events_alone (trace o inputs cycles) =
     ap (λ l. run_seen (kept false told) l) (none refl put.levels put.are)
     ∙ ap (λ l. run_seen l []) (kept-events told ∙ ap (map AnEvent) events) in
-    judged-said shelf now before after status (trace_work object input cycles seed false recursive)
-    (events_alone (trace o inputs cycles)) (Traced (is_some put.halt))
-    (leads-on shelf (trace_work object input cycles seed false recursive) (WhenItHalts o inputs cycles)
-    (shows_on false recursive cycles seed o inputs) put.halt leads put.is) same
+    judged-said shelf now before after status work (events_alone (trace o inputs cycles)) (Traced (is_some put.halt))
+    (leads-on shelf work (WhenItHalts o inputs cycles) (shows_on false recursive cycles seed o inputs) put.halt leads
+    put.is) same
     (subst (λ (seen : Seen). PutsSaid before after (said_at (IsVerdict seen (Traced (is_some put.halt)))) status)
     alone put.put)
-traced-said shelf now before after status object input cycles seed true recursive o inputs told Are leads same events
-    none right put =
+traced-said before after status cycles seed true recursive o inputs told Are events none right put shelf now work leads
+    same =
     let seen : Seen = run_seen told put.levels in
     let first =
-    leads-on shelf (trace_work object input cycles seed true recursive) (WhenItHalts o inputs cycles)
-    (shows_on true recursive cycles seed o inputs) put.halt leads put.is in
-    judged-said shelf now before after status (trace_work object input cycles seed true recursive) seen
-    (Traced (is_some put.halt))
-    (leads-on shelf (trace_work object input cycles seed true recursive) (WhatIsShown recursive o inputs cycles seed)
+    leads-on shelf work (WhenItHalts o inputs cycles) (shows_on true recursive cycles seed o inputs) put.halt leads
+    put.is in
+    judged-said shelf now before after status work seen (Traced (is_some put.halt))
+    (leads-on shelf work (WhatIsShown recursive o inputs cycles seed)
     (λ seen. Ends seen (Traced (is_some put.halt))) seen first (right refl put.levels put.are)) same
     (subst (λ l. PutsSaid before after
     (said_at (IsVerdict (run_seen l put.levels) (Traced (is_some put.halt)))) status)
     (kept-all told) put.put)
-
--- the outputs of a run that halted were to be written
-pub run-said : (shelf between now : ShelfSeen) (before after : SinkSeen) (result : Result ℕ Reply)
-    (object input output : List ℕ) (cycles : ℕ) (o : Parts) (inputs : List (List ℤ)) (at : ℕ) (bytes : List ℕ)
-    → HasLeft shelf (run_work object input output cycles) (runs_on output cycles o inputs) → between ≡ shelf
-    → HaltsAt (trace o inputs cycles) at → bytes ≡ run_outputs o inputs cycles
-    → IfOk result (λ status.
-    LeftBy (outside between before) (outside now after) status (IsWritten output bytes (Halted at)))
-    → IfOk result (λ status.
-    Explains (outside shelf before) (outside now after) status (Some (run_work object input output cycles)))
-run-said shelf between now before after result object input output cycles o inputs at bytes leads same halts is left =
-    written-said shelf between now before after result (run_work object input output cycles) output
-    (run_outputs o inputs cycles) bytes (Halted at)
-    (leads-on shelf (run_work object input output cycles) (WhenItHalts o inputs cycles) (on_halt o inputs output cycles)
-    (Some at) leads halts) same is left
-
--- the run didn't halt
-pub spent-stops : (shelf now : ShelfSeen) (object input output : List ℕ) (cycles : ℕ) (o : Parts)
-    (inputs : List (List ℤ))
-    → HasLeft shelf (run_work object input output cycles) (runs_on output cycles o inputs) → now ≡ shelf
-    → NoHalt (trace o inputs cycles) → Stops shelf now (run_work object input output cycles) (comes_to (Spent cycles))
-spent-stops shelf now object input output cycles o inputs leads same none =
-    ends-at shelf now (run_work object input output cycles) (Spent cycles)
-    (leads-on shelf (run_work object input output cycles) (WhenItHalts o inputs cycles)
-    (on_halt o inputs output cycles) None leads none) same
 
 -- no words at all
 pub no-words : (words : List (Bor (List ℕ))) → length words ≡ 0 → ◌≡◌ {A = Option Work} None (work_of (texts words))

@@ -5,14 +5,13 @@ use Rattle.gr_base.specs.Added.{Adds}
 use Rattle.gr_outside.specs.Shelf.{read_of}
 use Rattle.gr_word.specs.declared.variables.Want.{Want}
 use Rattle.lt_isa.specs.Object.{Parts}
-use Rattle.lt_isa.specs.Start.{wants_of}
 use Rattle.src_tree.specs.Trees.{Source}
 use Rattle.call_replies.specs.declared.replies.Done.{Done}
 use Rattle.call_replies.specs.declared.replies.Verdict.TheVariants.{Malformed, BadSource, BadInput, BadAssembly}
 use Rattle.ghost_cli.specs.Objects.{object_limit}
 use Rattle.ghost_cli.specs.Sources.{source_limit}
 use Rattle.ghost_cli.specs.Questions.{WhichObject, WhichAssembly, WhichSource, WhichInputs, WhetherAccepted}
-use Rattle.ghost_cli.specs.Steps.{input_limit, text_limit, on_judged, or_ends, with_object, with_accepted, with_assembly, with_inputs, with_source, with_variables}
+use Rattle.ghost_cli.specs.Steps.{input_limit, text_limit, on_judged, or_ends, with_object, with_accepted, with_assembly, with_source, with_variables}
 use Rattle.ghost_cli.specs.Work.{Work, Reads, Writes, Asks}
 use Rattle.ghost_cli.specs.CallsFollow.{Follows, StopsHere, ReadFails, ReadsOn, AsksOn, WritesLast, Makes, CallsOf, TriesRead, TriesWrite}
 use Rattle.ghost_cli.specs.Happened.{Log}
@@ -76,23 +75,6 @@ pub variables-read : (wants : List Want) (name : List ℕ) (inputs : List (List 
 variables-read wants name inputs next before between after adds rest =
     ReadsOn name input_limit (λ b. Asks (WhichInputs wants b) (or_ends BadInput next)) [] before between after adds
     (AsksOn (WhichInputs wants []) (or_ends BadInput next) (Ok inputs) between after rest)
-
--- inputs are read after an object: a read that may have failed is the last call, or the calls follow the rest
-module _ (object input : List ℕ) (o : Parts) (next : Parts → List (List ℤ) → Work) (before between : Log)
-    (adds : Adds before between (read_of object true ∷ [])) where
-  pub given-tried : (after : Log) → TriesRead input between after
-      → Follows (with_accepted object (λ p. with_inputs p input (next p))) before after
-  given-tried after tries =
-      accepted-read object o (λ p. with_inputs p input (next p)) before between after adds
-      (read-tried input input_limit (λ b. Asks (WhichInputs (wants_of o) b) (or_ends BadInput (next o))) between after
-      tries)
-
-  pub given-made : (inputs : List (List ℤ)) (later after : Log) → Adds between later (read_of input true ∷ [])
-      → Follows (next o inputs) later after
-      → Follows (with_accepted object (λ p. with_inputs p input (next p))) before after
-  given-made inputs later after given rest =
-      accepted-read object o (λ p. with_inputs p input (next p)) before between after adds
-      (variables-read (wants_of o) input inputs (next o) between later after given rest)
 
 -- the calls of the work that the words ask for
 pub work-made : (asked : Option Work) (work : Work) (before after : Log)

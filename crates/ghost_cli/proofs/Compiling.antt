@@ -1,8 +1,6 @@
 -- From a program and its object file to the text that is printed.
-use Rattle.std.proofs.Common.{◌≡◌, Bool, inl, inr, ℕ, ◌≤◌, List, length, Some, Result, Ok, Err, IfOk, OnOk, refl, sym, subst, arith}
+use Rattle.std.proofs.Common.{◌≡◌, Bool, inl, inr, ℕ, ◌≤◌, List, length, Result, Ok, Err, IfOk, OnOk, refl, sym, subst, arith}
 use Rattle.gr_base.specs.Lists.{Within}
-use Rattle.gr_outside.specs.Shelf.{ShelfSeen}
-use Rattle.gr_outside.specs.Sink.{SinkSeen}
 use Rattle.lt_isa.specs.declared.profiles.Profile.{Profile}
 use Rattle.lt_isa.specs.declared.profiles.Latencies.{Latencies}
 use Rattle.lt_isa.specs.Object.{Parts, usual_latencies}
@@ -16,20 +14,14 @@ use Rattle.code_gen.specs.declared.compiling.CompileError.TheVariants as room
 use Rattle.code_gen.specs.Compiles.{IsFor, LatenciesFit, stores_by}
 use Rattle.code_gen.specs.Implements.{Implements}
 use Rattle.call_replies.specs.declared.replies.Verdict.TheVariants.{BadSource}
-use Rattle.call_replies.specs.declared.replies.Done.TheVariants.{Compiled}
-use Rattle.call_replies.specs.declared.replies.Reply.{Reply}
 use Rattle.call_replies.specs.Texts.{Said}
 use Rattle.ghost_cli.specs.Questions.{WhichCompiled}
 use Rattle.ghost_cli.specs.Compiled.{HasLayoutFor, HasRoom, IsCompiledTo, LacksRoom, held_for, most_code, plan_for, source_for, room_fault}
-use Rattle.ghost_cli.specs.Outside.{outside, LeftBy, Explains}
 use Rattle.command_words.specs.Windows.{WindowFits, windowed_profile}
 use Rattle.command_words.specs.declared.windows.Window.{Window}
 use Rattle.ghost_cli.specs.declared.targets.Target.{Target}
-use Rattle.ghost_cli.specs.Compile.{compile_work, compiles_to, on_compiled}
-use Rattle.ghost_cli.specs.Progress.{HasLeft, EndsWorkWith, SaysSource}
-use Rattle.ghost_cli.specs.Work.{IsWritten}
-use Rattle.ghost_cli.proofs.Answering.{written-said}
-use Rattle.ghost_cli.proofs.Progressing.{leads-on}
+use Rattle.ghost_cli.specs.Compile.{on_compiled}
+use Rattle.ghost_cli.specs.Progress.{EndsWorkWith, SaysSource}
 
 -- ---- the usual machine
 
@@ -100,20 +92,6 @@ module _ (p : Source) (target : Target) (latencies : Latencies) (usually : laten
   compiled-for fast is (Err e) room ranges accepted implements layout machine stores size = tt
 
 -- ---- the printed text
-
--- an object file was to be written
-pub compiled-said : (shelf between now : ShelfSeen) (before after : SinkSeen) (result : Result ℕ Reply)
-    (source output : List ℕ) (target : Target) (procs : Bool) (p : Source) (bytes slice : List ℕ)
-    → HasLeft shelf (compile_work source output target procs) (compiles_to output target p) → between ≡ shelf
-    → IsCompiledTo p target bytes → slice ≡ bytes
-    → IfOk result (λ status.
-    LeftBy (outside between before) (outside now after) status (IsWritten output slice Compiled))
-    → IfOk result (λ status.
-    Explains (outside shelf before) (outside now after) status (Some (compile_work source output target procs)))
-compiled-said shelf between now before after result source output target procs p bytes slice leads same done is left =
-    written-said shelf between now before after result (compile_work source output target procs) output bytes slice
-    Compiled (leads-on shelf (compile_work source output target procs) (WhichCompiled p target) (on_compiled output)
-    (Ok bytes) leads done) same is left
 
 -- the line about a program that wasn't compiled ends the work
 pub room-refuses : (p : Source) (target : Target) (e : CompileError) (said : Said)

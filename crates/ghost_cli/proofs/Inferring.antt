@@ -1,49 +1,25 @@
--- From an object and its least notes to the text that is printed, and the file that a successful `infer` writes.
-use Rattle.std.proofs.Common.{◌≡◌, ◌≢◌, inl, inr, Bool, cond, ℕ, ◌<◌, List, length, Option, Some, None, Result, Ok, Err, IfOk, refl, sym, ap, ◌∙◌, subst, arith}
+-- The file that a successful `infer` writes.
+use Rattle.std.proofs.Common.{◌≡◌, ◌≢◌, inl, inr, Bool, cond, ℕ, ◌<◌, List, Option, Some, None, Result, Ok, Err, refl, sym, ap, ◌∙◌, subst, arith}
 use Rattle.std.proofs.lemmas.Cmp.{eq_by_cmp_equiv}
 use Rattle.std.specs.Cmp.Lexicographic.{nat_list_cmp_total}
 use Rattle.std.specs.FinMap.{get, get-insert}
-use Rattle.gr_outside.specs.Shelf.{Files, ShelfSeen, with_file}
-use Rattle.gr_outside.specs.Sink.{SinkSeen}
+use Rattle.gr_outside.specs.Shelf.{Files, with_file}
 use Rattle.lt_isa.specs.Object.{Parts}
 use Rattle.lt_checker.proofs.Soundness.{accepted_is_oblivious}
 use Rattle.path_oram.proofs.AlikeLeaves.{leaves_alike}
 use Rattle.object_file.specs.Spelling.{spelling}
 use Rattle.note_infer.specs.declared.faults.InferError.{InferError}
-use Rattle.call_replies.specs.declared.replies.Done.TheVariants.{Inferred}
-use Rattle.call_replies.specs.declared.replies.Reply.{Reply}
 use Rattle.call_replies.specs.Texts.{Said}
 use Rattle.ghost_cli.specs.Inferred.{GetsNotes}
 use Rattle.ghost_cli.specs.Infer.{infer_work, infers_to, on_inferred}
 use Rattle.ghost_cli.specs.Objects.{SpellsObject}
 use Rattle.ghost_cli.specs.Questions.{IsRight, WhatIsInferred}
-use Rattle.ghost_cli.specs.Work.{Work, Ending, IsWritten, MayEnd, Holds, said_at, files_at}
-use Rattle.ghost_cli.specs.Outside.{Outside, outside, LeftBy, Explains}
+use Rattle.ghost_cli.specs.Work.{Work, Ending, MayEnd, Holds, said_at, files_at}
+use Rattle.ghost_cli.specs.Outside.{Outside, Explains}
 use Rattle.ghost_cli.specs.Promises.{Answers, NoAnswer, AnswersSo, IsInferredFile, IsSafe}
-use Rattle.ghost_cli.specs.Progress.{HasLeft}
-use Rattle.ghost_cli.proofs.Answering.{written-said}
 use Rattle.ghost_cli.proofs.Behind.{behind-it, not-done}
 use Rattle.ghost_cli.proofs.DoneWork.{spelled-on}
-use Rattle.ghost_cli.proofs.Progressing.{leads-on}
 use Rattle.ghost_cli.proofs.Promised.{answers-of}
-
--- ---- the printed text
-
--- the object with its least notes was to be written
-pub inferred-said : (shelf between now : ShelfSeen) (before after : SinkSeen) (result : Result ℕ Reply)
-    (object output : List ℕ) (o found : Parts) (slice : List ℕ) (count : ℕ)
-    → HasLeft shelf (infer_work object output) (infers_to output o) → between ≡ shelf → GetsNotes o found
-    → slice ≡ spelling found → count ≡ length found.notes
-    → IfOk result (λ status.
-    LeftBy (outside between before) (outside now after) status (IsWritten output slice (Inferred count)))
-    → IfOk result (λ status.
-    Explains (outside shelf before) (outside now after) status (Some (infer_work object output)))
-inferred-said shelf between now before after result object output o found slice count leads same gets is counts left =
-    written-said shelf between now before after result (infer_work object output) output (spelling found) slice
-    (Inferred (length found.notes))
-    (leads-on shelf (infer_work object output) (WhatIsInferred o) (on_inferred output) (Ok found) leads gets) same is
-    (subst (λ (n : ℕ). IfOk result (λ status.
-    LeftBy (outside between before) (outside now after) status (IsWritten output slice (Inferred n)))) counts left)
 
 -- ---- what is written
 

@@ -6,8 +6,10 @@ pub mod Safe
 pub mod Progressing
 pub mod Finding
 pub mod CallsMade
+pub mod Reaching
 pub mod Answering
 pub mod Saying
+mod FirstSourceFaults
 pub mod Watches
 pub mod Beginnings
 pub mod Tracing

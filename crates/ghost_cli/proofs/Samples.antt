@@ -1,7 +1,5 @@
--- From the parts of a sample to the text that is printed.
-use Rattle.std.proofs.Common.{◌≡◌, Bool, ℕ, ℤ, ◌<◌, List, [], ◌∷◌, Some, None, Result, IfOk, length, refl, sym, ◌∙◌, subst, arith}
-use Rattle.gr_outside.specs.Shelf.{ShelfSeen}
-use Rattle.gr_outside.specs.Sink.{SinkSeen}
+-- The parts of a sample: what is made, its run and its figures.
+use Rattle.std.proofs.Common.{◌≡◌, Bool, ℕ, ℤ, ◌<◌, List, [], ◌∷◌, Some, length, refl, sym, ◌∙◌, subst, arith}
 use Rattle.gr_word.specs.Fitting.{AreWords, FitsWants, words_at}
 use Rattle.lt_isa.specs.Object.{Parts}
 use Rattle.lt_isa.specs.Start.{trace, wants_of}
@@ -12,26 +10,14 @@ use Rattle.src_tree.specs.Trees.{Source}
 use Rattle.flow_types.specs.Wants.{declared_wants}
 use Rattle.bank_alloc.specs.Layout.{IsLaidOut}
 use Rattle.code_gen.specs.Implements.{by_name}
-use Rattle.call_replies.specs.declared.replies.Done.TheVariants.{Sampled}
-use Rattle.call_replies.specs.declared.replies.Figures.{Figures}
-use Rattle.call_replies.specs.declared.replies.Reply.{Reply}
-use Rattle.call_replies.specs.declared.replies.Verdict.TheVariants.{Spent}
 use Rattle.ghost_cli.specs.declared.sample.CountedRun.{CountedRun}
 use Rattle.ghost_cli.specs.declared.sample.SampleFile.{SampleFile}
 use Rattle.ghost_cli.specs.Compiled.{IsCompiledTo, plan_for}
-use Rattle.ghost_cli.specs.Histogram.{Made, IsMade, figures_of, sample_profile, sample_target, sample_cycles, sample_inputs, sample_store, sample_trace, sample_words, sum_left}
-use Rattle.ghost_cli.specs.Outside.{outside, LeftBy, Explains}
-use Rattle.ghost_cli.specs.Progress.{HasLeft, Stops}
-use Rattle.ghost_cli.specs.Questions.{WhatIsMade, WhenItHalts}
-use Rattle.ghost_cli.specs.Sample.{on_sampled, sample_work, samples_on}
-use Rattle.ghost_cli.specs.Sampled.{IsFileOf, SampleIsReady, SampleIsSpent, RanSo}
+use Rattle.ghost_cli.specs.Histogram.{Made, IsMade, sample_profile, sample_target, sample_cycles, sample_inputs, sample_store, sample_trace, sample_words, sum_left}
+use Rattle.ghost_cli.specs.Sampled.{IsFileOf, SampleIsReady, RanSo}
 use Rattle.ghost_cli.specs.SampleTree.{sample_decls}
-use Rattle.call_replies.specs.Texts.{comes_to}
-use Rattle.ghost_cli.specs.Work.{Work, IsWritten}
-use Rattle.ghost_cli.proofs.Answering.{written-said}
 use Rattle.ghost_cli.proofs.CompiledRuns.{compiled-runs}
 use Rattle.ghost_cli.proofs.OnTarget.{target-sound}
-use Rattle.ghost_cli.proofs.Progressing.{ends-at, leads-on}
 use Rattle.ghost_cli.proofs.SampleInputs.{sample-fit}
 use Rattle.ghost_cli.proofs.SampleMade.{compiled-object}
 use Rattle.code_gen.proofs.WantedInputs.{planned-inputs_wanted}
@@ -102,40 +88,3 @@ counts-listed n [] fits = absurd fits
 counts-listed n (i ∷ []) fits = absurd fits.2
 counts-listed n (i ∷ a ∷ []) fits = absurd fits.2.2
 counts-listed n (i ∷ a ∷ c ∷ values) fits = (omega arith, fits.2.2.0, fits.2.2.1)
-
--- ---- the printed text
-
--- nothing is asked of a file
-from-first : (shelf : ShelfSeen) (work : Work) → HasLeft shelf work work
-from-first shelf work now ending comes = comes
-
-leads-run : (fast : Bool) (shelf : ShelfSeen) (n : ℕ) (output : List ℕ) (made : Made)
-    → IsMade fast n made → HasLeft shelf (sample_work fast n output) (samples_on n output made)
-leads-run fast shelf n output made is =
-    leads-on shelf (sample_work fast n output) (WhatIsMade fast n) (samples_on n output) made
-    (from-first shelf (sample_work fast n output)) is
-
--- the lines of the sample
-pub sampled-said : (fast : Bool) (shelf now : ShelfSeen) (before after : SinkSeen) (result : Result ℕ Reply) (n : ℕ)
-    (output slice : List ℕ) (file : SampleFile) → IsFileOf fast n file → slice ≡ file.bytes.items
-    → IfOk result (λ status.
-    LeftBy (outside shelf before) (outside now after) status (IsWritten output slice (Sampled file.figures)))
-    → IfOk result (λ status. Explains (outside shelf before) (outside now after) status (Some (sample_work fast n output)))
-sampled-said fast shelf now before after result n output slice file came is left =
-    written-said shelf shelf now before after result (sample_work fast n output) output came.made.bytes slice
-    (Sampled (figures_of n came.made came.at))
-    (leads-on shelf (sample_work fast n output)
-    (WhenItHalts came.made.object (sample_inputs (wants_of came.made.object)) sample_cycles)
-    (on_sampled n output came.made) (Some came.at)
-    (leads-run fast shelf n output came.made came.is) came.halts) refl (is ∙ came.spelled)
-    (subst (λ (f : Figures). IfOk result (λ status.
-    LeftBy (outside shelf before) (outside now after) status (IsWritten output slice (Sampled f)))) came.figured left)
-
--- a sample whose run was spent
-pub sample-spent : (fast : Bool) (shelf : ShelfSeen) (n : ℕ) (output : List ℕ)
-    → SampleIsSpent fast n → Stops shelf shelf (sample_work fast n output) (comes_to (Spent sample_cycles))
-sample-spent fast shelf n output spent =
-    ends-at shelf shelf (sample_work fast n output) (Spent sample_cycles)
-    (leads-on shelf (sample_work fast n output) (WhenItHalts spent.0.object
-    (sample_inputs (wants_of spent.0.object)) sample_cycles) (on_sampled n output spent.0) None
-    (leads-run fast shelf n output spent.0 spent.1) spent.2) refl

@@ -1,5 +1,5 @@
 -- From a fault to its line, and from events to the text of a trace.
-use Rattle.std.proofs.Common.{◌≡◌, ◌≢◌, ◌⊎◌, inl, inr, Bool, true, false, ℕ, zero, suc, ℤ, List, [], ◌∷◌, Option, Some, None, Ok, Err, IfSome, refl, sym, ap, ◌∙◌, arith}
+use Rattle.std.proofs.Common.{◌≡◌, ◌≢◌, ◌⊎◌, inl, inr, Bool, ℕ, zero, suc, ℤ, List, [], ◌∷◌, Option, Some, None, Err, IfSome, refl, sym, ap, ◌∙◌, arith}
 use Rattle.gr_word.specs.declared.variables.Want.{Want}
 use Rattle.lt_isa.specs.Object.{Parts}
 use Rattle.lt_isa.specs.Machine.{Observed, RamRead, RamWrite, EncRead, EncWrite, Oram, Halted}
@@ -11,18 +11,8 @@ use Rattle.lt_assembler.specs.FirstFaults.{IsFirstTextFault}
 use Rattle.lt_assembler.specs.declared.errors.AsmError.{AsmError}
 use Rattle.lt_assembler.specs.declared.errors.AsmError.TheVariants as text
 use Rattle.src_lexer.specs.Splits.{Splits}
-use Rattle.src_lexer.specs.declared.tokens.Token.{Token}
 use Rattle.src_lexer.specs.declared.errors.LexError.{LexError}
 use Rattle.src_lexer.specs.declared.errors.LexError.TheVariants as piece
-use Rattle.src_parser.specs.Grammar.{limits}
-use Rattle.src_parser.specs.Refusals.{token_kinds}
-use Rattle.procs_parser.specs.FileGrammar.{SpellsFile}
-use Rattle.procs_parser.specs.FileRefusals.{ExplainsFile}
-use Rattle.src_procs.specs.Trees.{File}
-use Rattle.src_procs.specs.CallCauses.{ExplainsInlining}
-use Rattle.src_procs.specs.declared.errors.InlineError.{InlineError}
-use Rattle.src_parser.specs.Explained.{ExplainsTokens}
-use Rattle.src_parser.specs.declared.errors.ParseError.{ParseError}
 use Rattle.src_tree.specs.Trees.{Source}
 use Rattle.flow_types.specs.Refusals.{ExplainsProgram}
 use Rattle.src_tree.specs.declared.faults.TypeError.{TypeError}
@@ -32,7 +22,7 @@ use Rattle.run_data.specs.declared.errors.InputError.{InputError}
 use Rattle.run_data.specs.declared.errors.InputError.TheVariants as input
 use Rattle.call_replies.specs.declared.replies.InputFault.{InputFault}
 use Rattle.call_replies.specs.declared.source_faults.SourceFault.{SourceFault}
-use Rattle.ghost_cli.specs.Sources.{AreProgram, Spells, IsFirstSourceFault, InPieces, InTokens, InProgram, IsTokensFault, NoFile, InCalls, piece_fault, token_fault, shown_call_fault, program_fault}
+use Rattle.ghost_cli.specs.Sources.{Spells, IsFirstSourceFault, InPieces, InProgram, piece_fault, program_fault}
 use Rattle.call_replies.specs.declared.replies.Verdict.TheVariants.{Malformed, BadSource, BadInput, BadAssembly, NoNotes}
 use Rattle.call_replies.specs.Texts.{Said}
 use Rattle.note_infer.specs.declared.faults.InferError.{InferError}
@@ -78,43 +68,11 @@ piece-first procs text e (Some fault) is why = elim why [
   | inr splits ↦ InPieces e splits (sym is)
 ]
 
--- the line of a source names its first fault: of its tokens
-pub token-first : (procs : Bool) (text : List ℕ) (tokens : List Token) (shown : Option SourceFault)
-    → Splits 0 text (Ok tokens) → IfSome shown (IsTokensFault procs tokens)
-    → IfSome shown (IsFirstSourceFault procs text)
-token-first procs text tokens None splits wrong = tt
-token-first procs text tokens (Some fault) splits wrong = InTokens tokens splits wrong
-
--- if they aren't a program or a file with procedures
-pub plain-first : (tokens : List Token) (e : ParseError) (shown : Option SourceFault)
-    → shown ≡ token_fault e → ExplainsTokens e tokens → IfSome shown (IsTokensFault false tokens)
-plain-first tokens e None is explains = tt
-plain-first tokens e (Some fault) is explains = (e, explains, sym is)
-
-pub file-first : (tokens : List Token) (e : ParseError) (shown : Option SourceFault)
-    → shown ≡ token_fault e → ExplainsFile e tokens → IfSome shown (IsTokensFault true tokens)
-file-first tokens e None is explains = tt
-file-first tokens e (Some fault) is explains = NoFile e explains (sym is)
-
--- of its calls
-pub call-first : (tokens : List Token) (f : File) (e : InlineError) (shown : Option SourceFault)
-    → shown ≡ shown_call_fault e → SpellsFile limits (token_kinds tokens) f → ExplainsInlining e f
-    → IfSome shown (IsTokensFault true tokens)
-call-first tokens f e None is spells explains = tt
-call-first tokens f e (Some fault) is spells explains = InCalls f e spells explains (sym is)
-
--- of its typing and its limits
 pub program-first : (procs : Bool) (text : List ℕ) (p : Source) (e : TypeError) (shown : Option SourceFault)
     → shown ≡ program_fault e → Spells procs text p → ExplainsProgram e p
     → IfSome shown (IsFirstSourceFault procs text)
 program-first procs text p e None is spells explains = tt
 program-first procs text p e (Some fault) is spells explains = InProgram p e spells explains (sym is)
-
--- a text whose tokens parse as a program parses as that program
-pub spells-of : (procs : Bool) (text : List ℕ) (tokens : List Token) (p : Source) → Splits 0 text (Ok tokens)
-    → AreProgram procs tokens p → Spells procs text p
-spells-of false text tokens p splits are = record { tokens = tokens; split = splits; sentence = are }
-spells-of true text tokens p splits are = record { tokens = tokens; split = splits; of_file = are }
 
 -- the line about a text that isn't an object names its first fault
 pub no-assembly : (bytes : List ℕ) (fault : AsmError) (said : Said)

@@ -11,6 +11,8 @@ use Rattle.src_parser.specs.Source.{SpellsSource}
 use Rattle.src_parser.specs.Explained.{ExplainsTokens}
 use Rattle.src_parser.specs.declared.errors.ParseError.{ParseError}
 use Rattle.src_parser.specs.declared.errors.ParseError.TheVariants as token
+use Rattle.src_parser.specs.declared.errors.TextError.{TextError}
+use Rattle.src_parser.specs.declared.errors.TextError.TheVariants as text
 use Rattle.procs_parser.specs.FileGrammar.{SpellsFile}
 use Rattle.procs_parser.specs.FileRefusals.{ExplainsFile}
 use Rattle.src_procs.specs.Trees.{File}
@@ -74,6 +76,10 @@ token_fault (token.Unexpected at) = Some (fault.Unexpected at)
 token_fault token.EndOfText = Some fault.End
 token_fault (token.TooDeep at) = Some (fault.Deep at)
 token_fault token.Memory = None
+
+abbrev pub text_fault : TextError → Option SourceFault
+text_fault (text.Pieces e) = piece_fault e
+text_fault (text.Tokens e) = token_fault e
 
 abbrev pub shown_call_fault : InlineError → Option SourceFault
 shown_call_fault (calls.TwiceNamed n) = Some (fault.ProcedureTwice n)

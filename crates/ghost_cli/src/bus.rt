@@ -1,6 +1,5 @@
-ghost use Rattle.std.specs.Prelude.{◌≡◌, ◌<◌, ◌≤◌, ◌+◌, [], IfErr, IfOk, IfSome, IsTrue, OnErr, OnOk, Some, false, length, map};
+ghost use Rattle.std.specs.Prelude.{◌≡◌, ◌<◌, ◌≤◌, ◌+◌, [], IfErr, IfOk, IfSome, IsTrue, OnErr, OnOk, false, length, map};
 ghost use Rattle.std.specs.Option.{option_map};
-ghost use Rattle.clap.specs.Words.{found_of, rows_of};
 ghost use Rattle.bus_arbiter.specs.Cores.{traces_to};
 ghost use Rattle.bus_arbiter.specs.Laws.{AllFit, traces_on};
 ghost use Rattle.bus_arbiter.specs.Shares.{share_of};
@@ -9,10 +8,9 @@ ghost use Rattle.command_words.specs.Asks.{bus_asks, bus_named, bus_named_on};
 ghost use Rattle.command_words.specs.Pairs.{pairs_of};
 ghost use Rattle.ghost_cli.specs.Bus.{Read, bus_said, bus_work, none_read, with_core, with_cores};
 ghost use Rattle.command_words.specs.Options.{texts};
-ghost use Rattle.ghost_cli.specs.CallsFollow.{Follows, Makes};
+ghost use Rattle.ghost_cli.specs.CallsFollow.{Follows};
 ghost use Rattle.ghost_cli.specs.Happened.{Log};
-ghost use Rattle.ghost_cli.specs.Outside.{Explains, outside};
-ghost use Rattle.ghost_cli.specs.Progress.{HasLeft, LeavesToSay, Stops};
+ghost use Rattle.ghost_cli.specs.Progress.{HasLeft, Stops};
 ghost use Rattle.ghost_cli.specs.Sharing.{AllBegin, AreRead, PutsShared};
 ghost use Rattle.call_replies.specs.Texts.{said};
 ghost use Rattle.ghost_cli.specs.Work.{Work};
@@ -20,6 +18,7 @@ ghost use Rattle.ghost_cli.specs.Work.{Work};
 use crate::bus_run::put_bus;
 use crate::oblivious::{SeededOram, load_seeded};
 use crate::reading::{find_accepted, find_inputs};
+use crate::verbs::{Request, Service};
 use bus_arbiter::{Bus, BusError, Plan};
 use call_replies::replies::{Reply, Verdict};
 use clap::ArgMatches;
@@ -55,32 +54,38 @@ pub struct BusWords<'a> {
 }
 
 /// The verb `bus OBJ INPUT [OBJ INPUT ..] [--cycles n] [--seed s]`: runs each pair's object on its inputs as a core of
-/// one bus, and prints the lines of all transfers and of how each core ended. `Err` if nothing was printed yet: the
-/// reply to print.
-pub fn bus<'a, F: Shelf, O: Sink>(
-    alloc: Global,
-    matches: &ArgMatches<'a>,
-    shelf: &mut F,
-    out: &mut O,
-) -> Result<u8, Reply<'a>>
-    ensures done { IfOk result (λ status. Explains (outside (F.seen shelf.old) (O.seen out.old))
-        (outside (F.seen shelf.new) (O.seen out.new)) status (bus_asks bus_work (rows_of (found_of matches.now)))) }
-    ensures stopped { IfErr result (λ reply. LeavesToSay (F.seen shelf.old) (F.seen shelf.new)
-        (bus_asks bus_work (rows_of (found_of matches.now))) (said reply)) }
-    ensures unput { OnErr result (O.seen out.new ≡ O.seen out.old) }
-    ensures calls { Makes (bus_asks bus_work (rows_of (found_of matches.now)))
-        (F.log shelf.old) (F.log shelf.new) }
-{
-    let Some(asked) = words_in(
-        alloc,
-        values(matches, "NAMES"),
-        value(matches, "cycles"),
-        value(matches, "seed"),
-    )?
-    else {
-        return Err(Reply::Usage);
-    };
-    bus_files(alloc, asked, shelf, out)
+/// one bus, and prints the lines of all transfers and of how each core ended.
+pub struct SharedBus;
+
+impl<'a> Request<'a> for SharedBus {
+    type Words = BusWords<'a>;
+
+    ghost asks = { bus_asks bus_work };
+
+    ghost work = { λ words. bus_work words.pairs.items words.cycles };
+
+    ghost Fits = { λ words. (1 ≤ words.cycles) × (length words.pairs.items ≤ 8) };
+
+    fn words(alloc: Global, matches: &ArgMatches<'a>) -> Result<Option<BusWords<'a>>, Memory> {
+        words_in(
+            alloc,
+            values(matches, "NAMES"),
+            value(matches, "cycles"),
+            value(matches, "seed"),
+        )
+    }
+}
+
+impl<'a> Service<'a> for SharedBus {
+    fn serve<F: Shelf, O: Sink>(
+        alloc: Global,
+        words: BusWords<'a>,
+        shelf: &mut F,
+        out: &mut O,
+    ) -> Result<u8, Reply<'a>> {
+        let cores = read_cores(alloc, words.pairs.as_slice(), shelf)?;
+        Ok(share_bus(alloc, cores, words.cycles, words.seed, out)?)
+    }
 }
 
 fn words_in<'a>(
@@ -144,26 +149,6 @@ fn pairs_in<'a>(alloc: Global, names: &[&'a str]) -> Result<Option<Vec<NamePair<
         return Ok(Some(pairs));
     }
     Ok(None)
-}
-
-fn bus_files<'a, F: Shelf, O: Sink>(
-    alloc: Global,
-    asked: BusWords<'a>,
-    shelf: &mut F,
-    out: &mut O,
-) -> Result<u8, Reply<'a>>
-    requires some_cycle { 1 ≤ asked.cycles }
-    requires most { length asked.pairs.items ≤ 8 }
-    ensures done { IfOk result (λ status. Explains (outside (F.seen shelf.old) (O.seen out.old))
-        (outside (F.seen shelf.new) (O.seen out.new)) status
-        (Some (bus_work asked.entry.pairs.items asked.entry.cycles))) }
-    ensures stopped { IfErr result (λ reply. LeavesToSay (F.seen shelf.old) (F.seen shelf.new)
-        (Some (bus_work asked.entry.pairs.items asked.entry.cycles)) (said reply)) }
-    ensures unput { OnErr result (O.seen out.new ≡ O.seen out.old) }
-    ensures calls { Follows (bus_work asked.entry.pairs.items asked.entry.cycles) (F.log shelf.old) (F.log shelf.new) }
-{
-    let cores = read_cores(alloc, asked.pairs.as_slice(), shelf)?;
-    Ok(share_bus(alloc, cores, asked.cycles, asked.seed, out)?)
 }
 
 /// Runs the pairs that were read, and prints the lines. `Err` if nothing was printed.

@@ -1,29 +1,27 @@
-ghost use Rattle.std.specs.Prelude.{◌≡◌, IfErr, IfOk, IfSome, List, OnErr, Some, ℕ};
+ghost use Rattle.std.specs.Prelude.{◌≡◌, IfErr, IfOk, IfSome, List, ℕ};
 ghost use Rattle.std.specs.Option.{option_map};
 ghost use Rattle.lt_isa.specs.Ranges.{IsInRange, ProfileFits};
 ghost use Rattle.object_file.specs.Spelling.{spelling};
 ghost use Rattle.src_tree.specs.Trees.{source_of};
-ghost use Rattle.clap.specs.Words.{found_of, rows_of};
 ghost use Rattle.command_words.specs.Asks.{compile_asks, compile_named};
 ghost use Rattle.ghost_cli.specs.Compile.{compile_on, compile_work, on_compiled};
 ghost use Rattle.ghost_cli.specs.Compiled.{IsCompiledTo, LacksRoom, room_fault};
-ghost use Rattle.ghost_cli.specs.CallsFollow.{Follows, Makes};
-ghost use Rattle.ghost_cli.specs.Outside.{Explains, outside};
-ghost use Rattle.ghost_cli.specs.Progress.{EndsWorkWith, LeavesToSay, SaysSource};
+ghost use Rattle.ghost_cli.specs.Progress.{EndsWorkWith, SaysSource};
 ghost use Rattle.ghost_cli.specs.Questions.{WhichCompiled};
 ghost use Rattle.call_replies.specs.Texts.{said};
 
 use crate::source_faults::room_fault;
 use crate::sources::find_source;
 use crate::targets::Target;
-use crate::writing::write_and_say;
+use crate::verbs::{Maker, NewFile, Request};
 use call_replies::replies::{Done, Reply, Verdict};
 use clap::ArgMatches;
 use code_gen::CompileError;
 use command_words::options::{block_log_given, flag_given, value};
 use command_words::windows::{window_given, windowed};
 use flow_types::Typed;
-use gr_outside::{Shelf, Sink};
+use gr_base::Memory;
+use gr_outside::Shelf;
 use lt_isa::{Latencies, Object};
 use object_file::encode;
 use std::alloc::Global;
@@ -39,33 +37,44 @@ pub struct CompileWords<'a> {
 }
 
 /// The verb `compile SRC OUT [--fast] [--block-log w] [--window P:O:C] [--procs]`: writes the object file of a source
-/// text's program. `Err` if nothing was printed yet: the reply to print.
-pub fn compile<'a, F: Shelf, O: Sink>(
-    alloc: Global,
-    matches: &ArgMatches<'a>,
-    shelf: &mut F,
-    out: &mut O,
-) -> Result<u8, Reply<'a>>
-    ensures done { IfOk result (λ status. Explains (outside (F.seen shelf.old) (O.seen out.old))
-        (outside (F.seen shelf.new) (O.seen out.new)) status
-        (compile_asks compile_on (rows_of (found_of matches.now)))) }
-    ensures stopped { IfErr result (λ reply. LeavesToSay (F.seen shelf.old) (F.seen shelf.new)
-        (compile_asks compile_on (rows_of (found_of matches.now))) (said reply)) }
-    ensures unput { OnErr result (O.seen out.new ≡ O.seen out.old) }
-    ensures calls { Makes (compile_asks compile_on (rows_of (found_of matches.now)))
-        (F.log shelf.old) (F.log shelf.new) }
-{
-    let Some(asked) = words_in(
-        value(matches, "SRC"),
-        value(matches, "OUT"),
-        value(matches, "block-log"),
-        value(matches, "window"),
-        value(matches, "fast"),
-        value(matches, "procs"),
-    ) else {
-        return Err(Reply::Usage);
-    };
-    compile_file(alloc, asked, shelf, out)
+/// text's program.
+pub struct Compile;
+
+impl<'a> Request<'a> for Compile {
+    type Words = CompileWords<'a>;
+
+    ghost asks = { compile_asks compile_on };
+
+    ghost work = { λ words. compile_work words.source.now words.output.now words.target words.procs };
+
+    ghost Fits = { λ words. ProfileFits words.target.profile };
+
+    fn words(_alloc: Global, matches: &ArgMatches<'a>) -> Result<Option<CompileWords<'a>>, Memory> {
+        Ok(words_in(
+            value(matches, "SRC"),
+            value(matches, "OUT"),
+            value(matches, "block-log"),
+            value(matches, "window"),
+            value(matches, "fast"),
+            value(matches, "procs"),
+        ))
+    }
+}
+
+impl<'a> Maker<'a> for Compile {
+    fn make<F: Shelf>(
+        alloc: Global,
+        words: CompileWords<'a>,
+        shelf: &mut F,
+    ) -> Result<NewFile<'a>, Reply<'a>> {
+        let program = find_source(alloc, words.source, words.procs, shelf)?;
+        let bytes = object_bytes(alloc, &program, &words.target)?;
+        Ok(NewFile {
+            name: words.output,
+            bytes,
+            done: Done::Compiled,
+        })
+    }
 }
 
 fn words_in<'a>(
@@ -91,29 +100,6 @@ fn words_in<'a>(
         },
         procs: flag_given(procs),
     })
-}
-
-fn compile_file<'a, F: Shelf, O: Sink>(
-    alloc: Global,
-    asked: CompileWords<'a>,
-    shelf: &mut F,
-    out: &mut O,
-) -> Result<u8, Reply<'a>>
-    requires { ProfileFits asked.target.profile }
-    ensures done { IfOk result (λ status. Explains (outside (F.seen shelf.old) (O.seen out.old))
-        (outside (F.seen shelf.new) (O.seen out.new)) status
-        (Some (compile_work asked.entry.source.now asked.entry.output.now asked.entry.target asked.entry.procs))) }
-    ensures stopped { IfErr result (λ reply. LeavesToSay (F.seen shelf.old) (F.seen shelf.new)
-        (Some (compile_work asked.entry.source.now asked.entry.output.now asked.entry.target asked.entry.procs))
-        (said reply)) }
-    ensures unput { OnErr result (O.seen out.new ≡ O.seen out.old) }
-    ensures calls { Follows
-        (compile_work asked.entry.source.now asked.entry.output.now asked.entry.target asked.entry.procs)
-        (F.log shelf.old) (F.log shelf.new) }
-{
-    let program = find_source(alloc, asked.source, asked.procs, shelf)?;
-    let bytes = object_bytes(alloc, &program, &asked.target)?;
-    write_and_say(alloc, asked.output, &bytes, Done::Compiled, shelf, out)
 }
 
 /// The bytes of the program's object file for this target, or the reply if it has none.

@@ -1,76 +1,58 @@
-ghost use Rattle.std.specs.Prelude.{◌≡◌, IfErr, IfOk, List, OnErr, Some, ℕ, length};
-ghost use Rattle.clap.specs.Words.{found_of, rows_of};
+ghost use Rattle.std.specs.Prelude.{◌≡◌, IfErr, IfOk, List, ℕ, length};
 ghost use Rattle.lt_isa.specs.Ranges.{IsInRange};
 ghost use Rattle.note_infer.specs.Inferred.{IsInferred};
 ghost use Rattle.command_words.specs.Asks.{infer_asks};
 ghost use Rattle.ghost_cli.specs.Infer.{infer_work, on_inferred};
-ghost use Rattle.ghost_cli.specs.CallsFollow.{Follows, Makes};
-ghost use Rattle.ghost_cli.specs.Outside.{Explains, outside};
-ghost use Rattle.ghost_cli.specs.Progress.{EndsWorkWith, LeavesToSay, SaysNotes};
+ghost use Rattle.ghost_cli.specs.Progress.{EndsWorkWith, SaysNotes};
 ghost use Rattle.ghost_cli.specs.Questions.{WhatIsInferred};
 ghost use Rattle.call_replies.specs.Texts.{said};
 
 use crate::reading::find_object;
 use crate::two_names::{TwoNames, two_names};
-use crate::writing::write_and_say;
+use crate::verbs::{Maker, NewFile, Request};
 use call_replies::replies::{Done, Reply, Verdict};
 use clap::ArgMatches;
 use command_words::options::value;
-use gr_outside::{Shelf, Sink};
+use gr_base::Memory;
+use gr_outside::Shelf;
 use lt_isa::Object;
 use note_infer::InferError;
 use object_file::encode;
 use std::alloc::Global;
 
-/// The verb `infer OBJ OUT`: writes the object file of an object with its least notes instead of its own. `Err` if
-/// nothing was printed yet: the reply to print.
-pub fn infer<'a, F: Shelf, O: Sink>(
-    alloc: Global,
-    matches: &ArgMatches<'a>,
-    shelf: &mut F,
-    out: &mut O,
-) -> Result<u8, Reply<'a>>
-    ensures done { IfOk result (λ status. Explains (outside (F.seen shelf.old) (O.seen out.old))
-        (outside (F.seen shelf.new) (O.seen out.new)) status (infer_asks infer_work (rows_of (found_of matches.now)))) }
-    ensures stopped { IfErr result (λ reply. LeavesToSay (F.seen shelf.old) (F.seen shelf.new)
-        (infer_asks infer_work (rows_of (found_of matches.now))) (said reply)) }
-    ensures unput { OnErr result (O.seen out.new ≡ O.seen out.old) }
-    ensures calls { Makes (infer_asks infer_work (rows_of (found_of matches.now)))
-        (F.log shelf.old) (F.log shelf.new) }
-{
-    let Some(asked) = two_names(value(matches, "OBJ"), value(matches, "OUT")) else {
-        return Err(Reply::Usage);
-    };
-    infer_file(alloc, asked, shelf, out)
+/// The verb `infer OBJ OUT`: writes the object file of an object with its least notes instead of its own.
+pub struct Infer;
+
+impl<'a> Request<'a> for Infer {
+    type Words = TwoNames<'a>;
+
+    ghost asks = { infer_asks infer_work };
+
+    ghost work = { λ words. infer_work words.read.now words.written.now };
+
+    ghost Fits = { λ words. Unit {0} };
+
+    fn words(_alloc: Global, matches: &ArgMatches<'a>) -> Result<Option<TwoNames<'a>>, Memory> {
+        Ok(two_names(value(matches, "OBJ"), value(matches, "OUT")))
+    }
 }
 
-fn infer_file<'a, F: Shelf, O: Sink>(
-    alloc: Global,
-    asked: TwoNames<'a>,
-    shelf: &mut F,
-    out: &mut O,
-) -> Result<u8, Reply<'a>>
-    ensures done { IfOk result (λ status. Explains (outside (F.seen shelf.old) (O.seen out.old))
-        (outside (F.seen shelf.new) (O.seen out.new)) status
-        (Some (infer_work asked.entry.read.now asked.entry.written.now))) }
-    ensures stopped { IfErr result (λ reply. LeavesToSay (F.seen shelf.old) (F.seen shelf.new)
-        (Some (infer_work asked.entry.read.now asked.entry.written.now)) (said reply)) }
-    ensures unput { OnErr result (O.seen out.new ≡ O.seen out.old) }
-    ensures calls { Follows (infer_work asked.entry.read.now asked.entry.written.now)
-        (F.log shelf.old) (F.log shelf.new) }
-{
-    let object = find_object(alloc, asked.read, shelf)?;
-    let found = with_notes(alloc, &object)?;
-    let count = note_count(&found);
-    let bytes = encode(alloc, &found)?;
-    write_and_say(
-        alloc,
-        asked.written,
-        &bytes,
-        Done::Inferred(count),
-        shelf,
-        out,
-    )
+impl<'a> Maker<'a> for Infer {
+    fn make<F: Shelf>(
+        alloc: Global,
+        words: TwoNames<'a>,
+        shelf: &mut F,
+    ) -> Result<NewFile<'a>, Reply<'a>> {
+        let object = find_object(alloc, words.read, shelf)?;
+        let found = with_notes(alloc, &object)?;
+        let count = note_count(&found);
+        let bytes = encode(alloc, &found)?;
+        Ok(NewFile {
+            name: words.written,
+            bytes,
+            done: Done::Inferred(count),
+        })
+    }
 }
 
 /// The object with its least notes, or the reply if it gets none.

@@ -9,8 +9,10 @@
 //! work is that of the tree. Then add it to the tables in `specs/Verbs.antt` and `src/top.rt`. A new question is added
 //! to `specs/Questions.antt`, a new line to the crate `call_replies`. No other verb's files change.
 //!
-//! A verb's function returns the status if it printed its own text. If nothing was printed yet, its `Err` is the reply
-//! to print, also for want of memory: so a step passes its errors on by `?`, and they are printed in one place.
+//! A verb is a type with the trait [`verbs::Request`], and with [`verbs::Maker`] if its last step is to write a file, or
+//! with [`verbs::Service`] if it prints its own text. A function returns the status if it printed its own text. If
+//! nothing was printed yet, its `Err` is the reply to print, also for want of memory: so a step passes its errors on by
+//! `?`, and they are printed in one place.
 #![tactic(auto)]
 
 mod assemble;
@@ -22,6 +24,7 @@ pub mod compile;
 pub mod count_watch;
 mod disassemble;
 pub mod evaluate;
+pub mod given;
 mod histogram;
 mod infer;
 pub mod laws;
@@ -40,6 +43,7 @@ pub mod top;
 pub mod trace;
 pub mod trace_watch;
 pub mod two_names;
+pub mod verbs;
 mod writing;
 
 pub use bus_lines::BusLines;

@@ -1,26 +1,21 @@
-ghost use Rattle.std.specs.Prelude.{◌≡◌, ◌≤◌, IfErr, IfOk, IfSome, OnErr, Some};
+ghost use Rattle.std.specs.Prelude.{◌≡◌, ◌≤◌, IfOk, IfSome};
 ghost use Rattle.std.specs.Option.{option_map};
 ghost use Rattle.lt_isa.specs.Outputs.{outputs};
 ghost use Rattle.lt_isa.specs.Ranges.{IsInRange};
 ghost use Rattle.lt_isa.specs.Start.{FitsObject, wants_of};
 ghost use Rattle.run_data.specs.OutputText.{output_of};
-ghost use Rattle.clap.specs.Words.{found_of, rows_of};
-ghost use Rattle.ghost_cli.specs.CallsFollow.{Follows, Makes};
-ghost use Rattle.ghost_cli.specs.Outside.{Explains, outside};
-ghost use Rattle.ghost_cli.specs.Progress.{LeavesToSay};
 ghost use Rattle.ghost_cli.specs.Ran.{RanTo};
 ghost use Rattle.command_words.specs.Asks.{run_asks, run_named};
 ghost use Rattle.ghost_cli.specs.Run.{run_work};
-ghost use Rattle.call_replies.specs.Texts.{said};
 
+use crate::given::find_given;
 use crate::oblivious::{Seeded, SeededOram, SeededRecursive, load_seeded};
-use crate::reading::{find_accepted, find_inputs};
-use crate::writing::write_and_say;
+use crate::verbs::{Maker, NewFile, Request};
 use call_replies::replies::{Done, Reply, Verdict};
 use clap::ArgMatches;
 use command_words::options::{flag_given, number_given, seed_given, value};
 use gr_base::Memory;
-use gr_outside::{Shelf, Sink};
+use gr_outside::Shelf;
 use gr_word::Inputs;
 use lt_checker::Accepted;
 use processor::{Bank, End, Machine, NoWatch};
@@ -39,33 +34,46 @@ pub struct RunWords<'a> {
     recursive: bool,
 }
 
-/// The verb `run OBJ INPUT OUT [--cycles n] [--seed s] [--recursive]`: runs an object on inputs, and writes its
-/// outputs. `Err` if nothing was printed yet: the reply to print.
-pub fn run<'a, F: Shelf, O: Sink>(
-    alloc: Global,
-    matches: &ArgMatches<'a>,
-    shelf: &mut F,
-    out: &mut O,
-) -> Result<u8, Reply<'a>>
-    ensures done { IfOk result (λ status. Explains (outside (F.seen shelf.old) (O.seen out.old))
-        (outside (F.seen shelf.new) (O.seen out.new)) status (run_asks run_work (rows_of (found_of matches.now)))) }
-    ensures stopped { IfErr result (λ reply. LeavesToSay (F.seen shelf.old) (F.seen shelf.new)
-        (run_asks run_work (rows_of (found_of matches.now))) (said reply)) }
-    ensures unput { OnErr result (O.seen out.new ≡ O.seen out.old) }
-    ensures calls { Makes (run_asks run_work (rows_of (found_of matches.now)))
-        (F.log shelf.old) (F.log shelf.new) }
-{
-    let Some(asked) = words_in(
-        value(matches, "OBJ"),
-        value(matches, "INPUT"),
-        value(matches, "OUT"),
-        value(matches, "cycles"),
-        value(matches, "seed"),
-        value(matches, "recursive"),
-    ) else {
-        return Err(Reply::Usage);
-    };
-    run_files(alloc, asked, shelf, out)
+/// The verb `run OBJ INPUT OUT [--cycles n] [--seed s] [--recursive]`: runs an object on inputs, and writes its outputs.
+pub struct Run;
+
+impl<'a> Request<'a> for Run {
+    type Words = RunWords<'a>;
+
+    ghost asks = { run_asks run_work };
+
+    ghost work = { λ words. run_work words.object.now words.input.now words.output.now words.cycles };
+
+    ghost Fits = { λ words. 1 ≤ words.cycles };
+
+    fn words(_alloc: Global, matches: &ArgMatches<'a>) -> Result<Option<RunWords<'a>>, Memory> {
+        Ok(words_in(
+            value(matches, "OBJ"),
+            value(matches, "INPUT"),
+            value(matches, "OUT"),
+            value(matches, "cycles"),
+            value(matches, "seed"),
+            value(matches, "recursive"),
+        ))
+    }
+}
+
+impl<'a> Maker<'a> for Run {
+    fn make<F: Shelf>(
+        alloc: Global,
+        words: RunWords<'a>,
+        shelf: &mut F,
+    ) -> Result<NewFile<'a>, Reply<'a>> {
+        let given = find_given(alloc, words.object, words.input, shelf)?;
+        match run_asked(alloc, &given.accepted, &given.inputs, words)? {
+            Ran::Halted(at, bytes) => Ok(NewFile {
+                name: words.output,
+                bytes,
+                done: Done::Halted(at),
+            }),
+            Ran::Spent => Err(Reply::Comes(Verdict::Spent(words.cycles))),
+        }
+    }
 }
 
 fn words_in<'a>(
@@ -90,39 +98,6 @@ fn words_in<'a>(
         seed: seed_given(seed)?,
         recursive: flag_given(recursive),
     })
-}
-
-fn run_files<'a, F: Shelf, O: Sink>(
-    alloc: Global,
-    asked: RunWords<'a>,
-    shelf: &mut F,
-    out: &mut O,
-) -> Result<u8, Reply<'a>>
-    requires { 1 ≤ asked.cycles }
-    ensures done { IfOk result (λ status. Explains (outside (F.seen shelf.old) (O.seen out.old))
-        (outside (F.seen shelf.new) (O.seen out.new)) status
-        (Some (run_work asked.entry.object.now asked.entry.input.now asked.entry.output.now asked.entry.cycles))) }
-    ensures stopped { IfErr result (λ reply. LeavesToSay (F.seen shelf.old) (F.seen shelf.new)
-        (Some (run_work asked.entry.object.now asked.entry.input.now asked.entry.output.now asked.entry.cycles))
-        (said reply)) }
-    ensures unput { OnErr result (O.seen out.new ≡ O.seen out.old) }
-    ensures calls { Follows
-        (run_work asked.entry.object.now asked.entry.input.now asked.entry.output.now asked.entry.cycles)
-        (F.log shelf.old) (F.log shelf.new) }
-{
-    let accepted = find_accepted(alloc, asked.object, shelf)?;
-    let inputs = find_inputs(alloc, &accepted, asked.input, shelf)?;
-    match run_asked(alloc, &accepted, &inputs, asked)? {
-        Ran::Halted(at, text) => write_and_say(
-            alloc,
-            asked.output,
-            &text,
-            Done::Halted(at),
-            shelf,
-            out,
-        ),
-        Ran::Spent => Err(Reply::Comes(Verdict::Spent(asked.cycles))),
-    }
 }
 
 /// How a run ended: it halted at a cycle and left the outputs of this text, or its cycles were spent.

@@ -1,14 +1,10 @@
-ghost use Rattle.std.specs.Prelude.{◌≡◌, IfErr, IfOk, IfSome, OnErr, Some, ℕ};
+ghost use Rattle.std.specs.Prelude.{◌≡◌, IfErr, IfOk, IfSome, Some, ℕ};
 ghost use Rattle.std.specs.Option.{option_map};
 ghost use Rattle.gr_base.specs.Lists.{Within};
 ghost use Rattle.lt_isa.specs.Ranges.{IsInRange};
 ghost use Rattle.src_tree.specs.Meaning.{Store, meaning};
 ghost use Rattle.src_tree.specs.Trees.{source_of};
-ghost use Rattle.clap.specs.Words.{found_of, rows_of};
-ghost use Rattle.ghost_cli.specs.CallsFollow.{Follows, Makes};
 ghost use Rattle.ghost_cli.specs.Histogram.{sample_cycles, sample_store, sum_left};
-ghost use Rattle.ghost_cli.specs.Outside.{Explains, outside};
-ghost use Rattle.ghost_cli.specs.Progress.{LeavesToSay};
 ghost use Rattle.command_words.specs.Asks.{sample_asks, sample_named};
 ghost use Rattle.ghost_cli.specs.Sample.{sample_work};
 ghost use Rattle.ghost_cli.specs.Sampled.{SampleCameTo, SampleIsReady, RanCounted};
@@ -23,14 +19,14 @@ use crate::histogram::{
 use crate::oblivious::{SeededOram, load_seeded};
 use crate::reading::checked;
 use crate::targets::Target;
-use crate::writing::write_and_say;
+use crate::verbs::{Maker, NewFile, Request};
 use call_replies::replies::{Done, Figures, Reply, Verdict};
 use clap::ArgMatches;
 use command_words::options::{flag_given, items_given, seed_given, value};
 use command_words::windows::{ALWAYS_OPEN, windowed};
 use flow_types::Typed;
 use gr_base::Memory;
-use gr_outside::{Shelf, Sink};
+use gr_outside::Shelf;
 use lt_checker::Accepted;
 use object_file::encode;
 use processor::End;
@@ -48,32 +44,43 @@ pub struct SampleWords<'a> {
 }
 
 /// The verb `sample N OUT [--fast] [--seed s]`: compiles, checks and runs a program that counts remainders among N
-/// numbers, writes its object file, and prints the number of accesses of the run. `Err` if nothing was printed yet: the
-/// reply to print.
-pub fn sample<'a, F: Shelf, O: Sink>(
-    alloc: Global,
-    matches: &ArgMatches<'a>,
-    shelf: &mut F,
-    out: &mut O,
-) -> Result<u8, Reply<'a>>
-    ensures done { IfOk result (λ status. Explains (outside (F.seen shelf.old) (O.seen out.old))
-        (outside (F.seen shelf.new) (O.seen out.new)) status
-        (sample_asks sample_work (rows_of (found_of matches.now)))) }
-    ensures stopped { IfErr result (λ reply. LeavesToSay (F.seen shelf.old) (F.seen shelf.new)
-        (sample_asks sample_work (rows_of (found_of matches.now))) (said reply)) }
-    ensures unput { OnErr result (O.seen out.new ≡ O.seen out.old) }
-    ensures calls { Makes (sample_asks sample_work (rows_of (found_of matches.now)))
-        (F.log shelf.old) (F.log shelf.new) }
-{
-    let Some(asked) = words_in(
-        value(matches, "N"),
-        value(matches, "OUT"),
-        value(matches, "seed"),
-        value(matches, "fast"),
-    ) else {
-        return Err(Reply::Usage);
-    };
-    sample_file(alloc, asked, shelf, out)
+/// numbers, writes its object file, and prints the number of accesses of the run.
+pub struct Sample;
+
+impl<'a> Request<'a> for Sample {
+    type Words = SampleWords<'a>;
+
+    ghost asks = { sample_asks sample_work };
+
+    ghost work = { λ words. sample_work words.fast words.items words.output.now };
+
+    ghost Fits = { λ words. Within 1 65536 words.items };
+
+    fn words(_alloc: Global, matches: &ArgMatches<'a>) -> Result<Option<SampleWords<'a>>, Memory> {
+        Ok(words_in(
+            value(matches, "N"),
+            value(matches, "OUT"),
+            value(matches, "seed"),
+            value(matches, "fast"),
+        ))
+    }
+}
+
+impl<'a> Maker<'a> for Sample {
+    fn make<F: Shelf>(
+        alloc: Global,
+        words: SampleWords<'a>,
+        shelf: &mut F,
+    ) -> Result<NewFile<'a>, Reply<'a>> {
+        match made(alloc, words.items, words.seed, words.fast)? {
+            Some(file) => Ok(NewFile {
+                name: words.output,
+                bytes: file.bytes,
+                done: Done::Sampled(file.figures),
+            }),
+            None => Err(Reply::Comes(Verdict::Spent(SAMPLE_CYCLES))),
+        }
+    }
 }
 
 fn words_in<'a>(
@@ -93,35 +100,6 @@ fn words_in<'a>(
         seed: seed_given(seed)?,
         fast: flag_given(fast),
     })
-}
-
-fn sample_file<'a, F: Shelf, O: Sink>(
-    alloc: Global,
-    asked: SampleWords<'a>,
-    shelf: &mut F,
-    out: &mut O,
-) -> Result<u8, Reply<'a>>
-    requires { Within 1 65536 asked.items }
-    ensures done { IfOk result (λ status. Explains (outside (F.seen shelf.old) (O.seen out.old))
-        (outside (F.seen shelf.new) (O.seen out.new)) status
-        (Some (sample_work asked.entry.fast asked.entry.items asked.entry.output.now))) }
-    ensures stopped { IfErr result (λ reply. LeavesToSay (F.seen shelf.old) (F.seen shelf.new)
-        (Some (sample_work asked.entry.fast asked.entry.items asked.entry.output.now)) (said reply)) }
-    ensures unput { OnErr result (O.seen out.new ≡ O.seen out.old) }
-    ensures calls { Follows (sample_work asked.entry.fast asked.entry.items asked.entry.output.now)
-        (F.log shelf.old) (F.log shelf.new) }
-{
-    match made(alloc, asked.items, asked.seed, asked.fast)? {
-        Some(file) => write_and_say(
-            alloc,
-            asked.output,
-            &file.bytes,
-            Done::Sampled(file.figures),
-            shelf,
-            out,
-        ),
-        None => Err(Reply::Comes(Verdict::Spent(SAMPLE_CYCLES))),
-    }
 }
 
 /// The bytes of a sample's object file, and the figures of its run.

@@ -1,16 +1,26 @@
 ghost use Rattle.std.specs.Prelude.{◌≡◌};
 ghost use Rattle.ghost_cli.specs.Compiled.{room_fault};
-ghost use Rattle.ghost_cli.specs.Sources.{shown_call_fault, piece_fault, program_fault, token_fault};
+ghost use Rattle.ghost_cli.specs.Sources.{shown_call_fault, piece_fault, program_fault, text_fault, token_fault};
 
 use call_replies::source_faults::SourceFault;
 use code_gen::CompileError;
 use flow_types::TypeError;
 use src_lexer::LexError;
-use src_parser::ParseError;
+use src_parser::{ParseError, TextError};
 use src_procs::InlineError;
 
+/// The fault of a text as it is shown; want of memory is none.
+pub(crate) fn text_fault(fault: TextError) -> Option<SourceFault>
+    ensures { result ≡ text_fault fault }
+{
+    match fault {
+        TextError::Pieces(fault) => piece_fault(fault),
+        TextError::Tokens(fault) => token_fault(fault),
+    }
+}
+
 /// The fault of a text's pieces as it is shown; want of memory is none.
-pub(crate) fn piece_fault(fault: LexError) -> Option<SourceFault>
+fn piece_fault(fault: LexError) -> Option<SourceFault>
     ensures { result ≡ piece_fault fault }
 {
     match fault {
@@ -22,7 +32,7 @@ pub(crate) fn piece_fault(fault: LexError) -> Option<SourceFault>
 }
 
 /// The fault of a text's tokens as it is shown; want of memory is none.
-pub(crate) fn token_fault(fault: ParseError) -> Option<SourceFault>
+fn token_fault(fault: ParseError) -> Option<SourceFault>
     ensures { result ≡ token_fault fault }
 {
     match fault {

@@ -1,27 +1,24 @@
 ghost use Rattle.std.specs.Prelude.{◌≡◌, ◌≤◌, IfErr, IfOk, IfSome, OnOk, false, length, true, [], ◌∷◌, OnErr};
 ghost use Rattle.gr_base.specs.Added.{Adds};
 ghost use Rattle.gr_outside.specs.Shelf.{read_of};
-ghost use Rattle.src_tree.specs.Limits.{IsWithinLimits};
-ghost use Rattle.src_tree.specs.Typing.{IsTyped};
 ghost use Rattle.src_tree.specs.Trees.{Source, source_of};
 ghost use Rattle.ghost_cli.specs.CallsFollow.{TriesRead};
 ghost use Rattle.ghost_cli.specs.Progress.{HasLeft, EndsWorkWith, SaysSource, Stops};
 ghost use Rattle.ghost_cli.specs.Questions.{WhichSource};
-ghost use Rattle.ghost_cli.specs.Sources.{AreProgram, IsTokensFault, SpellsTyped, source_limit};
+ghost use Rattle.ghost_cli.specs.Sources.{IsFirstSourceFault, Spells, SpellsTyped, source_limit};
 ghost use Rattle.call_replies.specs.declared.replies.Verdict.TheVariants.{BadSource};
 ghost use Rattle.ghost_cli.specs.Steps.{or_ends, with_source};
 ghost use Rattle.call_replies.specs.Texts.{said};
 ghost use Rattle.ghost_cli.specs.Work.{Work};
 
 use crate::reading::read_whole;
-use crate::source_faults::{piece_fault, program_fault, shown_call_fault, token_fault};
+use crate::source_faults::{program_fault, shown_call_fault, text_fault};
 use call_replies::replies::{Reply, Verdict};
 use call_replies::source_faults::SourceFault;
 use flow_types::{Typed, type_program};
 use gr_outside::Shelf;
-use procs_parser::parse_procs;
-use src_lexer::{Token, lex};
-use src_parser::parse;
+use procs_parser::read_file;
+use src_parser::read_source;
 use src_procs::inline;
 use src_tree::Program;
 use std::alloc::Global;
@@ -57,52 +54,52 @@ pub(crate) fn source_in<'a>(alloc: Global, text: &[u8], procs: bool) -> Result<T
         (λ reply. (next : Source → Work)
         → EndsWorkWith (WhichSource procs text.now) (or_ends BadSource next) (said reply)) }
 {
-    match lex(alloc, text) {
-        Ok(tokens) => match program_in(alloc, &tokens, procs) {
-            Ok(program) => match type_program(alloc, program) {
-                Ok(typed) => Ok(typed),
-                Err(fault) => Err(not_a_program(program_fault(fault))),
-            },
-            Err(shown) => Err(not_a_program(shown)),
+    match program_in(alloc, text, procs) {
+        Ok(program) => match type_program(alloc, program) {
+            Ok(typed) => Ok(typed),
+            Err(fault) => Err(not_a_program(program_fault(fault))),
         },
-        Err(fault) => Err(not_a_program(piece_fault(fault))),
+        Err(shown) => Err(not_a_program(shown)),
     }
 }
 
-/// The program that tokens give, with procedures or without, or what is shown of their first fault; nothing is shown
-/// where memory ran out.
-fn program_in(alloc: Global, tokens: &[Token], procs: bool) -> Result<Program, Option<SourceFault>>
-    ensures found { IfOk result (λ p. AreProgram procs tokens.now (source_of p)) }
-    ensures refused { IfErr result (λ shown. IfSome shown (IsTokensFault procs tokens.now)) }
+/// The program of the text, with procedures or without, or what is shown of its first fault; nothing is shown where
+/// memory ran out. When it returns, only the program is left in memory of what was read.
+fn program_in(alloc: Global, text: &[u8], procs: bool) -> Result<Program, Option<SourceFault>>
+    requires { length text.now ≤ source_limit }
+    ensures found { IfOk result (λ p. Spells procs text.now (source_of p)) }
+    ensures refused { IfErr result (λ shown. IfSome shown (IsFirstSourceFault procs text.now)) }
 {
     if procs {
-        return inlined(alloc, tokens);
+        return inlined(alloc, text);
     }
-    parsed(alloc, tokens)
+    parsed(alloc, text)
 }
 
-/// The program that tokens are.
-fn parsed(alloc: Global, tokens: &[Token]) -> Result<Program, Option<SourceFault>>
-    ensures found { IfOk result (λ p. AreProgram false tokens.now (source_of p)) }
-    ensures refused { IfErr result (λ shown. IfSome shown (IsTokensFault false tokens.now)) }
+/// The program of the text, without procedures.
+fn parsed(alloc: Global, text: &[u8]) -> Result<Program, Option<SourceFault>>
+    requires { length text.now ≤ source_limit }
+    ensures found { IfOk result (λ p. Spells false text.now (source_of p)) }
+    ensures refused { IfErr result (λ shown. IfSome shown (IsFirstSourceFault false text.now)) }
 {
-    match parse(alloc, tokens) {
+    match read_source(alloc, text) {
         Ok(program) => Ok(program),
-        Err(fault) => Err(token_fault(fault)),
+        Err(fault) => Err(text_fault(fault)),
     }
 }
 
-/// The program that is made of the file with procedures that tokens are.
-fn inlined(alloc: Global, tokens: &[Token]) -> Result<Program, Option<SourceFault>>
-    ensures found { IfOk result (λ p. AreProgram true tokens.now (source_of p)) }
-    ensures refused { IfErr result (λ shown. IfSome shown (IsTokensFault true tokens.now)) }
+/// The program that is made of the text's file with procedures.
+fn inlined(alloc: Global, text: &[u8]) -> Result<Program, Option<SourceFault>>
+    requires { length text.now ≤ source_limit }
+    ensures found { IfOk result (λ p. Spells true text.now (source_of p)) }
+    ensures refused { IfErr result (λ shown. IfSome shown (IsFirstSourceFault true text.now)) }
 {
-    match parse_procs(alloc, tokens) {
+    match read_file(alloc, text) {
         Ok(file) => match inline(alloc, &file) {
             Ok(program) => Ok(program),
             Err(fault) => Err(shown_call_fault(fault)),
         },
-        Err(fault) => Err(token_fault(fault)),
+        Err(fault) => Err(text_fault(fault)),
     }
 }
 

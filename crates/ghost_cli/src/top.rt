@@ -12,17 +12,18 @@ ghost use Rattle.command_words.specs.Verbs.{asked_of, asks_of};
 ghost use Rattle.ghost_cli.specs.Verbs.{work_of, works};
 ghost use Rattle.clap.specs.Words.{found_of, rows_of};
 
-use crate::assemble::assemble;
-use crate::bus::bus;
-use crate::check::check;
-use crate::compile::compile;
-use crate::disassemble::disassemble;
-use crate::evaluate::evaluate;
-use crate::infer::infer;
+use crate::assemble::Assemble;
+use crate::bus::SharedBus;
+use crate::check::Check;
+use crate::compile::Compile;
+use crate::disassemble::Disassemble;
+use crate::evaluate::Evaluate;
+use crate::infer::Infer;
 use crate::putting::{NOT_PUT, say};
-use crate::run::run;
-use crate::sample::sample;
-use crate::trace::trace;
+use crate::run::Run;
+use crate::sample::Sample;
+use crate::trace::Trace;
+use crate::verbs::answer;
 use call_replies::replies::Reply;
 use clap::ArgMatches;
 use command_words::verbs::{Verb, matches_of, verb_named};
@@ -144,15 +145,15 @@ fn work<'a, F: Shelf, O: Sink>(
     ensures calls { Makes (asks_of works verb (rows_of (found_of matches.now))) (F.log shelf.old) (F.log shelf.new) }
 {
     match verb {
-        Verb::Check => check(alloc, matches, shelf, out),
-        Verb::Trace => trace(alloc, matches, shelf, out),
-        Verb::Run => run(alloc, matches, shelf, out),
-        Verb::Assemble => assemble(alloc, matches, shelf, out),
-        Verb::Disassemble => disassemble(alloc, matches, shelf, out),
-        Verb::Evaluate => evaluate(alloc, matches, shelf, out),
-        Verb::Compile => compile(alloc, matches, shelf, out),
-        Verb::Sample => sample(alloc, matches, shelf, out),
-        Verb::Bus => bus(alloc, matches, shelf, out),
-        Verb::Infer => infer(alloc, matches, shelf, out),
+        Verb::Check => answer::<Check, F, O>(alloc, matches, shelf, out),
+        Verb::Trace => answer::<Trace, F, O>(alloc, matches, shelf, out),
+        Verb::Run => answer::<Run, F, O>(alloc, matches, shelf, out),
+        Verb::Assemble => answer::<Assemble, F, O>(alloc, matches, shelf, out),
+        Verb::Disassemble => answer::<Disassemble, F, O>(alloc, matches, shelf, out),
+        Verb::Evaluate => answer::<Evaluate, F, O>(alloc, matches, shelf, out),
+        Verb::Compile => answer::<Compile, F, O>(alloc, matches, shelf, out),
+        Verb::Sample => answer::<Sample, F, O>(alloc, matches, shelf, out),
+        Verb::Bus => answer::<SharedBus, F, O>(alloc, matches, shelf, out),
+        Verb::Infer => answer::<Infer, F, O>(alloc, matches, shelf, out),
     }
 }

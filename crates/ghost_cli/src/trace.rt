@@ -1,13 +1,10 @@
-ghost use Rattle.std.specs.Prelude.{◌≡◌, ◌≢◌, ◌≤◌, [], IfErr, IfOk, IfSome, IsTrue, OnErr, Some, false, length, true};
+ghost use Rattle.std.specs.Prelude.{◌≡◌, ◌≢◌, ◌≤◌, [], IfOk, IfSome, IsTrue, OnErr, false, length, true};
 ghost use Rattle.std.specs.Option.{option_map};
-ghost use Rattle.clap.specs.Words.{found_of, rows_of};
 ghost use Rattle.banks.specs.Accesses.{accesses_from};
-ghost use Rattle.ghost_cli.specs.CallsFollow.{Follows, Makes};
-ghost use Rattle.ghost_cli.specs.Outside.{Explains, outside};
-ghost use Rattle.ghost_cli.specs.Progress.{LeavesToSay};
-ghost use Rattle.call_replies.specs.Texts.{comes_to, said};
+ghost use Rattle.call_replies.specs.Texts.{comes_to};
 ghost use Rattle.command_words.specs.Asks.{trace_asks, trace_named};
-ghost use Rattle.ghost_cli.specs.Trace.{trace_work};
+ghost use Rattle.ghost_cli.specs.Trace.{trace_work, traces_on};
+ghost use Rattle.ghost_cli.specs.Reached.{ExplainsRest};
 ghost use Rattle.ghost_cli.specs.Levels.{AreBehind, MayRun, PutsLast};
 ghost use Rattle.ghost_cli.specs.Watched.{HoldsLines, PutsShown, PutsTrace, kept};
 ghost use Rattle.ghost_cli.specs.TracedInTrees.{TracedInTrees};
@@ -21,12 +18,13 @@ ghost use Rattle.processor.specs.Watching.{run_shown};
 ghost use Rattle.ghost_cli.specs.Seeds.{stream_from};
 ghost use Rattle.call_replies.specs.declared.replies.Verdict.TheVariants.{Traced};
 
+use crate::given::{Given, find_given};
 use crate::levels::put_levels;
 use crate::oblivious::{SeededOram, SeededRecursive, load_seeded};
 use crate::putting::{NOT_PUT, line_of, put_text};
-use crate::reading::{find_accepted, find_inputs};
 use crate::text_sink::TextSink;
 use crate::trace_watch::TraceWatch;
+use crate::verbs::{Request, Service};
 use call_replies::replies::{Reply, Verdict};
 use clap::ArgMatches;
 use command_words::options::{flag_given, number_given, seed_given, value};
@@ -50,32 +48,41 @@ pub struct TraceWords<'a> {
 }
 
 /// The verb `trace OBJ INPUT [--cycles n] [--seed s] [--paths] [--recursive]`: runs an object on inputs, and prints the
-/// lines of its trace. `Err` if nothing was printed yet: the reply to print.
-pub fn trace<'a, F: Shelf, O: Sink>(
-    alloc: Global,
-    matches: &ArgMatches<'a>,
-    shelf: &mut F,
-    out: &mut O,
-) -> Result<u8, Reply<'a>>
-    ensures done { IfOk result (λ status. Explains (outside (F.seen shelf.old) (O.seen out.old))
-        (outside (F.seen shelf.new) (O.seen out.new)) status (trace_asks trace_work (rows_of (found_of matches.now)))) }
-    ensures stopped { IfErr result (λ reply. LeavesToSay (F.seen shelf.old) (F.seen shelf.new)
-        (trace_asks trace_work (rows_of (found_of matches.now))) (said reply)) }
-    ensures unput { OnErr result (O.seen out.new ≡ O.seen out.old) }
-    ensures calls { Makes (trace_asks trace_work (rows_of (found_of matches.now)))
-        (F.log shelf.old) (F.log shelf.new) }
-{
-    let Some(asked) = words_in(
-        value(matches, "OBJ"),
-        value(matches, "INPUT"),
-        value(matches, "cycles"),
-        value(matches, "seed"),
-        value(matches, "paths"),
-        value(matches, "recursive"),
-    ) else {
-        return Err(Reply::Usage);
-    };
-    trace_files(alloc, asked, shelf, out)
+/// lines of its trace.
+pub struct Trace;
+
+impl<'a> Request<'a> for Trace {
+    type Words = TraceWords<'a>;
+
+    ghost asks = { trace_asks trace_work };
+
+    ghost work = { λ words.
+        trace_work words.object.now words.input.now words.cycles words.seed words.paths words.recursive };
+
+    ghost Fits = { λ words. 1 ≤ words.cycles };
+
+    fn words(_alloc: Global, matches: &ArgMatches<'a>) -> Result<Option<TraceWords<'a>>, Memory> {
+        Ok(words_in(
+            value(matches, "OBJ"),
+            value(matches, "INPUT"),
+            value(matches, "cycles"),
+            value(matches, "seed"),
+            value(matches, "paths"),
+            value(matches, "recursive"),
+        ))
+    }
+}
+
+impl<'a> Service<'a> for Trace {
+    fn serve<F: Shelf, O: Sink>(
+        alloc: Global,
+        words: TraceWords<'a>,
+        shelf: &mut F,
+        out: &mut O,
+    ) -> Result<u8, Reply<'a>> {
+        let given = find_given(alloc, words.object, words.input, shelf)?;
+        Ok(trace_given(alloc, &given, words, out)?)
+    }
 }
 
 fn words_in<'a>(
@@ -103,41 +110,42 @@ fn words_in<'a>(
     })
 }
 
-fn trace_files<'a, F: Shelf, O: Sink>(
+/// Runs an accepted object on inputs that fit it, and prints the lines of the trace. `Err` if nothing was printed.
+fn trace_given<O: Sink>(
     alloc: Global,
-    asked: TraceWords<'a>,
-    shelf: &mut F,
+    given: &Given,
+    asked: TraceWords<'_>,
     out: &mut O,
-) -> Result<u8, Reply<'a>>
-    requires { 1 ≤ asked.cycles }
-    ensures done { IfOk result (λ status. Explains (outside (F.seen shelf.old) (O.seen out.old))
-        (outside (F.seen shelf.new) (O.seen out.new)) status
-        (Some (trace_work asked.entry.object.now asked.entry.input.now asked.entry.cycles
-        asked.entry.seed asked.entry.paths asked.entry.recursive))) }
-    ensures stopped { IfErr result (λ reply. LeavesToSay (F.seen shelf.old) (F.seen shelf.new)
-        (Some (trace_work asked.entry.object.now asked.entry.input.now asked.entry.cycles
-        asked.entry.seed asked.entry.paths asked.entry.recursive)) (said reply)) }
+) -> Result<u8, Memory>
+    requires in_range { IsInRange given.now.accepted }
+    requires fits { FitsObject given.now.accepted given.now.inputs }
+    requires some_cycle { 1 ≤ asked.cycles }
+    ensures done { IfOk result (λ status. ExplainsRest (O.seen out.old) (O.seen out.new) status
+        (traces_on asked.entry.paths asked.entry.recursive asked.entry.cycles asked.entry.seed
+        given.now.accepted given.now.inputs)) }
     ensures unput { OnErr result (O.seen out.new ≡ O.seen out.old) }
-    ensures calls { Follows (trace_work asked.entry.object.now asked.entry.input.now asked.entry.cycles
-        asked.entry.seed asked.entry.paths asked.entry.recursive) (F.log shelf.old) (F.log shelf.new) }
 {
-    let accepted = find_accepted(alloc, asked.object, shelf)?;
-    let inputs = find_inputs(alloc, &accepted, asked.input, shelf)?;
     let halted = line_of(alloc, &Reply::Comes(Verdict::Traced(true)))?;
     let spent = line_of(alloc, &Reply::Comes(Verdict::Traced(false)))?;
     if asked.recursive {
-        return Ok(trace_in_trees(
+        return trace_in_trees(
             alloc,
-            &accepted,
-            &inputs,
+            &given.accepted,
+            &given.inputs,
             asked,
             halted.as_bytes(),
             spent.as_bytes(),
             out,
-        )?);
+        );
     }
-    let banks = accepted.object().banks().len() as u8;
-    let mut machine = load_seeded::<SeededOram>(alloc, &accepted, &inputs, asked.seed, 0)?;
+    let banks = given.accepted.object().banks().len() as u8;
+    let mut machine = load_seeded::<SeededOram>(
+        alloc,
+        &given.accepted,
+        &given.inputs,
+        asked.seed,
+        0,
+    )?;
     Ok(put_trace(
         &mut machine,
         banks,

@@ -1,5 +1,5 @@
 use crate::tokens::{Token, digit};
-use std::alloc::{AllocError, AllocFailed, Global};
+use std::alloc::Global;
 
 /// Why a step doesn't hold, or can't be made.
 #[derive(Drop)]
@@ -9,14 +9,8 @@ pub(crate) enum Trouble {
     Wrong(String),
 }
 
-impl From<AllocError> for Trouble {
-    fn from(_: AllocError) -> Self {
-        Trouble::Memory
-    }
-}
-
-impl<T: Drop> From<AllocFailed<T>> for Trouble {
-    fn from(_: AllocFailed<T>) -> Self {
+impl<E: Into<gr_base::Memory> + Drop> From<E> for Trouble {
+    fn from(_: E) -> Self {
         Trouble::Memory
     }
 }

@@ -1,4 +1,4 @@
-use std::alloc::{AllocError, AllocFailed, Global};
+use std::alloc::{AllocError, Global};
 
 /// A word of a directive, or a text in quotation marks or between backquotes, whose escapes are read.
 #[derive(Drop)]
@@ -55,14 +55,8 @@ pub(crate) enum Unread {
     Open,
 }
 
-impl From<AllocError> for Unread {
-    fn from(_: AllocError) -> Self {
-        Unread::Memory
-    }
-}
-
-impl<T: Drop> From<AllocFailed<T>> for Unread {
-    fn from(_: AllocFailed<T>) -> Self {
+impl<E: Into<gr_base::Memory> + Drop> From<E> for Unread {
+    fn from(_: E) -> Self {
         Unread::Memory
     }
 }

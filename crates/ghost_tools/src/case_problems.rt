@@ -3,7 +3,7 @@ ghost use Rattle.ghost_tools.specs.declared.case_problems.Problem.TheVariants.{N
 
 use call_replies::replies::JsonText;
 use gr_base::Memory;
-use std::alloc::{AllocError, AllocFailed, Global};
+use std::alloc::Global;
 
 /// Why a case doesn't pass.
 #[derive(Drop)]
@@ -14,26 +14,10 @@ pub(crate) enum Problem {
     NoMemory,
 }
 
-impl From<Memory> for Problem {
+impl<E: Into<Memory> + Drop> From<E> for Problem {
     ghost from_gives = { λ _ e. e ≡ NoMemory };
 
-    fn from(_error: Memory) -> Problem {
-        Problem::NoMemory
-    }
-}
-
-impl From<AllocError> for Problem {
-    ghost from_gives = { λ _ e. e ≡ NoMemory };
-
-    fn from(_error: AllocError) -> Problem {
-        Problem::NoMemory
-    }
-}
-
-impl<T: Drop> From<AllocFailed<T>> for Problem {
-    ghost from_gives = { λ _ e. e ≡ NoMemory };
-
-    fn from(_error: AllocFailed<T>) -> Problem {
+    fn from(_error: E) -> Problem {
         Problem::NoMemory
     }
 }

@@ -1,7 +1,6 @@
 ghost use Rattle.std.specs.Prelude.{◌≡◌};
 ghost use Rattle.lt_assembler.specs.declared.errors.AsmError.TheVariants.{Memory};
 
-use std::alloc::{AllocError, AllocFailed};
 use thiserror::Error;
 
 /// Why a text doesn't encode an object: its first error, with the number of the line, from 1.
@@ -28,26 +27,10 @@ pub enum AsmError {
     Memory,
 }
 
-impl From<AllocError> for AsmError {
+impl<E: Into<gr_base::Memory> + Drop> From<E> for AsmError {
     ghost from_gives = { λ _ e. e ≡ Memory };
 
-    fn from(_error: AllocError) -> AsmError {
-        AsmError::Memory
-    }
-}
-
-impl<T: Drop> From<AllocFailed<T>> for AsmError {
-    ghost from_gives = { λ _ e. e ≡ Memory };
-
-    fn from(_error: AllocFailed<T>) -> AsmError {
-        AsmError::Memory
-    }
-}
-
-impl From<gr_base::Memory> for AsmError {
-    ghost from_gives = { λ _ e. e ≡ Memory };
-
-    fn from(_error: gr_base::Memory) -> AsmError {
+    fn from(_error: E) -> AsmError {
         AsmError::Memory
     }
 }

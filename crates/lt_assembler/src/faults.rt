@@ -3,7 +3,6 @@ ghost use Rattle.lt_assembler.specs.Faults.{at_line};
 ghost use Rattle.lt_assembler.specs.declared.faults.Fault.TheVariants.{Memory};
 
 use crate::errors::AsmError;
-use std::alloc::{AllocError, AllocFailed};
 
 /// The error of a line, without the line's number.
 #[derive(Clone, Copy)]
@@ -35,26 +34,10 @@ impl Fault {
     }
 }
 
-impl From<AllocError> for Fault {
+impl<E: Into<gr_base::Memory> + Drop> From<E> for Fault {
     ghost from_gives = { λ _ e. e ≡ Memory };
 
-    fn from(_error: AllocError) -> Fault {
-        Fault::Memory
-    }
-}
-
-impl<T: Drop> From<AllocFailed<T>> for Fault {
-    ghost from_gives = { λ _ e. e ≡ Memory };
-
-    fn from(_error: AllocFailed<T>) -> Fault {
-        Fault::Memory
-    }
-}
-
-impl From<gr_base::Memory> for Fault {
-    ghost from_gives = { λ _ e. e ≡ Memory };
-
-    fn from(_error: gr_base::Memory) -> Fault {
+    fn from(_error: E) -> Fault {
         Fault::Memory
     }
 }

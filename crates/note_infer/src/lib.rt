@@ -25,6 +25,7 @@ mod raises;
 mod search;
 mod targets;
 
+pub use carried::known_behind;
 pub use faults::InferError;
 pub use inference::infer;
 pub use laws::least_note_laws;

@@ -1,7 +1,6 @@
 ghost use Rattle.std.specs.Prelude.{◌≡◌};
 ghost use Rattle.object_file.specs.declared.errors.DecodeError.TheVariants.{Memory};
 
-use std::alloc::{AllocError, AllocFailed};
 use thiserror::Error;
 
 /// Why a file doesn't encode an object: its first error. A place is that of the first byte of a field.
@@ -27,26 +26,10 @@ pub enum DecodeError {
     Memory,
 }
 
-impl From<AllocError> for DecodeError {
+impl<E: Into<gr_base::Memory> + Drop> From<E> for DecodeError {
     ghost from_gives = { λ _ e. e ≡ Memory };
 
-    fn from(_error: AllocError) -> DecodeError {
-        DecodeError::Memory
-    }
-}
-
-impl<T: Drop> From<AllocFailed<T>> for DecodeError {
-    ghost from_gives = { λ _ e. e ≡ Memory };
-
-    fn from(_error: AllocFailed<T>) -> DecodeError {
-        DecodeError::Memory
-    }
-}
-
-impl From<gr_base::Memory> for DecodeError {
-    ghost from_gives = { λ _ e. e ≡ Memory };
-
-    fn from(_error: gr_base::Memory) -> DecodeError {
+    fn from(_error: E) -> DecodeError {
         DecodeError::Memory
     }
 }

@@ -5,10 +5,9 @@ use lt_checker::{CheckError, check};
 use lt_isa::Instr::{Br, Halt, Jmp, Ldb, Ldw, Li, Nop};
 use lt_isa::{BankSpec, Instr, Object, Profile};
 use std::alloc::Global;
-use std::hash::{BuildHasher, BuildHasherDefault, FoldHasher};
+use std::hash::{FoldHasher, Hasher};
 use std::test::Fail;
 use std::time::Instant;
-use symbolic_values::Node;
 
 // Each number of cycles differs from the usual one; a jump takes as long as it may.
 const UNUSUAL: Profile = Profile {
@@ -21,6 +20,9 @@ const UNUSUAL: Profile = Profile {
     opens: 0,
     closes: 1,
 };
+
+// The bit that marks the word of a constant in the table of values.
+const CONST_MARK: u64 = 1 << 62;
 
 const START: Instr = Li { rd: 1, value: 0 };
 
@@ -103,14 +105,14 @@ fn reason_of(fault: &CheckError) -> Result<(u32, u8), Fail> {
 
 // So many constants whose hashes have no bit of a mask, where each is hashed by itself.
 fn constants(alloc: Global, count: usize, mask: u64) -> Result<Vec<Instr>, Fail> {
-    let alone: BuildHasherDefault<FoldHasher> = BuildHasherDefault::new();
     let mut code = Vec::new(alloc);
     for value in 0..i64::MAX {
         if code.len() >= count {
             break;
         }
-        let hash = alone.hash_one(Node::Const(value));
-        if (hash ^ (hash >> 32)) & mask == 0 {
+        let mut alone = FoldHasher::default();
+        alone.write_u64(value.cast_unsigned() ^ CONST_MARK);
+        if alone.finish() & mask == 0 {
             code.push(Li { rd: 5, value })?;
         }
     }
@@ -131,13 +133,13 @@ fn time_of(rt: &HostRuntime, count: u32, mask: u64) -> Result<u128, Fail>
     Ok(start.elapsed(rt)?.as_micros())
 }
 
-// Constants that are chosen to meet, all in the same sixteenth of a table that hashes each by itself, take no longer
-// than others: ten times as long at most, so that the test holds on a busy machine too. Where they meet, the check of
-// theirs takes the square of their number.
+// Constants that are chosen to meet, all in a few buckets of a table that hashes each by itself, take no longer than
+// others: ten times as long at most, so that the test holds on a busy machine too. Where they meet, the check of theirs
+// takes the square of their number.
 #[test]
 fn constants_that_are_chosen_to_meet_do_not(rt: HostRuntime) -> Result<(), Fail> {
     let usual = time_of(&rt, 8_192, 0)?;
-    let chosen = time_of(&rt, 65_536, 0x1E00)?;
-    assert!(rt; chosen / (8 * 10) <= usual);
+    let chosen = time_of(&rt, 16_384, 0x3FF)?;
+    assert!(rt; chosen / (2 * 10) <= usual);
     Ok(())
 }

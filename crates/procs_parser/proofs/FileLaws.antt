@@ -3,15 +3,21 @@ use Rattle.std.proofs.Common.{◌≡◌, ℕ, ◌<◌, false, List, [], ◌∷�
 use Rattle.std.proofs.lemmas.List.{append-nil}
 use Rattle.src_lexer.specs.declared.tokens.TokenKind.{TokenKind}
 use Rattle.src_lexer.specs.declared.tokens.TokenKind.TheVariants as kind
+use Rattle.src_lexer.specs.declared.tokens.Token.{Token}
 use Rattle.src_parser.specs.Grammar.{Limits}
 use Rattle.src_parser.specs.Statements.{complete_of}
+use Rattle.src_parser.specs.Readers.{ReadsTo, Stops}
 use Rattle.src_parser.specs.Tokenwise.{Goes, Completes}
+use Rattle.src_parser.specs.declared.errors.ParseError.{ParseError}
+use Rattle.src_parser.specs.declared.errors.ParseError.TheVariants as error
 use Rattle.src_parser.proofs.Spelled.{Spelled}
 use Rattle.src_parser.proofs.StatementsStanding.{complete_spelled}
+use Rattle.src_parser.proofs.SeveralTokens.{stray_after, deeper_after}
 use Rattle.src_parser.proofs.Tokenwise.{Laws}
 use Rattle.src_procs.specs.Trees.{Statement, File, Nothing}
 use Rattle.src_procs.specs.Seen.{block_of}
 use Rattle.procs_parser.specs.FileGrammar.{HasNoHiddenName, SpellsFile, AFile, Ends, NoProcedure}
+use Rattle.procs_parser.specs.FileRefusals.{ExplainsFile}
 use Rattle.procs_parser.specs.FileAdvances.{ParserState, Between, Front, front_depth, with_calls, file_at, taken, is_hidden_token, program_of, open_braces}
 use Rattle.procs_parser.proofs.BlocksSpelled.{spelled_block}
 use Rattle.procs_parser.proofs.BracesOfFiles.{shown, counted}
@@ -100,3 +106,14 @@ file_laws = record {
 pub one_file : (most : Limits) (tokens : List TokenKind) (f g : File) → SpellsFile most tokens f
     → SpellsFile most tokens g → f ≡ g
 one_file most tokens f g s t = let a = file_read s in let b = file_read t in cc
+
+-- why tokens aren't all read, as an error of all tokens, whatever follows
+pub stops_explained : (before tokens after : List Token) (state : ParserState) (e : ParseError)
+    → ReadsTo taken (Between []) before state → Stops taken state tokens e
+    → ExplainsFile e ((before ++ tokens) ++ after)
+stops_explained before tokens after state (error.Unexpected at) read s =
+    stray_after file_laws before tokens after state at read s
+stops_explained before tokens after state (error.TooDeep at) read s =
+    deeper_after file_laws before tokens after state at read s
+stops_explained before tokens after state error.EndOfText read s = absurd s
+stops_explained before tokens after state error.Memory read s = tt

@@ -3,3 +3,4 @@ pub mod FileRefusals
 pub mod Calls
 pub mod FileAdvances
 pub mod StatesSeen
+pub mod FileText

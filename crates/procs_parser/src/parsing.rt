@@ -1,9 +1,11 @@
-ghost use Rattle.std.specs.Prelude.{◌≡◌, None, ◌^◌, ◌<◌, IfErr, IfOk, Some, if◌then◌else◌, length, map, option_map};
+ghost use Rattle.std.specs.Prelude.{◌≡◌, None, ◌^◌, ◌<◌, ◌≤◌, IfErr, IfOk, OnOk, Some, if◌then◌else◌, length, map, option_map};
 ghost use Rattle.src_parser.specs.Grammar.{limits};
+ghost use Rattle.src_parser.specs.Readers.{ReadsTo, Stops};
 ghost use Rattle.src_parser.specs.Refusals.{token_kinds};
 ghost use Rattle.src_parser.specs.Tokenwise.{Wrong};
 ghost use Rattle.procs_parser.specs.FileGrammar.{SpellsFile};
 ghost use Rattle.procs_parser.specs.FileRefusals.{ExplainsFile};
+ghost use Rattle.procs_parser.specs.FileText.{ExplainsFileText, SpellsFileText};
 ghost use Rattle.procs_parser.specs.FileAdvances.{advanced, taken, is_hidden_token, file_at, program_of, Doing};
 ghost use Rattle.src_parser.specs.Seen.{among, phase_of};
 ghost use Rattle.src_procs.specs.Promise.{ArePlain};
@@ -17,10 +19,10 @@ use crate::statements::read_statement;
 use crate::states::{CallPhase, FileAdvance, Front, HeadPhase, Mode, ParserState, Start};
 use gr_base::Memory;
 use src_lexer::{Token, TokenKind};
-use src_parser::ParseError;
 use src_parser::putting::put;
 use src_parser::statements::complete;
 use src_parser::states::{Blocks, Phase};
+use src_parser::{ParseError, TextError, TokenReader, read_text};
 use src_procs::{PStmt, ProcFile, is_hidden};
 use std::alloc::Global;
 use std::mem;
@@ -152,6 +154,71 @@ fn conclude(alloc: Global, state: ParserState) -> Result<Option<ProcFile>, Memor
     }
 }
 
+// Reads tokens one by one.
+fn read_tokens(alloc: Global, state: &mut ParserState, tokens: &[Token]) -> Result<(), ParseError>
+    ensures leads { OnOk result (ReadsTo taken (state_of state.old) tokens.now (state_of state.new)) }
+    ensures stops { IfErr result (λ error. Stops taken (state_of state.old) tokens.now error) }
+{
+    for token in tokens {
+        let Ok(advance) = take(alloc, state, &token.kind) else {
+            return Err(ParseError::Memory);
+        };
+        match advance {
+            FileAdvance::Goes => {}
+            FileAdvance::Opens(head) => {
+                let start = Start::Naming(head, HeadPhase::Opening);
+                put(state, ParserState::Before(start));
+            }
+            FileAdvance::Wrong => return Err(ParseError::Unexpected(token.start)),
+            FileAdvance::TooMuch => return Err(ParseError::TooDeep(token.start)),
+        }
+    }
+    Ok(())
+}
+
+/// A reader of files with procedures: it is passed a file's tokens in several lists.
+#[derive(Drop)]
+pub struct FileReader {
+    state: ParserState,
+}
+
+impl TokenReader for FileReader {
+    ghost use Rattle.std.specs.Prelude.{[]};
+    ghost use Rattle.src_parser.specs.Grammar.{limits};
+    ghost use Rattle.src_parser.specs.Readers.{ReadsTo};
+    ghost use Rattle.src_parser.specs.Refusals.{token_kinds};
+    ghost use Rattle.src_procs.specs.Seen.{file_of};
+    ghost use Rattle.procs_parser.specs.FileAdvances.{taken, Between};
+    ghost use Rattle.procs_parser.specs.FileGrammar.{SpellsFile};
+    ghost use Rattle.procs_parser.specs.FileRefusals.{ExplainsFile};
+    ghost use Rattle.procs_parser.specs.StatesSeen.{state_of};
+
+    type Tree = ProcFile;
+
+    ghost IsTree = { λ tokens file. SpellsFile limits (token_kinds tokens) (file_of file) };
+
+    ghost Explains = { ExplainsFile };
+
+    ghost HasRead = { λ tokens reader. ReadsTo taken (Between []) tokens (state_of reader.state) };
+
+    fn new(alloc: Global) -> FileReader {
+        FileReader {
+            state: ParserState::Before(Start::Between(Vec::new(alloc))),
+        }
+    }
+
+    fn read(&mut self, alloc: Global, tokens: &[Token]) -> Result<(), ParseError> {
+        read_tokens(alloc, &mut self.state, tokens)
+    }
+
+    fn finish(self, alloc: Global) -> Result<ProcFile, ParseError> {
+        match conclude(alloc, self.state)? {
+            Some(file) => Ok(file),
+            None => Err(ParseError::EndOfText),
+        }
+    }
+}
+
 /// The tree of a file with procedures. The tokens are read once, from the first to the last, with what is open on a
 /// stack.
 ///
@@ -166,30 +233,25 @@ pub fn parse_procs(alloc: Global, tokens: &[Token]) -> Result<ProcFile, ParseErr
     ensures plain { IfOk result (λ f. ArePlain f.decls.items) }
     ensures refused { IfErr result (λ error. ExplainsFile error tokens.now) }
 {
-    let mut state = ParserState::Before(Start::Between(Vec::new(alloc)));
-    for token in tokens {
-        let Ok(advance) = take(alloc, &mut state, &token.kind) else {
-            drop(state);
-            return Err(ParseError::Memory);
-        };
-        match advance {
-            FileAdvance::Goes => {}
-            FileAdvance::Opens(head) => {
-                let start = Start::Naming(head, HeadPhase::Opening);
-                put(&mut state, ParserState::Before(start));
-            }
-            FileAdvance::Wrong => {
-                drop(state);
-                return Err(ParseError::Unexpected(token.start));
-            }
-            FileAdvance::TooMuch => {
-                drop(state);
-                return Err(ParseError::TooDeep(token.start));
-            }
+    let mut reader = FileReader::new(alloc);
+    match reader.read(alloc, tokens) {
+        Ok(()) => reader.finish(alloc),
+        Err(error) => {
+            drop(reader);
+            Err(error)
         }
     }
-    match conclude(alloc, state)? {
-        Some(file) => Ok(file),
-        None => Err(ParseError::EndOfText),
-    }
+}
+
+/// The file with procedures of a text of at most 1,048,576 bytes, or the text's first error. The tokens are read some at
+/// a time. `Memory` says nothing about the text.
+///
+/// No declared name of a file begins with `__`, as `inline` of `src_procs` requires.
+pub fn read_file(alloc: Global, text: &[u8]) -> Result<ProcFile, TextError>
+    requires { length text.now ≤ 2 ^ 20 }
+    ensures spelled { IfOk result (λ f. SpellsFileText text.now (file_of f)) }
+    ensures plain { IfOk result (λ f. ArePlain f.decls.items) }
+    ensures refused { IfErr result (λ error. ExplainsFileText error text.now) }
+{
+    read_text::<FileReader>(alloc, text)
 }

@@ -9,6 +9,8 @@ use Rattle.bank_alloc.specs.declared.classes.Class.TheVariants.{PublicScalar, Se
 use Rattle.bank_alloc.specs.declared.places.PlaceError.{PlaceError}
 use Rattle.bank_alloc.specs.declared.places.PlaceError.TheVariants.{TooManyScalars}
 use Rattle.scratch_alloc.specs.Plans.{Plan}
+use Rattle.gr_base.specs.Lists.{Within}
+use Rattle.resident_alloc.specs.declared.wants.Context.{Context}
 use Rattle.resident_alloc.specs.declared.wants.Want.{Want}
 use Rattle.resident_alloc.specs.Residents.{is_of, is_short}
 use Rattle.resident_alloc.specs.ResidentPlan.{planned_behind, pins_of, resident_blocks, resident_banks}
@@ -17,6 +19,12 @@ use Rattle.resident_alloc.specs.ResidentPlan.{planned_behind, pins_of, resident_
 pub record AreShort (vs : List Want) : Type 0 where
   pub count : length vs ≤ max_variables
   pub lengths : All (λ v. v.words ≤ max_length) vs
+
+-- blocks of at most 512 words, and variables that are few and short
+pub record IsPlannable (context : Context) : Type 0 where
+  pub size : Within 8 512 context.size
+  pub all : AreShort context.all.now
+  pub before : AreShort context.before.now
 
 -- whether an array of a class takes its words from a room, and what is left of it
 abbrev pub takes_room : Class → ℕ → Want → Bool

@@ -2,7 +2,7 @@ ghost use Rattle.std.specs.Prelude.{◌≡◌, ◌*◌, ◌+◌, ◌-◌, ◌≤
 ghost use Rattle.lt_isa.specs.Limits.{most_blocks};
 ghost use Rattle.gr_base.specs.Lists.{Within};
 ghost use Rattle.src_tree.specs.Limits.{max_length};
-ghost use Rattle.resident_alloc.specs.Ranges.{AreShort, is_skipped};
+ghost use Rattle.resident_alloc.specs.Ranges.{AreShort, IsPlannable, is_skipped};
 ghost use Rattle.resident_alloc.specs.Residents.{
   array_storage,
   blocks_of_all,
@@ -17,7 +17,7 @@ ghost use Rattle.resident_alloc.specs.ResidentPlan.{in_oblivious_banks, own_secr
 
 use crate::sharing::{is_shared, unshared};
 use crate::storages::Storage;
-use crate::wants::Want;
+use crate::wants::{Context, Want};
 use bank_alloc::Class;
 use bank_alloc::placing::blocks_for;
 use gr_base::Memory;
@@ -103,12 +103,11 @@ pub(crate) fn own_most(
 }
 
 // Whether an array that isn't shared has a slot of its own. The only error is want of memory.
-fn is_own(alloc: Global, size: u32, all: &[Want], before: &[Want], v: Want) -> Result<bool, Memory>
-    requires size { Within 8 512 size }
-    requires short { AreShort all.now }
-    requires short_before { AreShort before.now }
-    ensures { IfOk result (λ own. own ≡ is_own size all.now before.now v) }
+fn is_own(alloc: Global, context: Context, v: Want) -> Result<bool, Memory>
+    requires { IsPlannable context }
+    ensures { IfOk result (λ own. own ≡ is_own context.entry.size context.entry.all.now context.entry.before.now v) }
 {
+    let Context { size, all, before } = context;
     let earlier = unshared(alloc, size, all, v.class, before)?;
     let most = own_most(alloc, size, all, v.class)?;
     Ok(is_short(size, v) && short_among(size, earlier.as_slice()) < most)
@@ -118,31 +117,21 @@ fn otherwise_stored(class: Class) -> Storage
     ensures { result ≡ otherwise_stored class }
 {
     match class {
-        Class::PublicScalar => Storage::Cached,
-        Class::SecretScalar => Storage::Cached,
-        Class::PublicArray => Storage::Cached,
-        Class::EncryptedArray => Storage::Cached,
         Class::ObliviousArray => Storage::Oblivious,
+        _ => Storage::Cached,
     }
 }
 
 // How an array is stored. The only error is want of memory.
-fn array_storage(
-    alloc: Global,
-    size: u32,
-    all: &[Want],
-    before: &[Want],
-    v: Want,
-) -> Result<Storage, Memory>
-    requires size { Within 8 512 size }
-    requires short { AreShort all.now }
-    requires short_before { AreShort before.now }
-    ensures { IfOk result (λ storage. storage ≡ array_storage size all.now before.now v) }
+fn array_storage(alloc: Global, context: Context, v: Want) -> Result<Storage, Memory>
+    requires { IsPlannable context }
+    ensures { IfOk result (λ storage.
+        storage ≡ array_storage context.entry.size context.entry.all.now context.entry.before.now v) }
 {
-    if is_shared(size, all, before, v) {
+    if is_shared(context.size, context.all, context.before, v) {
         return Ok(Storage::Shared);
     }
-    if is_own(alloc, size, all, before, v)? {
+    if is_own(alloc, context, v)? {
         Ok(Storage::Own)
     } else {
         Ok(otherwise_stored(v.class))
@@ -150,24 +139,15 @@ fn array_storage(
 }
 
 /// How a variable is stored, where others are declared before it. The only error is want of memory.
-pub(crate) fn storage_of(
-    alloc: Global,
-    size: u32,
-    all: &[Want],
-    before: &[Want],
-    v: Want,
-) -> Result<Storage, Memory>
-    requires size { Within 8 512 size }
-    requires short { AreShort all.now }
-    requires short_before { AreShort before.now }
-    ensures { IfOk result (λ storage. storage ≡ storage_of size all.now before.now v) }
+pub(crate) fn storage_of(alloc: Global, context: Context, v: Want) -> Result<Storage, Memory>
+    requires { IsPlannable context }
+    ensures { IfOk result (λ storage.
+        storage ≡ storage_of context.entry.size context.entry.all.now context.entry.before.now v) }
 {
     match v.class {
         Class::PublicScalar => Ok(Storage::Scalar),
         Class::SecretScalar => Ok(Storage::Scalar),
-        Class::PublicArray => array_storage(alloc, size, all, before, v),
-        Class::EncryptedArray => array_storage(alloc, size, all, before, v),
-        Class::ObliviousArray => array_storage(alloc, size, all, before, v),
+        _ => array_storage(alloc, context, v),
     }
 }
 

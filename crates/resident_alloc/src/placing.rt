@@ -8,7 +8,7 @@ ghost use Rattle.bank_alloc.specs.declared.classes.Class.TheVariants.{
   PublicArray,
 };
 ghost use Rattle.resident_alloc.specs.declared.storages.Storage.TheVariants.{Cached, Oblivious, Own};
-ghost use Rattle.resident_alloc.specs.Ranges.{AreShort};
+ghost use Rattle.resident_alloc.specs.Ranges.{AreShort, IsPlannable};
 ghost use Rattle.resident_alloc.specs.Residents.{room_beside};
 ghost use Rattle.resident_alloc.specs.ResidentPlan.{
   block_place,
@@ -22,7 +22,7 @@ ghost use Rattle.resident_alloc.specs.ResidentPlan.{
 use crate::owning::{blocks_of_all, in_oblivious_banks, own_secret, short_among};
 use crate::sharing::{room_after, room_beside, room_for, unshared};
 use crate::storages::Storage;
-use crate::wants::{Want, count_of};
+use crate::wants::{Context, Want, count_of};
 use bank_alloc::placing::blocks_for;
 use bank_alloc::{Class, Place};
 use gr_base::Memory;
@@ -56,12 +56,11 @@ pub(crate) fn blocks_in_turn(size: u32, turn: usize, vs: &[Want]) -> u32
 }
 
 // The place of a scalar of a bank.
-fn scalar_place(size: u32, all: &[Want], before: &[Want], bank: u8, v: Want) -> Place
-    requires size { Within 8 512 size }
-    requires short { AreShort all.now }
-    requires short_before { AreShort before.now }
-    ensures { result ≡ scalar_place size all.now before.now bank v }
+fn scalar_place(context: Context, bank: u8, v: Want) -> Place
+    requires { IsPlannable context }
+    ensures { result ≡ scalar_place context.entry.size context.entry.all.now context.entry.before.now bank v }
 {
+    let Context { size, all, before } = context;
     let first = room_beside(size, all, v.class) as u16;
     Place {
         bank,
@@ -72,11 +71,12 @@ fn scalar_place(size: u32, all: &[Want], before: &[Want], bank: u8, v: Want) -> 
 }
 
 // The place of an array that shares the block of the scalars of a bank, which leave a room.
-fn shared_place(size: u32, all: &[Want], before: &[Want], bank: u8, scalar: Class, v: Want) -> Place
-    requires size { Within 8 512 size }
-    requires short { AreShort all.now }
-    ensures { result ≡ shared_place size all.now before.now bank (room_beside size all.now scalar) v }
+fn shared_place(context: Context, bank: u8, scalar: Class, v: Want) -> Place
+    requires { IsPlannable context }
+    ensures { result ≡ shared_place context.entry.size context.entry.all.now context.entry.before.now bank
+        (room_beside context.entry.size context.entry.all.now scalar) v }
 {
+    let Context { size, all, before } = context;
     let left = room_after(v.class, room_for(size, all, v.class), before);
     let word = room_beside(size, all, scalar).saturating_sub(left);
     Place {
@@ -110,36 +110,24 @@ fn oblivious_place(size: u32, before: &[Want], v: Want) -> Place
 }
 
 // The place of a public array that isn't shared. The only error is want of memory.
-fn plain_place(
-    alloc: Global,
-    size: u32,
-    all: &[Want],
-    before: &[Want],
-    v: Want,
-) -> Result<Place, Memory>
-    requires size { Within 8 512 size }
-    requires short { AreShort all.now }
-    requires short_before { AreShort before.now }
-    ensures { IfOk result (λ place. place ≡ place_by size all.now before.now v PublicArray Cached) }
+fn plain_place(alloc: Global, context: Context, v: Want) -> Result<Place, Memory>
+    requires { IsPlannable context }
+    ensures { IfOk result (λ place.
+        place ≡ place_by context.entry.size context.entry.all.now context.entry.before.now v PublicArray Cached) }
 {
+    let Context { size, all, before } = context;
     let earlier = unshared(alloc, size, all, Class::PublicArray, before)?;
     let block = 1 + blocks_of_all(size, earlier.as_slice());
     Ok(block_place(0, block, v))
 }
 
 // The place of a secret array without a secret index that isn't shared. The only error is want of memory.
-fn encrypted_place(
-    alloc: Global,
-    size: u32,
-    all: &[Want],
-    before: &[Want],
-    v: Want,
-) -> Result<Place, Memory>
-    requires size { Within 8 512 size }
-    requires short { AreShort all.now }
-    requires short_before { AreShort before.now }
-    ensures { IfOk result (λ place. place ≡ place_by size all.now before.now v EncryptedArray Cached) }
+fn encrypted_place(alloc: Global, context: Context, v: Want) -> Result<Place, Memory>
+    requires { IsPlannable context }
+    ensures { IfOk result (λ place.
+        place ≡ place_by context.entry.size context.entry.all.now context.entry.before.now v EncryptedArray Cached) }
 {
+    let Context { size, all, before } = context;
     let own = own_secret(alloc, size, all)?;
     let earlier = unshared(alloc, size, all, Class::EncryptedArray, before)?;
     let block = 1 + (own + blocks_of_all(size, earlier.as_slice()));
@@ -147,128 +135,54 @@ fn encrypted_place(
 }
 
 // The place of a secret array with a secret index and a slot of its own. The only error is want of memory.
-fn own_place(
-    alloc: Global,
-    size: u32,
-    all: &[Want],
-    before: &[Want],
-    v: Want,
-) -> Result<Place, Memory>
-    requires size { Within 8 512 size }
-    requires short { AreShort all.now }
-    requires short_before { AreShort before.now }
-    ensures { IfOk result (λ place. place ≡ place_by size all.now before.now v ObliviousArray Own) }
+fn own_place(alloc: Global, context: Context, v: Want) -> Result<Place, Memory>
+    requires { IsPlannable context }
+    ensures { IfOk result (λ place.
+        place ≡ place_by context.entry.size context.entry.all.now context.entry.before.now v ObliviousArray Own) }
 {
+    let Context { size, all, before } = context;
     let earlier = unshared(alloc, size, all, Class::ObliviousArray, before)?;
     let block = 1 + short_among(size, earlier.as_slice());
     Ok(block_place(1, block as u32, v))
 }
 
 // The place of any other secret array with a secret index. The only error is want of memory.
-fn place_in_oblivious(
-    alloc: Global,
-    size: u32,
-    all: &[Want],
-    before: &[Want],
-    v: Want,
-) -> Result<Place, Memory>
-    requires size { Within 8 512 size }
-    requires short { AreShort all.now }
-    requires short_before { AreShort before.now }
-    ensures { IfOk result (λ place. place ≡ place_by size all.now before.now v ObliviousArray Oblivious) }
+fn place_in_oblivious(alloc: Global, context: Context, v: Want) -> Result<Place, Memory>
+    requires { IsPlannable context }
+    ensures { IfOk result (λ place.
+        place ≡ place_by context.entry.size context.entry.all.now context.entry.before.now v ObliviousArray Oblivious) }
 {
+    let Context { size, all, before } = context;
     let earlier = in_oblivious_banks(alloc, size, all, before)?;
     Ok(oblivious_place(size, earlier.as_slice(), v))
-}
-
-// The place of a public array, by its storage. The only error is want of memory.
-fn public_array_place(
-    alloc: Global,
-    size: u32,
-    all: &[Want],
-    before: &[Want],
-    v: Want,
-    storage: Storage,
-) -> Result<Place, Memory>
-    requires size { Within 8 512 size }
-    requires short { AreShort all.now }
-    requires short_before { AreShort before.now }
-    ensures { IfOk result (λ place. place ≡ place_by size all.now before.now v PublicArray storage) }
-{
-    match storage {
-        Storage::Shared => Ok(shared_place(size, all, before, 0, Class::PublicScalar, v)),
-        Storage::Scalar => plain_place(alloc, size, all, before, v),
-        Storage::Own => plain_place(alloc, size, all, before, v),
-        Storage::Cached => plain_place(alloc, size, all, before, v),
-        Storage::Oblivious => plain_place(alloc, size, all, before, v),
-    }
-}
-
-// The place of a secret array without a secret index, by its storage. The only error is want of memory.
-fn encrypted_array_place(
-    alloc: Global,
-    size: u32,
-    all: &[Want],
-    before: &[Want],
-    v: Want,
-    storage: Storage,
-) -> Result<Place, Memory>
-    requires size { Within 8 512 size }
-    requires short { AreShort all.now }
-    requires short_before { AreShort before.now }
-    ensures { IfOk result (λ place. place ≡ place_by size all.now before.now v EncryptedArray storage) }
-{
-    match storage {
-        Storage::Shared => Ok(shared_place(size, all, before, 1, Class::SecretScalar, v)),
-        Storage::Scalar => encrypted_place(alloc, size, all, before, v),
-        Storage::Own => encrypted_place(alloc, size, all, before, v),
-        Storage::Cached => encrypted_place(alloc, size, all, before, v),
-        Storage::Oblivious => encrypted_place(alloc, size, all, before, v),
-    }
-}
-
-// The place of a secret array with a secret index, by its storage. The only error is want of memory.
-fn oblivious_array_place(
-    alloc: Global,
-    size: u32,
-    all: &[Want],
-    before: &[Want],
-    v: Want,
-    storage: Storage,
-) -> Result<Place, Memory>
-    requires size { Within 8 512 size }
-    requires short { AreShort all.now }
-    requires short_before { AreShort before.now }
-    ensures { IfOk result (λ place. place ≡ place_by size all.now before.now v ObliviousArray storage) }
-{
-    match storage {
-        Storage::Shared => Ok(shared_place(size, all, before, 1, Class::SecretScalar, v)),
-        Storage::Own => own_place(alloc, size, all, before, v),
-        Storage::Scalar => place_in_oblivious(alloc, size, all, before, v),
-        Storage::Cached => place_in_oblivious(alloc, size, all, before, v),
-        Storage::Oblivious => place_in_oblivious(alloc, size, all, before, v),
-    }
 }
 
 /// Where a variable is stored, by its class and its storage. The only error is want of memory.
 pub(crate) fn place_by(
     alloc: Global,
-    size: u32,
-    all: &[Want],
-    before: &[Want],
+    context: Context,
     v: Want,
     storage: Storage,
 ) -> Result<Place, Memory>
-    requires size { Within 8 512 size }
-    requires short { AreShort all.now }
-    requires short_before { AreShort before.now }
-    ensures { IfOk result (λ place. place ≡ place_by size all.now before.now v v.class storage) }
+    requires { IsPlannable context }
+    ensures { IfOk result (λ place.
+        place ≡ place_by context.entry.size context.entry.all.now context.entry.before.now v v.class storage) }
 {
     match v.class {
-        Class::PublicScalar => Ok(scalar_place(size, all, before, 0, v)),
-        Class::SecretScalar => Ok(scalar_place(size, all, before, 1, v)),
-        Class::PublicArray => public_array_place(alloc, size, all, before, v, storage),
-        Class::EncryptedArray => encrypted_array_place(alloc, size, all, before, v, storage),
-        Class::ObliviousArray => oblivious_array_place(alloc, size, all, before, v, storage),
+        Class::PublicScalar => Ok(scalar_place(context, 0, v)),
+        Class::SecretScalar => Ok(scalar_place(context, 1, v)),
+        Class::PublicArray => match storage {
+            Storage::Shared => Ok(shared_place(context, 0, Class::PublicScalar, v)),
+            _ => plain_place(alloc, context, v),
+        },
+        Class::EncryptedArray => match storage {
+            Storage::Shared => Ok(shared_place(context, 1, Class::SecretScalar, v)),
+            _ => encrypted_place(alloc, context, v),
+        },
+        Class::ObliviousArray => match storage {
+            Storage::Shared => Ok(shared_place(context, 1, Class::SecretScalar, v)),
+            Storage::Own => own_place(alloc, context, v),
+            _ => place_in_oblivious(alloc, context, v),
+        },
     }
 }

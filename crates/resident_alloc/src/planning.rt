@@ -56,10 +56,7 @@ fn is_own_storage(storage: Storage) -> bool
 {
     match storage {
         Storage::Own => true,
-        Storage::Scalar => false,
-        Storage::Shared => false,
-        Storage::Cached => false,
-        Storage::Oblivious => false,
+        _ => false,
     }
 }
 

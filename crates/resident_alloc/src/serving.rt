@@ -1,5 +1,4 @@
 ghost use Rattle.std.specs.Prelude.{◌≡◌, ◌<◌, IfOk, length};
-ghost use Rattle.gr_base.specs.Lists.{Within};
 ghost use Rattle.bank_alloc.specs.declared.classes.Class.TheVariants.{
   EncryptedArray,
   ObliviousArray,
@@ -7,14 +6,14 @@ ghost use Rattle.bank_alloc.specs.declared.classes.Class.TheVariants.{
 };
 ghost use Rattle.scratch_alloc.specs.Slots.{alternate_slot};
 ghost use Rattle.resident_alloc.specs.declared.storages.Storage.TheVariants.{Own};
-ghost use Rattle.resident_alloc.specs.Ranges.{AreShort};
+ghost use Rattle.resident_alloc.specs.Ranges.{IsPlannable};
 ghost use Rattle.resident_alloc.specs.Residents.{unshared};
 ghost use Rattle.resident_alloc.specs.ResidentPlan.{slot_by, spare_slot};
 
 use crate::owning::short_among;
 use crate::sharing::unshared;
 use crate::storages::Storage;
-use crate::wants::Want;
+use crate::wants::Context;
 use bank_alloc::Class;
 use gr_base::Memory;
 use std::alloc::Global;
@@ -40,120 +39,55 @@ fn in_turn(slot: u8, arrays: usize) -> u8
 
 // Of two slots that serve the arrays of a class alternately, the one for an array that isn't shared, where others are
 // declared before it. The only error is want of memory.
-fn turn_slot(
-    alloc: Global,
-    size: u32,
-    all: &[Want],
-    before: &[Want],
-    class: Class,
-    slot: u8,
-) -> Result<u8, Memory>
-    requires size { Within 8 512 size }
-    requires short { AreShort all.now }
-    requires short_before { AreShort before.now }
+fn turn_slot(alloc: Global, context: Context, class: Class, slot: u8) -> Result<u8, Memory>
+    requires context { IsPlannable context }
     requires few { slot < 8 }
-    ensures { IfOk result (λ served. served ≡ alternate_slot slot (length (unshared size all.now class before.now))) }
+    ensures { IfOk result (λ served.
+        served ≡ alternate_slot slot
+        (length (unshared context.entry.size context.entry.all.now class context.entry.before.now))) }
 {
+    let Context { size, all, before } = context;
     let earlier = unshared(alloc, size, all, class, before)?;
     Ok(in_turn(slot, earlier.len()))
 }
 
 // The slot of a secret array with a secret index and a slot of its own. The only error is want of memory.
-fn own_slot(alloc: Global, size: u32, all: &[Want], before: &[Want]) -> Result<u8, Memory>
-    requires size { Within 8 512 size }
-    requires short { AreShort all.now }
-    requires short_before { AreShort before.now }
-    ensures { IfOk result (λ slot. slot ≡ slot_by size all.now before.now ObliviousArray Own) }
+fn own_slot(alloc: Global, context: Context) -> Result<u8, Memory>
+    requires { IsPlannable context }
+    ensures { IfOk result (λ slot.
+        slot ≡ slot_by context.entry.size context.entry.all.now context.entry.before.now ObliviousArray Own) }
 {
+    let Context { size, all, before } = context;
     let earlier = unshared(alloc, size, all, Class::ObliviousArray, before)?;
     Ok(spare_slot(short_among(size, earlier.as_slice())))
-}
-
-// The slot of a public array, by its storage. The only error is want of memory.
-fn public_array_slot(
-    alloc: Global,
-    size: u32,
-    all: &[Want],
-    before: &[Want],
-    storage: Storage,
-) -> Result<u8, Memory>
-    requires size { Within 8 512 size }
-    requires short { AreShort all.now }
-    requires short_before { AreShort before.now }
-    ensures { IfOk result (λ slot. slot ≡ slot_by size all.now before.now PublicArray storage) }
-{
-    match storage {
-        Storage::Shared => Ok(0),
-        Storage::Scalar => turn_slot(alloc, size, all, before, Class::PublicArray, 2),
-        Storage::Own => turn_slot(alloc, size, all, before, Class::PublicArray, 2),
-        Storage::Cached => turn_slot(alloc, size, all, before, Class::PublicArray, 2),
-        Storage::Oblivious => turn_slot(alloc, size, all, before, Class::PublicArray, 2),
-    }
-}
-
-// The slot of a secret array without a secret index, by its storage. The only error is want of memory.
-fn encrypted_array_slot(
-    alloc: Global,
-    size: u32,
-    all: &[Want],
-    before: &[Want],
-    storage: Storage,
-) -> Result<u8, Memory>
-    requires size { Within 8 512 size }
-    requires short { AreShort all.now }
-    requires short_before { AreShort before.now }
-    ensures { IfOk result (λ slot. slot ≡ slot_by size all.now before.now EncryptedArray storage) }
-{
-    match storage {
-        Storage::Shared => Ok(1),
-        Storage::Scalar => turn_slot(alloc, size, all, before, Class::EncryptedArray, 4),
-        Storage::Own => turn_slot(alloc, size, all, before, Class::EncryptedArray, 4),
-        Storage::Cached => turn_slot(alloc, size, all, before, Class::EncryptedArray, 4),
-        Storage::Oblivious => turn_slot(alloc, size, all, before, Class::EncryptedArray, 4),
-    }
-}
-
-// The slot of a secret array with a secret index, by its storage. The only error is want of memory.
-fn oblivious_array_slot(
-    alloc: Global,
-    size: u32,
-    all: &[Want],
-    before: &[Want],
-    storage: Storage,
-) -> Result<u8, Memory>
-    requires size { Within 8 512 size }
-    requires short { AreShort all.now }
-    requires short_before { AreShort before.now }
-    ensures { IfOk result (λ slot. slot ≡ slot_by size all.now before.now ObliviousArray storage) }
-{
-    match storage {
-        Storage::Shared => Ok(1),
-        Storage::Own => own_slot(alloc, size, all, before),
-        Storage::Scalar => Ok(6),
-        Storage::Cached => Ok(6),
-        Storage::Oblivious => Ok(6),
-    }
 }
 
 /// The slot that serves a variable of a class, by its storage. The only error is want of memory.
 pub(crate) fn slot_by(
     alloc: Global,
-    size: u32,
-    all: &[Want],
-    before: &[Want],
+    context: Context,
     class: Class,
     storage: Storage,
 ) -> Result<u8, Memory>
-    requires size { Within 8 512 size }
-    requires short { AreShort all.now }
-    requires short_before { AreShort before.now }
-    ensures { IfOk result (λ slot. slot ≡ slot_by size all.now before.now class storage) }
+    requires { IsPlannable context }
+    ensures { IfOk result (λ slot.
+        slot ≡ slot_by context.entry.size context.entry.all.now context.entry.before.now class storage) }
 {
     match class {
         Class::PublicScalar => Ok(0),
         Class::SecretScalar => Ok(1),
-        Class::PublicArray => public_array_slot(alloc, size, all, before, storage),
-        Class::EncryptedArray => encrypted_array_slot(alloc, size, all, before, storage),
-        Class::ObliviousArray => oblivious_array_slot(alloc, size, all, before, storage),
+        Class::PublicArray => match storage {
+            Storage::Shared => Ok(0),
+            _ => turn_slot(alloc, context, class, 2),
+        },
+        Class::EncryptedArray => match storage {
+            Storage::Shared => Ok(1),
+            _ => turn_slot(alloc, context, class, 4),
+        },
+        Class::ObliviousArray => match storage {
+            Storage::Shared => Ok(1),
+            Storage::Own => own_slot(alloc, context),
+            _ => Ok(6),
+        },
     }
 }

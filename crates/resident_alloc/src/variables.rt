@@ -1,32 +1,24 @@
 ghost use Rattle.std.specs.Prelude.{◌≡◌, IfOk, []};
 ghost use Rattle.gr_base.specs.Lists.{Within};
-ghost use Rattle.resident_alloc.specs.Ranges.{AreShort};
+ghost use Rattle.resident_alloc.specs.Ranges.{AreShort, IsPlannable};
 ghost use Rattle.resident_alloc.specs.ResidentPlan.{planned, planned_behind};
 
 use crate::owning::storage_of;
 use crate::placing::place_by;
 use crate::serving::slot_by;
 use crate::storages::Planned;
-use crate::wants::Want;
+use crate::wants::{Context, Want};
 use gr_base::Memory;
 use std::alloc::Global;
 
 // What is planned for a variable, where others are declared before it. The only error is want of memory.
-fn plan_variable(
-    alloc: Global,
-    size: u32,
-    all: &[Want],
-    before: &[Want],
-    v: Want,
-) -> Result<Planned, Memory>
-    requires size { Within 8 512 size }
-    requires short { AreShort all.now }
-    requires short_before { AreShort before.now }
-    ensures { IfOk result (λ of. of ≡ planned size all.now before.now v) }
+fn plan_variable(alloc: Global, context: Context, v: Want) -> Result<Planned, Memory>
+    requires { IsPlannable context }
+    ensures { IfOk result (λ of. of ≡ planned context.entry.size context.entry.all.now context.entry.before.now v) }
 {
-    let storage = storage_of(alloc, size, all, before, v)?;
-    let place = place_by(alloc, size, all, before, v, storage)?;
-    let slot = slot_by(alloc, size, all, before, v.class, storage)?;
+    let storage = storage_of(alloc, context, v)?;
+    let place = place_by(alloc, context, v, storage)?;
+    let slot = slot_by(alloc, context, v.class, storage)?;
     Ok(Planned {
         storage,
         place,
@@ -42,7 +34,12 @@ pub(crate) fn planned_all(alloc: Global, size: u32, all: &[Want]) -> Result<Vec<
 {
     let mut of_all = Vec::with_capacity(alloc, all.len())?;
     for (i, v) in all.iter().enumerate() {
-        let one = plan_variable(alloc, size, all, &all[..i], *v)?;
+        let context = Context {
+            size,
+            all,
+            before: &all[..i],
+        };
+        let one = plan_variable(alloc, context, *v)?;
         of_all.push(one)?;
     }
     Ok(of_all)

@@ -19,6 +19,17 @@ pub struct Want {
     pub words: u32,
 }
 
+/// What the plan for a variable depends on, besides the variable.
+#[derive(Clone, Copy)]
+pub(crate) struct Context<'a> {
+    /// The words of a block.
+    pub size: u32,
+    /// The variables of the program.
+    pub all: &'a [Want],
+    /// Those that are declared before.
+    pub before: &'a [Want],
+}
+
 /// Whether a variable is of a class.
 pub(crate) fn is_of(class: Class, v: Want) -> bool
     ensures { result ≡ is_of class v }

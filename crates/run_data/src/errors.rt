@@ -2,7 +2,6 @@ ghost use Rattle.std.specs.Prelude.{◌≡◌};
 ghost use Rattle.run_data.specs.declared.errors.InputError.TheVariants.{Memory};
 
 use crate::texts::NameText;
-use std::alloc::{AllocError, AllocFailed};
 
 /// Why a text gives no inputs: its first fault.
 #[derive(Debug, Drop)]
@@ -23,26 +22,10 @@ pub enum InputError {
     Memory,
 }
 
-impl From<AllocError> for InputError {
+impl<E: Into<gr_base::Memory> + Drop> From<E> for InputError {
     ghost from_gives = { λ _ e. e ≡ Memory };
 
-    fn from(_error: AllocError) -> InputError {
-        InputError::Memory
-    }
-}
-
-impl<T: Drop> From<AllocFailed<T>> for InputError {
-    ghost from_gives = { λ _ e. e ≡ Memory };
-
-    fn from(_error: AllocFailed<T>) -> InputError {
-        InputError::Memory
-    }
-}
-
-impl From<gr_base::Memory> for InputError {
-    ghost from_gives = { λ _ e. e ≡ Memory };
-
-    fn from(_error: gr_base::Memory) -> InputError {
+    fn from(_error: E) -> InputError {
         InputError::Memory
     }
 }

@@ -1,12 +1,12 @@
 -- A program whose names are replaced by numbers has the same meaning, and its iterations never increase.
 use Rattle.std.proofs.Common.{◌≡◌, ℕ, Bool, true, false, if◌then◌else◌, Option, Some, None, List, refl, ap, ◌∙◌}
-use Rattle.std.specs.Option.{option_and_then, option_map}
+use Rattle.std.specs.Option.{option_and_then}
 use Rattle.gr_word.specs.Words.{applied, compared}
 use Rattle.src_tree.specs.declared.trees.Decl.{Decl}
-use Rattle.src_tree.specs.Trees.{Tree, Number, Variable, Element, Operation, Test, Statement, SetVariable, SetElement, Choice, Loop, Block, Nothing, Then, Source}
-use Rattle.src_tree.specs.Meaning.{Store, Left, variable_number, element, scalar_set, element_set, evaluated, guard_holds, run_of, run_of_block, meaning}
+use Rattle.src_tree.specs.Trees.{Tree, Number, Variable, Element, Operation, Test, Statement, SetVariable, SetElement, Choice, Loop, Block, Nothing, Then}
+use Rattle.src_tree.specs.Meaning.{Store, Left, variable_number, element, scalar_set, element_set, evaluated, guard_holds, run_of, run_of_block}
 use Rattle.src_tree.proofs.Loops.{TurnsFall, same_after, looped_alike, both_fall, loop_falls, one_falls, either_falls}
-use Rattle.source_meaning.specs.Placed.{Action, PutScalar, PutElement, Choose, Repeat, Actions, NoAction, Before, placed_tree, placed_test, placed_statement, placed_block, value_at, holds_at, act, act_all, left_with}
+use Rattle.source_meaning.specs.Placed.{Action, PutScalar, PutElement, Choose, Repeat, Actions, NoAction, Before, placed_tree, placed_test, placed_statement, placed_block, value_at, holds_at, act, act_all}
 
 pub value_same : (decls : List Decl) (store : Store) (t : Tree)
     → value_at store (placed_tree decls t) ≡ evaluated decls store t
@@ -78,24 +78,7 @@ mutual
   acts_fall NoAction = record { fall = λ before after e. one_falls before after before.store e }
   acts_fall (Before first rest) = both_fall (act first) (act_all rest) (act_falls first) (acts_fall rest)
 
--- the meaning of a program, from its placed statements
-pub meaning_placed : (p : Source) (store : Store) (turns : ℕ)
-    → option_map (λ (left : Left). left.store) (act_all (placed_block p.decls p.body) (left_with store turns))
-    ≡ meaning p store turns
-meaning_placed p store turns =
-    ap (option_map (λ (left : Left). left.store)) (acts_same p.decls p.body (left_with store turns))
-
--- if the actions finish, their store is the meaning
-pub meaning_done : (p : Source) (store after : Store) (turns more : ℕ) (actions : Actions)
-    → actions ≡ placed_block p.decls p.body
-    → Some (left_with after more) ≡ act_all actions (left_with store turns) → Some after ≡ meaning p store turns
-meaning_done p store after turns more actions placed ran =
-    ap (option_map (λ (left : Left). left.store)) (ran ∙ ap (λ a. act_all a (left_with store turns)) placed)
-    ∙ meaning_placed p store turns
-
--- if the actions are spent, the program has no meaning within these iterations
-pub meaning_spent : (p : Source) (store : Store) (turns : ℕ) (actions : Actions) → actions ≡ placed_block p.decls p.body
-    → None ≡ act_all actions (left_with store turns) → None ≡ meaning p store turns
-meaning_spent p store turns actions placed ran =
-    ap (option_map (λ (left : Left). left.store)) (ran ∙ ap (λ a. act_all a (left_with store turns)) placed)
-    ∙ meaning_placed p store turns
+-- what a placed statement leaves is what the statement leaves
+pub placed_run : (decls : List Decl) (s : Statement) (before : Left) (action : Action) (r : Option Left)
+    → action ≡ placed_statement decls s → r ≡ act action before → r ≡ run_of decls s before
+placed_run decls s before action r placed ran = ran ∙ ap (λ a. act a before) placed ∙ act_same decls s before

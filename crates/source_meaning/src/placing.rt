@@ -10,7 +10,7 @@ use std::alloc::Global;
 
 // The number of a name's variable, or the number of declarations if the name isn't declared. The declarations are
 // searched one by one: there are at most 256, and a program has at most 8,192 names.
-fn number_of(decls: &[Decl], name: &[u8]) -> usize
+pub(crate) fn number_of(decls: &[Decl], name: &[u8]) -> usize
     ensures { result ≡ variable_number decls.now name.now }
 {
     for (i, decl) in decls.iter().enumerate() {
@@ -53,7 +53,7 @@ fn place_guard(alloc: Global, decls: &[Decl], guard: &Guard) -> Result<Check, Me
 }
 
 #[cycle(placing)]
-fn place_statement(alloc: Global, decls: &[Decl], s: &Stmt) -> Result<Step, Memory>
+pub(crate) fn place_statement(alloc: Global, decls: &[Decl], s: &Stmt) -> Result<Step, Memory>
     ensures { IfOk result (λ step. action_of step ≡ placed_statement decls.now (statement_of s.now)) }
 {
     match s {
@@ -83,11 +83,7 @@ fn place_statement(alloc: Global, decls: &[Decl], s: &Stmt) -> Result<Step, Memo
 // Replaces each name by the number of its variable, in statements in order.
 #[cycle(placing)]
 #[tactic(auto, using(crate::proofs::Joined::joined_none, crate::proofs::Joined::joined_push))]
-pub(crate) fn place_block(
-    alloc: Global,
-    decls: &[Decl],
-    statements: &[Stmt],
-) -> Result<Vec<Step>, Memory>
+fn place_block(alloc: Global, decls: &[Decl], statements: &[Stmt]) -> Result<Vec<Step>, Memory>
     ensures { IfOk result (λ steps. actions_of_all steps.items ≡ placed_block decls.now (block_of_all statements.now)) }
 {
     let mut steps = Vec::new(alloc);

@@ -33,7 +33,7 @@ fn passes(store: &Inputs, check: &Check) -> bool
 // Executes one statement. Returns the iterations that are left, or `None` if a loop needed one more.
 #[cycle(running)]
 #[tactic(auto, using(crate::proofs::Keeping::keeps_same, crate::proofs::Keeping::keeps_then))]
-fn run_step(store: &mut Inputs, turns: u64, step: &Step) -> Option<u64>
+pub(crate) fn run_step(store: &mut Inputs, turns: u64, step: &Step) -> Option<u64>
     ensures left { with_turns store.new result ≡ act (action_of step.now) (left_with store.old turns) }
     ensures fewer { IfSome result (λ more. more ≤ turns) }
     ensures kept { KeepsFit store.old store.new }
@@ -85,7 +85,7 @@ fn run_loop(store: &mut Inputs, turns: u64, check: &Check, body: &[Step]) -> Opt
 // Executes statements in order.
 #[cycle(running)]
 #[tactic(auto, using(crate::proofs::Keeping::keeps_same, crate::proofs::Keeping::keeps_then))]
-pub(crate) fn run_steps(store: &mut Inputs, turns: u64, steps: &[Step]) -> Option<u64>
+fn run_steps(store: &mut Inputs, turns: u64, steps: &[Step]) -> Option<u64>
     ensures left { with_turns store.new result ≡ act_all (actions_of_all steps.now) (left_with store.old turns) }
     ensures fewer { IfSome result (λ more. more ≤ turns) }
     ensures kept { KeepsFit store.old store.new }

@@ -1,34 +1,25 @@
 -- Reading a text piece by piece.
-use Rattle.std.proofs.Common.{◌≡◌, ◌⊎◌, inl, inr, ℕ, ◌+◌, ◌<◌, ◌≤◌, List, [], ◌∷◌, ◌++◌, length, drop, refl, sym, ap, subst, append_assoc, length-drop, arith, Ok, Err}
+use Rattle.std.proofs.Common.{◌≡◌, ◌⊎◌, inl, inr, ℕ, ◌+◌, ◌<◌, ◌≤◌, List, [], ◌∷◌, ◌++◌, length, length-append, drop, sym, subst, length-drop, arith, Ok, Err}
 use Rattle.std.proofs.lemmas.List.{append-nil, drop-drop, drop_all}
 use Rattle.src_lexer.specs.declared.tokens.TokenKind.{TokenKind}
 use Rattle.src_lexer.specs.declared.tokens.Token.{Token}
 use Rattle.src_lexer.specs.declared.errors.LexError.{LexError}
-use Rattle.src_lexer.specs.Splits.{Lexed, with_token, token_at, Splits, Ends}
+use Rattle.src_lexer.specs.Splits.{token_at, Splits}
+use Rattle.src_lexer.specs.Unread.{left_from, BeginsWith}
 use Rattle.src_lexer.specs.Found.{Found, Skipped, Piece, Faulty, found_in}
+use Rattle.src_lexer.proofs.Unread.{begins_with_none, begins_with_both, all_of_them, fault_after}
 use Rattle.src_lexer.proofs.FirstPieces.{Allows, found_allows}
 
--- prepends tokens to a result
-abbrev pub behind : List Token → Lexed → Lexed
-behind tokens (Ok more) = Ok (tokens ++ more)
-behind tokens (Err e) = Err e
+-- these tokens were read from one byte of a text to another; each has at least one byte
+pub record Stands (text : List ℕ) (at end : ℕ) (tokens : List Token) : Type 0 where
+  pub inside : end ≤ length text
+  pub sizes : at + length tokens ≤ end
+  pub begins : BeginsWith (left_from at text) tokens (left_from end text)
 
--- these tokens were read, and reading has got to this byte
-pub record Stands (text : List ℕ) (at : ℕ) (tokens : List Token) : Type 0 where
-  pub inside : at ≤ length text
-  pub leads : (r : Lexed) → Splits at (drop at text) r → Splits 0 text (behind tokens r)
-
-pub first_byte : (text : List ℕ) → Stands text 0 []
-first_byte text = record { inside = omega arith; leads = at_first }
-  where
-    at_first : (r : Lexed) → Splits 0 (drop 0 text) r → Splits 0 text (behind [] r)
-    at_first (Ok more) s = s
-    at_first (Err e) s = s
-
-behind_token : (tokens : List Token) (token : Token) (r : Lexed)
-    → behind tokens (with_token token r) ≡ behind (tokens ++ token ∷ []) r
-behind_token tokens token (Ok more) = ap Ok (sym (append_assoc tokens (token ∷ []) more))
-behind_token tokens token (Err e) = refl
+-- nothing was read yet
+pub none_read : (text : List ℕ) (at : ℕ) → at ≤ length text → Stands text at at []
+none_read text at h =
+    record { inside = h; sizes = omega arith; begins = begins_with_none (left_from at text) }
 
 allows : (at : ℕ) (text : List ℕ) → 0 < length text → Allows at text (found_in at text)
 allows at [] h = absurd (omega arith)
@@ -46,42 +37,62 @@ first_piece : (text : List ℕ) (at : ℕ) {rest : List ℕ} (f : Found)
     → at < length text → rest ≡ drop at text → f ≡ found_in at rest → Allows at (drop at text) f
 first_piece text at f h is e = allowed text at f h (subst (λ z. found_in at z ≡ f) is (sym e))
 
+-- the rest of a text begins with no tokens up to the byte after white space or a comment
+begins_after_skipped : (text : List ℕ) (end n : ℕ) → Allows end (drop end text) (Skipped n)
+    → BeginsWith (left_from end text) [] (left_from (end + n) text)
+begins_after_skipped text end n a =
+    record { splits = λ r t. a.2 r (subst (λ z. Splits (end + n) z r) (sym (drop-drop n end text)) t) }
+
+-- the rest of a text begins with its first token
+begins_with_token : (text : List ℕ) (end n : ℕ) (k : TokenKind) → Allows end (drop end text) (Piece k n)
+    → BeginsWith (left_from end text) (token_at k end n ∷ []) (left_from (end + n) text)
+begins_with_token text end n k a =
+    record { splits = λ r t. a.2 r (subst (λ z. Splits (end + n) z r) (sym (drop-drop n end text)) t) }
+
 -- white space or a comment is skipped
-pub skips_from : {text rest : List ℕ} {at n : ℕ} {tokens : List Token} → Stands text at tokens → at < length text
-    → rest ≡ drop at text → Skipped n ≡ found_in at rest → Stands text (at + n) tokens
-skips_from {text} {at = at} {n} s h is e =
-    let a = first_piece text at (Skipped n) h is e in
+pub skips_from : {text rest : List ℕ} {at end n : ℕ} {tokens : List Token}
+    → Stands text at end tokens → end < length text → rest ≡ drop end text → Skipped n ≡ found_in end rest
+    → Stands text at (end + n) tokens
+skips_from {text} {at = at} {end} {n} {tokens} s h is e =
+    let a = first_piece text end (Skipped n) h is e in
     let few = a.1 in
-    let size = length-drop at text in
+    let sizes = s.sizes in
+    let size = length-drop end text in
     record {
       inside = omega arith;
-      leads = λ r t. s.leads r (a.2 r (subst (λ z. Splits (at + n) z r) (sym (drop-drop n at text)) t));
+      sizes = omega arith;
+      begins = subst (λ z. BeginsWith (left_from at text) z (left_from (end + n) text)) (append-nil tokens)
+          (begins_with_both tokens [] s.begins (begins_after_skipped text end n a));
     }
 
 -- one more token is added
-pub takes_from : {text rest : List ℕ} {at n : ℕ} {k : TokenKind} {tokens : List Token}
-    → Stands text at tokens → at < length text → rest ≡ drop at text → Piece k n ≡ found_in at rest
-    → Stands text (at + n) (tokens ++ token_at k at n ∷ [])
-takes_from {text} {at = at} {n} {k} {tokens} s h is e =
-    let a = first_piece text at (Piece k n) h is e in
+pub takes_from : {text rest : List ℕ} {at end n : ℕ} {k : TokenKind} {tokens : List Token}
+    → Stands text at end tokens → end < length text → rest ≡ drop end text → Piece k n ≡ found_in end rest
+    → Stands text at (end + n) (tokens ++ token_at k end n ∷ [])
+takes_from {text} {at = at} {end} {n} {k} {tokens} s h is e =
+    let a = first_piece text end (Piece k n) h is e in
+    let some = a.0 in
     let few = a.1 in
-    let size = length-drop at text in
+    let sizes = s.sizes in
+    let size = length-drop end text in
+    let one_more = length-append tokens (token_at k end n ∷ []) in
     record {
       inside = omega arith;
-      leads = λ r t. subst (λ z. Splits 0 text z) (behind_token tokens (token_at k at n) r)
-          (s.leads (with_token (token_at k at n) r)
-          (a.2 r (subst (λ z. Splits (at + n) z r) (sym (drop-drop n at text)) t)));
+      sizes = omega arith;
+      begins = begins_with_both tokens (token_at k end n ∷ []) s.begins (begins_with_token text end n k a);
     }
 
--- an error after the tokens so far is the text's
-pub fault_from : {text rest : List ℕ} {at : ℕ} {e m : LexError} {tokens : List Token} → Stands text at tokens
-    → at < length text → rest ≡ drop at text → (e ≡ m) ⊎ (found_in at rest ≡ Faulty e) → (e ≡ m) ⊎ Splits 0 text (Err e)
+-- an error after the tokens so far is the first one
+pub fault_from : {text rest : List ℕ} {at end : ℕ} {e m : LexError} {tokens : List Token}
+    → Stands text at end tokens → end < length text → rest ≡ drop end text → (e ≡ m) ⊎ (found_in end rest ≡ Faulty e)
+    → (e ≡ m) ⊎ Splits at (drop at text) (Err e)
 fault_from s h is (inl memory) = inl memory
-fault_from {text} {at = at} {e} s h is (inr f) = inr (s.leads (Err e) (first_piece text at (Faulty e) h is (sym f)))
+fault_from {text} {end = end} {e} {tokens = tokens} s h is (inr f) =
+    inr (fault_after tokens e s.begins (first_piece text end (Faulty e) h is (sym f)))
 
--- at the end of the text the tokens so far are all its tokens
-pub all_read : {text : List ℕ} {at : ℕ} {tokens : List Token}
-    → Stands text at tokens → length text ≤ at → Splits 0 text (Ok tokens)
-all_read {text} {at} {tokens} s h =
-    subst (λ z. Splits 0 text (Ok z)) (append-nil tokens)
-    (s.leads (Ok []) (subst (λ z. Splits at z (Ok [])) (sym (drop_all at text h)) Ends))
+-- a text is read to its end, since it has no more tokens than bytes
+pub all_read : (text : List ℕ) (end : ℕ) (tokens : List Token) → BeginsWith (left_from 0 text) tokens (left_from end text)
+    → 0 + length tokens ≤ end → end ≤ length text → (length text ≤ end) ⊎ (length text + 1 ≤ length tokens)
+    → Splits 0 text (Ok tokens)
+all_read text end tokens begins sizes inside (inl ended) = all_of_them tokens begins (drop_all end text ended)
+all_read text end tokens begins sizes inside (inr many) = absurd (omega arith)

@@ -1,5 +1,6 @@
 pub mod Pieces
 pub mod Splits
+pub mod Unread
 pub mod Found
 pub mod Seen
 pub mod Spans

@@ -18,6 +18,11 @@ abbrev pub with_token : Token → Lexed → Lexed
 with_token token (Ok tokens) = Ok (token ∷ tokens)
 with_token token (Err e) = Err e
 
+-- tokens before the others, if there is no error
+abbrev pub with_tokens : List Token → Lexed → Lexed
+with_tokens [] reading = reading
+with_tokens (token ∷ tokens) reading = with_token token (with_tokens tokens reading)
+
 abbrev pub token_at : TokenKind → ℕ → ℕ → Token
 token_at k at size = record { kind = k; start = at; len = size }
 

@@ -1,7 +1,6 @@
 ghost use Rattle.std.specs.Prelude.{◌≡◌};
 ghost use Rattle.src_lexer.specs.declared.errors.LexError.TheVariants.{Memory};
 
-use std::alloc::{AllocError, AllocFailed};
 use thiserror::Error;
 
 /// Why a text isn't a list of tokens: its first error, with a place, which is the number of a byte from 0.
@@ -21,26 +20,10 @@ pub enum LexError {
     Memory,
 }
 
-impl From<AllocError> for LexError {
+impl<E: Into<gr_base::Memory> + Drop> From<E> for LexError {
     ghost from_gives = { λ _ e. e ≡ Memory };
 
-    fn from(_error: AllocError) -> LexError {
-        LexError::Memory
-    }
-}
-
-impl<T: Drop> From<AllocFailed<T>> for LexError {
-    ghost from_gives = { λ _ e. e ≡ Memory };
-
-    fn from(_error: AllocFailed<T>) -> LexError {
-        LexError::Memory
-    }
-}
-
-impl From<gr_base::Memory> for LexError {
-    ghost from_gives = { λ _ e. e ≡ Memory };
-
-    fn from(_error: gr_base::Memory) -> LexError {
+    fn from(_error: E) -> LexError {
         LexError::Memory
     }
 }

@@ -1,11 +1,11 @@
-ghost use Rattle.std.specs.Prelude.{◌≡◌, ◌⊎◌, ◌≤◌, ◌^◌, length, drop, IfOk, IfErr, Ok, Err};
+ghost use Rattle.std.specs.Prelude.{◌≡◌, ◌⊎◌, ◌≤◌, ◌^◌, length, IfOk, IfErr, Ok, Err};
 ghost use Rattle.src_lexer.specs.declared.errors.LexError.TheVariants.{Memory};
 ghost use Rattle.src_lexer.specs.Spans.{InOrder, AreSlices};
 ghost use Rattle.src_lexer.specs.Splits.{Splits};
 
 use crate::errors::LexError;
 use crate::known_names::KnownNames;
-use crate::pieces::{Piece, piece_at};
+use crate::lexer::read_from;
 use crate::tokens::Token;
 use std::alloc::Global;
 
@@ -22,30 +22,7 @@ pub fn lex(alloc: Global, text: &[u8]) -> Result<Vec<Token>, LexError>
     ensures fault { IfErr result (λ e. (e ≡ Memory) ⊎ Splits 0 text.now (Err e)) }
 {
     let mut names = KnownNames::new(alloc);
-    let mut tokens = Vec::new(alloc);
-    let mut at = 0;
-    while at < text.len() {
-        match piece_at(alloc, &mut names, rest(text, at), at as u32) {
-            Ok(Piece::Skipped(size)) => at += size,
-            Ok(Piece::Known(kind, size)) => {
-                let token = Token {
-                    kind,
-                    start: at as u32,
-                    len: size as u32,
-                };
-                tokens.push(token)?;
-                at += size;
-            }
-            Err(error) => return Err(error),
-        }
-    }
-    Ok(tokens)
-}
-
-// The bytes from a place on.
-fn rest(text: &[u8], at: usize) -> &[u8]
-    requires { at ≤ length text.now }
-    ensures { result.now ≡ drop at text.now }
-{
-    text.split_at(at).1
+    // Each token has at least one byte, so this many are never read.
+    let read = read_from(alloc, &mut names, text, 0, text.len() + 1)?;
+    Ok(read.tokens)
 }

@@ -1,4 +1,4 @@
-ghost use Rattle.std.specs.Prelude.{◌≡◌, ◌<◌, ◌≤◌, true, length, bytes_eq, IfOk, IsTrue};
+ghost use Rattle.std.specs.Prelude.{◌≡◌, ◌<◌, ◌≤◌, true, length, slice_index, bytes_eq, IfOk, IsTrue};
 ghost use Rattle.std.specs.Char.{is_ascii_digit};
 ghost use Rattle.std.specs.List.{prefix_len, list_all};
 ghost use Rattle.gr_word.specs.Names.{is_name_byte, is_name};
@@ -48,6 +48,17 @@ fn number(run: &[u8]) -> Run
         return Run::Is(TokenKind::Num(value as i64));
     }
     Run::Mixed(count)
+}
+
+// A run of one digit, as most numbers are.
+#[tactic(auto, using(crate::proofs::OneDigit::one_digit_run))]
+fn one_digit(run: &[u8]) -> Run
+    requires one { length run.now ≡ 1 }
+    requires digit { is_ascii_digit (slice_index run.now 0) ≡ true }
+    ensures value { run_seen result ≡ number_run run.now }
+    ensures within { MixedWithin (length run.now) result }
+{
+    Run::Is(TokenKind::Num(i64::from(run[0] - b'0')))
 }
 
 // Whether two words are equal.
@@ -100,6 +111,9 @@ pub(crate) fn classify<'a>(
     ensures within { IfOk result (MixedWithin (length run.now)) }
 {
     if run[0].is_ascii_digit() {
+        if run.len() == 1 {
+            return Ok(one_digit(run));
+        }
         return Ok(number(run));
     }
     word(alloc, names, run)

@@ -26,8 +26,11 @@ pub mod ExpressionPlaces
 pub mod ExpressionTokens
 pub mod TokenPlaces
 pub mod Tokenwise
+pub mod SeveralTokens
+pub mod TextTokens
 pub mod OneRefusal
 pub mod Rendered
 pub mod LoneTokens
 pub mod RoundTrips
 pub mod OneProgram
+pub mod AssignmentTokens

@@ -17,7 +17,8 @@ pub record PartRuns (most : Limits) {R : Type 0} (go : PartState → List TokenK
   pub same : (asked : Asked) (x y : Reading) (k : TokenKind) (ks : List TokenKind) → reads most x k ≡ reads most y k
       → go (Still (Inside asked x)) (k ∷ ks) ≡ go (Still (Inside asked y)) (k ∷ ks)
 
-stops_whole : (used : ℕ) (tree : Tree) (depth : ℕ) (k : TokenKind)
+-- with nothing that waits, an expression ends before any token that isn't an operator
+pub stops_whole : (used : ℕ) (tree : Tree) (depth : ℕ) (k : TokenKind)
     → closing used k (Joins [] tree depth) ≡ Stops (At [] depth used (Given tree))
 stops_whole used tree depth kind.RParen = refl
 stops_whole used tree depth _ = refl

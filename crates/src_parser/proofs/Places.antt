@@ -6,8 +6,14 @@ use Rattle.src_tree.specs.Trees.{Source}
 use Rattle.src_parser.specs.Grammar.{Limits, limits, Sentence}
 use Rattle.src_parser.specs.Refusals.{token_kinds, ProgramBegins, Unexpected, TooDeep, CutShort}
 use Rattle.src_parser.specs.Tokenwise.{Begins, Stray, Deeper, Cut}
+use Rattle.src_parser.specs.Advances.{ParserState, advanced}
+use Rattle.src_parser.specs.Explained.{ExplainsTokens}
+use Rattle.src_parser.specs.Readers.{ReadsTo, Stops}
+use Rattle.src_parser.specs.declared.errors.ParseError.{ParseError}
+use Rattle.src_parser.specs.declared.errors.ParseError.TheVariants as error
 use Rattle.src_parser.proofs.Tokenwise as tokenwise
-use Rattle.src_parser.proofs.Refused.{program_laws}
+use Rattle.src_parser.proofs.Refused.{program_laws, start}
+use Rattle.src_parser.proofs.SeveralTokens.{stray_after, deeper_after}
 
 begun : {most : Limits} {tokens : List TokenKind} → Begins Sentence most tokens → ProgramBegins most tokens
 begun b = record { shallow = b.shallow; braces = b.braces; more = b.more; program = b.tree; sentence = b.sentence }
@@ -75,3 +81,14 @@ pub next_begins : (tokens before after : List Token) (token : Token) (p : Source
     → Sentence limits (token_kinds tokens) p → ProgramBegins limits (token_kinds before ++ token.kind ∷ [])
 next_begins tokens before after token p split s =
     begun (tokenwise.next_begins program_laws tokens before after token p split s)
+
+-- why tokens aren't all read, as an error of all tokens, whatever follows
+pub stops_explained : (before tokens after : List Token) (state : ParserState) (e : ParseError)
+    → ReadsTo advanced start before state → Stops advanced state tokens e
+    → ExplainsTokens e ((before ++ tokens) ++ after)
+stops_explained before tokens after state (error.Unexpected at) read s =
+    unexpected _ at (stray_after program_laws before tokens after state at read s)
+stops_explained before tokens after state (error.TooDeep at) read s =
+    too_deep _ at (deeper_after program_laws before tokens after state at read s)
+stops_explained before tokens after state error.EndOfText read s = absurd s
+stops_explained before tokens after state error.Memory read s = tt

@@ -1,14 +1,13 @@
 -- A parser that reads token by token: what its advances say about the grammar, from a few laws of single tokens.
-use Rattle.std.proofs.Common.{◌≡◌, ◌≢◌, ◌⊎◌, inl, inr, ℕ, ◌+◌, ◌<◌, ◌≤◌, List, [], ◌∷◌, ◌++◌, length, take, drop, get_or, Option, Some, None, refl, sym, ap, ◌∙◌, subst, append_assoc, arith}
+use Rattle.std.proofs.Common.{◌≡◌, ◌≢◌, ◌⊎◌, inl, inr, ℕ, ◌+◌, ◌<◌, ◌≤◌, List, [], ◌∷◌, ◌++◌, Option, Some, None, refl, sym, ap, ◌∙◌, subst, append_assoc, arith}
 use Rattle.std.proofs.lemmas.Bool.{cases_lt}
-use Rattle.std.proofs.lemmas.List.{append-nil, map-append, take_all}
+use Rattle.std.proofs.lemmas.List.{append-nil, map-append}
 use Rattle.src_lexer.specs.declared.tokens.TokenKind.{TokenKind}
 use Rattle.src_lexer.specs.declared.tokens.TokenKind.TheVariants as kind
 use Rattle.src_lexer.specs.declared.tokens.Token.{Token}
 use Rattle.src_parser.specs.Grammar.{Limits, limits}
 use Rattle.src_parser.specs.Refusals.{token_kinds, Shallow}
-use Rattle.src_parser.proofs.TokenPlaces.{split_at, kinds_more}
-use Rattle.src_parser.specs.Tokenwise.{Advance, Goes, Wrong, TooMuch, then_advance, advances, after_advance, parsed, Completes, Begins, Stray, Deeper, Cut}
+use Rattle.src_parser.specs.Tokenwise.{Advance, Goes, Wrong, TooMuch, then_advance, advances, after_advance, parsed, Completes, Begins}
 
 -- there is room for what is needed
 pub record Fits (need most : Limits) : Type 0 where
@@ -415,73 +414,6 @@ module _ {S P : Type 0} {advanced : Limits → S → TokenKind → Advance S} {g
       → Sentence most (front ++ back) p → ProgramBegins most front
   front_begins most front back p s =
       let r = reads_front most front back start p (laws.read _ _ _ s) in begins most front r.last r.advances_to
-
-  -- a token that is read
-  pub goes_at : (tokens : List Token) (i : ℕ) (token : Token) (state next : S)
-      → i < length tokens → token ≡ get_or tokens i token → goes_over limits start (token_kinds (take i tokens))
-      ≡ Goes state
-      → advanced limits state token.kind ≡ Goes next → goes_over limits start (token_kinds (take (i + 1) tokens))
-      ≡ Goes next
-  goes_at tokens i token state next h is before now =
-      ap (λ ks. goes_over limits start ks) (kinds_more tokens i token h is)
-      ∙ one_more_advance limits (token_kinds (take i tokens)) token.kind start state next before now
-
-  -- a token with which no sentence can continue
-  pub unexpected_at : (tokens : List Token) (i : ℕ) (token : Token) (state : S)
-      → i < length tokens → token ≡ get_or tokens i token → goes_over limits start (token_kinds (take i tokens))
-      ≡ Goes state
-      → advanced limits state token.kind ≡ Wrong → Stray Sentence tokens token.start
-  unexpected_at tokens i token state h is before now = record {
-    before = take i tokens;
-    token = token;
-    after = drop (i + 1) tokens;
-    split = split_at tokens i token h is;
-    place = refl;
-    begins = begins limits (token_kinds (take i tokens)) state before;
-    none = λ most. wrong_begins limits most (token_kinds (take i tokens)) token.kind state before now;
-  }
-
-  -- a token that would nest too deep
-  pub too_deep_at : (tokens : List Token) (i : ℕ) (token : Token) (state : S)
-      → i < length tokens → token ≡ get_or tokens i token → goes_over limits start (token_kinds (take i tokens))
-      ≡ Goes state
-      → advanced limits state token.kind ≡ TooMuch → Deeper Sentence tokens token.start
-  too_deep_at tokens i token state h is before now =
-      let wider = wider_begins limits (token_kinds (take i tokens)) token.kind state before now in
-      record {
-        before = take i tokens;
-        token = token;
-        after = drop (i + 1) tokens;
-        split = split_at tokens i token h is;
-        place = refl;
-        begins = begins limits (token_kinds (take i tokens)) state before;
-        none = much_begins limits (token_kinds (take i tokens)) token.kind state before now;
-        wider = wider.wide;
-        begins_wider = wider.begins;
-      }
-
-  all_read : (tokens : List Token) (i : ℕ) (state : S) → length tokens ≤ i
-      → goes_over limits start (token_kinds (take i tokens)) ≡ Goes state → goes_over limits start (token_kinds tokens)
-      ≡ Goes state
-  all_read tokens i state h e = subst (λ ts. goes_over limits start (token_kinds ts) ≡ Goes state)
-      (take_all i tokens h) e
-
-  -- tokens that end before a sentence does
-  pub cut_short_at : (tokens : List Token) (i : ℕ) (state : S) → length tokens ≤ i
-      → goes_over limits start (token_kinds (take i tokens)) ≡ Goes state → program_of state ≡ None
-      → Cut Sentence tokens
-  cut_short_at tokens i state h e none = record {
-    begins = begins limits (token_kinds tokens) state (all_read tokens i state h e);
-    none = λ p s. no_sentence limits (token_kinds tokens) state p (all_read tokens i state h e) none s;
-  }
-
-  -- tokens that end where a sentence does
-  pub sentence_at : (tokens : List Token) (i : ℕ) (state : S) (p : P)
-      → length tokens ≤ i → goes_over limits start (token_kinds (take i tokens)) ≡ Goes state → program_of state
-      ≡ Some p
-      → Sentence limits (token_kinds tokens) p
-  sentence_at tokens i state p h e some = whole_sentence limits (token_kinds tokens) state p
-      (all_read tokens i state h e) some
 
   -- each prefix of a sentence, with the next token, begins one
   pub next_begins : (tokens before after : List Token) (token : Token) (p : P) → tokens ≡ before ++ token ∷ after

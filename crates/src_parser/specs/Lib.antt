@@ -12,3 +12,5 @@ pub mod Source
 pub mod Expressions
 pub mod ReadTokens
 pub mod Tokenwise
+pub mod Assignments
+pub mod Readers

@@ -1,7 +1,7 @@
 ghost use Rattle.std.specs.Prelude.{◌≡◌};
 ghost use Rattle.src_parser.specs.declared.errors.ParseError.TheVariants.{Memory};
 
-use std::alloc::{AllocError, AllocFailed};
+use src_lexer::LexError;
 use thiserror::Error;
 
 /// Why tokens aren't a program. The number is the place of the token's first byte.
@@ -22,26 +22,21 @@ pub enum ParseError {
     Memory,
 }
 
-impl From<AllocError> for ParseError {
+impl<E: Into<gr_base::Memory> + Drop> From<E> for ParseError {
     ghost from_gives = { λ _ e. e ≡ Memory };
 
-    fn from(_error: AllocError) -> ParseError {
+    fn from(_error: E) -> ParseError {
         ParseError::Memory
     }
 }
 
-impl<T: Drop> From<AllocFailed<T>> for ParseError {
-    ghost from_gives = { λ _ e. e ≡ Memory };
-
-    fn from(_error: AllocFailed<T>) -> ParseError {
-        ParseError::Memory
-    }
-}
-
-impl From<gr_base::Memory> for ParseError {
-    ghost from_gives = { λ _ e. e ≡ Memory };
-
-    fn from(_error: gr_base::Memory) -> ParseError {
-        ParseError::Memory
-    }
+/// Why a text isn't a program: the first error of its pieces; or, if it splits into tokens, that of the tokens.
+#[derive(Debug, Drop, PartialEq, Eq, Error)]
+pub enum TextError {
+    /// The text doesn't split into tokens.
+    #[error(transparent)]
+    Pieces(LexError),
+    /// The tokens aren't a program.
+    #[error(transparent)]
+    Tokens(ParseError),
 }

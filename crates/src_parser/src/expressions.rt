@@ -307,6 +307,7 @@ fn close(
 }
 
 // Reads a token after an operand.
+#[tactic(auto, using(crate::proofs::PartRead::stops_whole))]
 fn have(
     alloc: Global,
     reading: &mut Reading,
@@ -317,13 +318,18 @@ fn have(
         ≡ having limits (stack_of reading.old.stack.items) reading.old.depth reading.old.used (expr_tree tree) kind.now
         (operator_of kind.now)) }
 {
-    let stack = mem::replace(&mut reading.stack, Vec::new(alloc));
     match operator(kind) {
         Some(op) => {
+            let stack = mem::replace(&mut reading.stack, Vec::new(alloc));
             let joint = join(alloc, level(op), stack, tree, reading.depth)?;
             pend(reading, op, joint)
         }
         None => {
+            if reading.stack.is_empty() {
+                put(&mut reading.operand, OperandState::Given(tree));
+                return Ok(TokenStep::Stops);
+            }
+            let stack = mem::replace(&mut reading.stack, Vec::new(alloc));
             let joint = join(alloc, 0, stack, tree, reading.depth)?;
             close(alloc, reading, kind, joint)
         }

@@ -32,7 +32,7 @@ fn end(alloc: Global, mut reading: Reading) -> Result<Option<Expr>, Memory>
 }
 
 // The expression at the beginning of the tokens, and its number of tokens.
-fn expression(
+pub(crate) fn expression(
     alloc: Global,
     tokens: &[Token],
     opened: u32,

@@ -1,17 +1,20 @@
-ghost use Rattle.std.specs.Prelude.{◌≡◌, [], IfOk, IfErr, option_map};
+ghost use Rattle.std.specs.Prelude.{◌≡◌, [], IfOk, IfErr, OnOk, option_map};
 ghost use Rattle.src_tree.specs.Trees.{source_of, statement_of};
 ghost use Rattle.src_parser.specs.Explained.{ExplainsTokens};
 ghost use Rattle.src_parser.specs.Grammar.{limits, Sentence};
+ghost use Rattle.src_parser.specs.Readers.{ReadsTo, Stops};
 ghost use Rattle.src_parser.specs.Refusals.{token_kinds};
 ghost use Rattle.src_parser.specs.Seen.{advance_of, among, state_of, heading_of, phase_of};
 ghost use Rattle.src_parser.specs.Advances.{between, advanced, programs, program_of, Declaring, Doing};
 ghost use Rattle.src_parser.specs.Statements.{between_statements};
 ghost use Rattle.src_parser.specs.Tokenwise.{mapped};
 
+use crate::assignments::read_assignment;
 use crate::errors::ParseError;
 use crate::headings::{Heading, HeadingAdvance, read_heading};
 use crate::languages::Programs;
 use crate::putting::put;
+use crate::readers::TokenReader;
 use crate::statements::{begin, complete, perform};
 use crate::states::{Advance, Blocks, ParserState, Pause, Phase};
 use gr_base::Memory;
@@ -147,6 +150,75 @@ fn conclude(alloc: Global, state: ParserState) -> Result<Option<Program>, Memory
     }
 }
 
+// Reads tokens, each assignment in one go.
+fn read_tokens(alloc: Global, state: &mut ParserState, tokens: &[Token]) -> Result<(), ParseError>
+    ensures leads { OnOk result (ReadsTo advanced (state_of state.old) tokens.now (state_of state.new)) }
+    ensures stops { IfErr result (λ error. Stops advanced (state_of state.old) tokens.now error) }
+{
+    let mut at = 0;
+    while at < tokens.len() {
+        let Ok(count) = read_assignment(alloc, state, tokens.split_at(at).1) else {
+            return Err(ParseError::Memory);
+        };
+        if count > 0 {
+            at += count;
+            continue;
+        }
+        let token = &tokens[at];
+        let Ok(advance) = take(alloc, state, &token.kind) else {
+            return Err(ParseError::Memory);
+        };
+        match advance {
+            Advance::Goes => at += 1,
+            Advance::Wrong => return Err(ParseError::Unexpected(token.start)),
+            Advance::TooMuch => return Err(ParseError::TooDeep(token.start)),
+        }
+    }
+    Ok(())
+}
+
+/// A reader of programs: it is passed a program's tokens in several lists.
+#[derive(Drop)]
+pub struct ProgramReader {
+    state: ParserState,
+}
+
+impl TokenReader for ProgramReader {
+    ghost use Rattle.std.specs.Prelude.{[]};
+    ghost use Rattle.src_tree.specs.Trees.{source_of};
+    ghost use Rattle.src_parser.specs.Advances.{advanced, Between};
+    ghost use Rattle.src_parser.specs.Explained.{ExplainsTokens};
+    ghost use Rattle.src_parser.specs.Grammar.{limits, Sentence};
+    ghost use Rattle.src_parser.specs.Readers.{ReadsTo};
+    ghost use Rattle.src_parser.specs.Refusals.{token_kinds};
+    ghost use Rattle.src_parser.specs.Seen.{state_of};
+
+    type Tree = Program;
+
+    ghost IsTree = { λ tokens program. Sentence limits (token_kinds tokens) (source_of program) };
+
+    ghost Explains = { ExplainsTokens };
+
+    ghost HasRead = { λ tokens reader. ReadsTo advanced (Between []) tokens (state_of reader.state) };
+
+    fn new(alloc: Global) -> ProgramReader {
+        ProgramReader {
+            state: ParserState::Between(Vec::new(alloc)),
+        }
+    }
+
+    fn read(&mut self, alloc: Global, tokens: &[Token]) -> Result<(), ParseError> {
+        read_tokens(alloc, &mut self.state, tokens)
+    }
+
+    fn finish(self, alloc: Global) -> Result<Program, ParseError> {
+        match conclude(alloc, self.state)? {
+            Some(program) => Ok(program),
+            None => Err(ParseError::EndOfText),
+        }
+    }
+}
+
 /// The tree of a program. The tokens are read once, from the first to the last, with a stack of what is open.
 ///
 /// `Unexpected` and `TooDeep` name the first byte of the token with the first error. With `Unexpected`, no program can
@@ -157,26 +229,12 @@ pub fn parse(alloc: Global, tokens: &[Token]) -> Result<Program, ParseError>
     ensures parsed { IfOk result (λ program. Sentence limits (token_kinds tokens.now) (source_of program)) }
     ensures refused { IfErr result (λ error. ExplainsTokens error tokens.now) }
 {
-    let mut state = ParserState::Between(Vec::new(alloc));
-    for token in tokens {
-        let Ok(advance) = take(alloc, &mut state, &token.kind) else {
-            drop(state);
-            return Err(ParseError::Memory);
-        };
-        match advance {
-            Advance::Goes => {}
-            Advance::Wrong => {
-                drop(state);
-                return Err(ParseError::Unexpected(token.start));
-            }
-            Advance::TooMuch => {
-                drop(state);
-                return Err(ParseError::TooDeep(token.start));
-            }
+    let mut reader = ProgramReader::new(alloc);
+    match reader.read(alloc, tokens) {
+        Ok(()) => reader.finish(alloc),
+        Err(error) => {
+            drop(reader);
+            Err(error)
         }
-    }
-    match conclude(alloc, state)? {
-        Some(program) => Ok(program),
-        None => Err(ParseError::EndOfText),
     }
 }

@@ -1,8 +1,6 @@
 ghost use Rattle.std.specs.Prelude.{◌≡◌};
 ghost use Rattle.src_procs.specs.declared.errors.InlineError.TheVariants.{Memory};
 
-use std::alloc::{AllocError, AllocFailed};
-
 /// Why the calls of a file can't be replaced. A number is that of a procedure for [`InlineError::TwiceNamed`] and
 /// [`InlineError::Undeclared`], and of a call otherwise, counted from 0 over the whole file in the order of their first
 /// tokens, and 2^32 - 1 from there on.
@@ -24,26 +22,10 @@ pub enum InlineError {
     Memory,
 }
 
-impl From<AllocError> for InlineError {
+impl<E: Into<gr_base::Memory> + Drop> From<E> for InlineError {
     ghost from_gives = { λ _ e. e ≡ Memory };
 
-    fn from(_error: AllocError) -> InlineError {
-        InlineError::Memory
-    }
-}
-
-impl<T: Drop> From<AllocFailed<T>> for InlineError {
-    ghost from_gives = { λ _ e. e ≡ Memory };
-
-    fn from(_error: AllocFailed<T>) -> InlineError {
-        InlineError::Memory
-    }
-}
-
-impl From<gr_base::Memory> for InlineError {
-    ghost from_gives = { λ _ e. e ≡ Memory };
-
-    fn from(_error: gr_base::Memory) -> InlineError {
+    fn from(_error: E) -> InlineError {
         InlineError::Memory
     }
 }

@@ -1,8 +1,6 @@
 ghost use Rattle.std.specs.Prelude.{◌≡◌};
 ghost use Rattle.src_tree.specs.declared.faults.TypeError.TheVariants.{Memory};
 
-use std::alloc::{AllocError, AllocFailed};
-
 /// A limit of programs.
 #[derive(Clone, Copy, Debug, PartialEq, Eq)]
 pub enum Which {
@@ -44,18 +42,10 @@ pub enum TypeError {
     Memory,
 }
 
-impl From<AllocError> for TypeError {
+impl<E: Into<gr_base::Memory> + Drop> From<E> for TypeError {
     ghost from_gives = { λ _ e. e ≡ Memory };
 
-    fn from(_error: AllocError) -> TypeError {
-        TypeError::Memory
-    }
-}
-
-impl<T: Drop> From<AllocFailed<T>> for TypeError {
-    ghost from_gives = { λ _ e. e ≡ Memory };
-
-    fn from(_error: AllocFailed<T>) -> TypeError {
+    fn from(_error: E) -> TypeError {
         TypeError::Memory
     }
 }

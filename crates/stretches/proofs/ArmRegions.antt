@@ -17,8 +17,8 @@ use Rattle.trace_patterns.specs.Shape.{Arms, shape, most_regions, has_note_betwe
 use Rattle.stretches.specs.Shows.{Show, Gap, pattern_of, region_shows}
 use Rattle.stretches.specs.InArms.{StandsInArm}
 use Rattle.trace_patterns.specs.Walk.{WalksTo, AtEnd, Across, CrossesTo, BothArms, untaken_way, taken_way}
-use Rattle.trace_patterns.proofs.PatternLaws.{shown-same, no_events-joined, joined-no_events}
-use Rattle.stretches.proofs.ShowLaws.{pattern_of-append, pattern_of-gaps, pattern_of-gap}
+use Rattle.trace_patterns.proofs.PatternLaws.{no_events-joined, joined-no_events}
+use Rattle.stretches.proofs.ShowLaws.{no_gap, pattern_of-append, pattern_of-gaps, pattern_of-gap}
 use Rattle.trace_patterns.proofs.Shapes.{shape-region}
 use Rattle.stretches.proofs.ArmCode.{stands-first, stands-rest, Walked, walked-none, walked-on}
 
@@ -36,9 +36,6 @@ walked-pauses o depth s (suc n) =
     walked-on o depth s Nop (Gap 1) s (pauses n) (paused n) s refl (walked-pauses o depth s n)
 
 -- the gaps of instructions that only take cycles become one
-no_gap : gap 0 ≡ no_events
-no_gap = shown-same (gap 0) no_events refl (omega arith)
-
 pub pattern_of-paused : (n : ℕ) (shows : List Show) → pattern_of (paused n ++ shows) ≡ pattern_of (Gap n ∷ shows)
 pattern_of-paused zero shows =
     sym (ap (λ (g : Shown TreeEvent). joined g (pattern_of shows)) no_gap ∙ no_events-joined (pattern_of shows))

@@ -1,10 +1,10 @@
 -- Laws of patterns that are lists of what is shown in sequence.
-use Rattle.std.proofs.Common.{◌≡◌, ℕ, ◌+◌, List, [], ◌∷◌, ◌++◌, sym, ap, ◌∙◌}
+use Rattle.std.proofs.Common.{◌≡◌, ℕ, ◌+◌, List, [], ◌∷◌, ◌++◌, refl, sym, ap, ◌∙◌, arith}
 use Rattle.trace_patterns.specs.Patterns.{Shown, no_events, with_gap, joined}
 use Rattle.trace_patterns.specs.Events.{TreeEvent}
 use Rattle.trace_patterns.specs.Single.{gap}
 use Rattle.stretches.specs.Shows.{Show, Gap, pattern_of_one, pattern_of}
-use Rattle.trace_patterns.proofs.PatternLaws.{no_events-joined, joined-no_events, joined-assoc, joined-gap, with_gap-more}
+use Rattle.trace_patterns.proofs.PatternLaws.{shown-same, no_events-joined, joined-no_events, joined-assoc, joined-gap, with_gap-more}
 
 -- two lists in sequence are two patterns in sequence
 pub pattern_of-append : (xs ys : List Show) → pattern_of (xs ++ ys) ≡ joined (pattern_of xs) (pattern_of ys)
@@ -17,7 +17,10 @@ pub pattern_of-alone : (x : Show) → pattern_of (x ∷ []) ≡ pattern_of_one x
 pattern_of-alone x = joined-no_events (pattern_of_one x)
 
 -- gaps add up
-gaps-joined : (m n : ℕ) → joined (gap m) (gap n) ≡ gap (m + n)
+pub no_gap : gap 0 ≡ no_events
+no_gap = shown-same (gap 0) no_events refl (omega arith)
+
+pub gaps-joined : (m n : ℕ) → joined (gap m) (gap n) ≡ gap (m + n)
 gaps-joined m n =
     joined-gap (gap m) no_events n ∙ ap (λ (p : Shown TreeEvent). with_gap p n) (joined-no_events (gap m))
     ∙ with_gap-more no_events m n

@@ -1,4 +1,6 @@
 pub mod TreeLaws
 pub mod NodeEquality
 pub mod TableLaws
+pub mod StoredLists
+pub mod ChainLaws
 pub mod TreeEquality

@@ -17,11 +17,11 @@ returns-in-Err-clause-refused c =
 
 -- the names and the weight by which errors are found
 judged : (c : After-fault_in)
-    → IsJudged (source_of c.args.p.now) (found_under c.in-Ok.names) c.block_weight-weight.result
+    → IsJudged (source_of c.args.p.now) (found_under c.in-Ok.names) c.survey_block-survey.result.weight
 judged c = record {
   names = subst (λ ds. names_gathered nothing_known 0 ds ≡ Ok (found_under c.in-Ok.names)) c.as_slice.ensures.value
       c.in-Ok.ensures.gathered;
-  weight = c.block_weight-weight.ensures
+  weight = c.survey_block-survey.ensures.weight
       ∙ ap (λ ss. shown_number (block_weight (found_under c.in-Ok.names) Public (block_of_all ss)))
       c.as_slice-in-Ok.ensures.value;
 }
@@ -34,7 +34,7 @@ returns-in-Some-clause-refused c =
 pub returns-clause-accepted : goal.returns-clause-accepted
 returns-clause-accepted c =
     let all = judged (goal.at.returns-clause-accepted c).After-fault_in in
-    weight_exact (source_of c.args.p.now) c.block_weight-weight.result (weight_named all)
+    weight_exact (source_of c.args.p.now) c.survey_block-survey.result.weight (weight_named all)
     (sym (first_found all) ∙ sym c.in-None.ensures)
 
 pub returns-clause-faultless : goal.returns-clause-faultless

@@ -1,0 +1,9 @@
+use Rattle.std.proofs.Common.{◌∙◌}
+use Rattle.command_words.specs.Options.{two_named}
+use Rattle.ghost_cli.specs.Disassemble.{disassemble_work}
+use Rattle.ghost_cli.proofs.disassemble.DisassembleRequest.words.Goals as goal
+
+pub returns-clause-asked : goal.returns-clause-asked
+returns-clause-asked c =
+    c.two_names.ensures disassemble_work
+    ∙ (λ k. two_named disassemble_work (c.value.ensures k) (c.value-2.ensures k))

@@ -1,0 +1,10 @@
+use Rattle.std.proofs.Common.{◌∙◌}
+use Rattle.command_words.specs.Asks.{evaluate_named}
+use Rattle.ghost_cli.specs.Evaluate.{evaluate_work}
+use Rattle.ghost_cli.proofs.evaluate.EvaluateRequest.words.Goals as goal
+
+pub returns-clause-asked : goal.returns-clause-asked
+returns-clause-asked c =
+    c.words_in.ensures
+    ∙ (λ k. evaluate_named evaluate_work (c.value.ensures k) (c.value-2.ensures k) (c.value-3.ensures k)
+    (c.value-4.ensures k) (c.value-5.ensures k))

@@ -1,0 +1,13 @@
+use Rattle.std.proofs.Common.{◌≡◌, drop}
+use Rattle.src_tree.specs.Meaning.{run_of_block}
+use Rattle.src_tree.specs.Trees.{block_of_all}
+use Rattle.source_meaning.specs.Kept.{KeepsFit}
+use Rattle.source_meaning.specs.Placed.{left_with}
+use Rattle.source_meaning.proofs.executing.+executing.Given as goal
+
+abbrev pub invariant-execute_block-loop-statement : goal.invariant-execute_block-loop-statement
+invariant-execute_block-loop-statement l = record {
+  left : run_of_block l.decls (block_of_all (drop l.statement-index l.statements)) (left_with l.store l.turns)
+      ≡ run_of_block l.decls (block_of_all l.statements) (left_with l.fn.store l.fn.turns);
+  kept : KeepsFit l.fn.store l.store;
+}

@@ -1,0 +1,20 @@
+use Rattle.std.proofs.lemmas.Result.{on_ok_weaker, IfErr-weaker}
+use Rattle.src_parser.specs.Advances.{advanced}
+use Rattle.src_parser.specs.Seen.{state_of}
+use Rattle.src_parser.proofs.Places.{stops_explained}
+use Rattle.src_parser.proofs.Refused.{start}
+use Rattle.src_parser.proofs.SeveralTokens.{reads_both}
+use Rattle.src_parser.proofs.parsing.ProgramReaderTokenReader.read.Goals as goal
+
+pub returns-clause-read : goal.returns-clause-read
+returns-clause-read c =
+    on_ok_weaker c.read_tokens.result
+    (λ leads before read. reads_both advanced before c.args.tokens.now start (state_of c.args.self.now.state) _ read leads)
+    c.read_tokens.ensures.leads
+
+pub returns-clause-refused : goal.returns-clause-refused
+returns-clause-refused c =
+    IfErr-weaker c.read_tokens.result _ _
+    (λ error stops before after read. stops_explained before c.args.tokens.now after (state_of c.args.self.now.state) error
+    read stops)
+    c.read_tokens.ensures.stops
