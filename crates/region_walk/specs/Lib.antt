@@ -9,7 +9,7 @@ pub mod Slots
 pub mod HeldWords
 pub mod States
 pub mod Entries
-pub mod Stores
+pub mod Shows
 pub mod Carrying
 pub mod NextSteps
 pub use Rattle.trace_patterns.specs.Walk

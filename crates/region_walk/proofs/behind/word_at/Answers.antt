@@ -7,7 +7,7 @@ use Rattle.region_walk.specs.declared.states.Origin.{Origin}
 use Rattle.region_walk.specs.Slots.{origin_of}
 use Rattle.region_walk.specs.Tables.{FindsNumber}
 use Rattle.region_walk.proofs.TableGrowth.{found-both, slot_word-found, memory_word-found}
-use Rattle.region_walk.proofs.singles.word_at.Goals as goal
+use Rattle.region_walk.proofs.behind.word_at.Goals as goal
 
 pub number_for-requires-in-Loaded-clause-names : goal.number_for-requires-in-Loaded-clause-names
 number_for-requires-in-Loaded-clause-names c = found-both _ _ _ _ _ _ c.requires.block c.in-Ok.ensures

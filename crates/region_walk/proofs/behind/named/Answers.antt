@@ -4,7 +4,7 @@ use Rattle.std.proofs.lemmas.Result.{IfOk-weaker}
 use Rattle.symbolic_values.specs.Trees.{Const}
 use Rattle.region_walk.specs.Tables.{FindsNumber}
 use Rattle.region_walk.proofs.TableGrowth.{found-both, named-found}
-use Rattle.region_walk.proofs.singles.named.Goals as goal
+use Rattle.region_walk.proofs.behind.named.Goals as goal
 
 pub number_for-requires-in-Ok-clause-names : goal.number_for-requires-in-Ok-clause-names
 number_for-requires-in-Ok-clause-names c = found-both _ _ _ _ _ _ c.requires.number c.in-Ok.ensures
