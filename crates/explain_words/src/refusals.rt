@@ -11,10 +11,10 @@ use gr_word::Label;
 use lt_assembler::disassemble;
 use lt_checker::{CheckError, Reason, check};
 use lt_isa::{Instr, Object};
-use note_infer::{InferError, infer, known_behind};
+use note_infer::{InferError, infer};
 use region_walk::{Crossing, RegionValues, cross};
 use std::alloc::Global;
-use trace_patterns::Known;
+use trace_patterns::{Known, known_behind};
 
 /// What is known at a place, and the branch of the region that contains the place, if there is one.
 #[derive(Drop)]

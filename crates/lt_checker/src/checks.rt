@@ -8,13 +8,12 @@ ghost use Rattle.lt_checker.specs.Answers.{IsRefusalOf, HandsBack};
 
 use crate::effects::Refusal;
 use crate::places::lowest_refusal;
-use crate::rules::is_ram;
 use crate::tables::table_of;
 use gr_word::{Label, Memory};
 use lt_isa::{Object, Symbol};
 use std::alloc::Global;
 use std::marker::Model;
-use trace_patterns::Reason;
+use trace_patterns::{Reason, is_ram};
 
 /// Why a check has no accepted object. Both variants return the object as it was.
 #[derive(Debug, Drop)]

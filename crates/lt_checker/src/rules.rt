@@ -9,8 +9,8 @@ ghost use Rattle.lt_checker.specs.Tables.{IsTableOf};
 
 use crate::tables;
 use lt_isa::instruction_table::target_of;
-use lt_isa::{BankKind, Instr, Object, bank_kind};
-use trace_patterns::{Known, Reason};
+use lt_isa::{Instr, Object};
+use trace_patterns::{Known, Reason, is_ram, shows_block};
 
 /// The ruling on an instruction. What is known after the instruction is stored separately.
 #[derive(Clone, Copy, Debug)]
@@ -51,8 +51,7 @@ pub fn rule_of(
             Ruling::Falls
         }
         Instr::Alu { rd, ra, rb, .. } => {
-            let secret = known.either_secret(ra, rb);
-            known.set_secret(rd, secret);
+            known.label_operation(rd, ra, rb);
             Ruling::Falls
         }
         Instr::Ldb { slot, bank, reg } => load_block(known, slot, bank, reg),
@@ -111,8 +110,8 @@ fn name_block(known: &mut Known, register: u8, slot: u8) -> Ruling
 {
     match known.bank(slot) {
         None => Ruling::Refused(Reason::UnboundSlot),
-        Some(bank) => {
-            known.set_secret(register, !shows_block(bank));
+        Some(_) => {
+            known.label_block_number(register, slot);
             Ruling::Falls
         }
     }
@@ -129,9 +128,8 @@ fn load_word(known: &mut Known, register: u8, slot: u8, offset: u8) -> Ruling
 {
     match known.bank(slot) {
         None => Ruling::Refused(Reason::UnboundSlot),
-        Some(bank) => {
-            let secret = !is_ram(bank) || known.is_secret(offset);
-            known.set_secret(register, secret);
+        Some(_) => {
+            known.label_word(register, slot, offset);
             Ruling::Falls
         }
     }
@@ -193,26 +191,4 @@ pub fn claimed_at(object: &Object, table: &[Option<u32>], place: usize) -> Optio
     ensures { result ≡ claimed_at object.now place }
 {
     tables::claimed_at(object.notes(), table, place)
-}
-
-/// Whether the observer sees the number of the block in an access to this bank.
-pub fn shows_block(bank: u8) -> bool
-    ensures { result ≡ shows_block bank }
-{
-    match bank_kind(bank) {
-        BankKind::Plain => true,
-        BankKind::Encrypted => true,
-        BankKind::Oblivious => false,
-    }
-}
-
-/// Whether a bank is plain memory.
-pub fn is_ram(bank: u8) -> bool
-    ensures { result ≡ is_ram bank }
-{
-    match bank_kind(bank) {
-        BankKind::Plain => true,
-        BankKind::Encrypted => false,
-        BankKind::Oblivious => false,
-    }
 }

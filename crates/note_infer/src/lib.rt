@@ -7,7 +7,6 @@
 #![tactic(auto)]
 
 mod brings;
-mod carried;
 mod copies;
 mod crossed;
 mod faults;
@@ -25,7 +24,6 @@ mod raises;
 mod search;
 mod targets;
 
-pub use carried::known_behind;
 pub use faults::InferError;
 pub use inference::infer;
 pub use laws::least_note_laws;

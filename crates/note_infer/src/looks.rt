@@ -8,14 +8,13 @@ ghost use Rattle.note_infer.specs.Least.{IsFull};
 ghost use Rattle.note_infer.specs.Brings.{AllFull, BringsInside, Looks};
 
 use crate::brings::bring;
-use crate::carried::known_behind;
 use crate::crossed::Crossed;
 use gr_word::Memory;
 use lt_isa::instruction_table::target_of;
 use lt_isa::{Instr, Object};
 use region_walk::{Carried, NextStep, RegionValues, carry, next_step_of};
 use std::alloc::Global;
-use trace_patterns::Known;
+use trace_patterns::{Known, known_behind};
 
 /// Brings what is known to a place, if it is one of the code.
 #[tactic(auto, using(crate::proofs::Looking::full_at))]

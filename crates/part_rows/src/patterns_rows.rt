@@ -80,7 +80,9 @@ fn gaps_that_meet_are_one(rt: HostRuntime) -> Result<(), Fail> {
 
 #[test]
 fn what_is_known_fits_a_note(rt: HostRuntime) {
-    let mut known = Known::start().with_register(5, true).with_bank(0, 9);
+    let mut known = Known::start();
+    known.set_secret(5, true);
+    known.set_bank(0, 9);
     known.set_secret(5, false);
     known.set_secret(3, true);
     known.set_bank(0, 2);

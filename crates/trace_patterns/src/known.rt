@@ -104,27 +104,6 @@ impl Known {
         self.slots[slot as usize] = bank;
     }
 
-    /// A copy with another label of a register.
-    pub fn with_register(&self, register: u8, secret: bool) -> Known
-        requires { register < 32 }
-        ensures { result ≡ set_secret self.now register secret }
-    {
-        let mut known = self.copied();
-        known.set_secret(register, secret);
-        known
-    }
-
-    /// A copy in which a slot is bound to a bank.
-    pub fn with_bank(&self, slot: u8, bank: u8) -> Known
-        requires slot { slot < 8 }
-        requires bank { bank < 255 }
-        ensures { result ≡ set_bank self.now slot bank }
-    {
-        let mut known = self.copied();
-        known.set_bank(slot, bank);
-        known
-    }
-
     /// A copy.
     pub fn copied(&self) -> Known
         ensures { result ≡ self.now }

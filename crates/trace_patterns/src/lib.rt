@@ -5,11 +5,13 @@
 //! instruction, which places are visited, when a region is crossed, and when an object is accepted.
 #![tactic(auto)]
 
+mod carried;
 pub mod events;
 pub mod known;
 pub mod patterns;
 pub mod reasons;
 
+pub use carried::{is_ram, known_behind, shows_block};
 pub use events::SymEvent;
 pub use known::Known;
 pub use patterns::Pattern;
