@@ -1,6 +1,6 @@
 //! Why a source is refused.
 
-ghost use Rattle.src_procs.specs.Promise.{ArePlain};
+ghost use Rattle.std.specs.Prelude.{◌≤◌, ◌^◌, length};
 
 use crate::bytes::explain_byte;
 use crate::call_faults::explain_calls_fault;
@@ -10,12 +10,12 @@ use crate::typing::explain_typing;
 use crate::unexpected::explain_tokens;
 use crate::words::Words;
 use bank_alloc::{PlaceError, banks};
-use flow_types::{Typed, type_program};
+use flow_types::{TypeError, Typed, type_program};
 use gr_word::Label;
-use procs_parser::parse_procs;
+use procs_parser::read_file;
 use src_lexer::{LexError, lex};
-use src_parser::parse;
-use src_procs::{ProcFile, inline};
+use src_parser::{ParseError, TextError, read_source};
+use src_procs::{InlineError, inline};
 use src_tree::Program;
 use std::alloc::Global;
 
@@ -38,25 +38,82 @@ pub(crate) fn explain_source(
     if text.len() > SOURCE_BYTES {
         return;
     }
-    match lex(alloc, text) {
-        Err(fault) => explain_piece(alloc, Source { name, text }, fault, out),
-        Ok(all) => {
-            let all = all.as_slice();
-            let tokens = Tokens { name, text, all };
-            if has_procs {
-                explain_procedures(alloc, tokens, room, out)
-            } else {
-                explain_plain(alloc, tokens, room, out)
+    let found = if has_procs {
+        typed_file(alloc, text)
+    } else {
+        typed_source(alloc, text)
+    };
+    match found {
+        Ok(typed) => explain_room(alloc, name, &typed, room, out),
+        Err(Fault::Piece(fault)) => explain_piece(alloc, Source { name, text }, fault, out),
+        Err(fault) => match lex(alloc, text) {
+            Ok(all) => {
+                let all = all.as_slice();
+                explain_fault(alloc, Tokens { name, text, all }, has_procs, fault, out)
             }
+            Err(_) => out.starve(),
+        },
+    }
+}
+
+// The first fault of a source: of its pieces, of its tokens, of its calls, or of its program.
+#[derive(Drop)]
+enum Fault {
+    Piece(LexError),
+    Token(ParseError),
+    Call(InlineError),
+    Program(TypeError),
+}
+
+impl From<TextError> for Fault {
+    fn from(error: TextError) -> Fault {
+        match error {
+            TextError::Pieces(fault) => Fault::Piece(fault),
+            TextError::Tokens(fault) => Fault::Token(fault),
         }
     }
 }
 
-// A file without procedures.
-fn explain_plain(alloc: Global, tokens: Tokens<'_>, room: Room, out: &mut Words) {
-    match parse(alloc, tokens.all) {
-        Ok(program) => explain_program(alloc, tokens, program, room, out),
-        Err(fault) => explain_tokens(alloc, tokens, false, fault, out),
+// The program of a source. No list of its tokens is kept beside its tree.
+fn typed_source(alloc: Global, text: &[u8]) -> Result<Typed, Fault>
+    requires { length text.now ≤ 2 ^ 20 }
+{
+    typed(alloc, read_source(alloc, text)?)
+}
+
+// The program without calls of a source with procedures. The source's own tree isn't kept beside it.
+fn typed_file(alloc: Global, text: &[u8]) -> Result<Typed, Fault>
+    requires { length text.now ≤ 2 ^ 20 }
+{
+    let file = read_file(alloc, text)?;
+    let made = inline(alloc, &file);
+    drop(file);
+    match made {
+        Ok(program) => typed(alloc, program),
+        Err(fault) => Err(Fault::Call(fault)),
+    }
+}
+
+fn typed(alloc: Global, program: Program) -> Result<Typed, Fault> {
+    match type_program(alloc, program) {
+        Ok(typed) => Ok(typed),
+        Err(fault) => Err(Fault::Program(fault)),
+    }
+}
+
+// Explains a fault of the tokens or of what they are.
+fn explain_fault(
+    alloc: Global,
+    tokens: Tokens<'_>,
+    has_procs: bool,
+    fault: Fault,
+    out: &mut Words,
+) {
+    match fault {
+        Fault::Piece(_) => {}
+        Fault::Token(fault) => explain_tokens(alloc, tokens, has_procs, fault, out),
+        Fault::Call(fault) => explain_calls_fault(alloc, tokens, fault, out),
+        Fault::Program(fault) => explain_typing(alloc, tokens, fault, out),
     }
 }
 
@@ -76,36 +133,6 @@ fn explain_piece(alloc: Global, source: Source<'_>, fault: LexError, out: &mut W
             out,
         ),
         LexError::Memory => out.starve(),
-    }
-}
-
-fn explain_program(
-    alloc: Global,
-    tokens: Tokens<'_>,
-    program: Program,
-    room: Room,
-    out: &mut Words,
-) {
-    match type_program(alloc, program) {
-        Ok(typed) => explain_room(alloc, tokens.name, &typed, room, out),
-        Err(fault) => explain_typing(alloc, tokens, fault, out),
-    }
-}
-
-// A file with procedures: its first fault, or that of the program without calls.
-fn explain_procedures(alloc: Global, tokens: Tokens<'_>, room: Room, out: &mut Words) {
-    match parse_procs(alloc, tokens.all) {
-        Err(fault) => explain_tokens(alloc, tokens, true, fault, out),
-        Ok(file) => explain_calls(alloc, tokens, &file, room, out),
-    }
-}
-
-fn explain_calls(alloc: Global, tokens: Tokens<'_>, file: &ProcFile, room: Room, out: &mut Words)
-    requires { ArePlain file.now.decls.items }
-{
-    match inline(alloc, file) {
-        Ok(program) => explain_program(alloc, tokens, program, room, out),
-        Err(fault) => explain_calls_fault(alloc, tokens, fault, out),
     }
 }
 
