@@ -107,7 +107,7 @@ pub one_file : (most : Limits) (tokens : List TokenKind) (f g : File) → Spells
     → SpellsFile most tokens g → f ≡ g
 one_file most tokens f g s t = let a = file_read s in let b = file_read t in cc
 
--- why tokens aren't all read, as an error of all tokens, whatever follows
+-- why tokens aren't all read, as an error of all tokens, for any tokens after them
 pub stops_explained : (before tokens after : List Token) (state : ParserState) (e : ParseError)
     → ReadsTo taken (Between []) before state → Stops taken state tokens e
     → ExplainsFile e ((before ++ tokens) ++ after)

@@ -49,6 +49,10 @@ begins_with_token : (text : List ℕ) (end n : ℕ) (k : TokenKind) → Allows e
 begins_with_token text end n k a =
     record { splits = λ r t. a.2 r (subst (λ z. Splits (end + n) z r) (sym (drop-drop n end text)) t) }
 
+-- one more token, where there is room for it
+pub few_enough : (tokens : List Token) (t : Token) {most : ℕ} → length tokens < most → length (tokens ++ t ∷ []) ≤ most
+few_enough tokens t room = let more = length-append tokens (t ∷ []) in omega arith
+
 -- white space or a comment is skipped
 pub skips_from : {text rest : List ℕ} {at end n : ℕ} {tokens : List Token}
     → Stands text at end tokens → end < length text → rest ≡ drop end text → Skipped n ≡ found_in end rest

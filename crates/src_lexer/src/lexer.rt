@@ -51,6 +51,7 @@ impl<'a> Lexer<'a> {
     /// first error is among the next tokens, it is returned. `Memory` says nothing about the text.
     pub fn next(&mut self, alloc: Global) -> Result<Vec<Token>, LexError>
         ensures begins { IfOk result (λ tokens. BeginsWith self.old tokens.items self.new) }
+        ensures few { IfOk result (λ tokens. length tokens.items ≤ 2048) }
         ensures goes { IfOk result (λ tokens.
             ((tokens.items ≡ []) × (self.new.rest ≡ [])) ⊎ (length self.new.rest < length self.old.rest)) }
         ensures ends { IfOk result (λ tokens. tokens.items ≡ [] → self.new.rest ≡ []) }
@@ -81,6 +82,7 @@ pub(crate) fn read_from<'a>(
     requires within { at ≤ length text.now }
     ensures begins { IfOk result (λ read.
         BeginsWith (left_from at text.now) read.tokens.items (left_from read.end text.now)) }
+    ensures bounded { IfOk result (λ read. length read.tokens.items ≤ most) }
     ensures sizes { IfOk result (λ read. at + length read.tokens.items ≤ read.end) }
     ensures inside { IfOk result (λ read. read.end ≤ length text.now) }
     ensures stops { IfOk result (λ read. (length text.now ≤ read.end) ⊎ (most ≤ length read.tokens.items)) }

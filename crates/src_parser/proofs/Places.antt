@@ -82,7 +82,7 @@ pub next_begins : (tokens before after : List Token) (token : Token) (p : Source
 next_begins tokens before after token p split s =
     begun (tokenwise.next_begins program_laws tokens before after token p split s)
 
--- why tokens aren't all read, as an error of all tokens, whatever follows
+-- why tokens aren't all read, as an error of all tokens, for any tokens after them
 pub stops_explained : (before tokens after : List Token) (state : ParserState) (e : ParseError)
     → ReadsTo advanced start before state → Stops advanced state tokens e
     → ExplainsTokens e ((before ++ tokens) ++ after)

@@ -93,7 +93,7 @@ around a b c d t = simp append_assoc refl
 module _ {S P : Type 0} {advanced : Limits → S → TokenKind → Advance S} {gives : S → Option P} {open_braces : S → ℕ}
     {start : S} {Sentence : Limits → List TokenKind → P → Type 0} {Standing : Limits → S → List TokenKind → Type 0}
     (laws : Laws advanced gives open_braces start Sentence Standing) where
-  -- a token with which no sentence can continue, whatever follows
+  -- a token with which no sentence can continue, for any tokens after it
   pub stray_after : (before tokens after : List Token) (state : S) (at : ℕ) → ReadsTo advanced start before state
       → StopsAt advanced state tokens at Wrong → Stray Sentence ((before ++ tokens) ++ after) at
   stray_after before tokens after state at read s =
@@ -108,7 +108,7 @@ module _ {S P : Type 0} {advanced : Limits → S → TokenKind → Advance S} {g
         none = λ most. wrong_begins laws limits most (token_kinds (before ++ s.front)) s.token.kind s.last all s.stops;
       }
 
-  -- a token that would nest too deep, whatever follows
+  -- a token that would nest too deep, for any tokens after it
   pub deeper_after : (before tokens after : List Token) (state : S) (at : ℕ) → ReadsTo advanced start before state
       → StopsAt advanced state tokens at TooMuch → Deeper Sentence ((before ++ tokens) ++ after) at
   deeper_after before tokens after state at read s =
