@@ -48,7 +48,7 @@ impl Variable {
         self.declared.is_secret && self.declared.is_array
     }
 
-    // Whether no further use of it matters: it is used, and it is no secret array that may have one secret index.
+    // Whether no further use of it matters: it is used, and it can no longer be a secret array with one secret index.
     fn is_settled(&self) -> bool {
         let Indexes { secret, public, .. } = self.indexes;
         self.is_used && (!self.is_secret_array() || secret > 1 || public == u64::MAX)

@@ -54,7 +54,7 @@ fn sizes_fault(p: &Program) -> Option<TypeError>
 }
 
 // The first error of a program with these names, whose statements were surveyed. If the survey found none of them
-// faulty, there is no need to look for the first that is.
+// faulty, no first one is looked for.
 fn fault_in<'a>(names: &Names<'a>, survey: Weighed, p: &'a Program) -> Option<TypeError>
     requires { survey.faulty ≡ is_faulty_block (found_under names.now) Public (source_of p.now).body }
     ensures { result ≡ found (found_under names.now) survey.weight (source_of p.now) }
