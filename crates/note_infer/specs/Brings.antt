@@ -4,6 +4,7 @@ use Rattle.std.specs.Prelude.{◌≡◌, ℕ, ◌+◌, ◌*◌, ◌<◌, ◌≤�
 use Rattle.lt_isa.specs.Object.{Parts}
 use Rattle.lt_isa.specs.Ranges.{IsInRange}
 use Rattle.trace_patterns.specs.Known.{Known, bank_known}
+use Rattle.note_infer.specs.declared.looks.Spot.{Spot}
 use Rattle.note_infer.specs.Steps.{IsReachable}
 use Rattle.note_infer.specs.Least.{States, IsFull}
 use Rattle.note_infer.specs.UnderWay.{IsRaisedTo, IsUnderWay, room_left}
@@ -70,3 +71,11 @@ pub data BringsInside (states : List (Option Known)) (stack : List ℕ) (place :
 
 abbrev pub AllFull : List (Option Known) → Type 0
 AllFull states = (p : ℕ) (k : Known) → slice_index_or states p None ≡ Some k → IsFull k
+
+-- a place of the code, at which this is known
+pub record IsAt (spot : Spot) (states : List (Option Known)) : Type 0 where
+  pub range : IsInRange spot.object.now
+  pub size : length states ≡ length spot.object.now.code
+  pub inside : spot.place < length states
+  pub full : AllFull states
+  pub at : slice_index_or states spot.place None ≡ Some spot.known.now

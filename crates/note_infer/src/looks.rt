@@ -5,7 +5,7 @@ ghost use Rattle.trace_patterns.specs.Carried.{only_goes_on};
 ghost use Rattle.region_walk.specs.NextSteps.{BranchStands};
 ghost use Rattle.note_infer.specs.Ways.{is_crossed};
 ghost use Rattle.note_infer.specs.Least.{IsFull};
-ghost use Rattle.note_infer.specs.Brings.{AllFull, BringsInside, Looks};
+ghost use Rattle.note_infer.specs.Brings.{AllFull, BringsInside, IsAt, Looks};
 
 use crate::brings::bring;
 use crate::crossed::Crossed;
@@ -15,6 +15,15 @@ use lt_isa::{Instr, Object};
 use region_walk::{Carried, NextStep, RegionValues, carry, next_step_of};
 use std::alloc::Global;
 use trace_patterns::{Known, known_behind};
+
+/// A place that is looked at, and what is known there.
+#[derive(Clone, Copy)]
+pub struct Spot<'a> {
+    pub object: &'a Object,
+    pub crossed: &'a Crossed,
+    pub place: u32,
+    pub known: &'a Known,
+}
 
 /// Brings what is known to a place, if it is one of the code.
 #[tactic(auto, using(crate::proofs::Looking::full_at))]
@@ -38,103 +47,75 @@ pub fn bring_inside(
 
 /// Looks at a place whose instruction only continues: what is known after it is brought to the next place.
 pub fn look_on(
-    object: &Object,
-    crossed: &Crossed,
+    spot: Spot,
     states: &mut [Option<Known>],
     stack: &mut Vec<u32>,
-    place: u32,
-    known: &Known,
     instr: Instr,
 ) -> Result<(), Memory>
-    requires range { IsInRange object.now }
-    requires size { length states.old ≡ length object.now.code }
-    requires inside { place < length states.old }
-    requires full { AllFull states.old }
-    requires at { slice_index_or states.old place None ≡ Some known.now }
-    requires code { slice_get object.now.code place ≡ Some instr }
+    requires spot { IsAt spot states.old }
+    requires code { slice_get spot.object.now.code spot.place ≡ Some instr }
     requires goes { only_goes_on instr ≡ true }
-    ensures { OnOk result (Looks object.now crossed.now.list place states.old stack.old.items states.new
-        stack.new.items) }
+    ensures { OnOk result (Looks spot.entry.object.now spot.entry.crossed.now.list spot.entry.place states.old
+        stack.old.items states.new stack.new.items) }
 {
-    let next = known_behind(known, instr, object.banks().len());
-    bring_inside(states, stack, place as usize + 1, next)
+    let next = known_behind(spot.known, instr, spot.object.banks().len());
+    bring_inside(states, stack, spot.place as usize + 1, next)
 }
 
 /// Looks at a place whose instruction jumps.
 pub fn look_jump(
-    object: &Object,
-    crossed: &Crossed,
+    spot: Spot,
     states: &mut [Option<Known>],
     stack: &mut Vec<u32>,
-    place: u32,
-    known: &Known,
     offset: i32,
 ) -> Result<(), Memory>
-    requires range { IsInRange object.now }
-    requires size { length states.old ≡ length object.now.code }
-    requires inside { place < length states.old }
-    requires full { AllFull states.old }
-    requires at { slice_index_or states.old place None ≡ Some known.now }
-    requires code { slice_get object.now.code place ≡ Some (Instr.Jmp offset) }
-    ensures { OnOk result (Looks object.now crossed.now.list place states.old stack.old.items states.new
-        stack.new.items) }
+    requires spot { IsAt spot states.old }
+    requires code { slice_get spot.object.now.code spot.place ≡ Some (Instr.Jmp offset) }
+    ensures { OnOk result (Looks spot.entry.object.now spot.entry.crossed.now.list spot.entry.place states.old
+        stack.old.items states.new stack.new.items) }
 {
-    let target = target_of(object, place as usize, offset);
-    bring_inside(states, stack, target, known.copied())
+    let target = target_of(spot.object, spot.place as usize, offset);
+    bring_inside(states, stack, target, spot.known.copied())
 }
 
 /// Looks at a place whose branch isn't crossed.
 pub fn look_branch(
-    object: &Object,
-    crossed: &Crossed,
+    spot: Spot,
     states: &mut [Option<Known>],
     stack: &mut Vec<u32>,
-    place: u32,
-    known: &Known,
     offset: i32,
 ) -> Result<(), Memory>
-    requires range { IsInRange object.now }
-    requires size { length states.old ≡ length object.now.code }
-    requires inside { place < length states.old }
-    requires full { AllFull states.old }
-    requires at { slice_index_or states.old place None ≡ Some known.now }
-    requires code { BranchStands object.now place offset }
-    requires apart { is_crossed crossed.now.list place ≡ false }
-    ensures { OnOk result (Looks object.now crossed.now.list place states.old stack.old.items states.new
-        stack.new.items) }
+    requires spot { IsAt spot states.old }
+    requires code { BranchStands spot.object.now spot.place offset }
+    requires apart { is_crossed spot.crossed.now.list spot.place ≡ false }
+    ensures { OnOk result (Looks spot.entry.object.now spot.entry.crossed.now.list spot.entry.place states.old
+        stack.old.items states.new stack.new.items) }
 {
-    let target = target_of(object, place as usize, offset);
-    match bring_inside(states, stack, place as usize + 1, known.copied()) {
+    let target = target_of(spot.object, spot.place as usize, offset);
+    match bring_inside(states, stack, spot.place as usize + 1, spot.known.copied()) {
         Err(_) => Err(Memory),
-        Ok(()) => bring_inside(states, stack, target, known.copied()),
+        Ok(()) => bring_inside(states, stack, target, spot.known.copied()),
     }
 }
 
 /// Looks at a place whose branch is crossed.
 pub fn look_over(
     alloc: Global,
-    object: &Object,
-    crossed: &Crossed,
+    spot: Spot,
     shared: &mut RegionValues,
     states: &mut [Option<Known>],
     stack: &mut Vec<u32>,
-    place: u32,
-    known: &Known,
     offset: i32,
 ) -> Result<(), Memory>
-    requires range { IsInRange object.now }
-    requires bare { object.now.notes ≡ [] }
-    requires size { length states.old ≡ length object.now.code }
-    requires inside { place < length states.old }
-    requires full { AllFull states.old }
-    requires at { slice_index_or states.old place None ≡ Some known.now }
-    requires code { BranchStands object.now place offset }
+    requires spot { IsAt spot states.old }
+    requires bare { spot.object.now.notes ≡ [] }
+    requires code { BranchStands spot.object.now spot.place offset }
     requires offset { IsOffset offset }
-    requires among { is_crossed crossed.now.list place ≡ true }
-    ensures { OnOk result (Looks object.now crossed.now.list place states.old stack.old.items states.new
-        stack.new.items) }
+    requires among { is_crossed spot.crossed.now.list spot.place ≡ true }
+    ensures { OnOk result (Looks spot.entry.object.now spot.entry.crossed.now.list spot.entry.place states.old
+        stack.old.items states.new stack.new.items) }
 {
-    match carry(alloc, object, shared, known, place, offset) {
+    match carry(alloc, spot.object, shared, spot.known, spot.place, offset) {
         Carried::Memory => Err(Memory),
         Carried::Unshaped => Ok(()),
         Carried::Joins { join, known: next } => bring_inside(states, stack, join as usize, next),
@@ -145,36 +126,27 @@ pub fn look_over(
 #[tactic(auto, using(crate::proofs::Looking::looks_halt_at, crate::proofs::Looking::branches_at, crate::proofs::Looking::jumps_at))]
 pub fn look_by(
     alloc: Global,
-    object: &Object,
-    crossed: &Crossed,
+    spot: Spot,
     shared: &mut RegionValues,
     states: &mut [Option<Known>],
     stack: &mut Vec<u32>,
-    place: u32,
-    known: &Known,
     instr: Instr,
 ) -> Result<(), Memory>
-    requires range { IsInRange object.now }
-    requires bare { object.now.notes ≡ [] }
-    requires size { length states.old ≡ length object.now.code }
-    requires inside { place < length states.old }
-    requires full { AllFull states.old }
-    requires at { slice_index_or states.old place None ≡ Some known.now }
-    requires code { slice_get object.now.code place ≡ Some instr }
-    ensures { OnOk result (Looks object.now crossed.now.list place states.old stack.old.items states.new
-        stack.new.items) }
+    requires spot { IsAt spot states.old }
+    requires bare { spot.object.now.notes ≡ [] }
+    requires code { slice_get spot.object.now.code spot.place ≡ Some instr }
+    ensures { OnOk result (Looks spot.entry.object.now spot.entry.crossed.now.list spot.entry.place states.old
+        stack.old.items states.new stack.new.items) }
 {
     match next_step_of(instr) {
-        NextStep::Goes => look_on(object, crossed, states, stack, place, known, instr),
+        NextStep::Goes => look_on(spot, states, stack, instr),
         NextStep::Halts => Ok(()),
-        NextStep::Jumps(offset) => look_jump(object, crossed, states, stack, place, known, offset),
+        NextStep::Jumps(offset) => look_jump(spot, states, stack, offset),
         NextStep::Branches(offset) => {
-            if crossed.has(place) {
-                look_over(
-                    alloc, object, crossed, shared, states, stack, place, known, offset,
-                )
+            if spot.crossed.has(spot.place) {
+                look_over(alloc, spot, shared, states, stack, offset)
             } else {
-                look_branch(object, crossed, states, stack, place, known, offset)
+                look_branch(spot, states, stack, offset)
             }
         }
     }
@@ -203,9 +175,13 @@ pub fn look_at(
         None => Ok(()),
         Some(known) => {
             let instr = object.code()[place as usize];
-            look_by(
-                alloc, object, crossed, shared, states, stack, place, &known, instr,
-            )
+            let spot = Spot {
+                object,
+                crossed,
+                place,
+                known: &known,
+            };
+            look_by(alloc, spot, shared, states, stack, instr)
         }
     }
 }

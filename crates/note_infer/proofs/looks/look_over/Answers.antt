@@ -10,37 +10,43 @@ use Rattle.note_infer.proofs.Looking.{looks_over_at, looks_nowhere_at, full_join
 use Rattle.note_infer.proofs.looks.look_over.Goals as goal
 use Rattle.note_infer.proofs.looks.look_over.Goals.{In-Joins}
 
-carried : (c : In-Joins) → IsCarriedTo c.args.object.now c.args.place c.args.offset c.args.known.now c.in-Joins.join
-    c.in-Joins.next
+carried : (c : In-Joins) → IsCarriedTo c.args.spot.object.now c.args.spot.place c.args.offset c.args.spot.known.now
+    c.in-Joins.join c.in-Joins.next
 carried c =
-    subst (λ (z : ℤ). IsCarriedTo c.args.object.now c.args.place z c.args.known.now c.in-Joins.join c.in-Joins.next)
+    let spot = c.args.spot in
+    subst (λ (z : ℤ). IsCarriedTo spot.object.now spot.place z spot.known.now c.in-Joins.join c.in-Joins.next)
     (handed_on c.args.offset c.requires.offset) c.in-Joins.ensures
 
 -- src/looks.rt:137:49
 pub bring_inside-requires-clause-next : goal.bring_inside-requires-clause-next
 bring_inside-requires-clause-next c =
-    full_joined c.args.object.now c.args.place c.args.offset c.args.known.now c.in-Joins.join c.in-Joins.next
-    (c.requires.full c.args.place c.args.known.now c.requires.at)
+    let spot = c.args.spot in
+    full_joined spot.object.now spot.place c.args.offset spot.known.now c.in-Joins.join c.in-Joins.next
+    (c.requires.spot.full spot.place spot.known.now c.requires.spot.at)
     (carried (goal.at.bring_inside-requires-clause-next c).In-Joins).joins
 
 -- src/looks.rt:112:1
 pub returns-in-Unshaped : goal.returns-in-Unshaped
 returns-in-Unshaped c =
-    looks_nowhere_at c.args.object.now c.args.crossed.now.list c.args.place c.args.known.now c.args.states.now
-    c.args.stack.now.items c.requires.at (c.requires.full c.args.place c.args.known.now c.requires.at) c.requires.size
-    c.requires.inside c.args.offset c.requires.code c.requires.among
+    let spot = c.args.spot in
+    let is = c.requires.spot in
+    looks_nowhere_at spot.object.now spot.crossed.now.list spot.place spot.known.now c.args.states.now
+    c.args.stack.now.items is.at (is.full spot.place spot.known.now is.at) is.size
+    is.inside c.args.offset c.requires.code c.requires.among
     (subst (λ (z : ℤ). (join : ℕ) (next : Known)
-    → JoinsIn c.args.object.now c.args.place z c.args.known.now join next → ⊥)
+    → JoinsIn spot.object.now spot.place z spot.known.now join next → ⊥)
     (handed_on c.args.offset c.requires.offset) c.in-Unshaped.ensures)
 
 -- src/looks.rt:112:1
 pub returns-in-Joins : goal.returns-in-Joins
 returns-in-Joins c =
+    let spot = c.args.spot in
+    let is = c.requires.spot in
     on_ok_weaker c.bring_inside.result
     (λ (h : BringsInside c.args.states.now c.args.stack.now.items c.in-Joins.join c.in-Joins.next
     c.bring_inside.new.states c.bring_inside.new.stack.items).
-    looks_over_at c.args.object.now c.args.crossed.now.list c.args.place c.args.known.now c.args.states.now
-    c.args.stack.now.items c.requires.at (c.requires.full c.args.place c.args.known.now c.requires.at) c.requires.size
-    c.requires.inside c.args.offset c.in-Joins.join c.in-Joins.next c.bring_inside.new.states
+    looks_over_at spot.object.now spot.crossed.now.list spot.place spot.known.now c.args.states.now
+    c.args.stack.now.items is.at (is.full spot.place spot.known.now is.at) is.size
+    is.inside c.args.offset c.in-Joins.join c.in-Joins.next c.bring_inside.new.states
     c.bring_inside.new.stack.items c.requires.code c.requires.among
     (carried (goal.at.returns-in-Joins c).In-Joins) h) c.bring_inside.ensures
