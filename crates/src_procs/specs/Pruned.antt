@@ -1,11 +1,15 @@
 -- For private clauses only: statements without the calls that add nothing.
-use Rattle.std.specs.Prelude.{◌≡◌, ℕ, zero, suc, ◌<◌, List, [], ◌∷◌, length, reverse, take, slice_index_or, Option, Some, None}
+use Rattle.std.specs.Prelude.{◌≡◌, ℕ, zero, suc, ◌<◌, ◌≤◌, List, [], ◌∷◌, length, map, reverse, take, slice_index_or, Option, Some, None}
 use Rattle.src_tree.specs.FirstFault.{shown_number}
 use Rattle.src_procs.specs.Trees.{Statement, SetVariable, SetElement, Choice, Loop, Call, Block, Nothing, Then, Procedure}
 use Rattle.src_procs.specs.Inlined.{Renaming, inlines_of, inlined_all}
 use Rattle.src_procs.specs.Sizes.{CallSizes}
 use Rattle.src_procs.specs.Needed.{DependsOn, LiveBody, kept_from, no_body}
-use Rattle.src_procs.specs.Views.{no_procedure}
+use Rattle.src_procs.specs.Views.{bodies_of, no_procedure}
+use Rattle.src_procs.specs.Numbered.{AreNumbered}
+use Rattle.src_procs.specs.Seen.{procedure_of}
+use Rattle.src_procs.specs.declared.stepping.Procedures.{Procedures}
+use Rattle.gr_base.specs.NameMaps.{found_under}
 
 -- a statement, unless it is replaced by none
 abbrev pub unless_none : ℕ → Statement → Option Statement
@@ -48,3 +52,9 @@ pub record IsPruned (earlier : List Procedure) (p : Procedure) (body : LiveBody)
 pub record ArePruned (ps : List Procedure) (bodies : List LiveBody) : Type 0 where
   pub each : (k : ℕ) → k < length bodies
       → IsPruned (reverse (take k ps)) (slice_index_or ps k no_procedure) (slice_index_or bodies k no_body)
+
+-- the procedures of a file, their numbers, and what is left of each
+pub record AreReady (file : Procedures) : Type 0 where
+  pub numbers : AreNumbered (map procedure_of file.procs.now) (found_under file.numbers.now)
+  pub bodies : ArePruned (map procedure_of file.procs.now) (bodies_of file.bodies.now)
+  pub whole : length file.procs.now ≤ length file.bodies.now

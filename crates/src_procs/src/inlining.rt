@@ -1,4 +1,4 @@
-ghost use Rattle.std.specs.Prelude.{◌≡◌, ◌++◌, ◌≤◌, ◌∷◌, [], IfErr, IfOk, OnOk, None, length, map};
+ghost use Rattle.std.specs.Prelude.{◌≡◌, ◌++◌, ◌∷◌, [], IfErr, IfOk, OnOk, None, length, map};
 ghost use Rattle.gr_base.specs.NameMaps.{found_under};
 ghost use Rattle.src_tree.specs.Trees.{source_of};
 ghost use Rattle.src_procs.specs.declared.errors.InlineError.{InlineError};
@@ -8,10 +8,10 @@ ghost use Rattle.src_procs.specs.InlineFaults.{IsFoundFault, inline_fault};
 ghost use Rattle.src_procs.specs.Inlined.{added, inlined_body, inlined_file};
 ghost use Rattle.src_procs.specs.Measured.{HasSizes};
 ghost use Rattle.src_procs.specs.Numbered.{AreNumbered};
-ghost use Rattle.src_procs.specs.Pruned.{ArePruned};
+ghost use Rattle.src_procs.specs.Pruned.{AreReady};
 ghost use Rattle.src_procs.specs.Promise.{ArePlain, KeepsMeaning};
 ghost use Rattle.src_procs.specs.Seen.{block_of_all, file_of, procedure_of};
-ghost use Rattle.src_procs.specs.Views.{bare_file, blocks_of, bodies_of, held_of, live_block, pending_all, statements_seen};
+ghost use Rattle.src_procs.specs.Views.{bare_file, blocks_of, held_of, live_block, pending_all, statements_seen};
 
 use crate::binding::new_name;
 use crate::call_faults::walk_file;
@@ -19,11 +19,10 @@ use crate::errors::InlineError;
 use crate::expanding::{Held, Left, Made, Pending, Work};
 use crate::finding::numbers_of;
 use crate::live::{Live, live_bodies, live_statements};
-use crate::needed::Body;
 use crate::own_names::{Numbers, procedures_fault};
 use crate::scopes::{Naming, Scope};
 use crate::sizes::{block_size, body_sizes};
-use crate::stepping::expand;
+use crate::stepping::{Procedures, expand};
 use crate::trees::{PStmt, Proc, ProcFile};
 use gr_base::Memory;
 use gr_word::Label;
@@ -137,22 +136,18 @@ fn start<'b, 'a>(
 // What is held once all calls are replaced, of statements from which the calls that add nothing were taken out.
 fn expanded_live<'b, 'a>(
     alloc: Global,
-    procs: &'a [Proc],
-    numbers: &Numbers<'a>,
-    bodies: &'b [Body<'a>],
+    file: Procedures<'b, 'a>,
     body: &'b [Live<'a>],
 ) -> Result<Held<'a>, Memory>
-    requires numbers { AreNumbered (map procedure_of procs.now) (found_under numbers.now) }
-    requires bodies { ArePruned (map procedure_of procs.now) (bodies_of bodies.now) }
-    requires whole { length procs.now ≤ length bodies.now }
-    ensures { IfOk result (λ h. held_of procs.now h
-        ≡ expanded (live_block body.now) (held_start (map procedure_of procs.now))) }
+    requires { AreReady file }
+    ensures { IfOk result (λ h. held_of file.entry.procs.now h
+        ≡ expanded (live_block body.now) (held_start (map procedure_of file.entry.procs.now))) }
 {
     let Work {
         mut waiting,
         mut held,
-    } = start(alloc, procs, body)?;
-    expand(alloc, procs, numbers, bodies, &mut waiting, &mut held)?;
+    } = start(alloc, file.procs, body)?;
+    expand(alloc, file, &mut waiting, &mut held)?;
     Ok(held)
 }
 
@@ -171,7 +166,12 @@ fn expanded<'a>(
 {
     let bodies = live_bodies(alloc, procs, numbers, sizes)?;
     let body = live_statements(alloc, procs, numbers, sizes, procs.len(), body)?;
-    let held = expanded_live(alloc, procs, numbers, bodies.as_slice(), body.as_slice())?;
+    let file = Procedures {
+        procs,
+        numbers,
+        bodies: bodies.as_slice(),
+    };
+    let held = expanded_live(alloc, file, body.as_slice())?;
     Ok(held)
 }
 

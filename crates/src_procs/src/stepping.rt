@@ -1,13 +1,11 @@
 ghost use Rattle.std.specs.Prelude.{◌≡◌, ◌≤◌, ◌∷◌, [], IfNone, IfSome, OnOk, length, map, reverse, take};
-ghost use Rattle.gr_base.specs.NameMaps.{found_under};
 ghost use Rattle.src_tree.specs.Trees.{test_of};
 ghost use Rattle.src_procs.specs.Expanding.{Rest, Return, assigned_one, expanded, expanded_one, finished, with_locals, with_scope};
 ghost use Rattle.src_procs.specs.Needed.{begun_by, with_kept};
-ghost use Rattle.src_procs.specs.Numbered.{AreNumbered};
-ghost use Rattle.src_procs.specs.Pruned.{ArePruned};
+ghost use Rattle.src_procs.specs.Pruned.{AreReady};
 ghost use Rattle.src_procs.specs.Seen.{procedure_of};
 ghost use Rattle.src_procs.specs.Trees.{Block, Call, Choice, Loop, Then};
-ghost use Rattle.src_procs.specs.Views.{bodies_of, found_at, held_of, live_block, live_of, names_of, pending_all, pending_of, placed_of, scope_of, trees_seen, unbound};
+ghost use Rattle.src_procs.specs.Views.{found_at, held_of, live_block, live_of, names_of, pending_all, pending_of, placed_of, scope_of, trees_seen, unbound};
 
 use crate::binding::bound_names;
 use crate::expanding::{
@@ -24,6 +22,16 @@ use gr_base::Memory;
 use gr_word::Name;
 use src_tree::{Decl, Expr, Guard};
 use std::alloc::Global;
+
+/// The procedures of a file, with what a call of one needs.
+#[derive(Clone, Copy)]
+pub(crate) struct Procedures<'b, 'a> {
+    pub procs: &'a [Proc],
+    /// Their numbers, by their names.
+    pub numbers: &'b Numbers<'a>,
+    /// What is left of each.
+    pub bodies: &'b [Body<'a>],
+}
 
 // What is held, with one more scope.
 fn scoped<'a>(procs: &'a [Proc], held: &mut Held<'a>, scope: Scope<'a>) -> Result<(), Memory>
@@ -62,9 +70,7 @@ fn begin_call<'a>(
 // A call of a procedure.
 fn call<'b, 'a>(
     alloc: Global,
-    procs: &'a [Proc],
-    numbers: &Numbers<'a>,
-    bodies: &'b [Body<'a>],
+    file: Procedures<'b, 'a>,
     waiting: &mut Vec<Pending<'b, 'a>>,
     name: &'a Name,
     arguments: &[&'a Expr],
@@ -73,13 +79,16 @@ fn call<'b, 'a>(
     held: &mut Held<'a>,
 ) -> Result<(), Memory>
     requires callable { callable ≡ scope.callable }
-    requires numbers { AreNumbered (map procedure_of procs.now) (found_under numbers.now) }
-    requires bodies { ArePruned (map procedure_of procs.now) (bodies_of bodies.now) }
-    requires whole { length procs.now ≤ length bodies.now }
-    ensures { OnOk result (finished (pending_all waiting.new.items) (held_of procs.now held.new)
+    requires file { AreReady file }
+    ensures { OnOk result (finished (pending_all waiting.new.items) (held_of file.entry.procs.now held.new)
         ≡ finished (pending_all waiting.old.items) (expanded_one (Call name.now (trees_seen arguments.now))
-        (with_scope (scope_of procs.now scope.entry) (held_of procs.now held.old)))) }
+        (with_scope (scope_of file.entry.procs.now scope.entry) (held_of file.entry.procs.now held.old)))) }
 {
+    let Procedures {
+        procs,
+        numbers,
+        bodies,
+    } = file;
     match called(procs, numbers, callable, name.bytes()) {
         None => scoped(procs, held, scope),
         Some(k) => {
@@ -166,28 +175,24 @@ fn repeat<'b, 'a>(
 // One statement, in the scope of its statements.
 fn statement<'b, 'a>(
     alloc: Global,
-    procs: &'a [Proc],
-    numbers: &Numbers<'a>,
-    bodies: &'b [Body<'a>],
+    file: Procedures<'b, 'a>,
     waiting: &mut Vec<Pending<'b, 'a>>,
     s: &'b Live<'a>,
     scope: Scope<'a>,
     held: &mut Held<'a>,
 ) -> Result<(), Memory>
-    requires numbers { AreNumbered (map procedure_of procs.now) (found_under numbers.now) }
-    requires bodies { ArePruned (map procedure_of procs.now) (bodies_of bodies.now) }
-    requires whole { length procs.now ≤ length bodies.now }
-    ensures { OnOk result (finished (pending_all waiting.new.items) (held_of procs.now held.new)
+    requires { AreReady file }
+    ensures { OnOk result (finished (pending_all waiting.new.items) (held_of file.entry.procs.now held.new)
         ≡ finished (pending_all waiting.old.items) (expanded_one (live_of s.now)
-        (with_scope (scope_of procs.now scope.entry) (held_of procs.now held.old)))) }
+        (with_scope (scope_of file.entry.procs.now scope.entry) (held_of file.entry.procs.now held.old)))) }
 {
     match s {
-        Live::Set(_, _) => put_assignment(alloc, procs, s, scope, held),
-        Live::Put(_, _, _) => put_assignment(alloc, procs, s, scope, held),
+        Live::Set(_, _) => put_assignment(alloc, file.procs, s, scope, held),
+        Live::Put(_, _, _) => put_assignment(alloc, file.procs, s, scope, held),
         Live::If(guard, first, second) => {
             choice(
                 alloc,
-                procs,
+                file.procs,
                 waiting,
                 *guard,
                 first.as_slice(),
@@ -197,15 +202,21 @@ fn statement<'b, 'a>(
             )
         }
         Live::While(guard, body) => {
-            repeat(alloc, procs, waiting, *guard, body.as_slice(), scope, held)
+            repeat(
+                alloc,
+                file.procs,
+                waiting,
+                *guard,
+                body.as_slice(),
+                scope,
+                held,
+            )
         }
         Live::Call(name, arguments) => {
             let callable = scope.callable;
             call(
                 alloc,
-                procs,
-                numbers,
-                bodies,
+                file,
                 waiting,
                 *name,
                 arguments.as_slice(),
@@ -220,24 +231,20 @@ fn statement<'b, 'a>(
 // A statement followed by others.
 fn first_of<'b, 'a>(
     alloc: Global,
-    procs: &'a [Proc],
-    numbers: &Numbers<'a>,
-    bodies: &'b [Body<'a>],
+    file: Procedures<'b, 'a>,
     waiting: &mut Vec<Pending<'b, 'a>>,
     s: &'b Live<'a>,
     others: &'b [Live<'a>],
     scope: Scope<'a>,
     held: &mut Held<'a>,
 ) -> Result<(), Memory>
-    requires numbers { AreNumbered (map procedure_of procs.now) (found_under numbers.now) }
-    requires bodies { ArePruned (map procedure_of procs.now) (bodies_of bodies.now) }
-    requires whole { length procs.now ≤ length bodies.now }
-    ensures { OnOk result (finished (pending_all waiting.new.items) (held_of procs.now held.new)
+    requires { AreReady file }
+    ensures { OnOk result (finished (pending_all waiting.new.items) (held_of file.entry.procs.now held.new)
         ≡ finished (pending_all waiting.old.items) (expanded (Then (live_of s.now) (live_block others.now))
-        (with_scope (scope_of procs.now scope.entry) (held_of procs.now held.old)))) }
+        (with_scope (scope_of file.entry.procs.now scope.entry) (held_of file.entry.procs.now held.old)))) }
 {
     waits_for(waiting, others)?;
-    statement(alloc, procs, numbers, bodies, waiting, s, scope, held)
+    statement(alloc, file, waiting, s, scope, held)
 }
 
 // Takes the innermost scope out of what is held, where there is one.
@@ -252,38 +259,24 @@ fn innermost<'a>(procs: &'a [Proc], held: &mut Held<'a>) -> Option<Scope<'a>>
 // The first of some statements, where one is left.
 fn rest<'b, 'a>(
     alloc: Global,
-    procs: &'a [Proc],
-    numbers: &Numbers<'a>,
-    bodies: &'b [Body<'a>],
+    file: Procedures<'b, 'a>,
     waiting: &mut Vec<Pending<'b, 'a>>,
     statements: &'b [Live<'a>],
     held: &mut Held<'a>,
 ) -> Result<(), Memory>
-    requires numbers { AreNumbered (map procedure_of procs.now) (found_under numbers.now) }
-    requires bodies { ArePruned (map procedure_of procs.now) (bodies_of bodies.now) }
-    requires whole { length procs.now ≤ length bodies.now }
-    ensures { OnOk result (finished (pending_all waiting.new.items) (held_of procs.now held.new)
+    requires { AreReady file }
+    ensures { OnOk result (finished (pending_all waiting.new.items) (held_of file.entry.procs.now held.new)
         ≡ finished (pending_all waiting.old.items)
-        (expanded (live_block statements.now) (held_of procs.now held.old))) }
+        (expanded (live_block statements.now) (held_of file.entry.procs.now held.old))) }
 {
     if statements.is_empty() {
         return Ok(());
     }
-    match innermost(procs, held) {
+    match innermost(file.procs, held) {
         None => Ok(()),
         Some(scope) => {
             let (_, others) = statements.split_at(1);
-            first_of(
-                alloc,
-                procs,
-                numbers,
-                bodies,
-                waiting,
-                &statements[0],
-                others,
-                scope,
-                held,
-            )
+            first_of(alloc, file, waiting, &statements[0], others, scope, held)
         }
     }
 }
@@ -291,29 +284,17 @@ fn rest<'b, 'a>(
 // What is to be done next.
 fn step<'b, 'a>(
     alloc: Global,
-    procs: &'a [Proc],
-    numbers: &Numbers<'a>,
-    bodies: &'b [Body<'a>],
+    file: Procedures<'b, 'a>,
     waiting: &mut Vec<Pending<'b, 'a>>,
     next: Pending<'b, 'a>,
     held: &mut Held<'a>,
 ) -> Result<(), Memory>
-    requires numbers { AreNumbered (map procedure_of procs.now) (found_under numbers.now) }
-    requires bodies { ArePruned (map procedure_of procs.now) (bodies_of bodies.now) }
-    requires whole { length procs.now ≤ length bodies.now }
-    ensures { OnOk result (finished (pending_all waiting.new.items) (held_of procs.now held.new)
-        ≡ finished (pending_of next.entry ∷ pending_all waiting.old.items) (held_of procs.now held.old)) }
+    requires { AreReady file }
+    ensures { OnOk result (finished (pending_all waiting.new.items) (held_of file.entry.procs.now held.new)
+        ≡ finished (pending_of next.entry ∷ pending_all waiting.old.items) (held_of file.entry.procs.now held.old)) }
 {
     match next {
-        Pending::Rest(left) => rest(
-            alloc,
-            procs,
-            numbers,
-            bodies,
-            waiting,
-            left.statements,
-            held,
-        ),
+        Pending::Rest(left) => rest(alloc, file, waiting, left.statements, held),
         Pending::Return => {
             drop(held.scopes.pop());
             Ok(())
@@ -327,22 +308,18 @@ fn step<'b, 'a>(
 // What comes of all that waits.
 pub(crate) fn expand<'b, 'a>(
     alloc: Global,
-    procs: &'a [Proc],
-    numbers: &Numbers<'a>,
-    bodies: &'b [Body<'a>],
+    file: Procedures<'b, 'a>,
     waiting: &mut Vec<Pending<'b, 'a>>,
     held: &mut Held<'a>,
 ) -> Result<(), Memory>
-    requires numbers { AreNumbered (map procedure_of procs.now) (found_under numbers.now) }
-    requires bodies { ArePruned (map procedure_of procs.now) (bodies_of bodies.now) }
-    requires whole { length procs.now ≤ length bodies.now }
-    ensures { OnOk result (held_of procs.now held.new
-        ≡ finished (pending_all waiting.old.items) (held_of procs.now held.old)) }
+    requires { AreReady file }
+    ensures { OnOk result (held_of file.entry.procs.now held.new
+        ≡ finished (pending_all waiting.old.items) (held_of file.entry.procs.now held.old)) }
 {
     for _ in 0..u64::MAX {
         match waiting.pop() {
             None => return Ok(()),
-            Some(next) => step(alloc, procs, numbers, bodies, waiting, next, held)?,
+            Some(next) => step(alloc, file, waiting, next, held)?,
         }
     }
     Err(Memory)

@@ -19,44 +19,44 @@ use Rattle.src_procs.proofs.stepping.call.Goals as goal
 pub returns-in-None : goal.returns-in-None
 returns-in-None c =
     on_ok_weaker c.scoped.result
-    (λ (done : held_of c.args.procs.now c.scoped.new.held
-    ≡ with_scope (scope_of c.args.procs.now c.args.scope) (held_of c.args.procs.now c.args.held.now)).
+    (λ (done : held_of c.args.file.procs.now c.scoped.new.held
+    ≡ with_scope (scope_of c.args.file.procs.now c.args.scope) (held_of c.args.file.procs.now c.args.held.now)).
     ap (finished (pending_all c.args.waiting.now.items)) (done
-    ∙ none_expanded c.args.name.now (trees_seen c.args.arguments.now) (scope_of c.args.procs.now c.args.scope)
-    (held_of c.args.procs.now c.args.held.now)
-    (found_so (map procedure_of c.args.procs.now) (found_under c.args.numbers.now) c.requires.numbers c.args.callable
-    c.args.scope.callable c.bytes.result.now c.args.name.now None c.requires.callable c.bytes.ensures.bytes
+    ∙ none_expanded c.args.name.now (trees_seen c.args.arguments.now) (scope_of c.args.file.procs.now c.args.scope)
+    (held_of c.args.file.procs.now c.args.held.now)
+    (found_so (map procedure_of c.args.file.procs.now) (found_under c.args.file.numbers.now) c.requires.file.numbers
+    c.args.callable c.args.scope.callable c.bytes.result.now c.args.name.now None c.requires.callable c.bytes.ensures.bytes
     c.in-None.ensures.found))) c.scoped.ensures
 
 pub returns-in_ok-begin_call-in-Some : goal.returns-in_ok-begin_call-in-Some
 returns-in_ok-begin_call-in-Some c =
-    let ps = map procedure_of c.args.procs.now in
+    let ps = map procedure_of c.args.file.procs.now in
     let k = c.in-Some.k in
     let f : Found = record { procedure = get_or ps k no_procedure; earlier = reverse (take k ps) } in
-    let long = length-map c.args.bodies.now body_of in
+    let long = length-map c.args.file.bodies.now body_of in
     let within = c.in-Some.ensures.within in
-    let whole = c.requires.whole in
-    let inside : k < length c.args.bodies.now = omega (within, whole, arith) in
+    let whole = c.requires.file.whole in
+    let inside : k < length c.args.file.bodies.now = omega (within, whole, arith) in
     let body = c.index-bodies-k.result in
-    let scope = scope_of c.args.procs.now c.args.scope in
-    let x = held_of c.args.procs.now c.args.held.now in
+    let scope = scope_of c.args.file.procs.now c.args.scope in
+    let x = held_of c.args.file.procs.now c.args.held.now in
     let start = unbound c.args.held.now.made in
     let es = trees_seen c.args.arguments.now in
     let locals : c.as_slice-locals.result.now ≡ f.procedure.locals =
     c.as_slice-locals.ensures.value
     ∙ ap (λ (q : Procedure). q.locals)
-    (sym (get_or-map procedure_of c.args.procs.now k c.index-procs-k.result no_procedure within)) in
+    (sym (get_or-map procedure_of c.args.file.procs.now k c.index-procs-k.result no_procedure within)) in
     on_ok_weaker c.waits_for_call.result
     (λ (waits : pending_all c.waits_for_call.new.waiting.items
     ≡ Rest (live_block c.as_slice-in-Some.result.now) ∷ Return ∷ pending_all c.args.waiting.now.items).
-    called_so c.args.name.now es scope x (held_of c.args.procs.now c.begin_call.new.held) f
+    called_so c.args.name.now es scope x (held_of c.args.file.procs.now c.begin_call.new.held) f
     (pending_all c.args.waiting.now.items) (pending_all c.waits_for_call.new.waiting.items) (body_of body)
-    (found_so ps (found_under c.args.numbers.now) c.requires.numbers c.args.callable
+    (found_so ps (found_under c.args.file.numbers.now) c.requires.file.numbers c.args.callable
     c.args.scope.callable c.bytes.result.now c.args.name.now (Some f) c.requires.callable c.bytes.ensures.bytes
     c.in-Some.ensures.found)
     (subst (λ (b : LiveBody). IsPruned (reverse (take k ps)) (get_or ps k no_procedure) b)
-    (get_or-map body_of c.args.bodies.now k body no_body inside ∙ ap body_of (sym c.index-bodies-k.is))
-    (c.requires.bodies.each k (omega (inside, long, arith))))
+    (get_or-map body_of c.args.file.bodies.now k body no_body inside ∙ ap body_of (sym c.index-bodies-k.is))
+    (c.requires.file.bodies.each k (omega (inside, long, arith))))
     (waits ∙ ap (λ (ss : List Live). Rest (live_block ss) ∷ Return
     ∷ pending_all c.args.waiting.now.items) c.as_slice-in-Some.ensures.value)
     (c.in_ok-begin_call-in-Some.ensures

@@ -9,9 +9,9 @@ use Rattle.src_procs.proofs.stepping.rest.Goals as goal
 pub returns-in-Some : goal.returns-in-Some
 returns-in-Some c =
     let held =
-    with_scope (scope_of c.args.procs.now c.in-Some.scope) (held_of c.args.procs.now c.innermost.new.held) in
+    with_scope (scope_of c.args.file.procs.now c.in-Some.scope) (held_of c.args.file.procs.now c.innermost.new.held) in
     on_ok_weaker c.first_of.result
-    (λ (done : finished (pending_all c.first_of.new.waiting.items) (held_of c.args.procs.now c.first_of.new.held)
+    (λ (done : finished (pending_all c.first_of.new.waiting.items) (held_of c.args.file.procs.now c.first_of.new.held)
     ≡ finished (pending_all c.args.waiting.now.items)
     (expanded (Then (live_of c.index-statements-0.result) (live_block c.split_at.result.1.now)) held)).
     done
