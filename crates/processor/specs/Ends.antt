@@ -1,5 +1,6 @@
 -- How a run ends, and where a watcher fails in it. (This project's profile.)
-use Rattle.std.specs.Prelude.{◌≡◌, ℕ, zero, suc, ◌+◌, ◌≤◌, Bool, true, false, List, [], ◌∷◌, ◌++◌, Result, Ok, Err}
+use Rattle.std.specs.Prelude.{◌≡◌, ℕ, zero, suc, ◌+◌, ◌-◌, ◌^◌, ◌≤◌, Bool, true, false, List, [], ◌∷◌, ◌++◌, Result, Ok, Err, OnErr, is_ok}
+use Rattle.gr_base.specs.Counts.{Rose}
 use Rattle.lt_isa.specs.Machine.{State}
 use Rattle.lt_isa.specs.Object.{Parts}
 use Rattle.lt_isa.specs.Trace.{Stamped, HaltsAt, final_from}
@@ -36,6 +37,17 @@ pub record Broke {W : Type 0} (hears : W → List WatcherTold → W → Type 0) 
   pub front : shown ≡ told ++ next ∷ rest
   pub heard : hears before told now
   pub at : torn next
+
+-- A watcher after calls with this result. It is whole if they didn't fail. Its count of faults rose if they failed, and
+-- otherwise it didn't fall.
+pub record AfterCalls {A E W : Type 0} (reveals : W → Type 0) (fault_count : W → ℕ) (unbroken : W → Bool)
+    (alike : W → W → Type 0) (result : Result A E) (before now : W) : Type 0 where
+  pub told_before : reveals now → reveals before
+  pub failed : OnErr result (Rose (fault_count before) (fault_count now))
+  pub whole : unbroken now ≡ is_ok result
+  pub count : fault_count before ≤ fault_count now
+  pub count_stays : fault_count before ≡ 2 ^ 64 - 1 → fault_count now ≡ 2 ^ 64 - 1
+  pub same : alike before now
 
 -- how many paths are reported, and how many accesses are made to oblivious banks
 abbrev pub path_count : List WatcherTold → ℕ

@@ -7,7 +7,7 @@ ghost use Rattle.lt_isa.specs.Shape.{IsShaped};
 ghost use Rattle.lt_isa.specs.Step.{step, step_start};
 ghost use Rattle.lt_isa.specs.Trace.{final_from, seen_at, trace_from};
 ghost use Rattle.banks.specs.Accesses.{accesses_from};
-ghost use Rattle.processor.specs.Ends.{Broke, BrokeOff, EndsAs, is_spent};
+ghost use Rattle.processor.specs.Ends.{AfterCalls, Broke, BrokeOff, EndsAs, is_spent};
 ghost use Rattle.processor.specs.ObliviousBanks.{ComeBy, ShowsOn};
 ghost use Rattle.processor.specs.Pauses.{PausesAt};
 ghost use Rattle.processor.specs.Quick.{RunsAlikeOn, StandsForStep};
@@ -185,7 +185,6 @@ impl<'a, B: Bank + Drop> Machine<'a, B> {
             self.new.orams
             watch.old
             watch.new) }
-        ensures told_before { W.tells watch.new → W.tells watch.old }
         ensures broke { OnErr result
             (StepBroke
             B.shows
@@ -199,11 +198,7 @@ impl<'a, B: Bank + Drop> Machine<'a, B> {
             watch.old
             watch.new
             (W.torn watch.new)) }
-        ensures failed { OnErr result (Rose (W.faults watch.old) (W.faults watch.new)) }
-        ensures whole { W.whole watch.new ≡ is_ok result }
-        ensures count { W.faults watch.old ≤ W.faults watch.new }
-        ensures count_stays { W.faults watch.old ≡ 2 ^ 64 - 1 → W.faults watch.new ≡ 2 ^ 64 - 1 }
-        ensures same { W.same watch.old watch.new }
+        ensures after { AfterCalls W.tells W.faults W.whole W.same result watch.old watch.new }
     {
         let Some(instruction) = self.fetch() else {
             return Ok(Went::Faulted);
@@ -224,7 +219,6 @@ impl<'a, B: Bank + Drop> Machine<'a, B> {
             watch.old
             (told_of_step stamp (outcome_of done.now self.now.state) (leaves_of done.now))
             watch.new) }
-        ensures told_before { W.tells watch.new → W.tells watch.old }
         ensures broke { OnErr result
             (Broke
             W.hears
@@ -232,11 +226,7 @@ impl<'a, B: Bank + Drop> Machine<'a, B> {
             watch.new
             (W.torn watch.new)
             (told_of_step stamp (outcome_of done.now self.now.state) (leaves_of done.now))) }
-        ensures failed { OnErr result (Rose (W.faults watch.old) (W.faults watch.new)) }
-        ensures whole { W.whole watch.new ≡ is_ok result }
-        ensures count { W.faults watch.old ≤ W.faults watch.new }
-        ensures count_stays { W.faults watch.old ≡ 2 ^ 64 - 1 → W.faults watch.new ≡ 2 ^ 64 - 1 }
-        ensures same { W.same watch.old watch.new }
+        ensures after { AfterCalls W.tells W.faults W.whole W.same result watch.old watch.new }
     {
         match done {
             Untold::Fault => Ok(()),
@@ -273,7 +263,6 @@ fn tell_access<W: Watch>(
         watch.old
         (with_path (seen_at stamp (observed_of event.now)) leaves.now)
         watch.new) }
-    ensures told_before { W.tells watch.new → W.tells watch.old }
     ensures broke { OnErr result
         (Broke
         W.hears
@@ -281,11 +270,7 @@ fn tell_access<W: Watch>(
         watch.new
         (W.torn watch.new)
         (with_path (seen_at stamp (observed_of event.now)) leaves.now)) }
-    ensures failed { OnErr result (Rose (W.faults watch.old) (W.faults watch.new)) }
-    ensures whole { W.whole watch.new ≡ is_ok result }
-    ensures count { W.faults watch.old ≤ W.faults watch.new }
-    ensures count_stays { W.faults watch.old ≡ 2 ^ 64 - 1 → W.faults watch.new ≡ 2 ^ 64 - 1 }
-    ensures same { W.same watch.old watch.new }
+    ensures after { AfterCalls W.tells W.faults W.whole W.same result watch.old watch.new }
 {
     match watch.seen(stamp, event) {
         Ok(()) => {}

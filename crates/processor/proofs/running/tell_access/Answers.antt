@@ -1,4 +1,4 @@
-use Rattle.std.proofs.Common.{◌≡◌, [], ◌∷◌, ℕ, Option, Some, None, sym, ◌∙◌, subst}
+use Rattle.std.proofs.Common.{◌≡◌, [], ◌∷◌, ℕ, Option, Some, None, sym, ◌∙◌, subst, arith}
 use Rattle.lt_isa.specs.Events.{observed_of}
 use Rattle.lt_isa.specs.Trace.{seen_at}
 use Rattle.gr_base.proofs.Counts.{rose_behind}
@@ -42,7 +42,17 @@ returns-in-Err-path-clause-broke g c =
     (g.met.W.Watch.hears_then c.args.watch.now c.seen.new.self c.path.new.self (event ∷ []) []
     c.in-Ok.ensures.heard c.in-Err-path.ensures.unheard) c.in-Err-path.ensures.torn)
 
-pub returns-in-Err-path-clause-failed : goal.returns-in-Err-path-clause-failed
-returns-in-Err-path-clause-failed g c =
-    rose_behind (g.W.Watch.faults c.args.watch.now) (g.W.Watch.faults c.seen.new.self)
-    (g.W.Watch.faults c.path.new.self) c.in-Ok.ensures.count c.in-Err-path.ensures.count c.in-Err-path.ensures.failed
+pub returns-in-Err-path-clause-after : goal.returns-in-Err-path-clause-after
+returns-in-Err-path-clause-after g c =
+    record {
+      told_before = λ tells. c.in-Ok.ensures.told_before (c.in-Err-path.ensures.told_before tells);
+      failed =
+          rose_behind (g.W.Watch.faults c.args.watch.now) (g.W.Watch.faults c.seen.new.self)
+          (g.W.Watch.faults c.path.new.self) c.in-Ok.ensures.count c.in-Err-path.ensures.count
+          c.in-Err-path.ensures.failed;
+      whole = c.in-Err-path.ensures.whole;
+      count = omega (arith, c.in-Ok.ensures.count, c.in-Err-path.ensures.count);
+      count_stays = λ full. c.in-Err-path.ensures.count_stays (c.in-Ok.ensures.count_stays full);
+      same = g.met.W.Watch.same_through c.args.watch.now c.seen.new.self c.path.new.self c.in-Ok.ensures.same
+          c.in-Err-path.ensures.same;
+    }

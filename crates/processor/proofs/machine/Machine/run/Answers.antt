@@ -59,13 +59,13 @@ running-preserved g c =
     record {
       object = c.in-Ok-On.ensures.object ∙ moved;
       live = c.in-Ok-On.ensures.live ∙ (c.next_access.ensures.live ∙ c.running.invariant.live);
-      whole = c.in-Ok-On.ensures.whole;
+      whole = c.in-Ok-On.ensures.after.whole;
       progress = rw moved at further;
-      count = omega (arith, c.running.invariant.count, c.in-Ok-On.ensures.count);
-      count_stays = λ full. c.in-Ok-On.ensures.count_stays (c.running.invariant.count_stays full);
-      told_before = λ tells. c.running.invariant.told_before (c.in-Ok-On.ensures.told_before tells);
+      count = omega (arith, c.running.invariant.count, c.in-Ok-On.ensures.after.count);
+      count_stays = λ full. c.in-Ok-On.ensures.after.count_stays (c.running.invariant.count_stays full);
+      told_before = λ tells. c.running.invariant.told_before (c.in-Ok-On.ensures.after.told_before tells);
       same = g.met.W.Watch.same_through c.args.watch.now c.running.watch c.step.new.watch
-          c.running.invariant.same c.in-Ok-On.ensures.same;
+          c.running.invariant.same c.in-Ok-On.ensures.after.same;
     }
 
 -- the run halted
@@ -203,4 +203,4 @@ returns-in-Err-clause-broke_off g c =
 pub returns-in-Err-clause-failed : goal.returns-in-Err-clause-failed
 returns-in-Err-clause-failed g c =
     rose_behind (g.W.Watch.faults c.args.watch.now) (g.W.Watch.faults c.running.watch)
-    (g.W.Watch.faults c.step.new.watch) c.running.invariant.count c.in-Err.ensures.count c.in-Err.ensures.failed
+    (g.W.Watch.faults c.step.new.watch) c.running.invariant.count c.in-Err.ensures.after.count c.in-Err.ensures.after.failed
