@@ -1,8 +1,8 @@
 ghost use Rattle.std.specs.Prelude.{◌≡◌, ◌≢◌};
 
 use crate::reports::{Report, print};
-use crate::sources::{SourceWords, read_source, source_in_words};
-use crate::words::{EXPAND, matches_of};
+use crate::sources::{SourceWords, read_source, source_asked};
+use crate::words::EXPAND;
 use call_replies::replies::Reply;
 use explain_words::without_calls;
 use gr_outside::{Shelf, Sink};
@@ -27,25 +27,9 @@ fn expanded<'a, S: Shelf>(
 ) -> Result<Report, Reply<'a>>
     ensures { (S.seen shelf.new).files ≡ (S.seen shelf.old).files }
 {
-    let Some(matches) = matches_of(alloc, EXPAND, words)? else {
-        return Err(Reply::Usage);
-    };
-    let Some(asked) = source_in_words(&matches) else {
-        return Err(Reply::Usage);
-    };
-    expand_file(alloc, asked, shelf)
-}
-
-fn expand_file<'a, S: Shelf>(
-    alloc: Global,
-    asked: SourceWords<'a>,
-    shelf: &mut S,
-) -> Result<Report, Reply<'a>>
-    ensures { (S.seen shelf.new).files ≡ (S.seen shelf.old).files }
-{
     let asked = SourceWords {
         procs: true,
-        ..asked
+        ..source_asked(alloc, EXPAND, words)?
     };
     let source = read_source(alloc, asked, shelf)?;
     let made = without_calls(alloc, &source.text, source.program.program())?;

@@ -1,12 +1,11 @@
 ghost use Rattle.std.specs.Prelude.{◌≡◌, ◌≢◌};
-ghost use Rattle.lt_isa.specs.Ranges.{ProfileFits};
 
 use crate::reasons::{Reasons, slots_of};
 use crate::reports::{Report, print};
 use crate::source_texts::SourceText;
-use crate::sources::{ReadSource, SourceWords, read_source, source_in_words};
+use crate::sources::{ReadSource, read_source, source_asked};
 use crate::variables::{label_text, push_name};
-use crate::words::{LAYOUT, matches_of};
+use crate::words::LAYOUT;
 use call_replies::replies::Reply;
 use ghost_cli::compile::object_of;
 use gr_base::Memory;
@@ -36,23 +35,7 @@ fn laid_out<'a, S: Shelf>(
 ) -> Result<Report, Reply<'a>>
     ensures { (S.seen shelf.new).files ≡ (S.seen shelf.old).files }
 {
-    let Some(matches) = matches_of(alloc, LAYOUT, words)? else {
-        return Err(Reply::Usage);
-    };
-    let Some(asked) = source_in_words(&matches) else {
-        return Err(Reply::Usage);
-    };
-    lay_out_file(alloc, asked, shelf)
-}
-
-fn lay_out_file<'a, S: Shelf>(
-    alloc: Global,
-    asked: SourceWords<'a>,
-    shelf: &mut S,
-) -> Result<Report, Reply<'a>>
-    requires { ProfileFits asked.target.profile }
-    ensures { (S.seen shelf.new).files ≡ (S.seen shelf.old).files }
-{
+    let asked = source_asked(alloc, LAYOUT, words)?;
     let ReadSource { text, program } = read_source(alloc, asked, shelf)?;
     let object = object_of(alloc, &program, &asked.target)?;
     let slots = slots_of(alloc, &program, &asked.target)?;

@@ -1,12 +1,11 @@
 ghost use Rattle.std.specs.Prelude.{◌≡◌, ◌≢◌};
-ghost use Rattle.lt_isa.specs.Ranges.{ProfileFits};
 
 use crate::code_rows::rows_of_code;
 use crate::listing_lines::listing_text;
 use crate::profile_tool::other_form;
 use crate::reports::{Report, print};
-use crate::sources::{SourceWords, read_source, source_in_words};
-use crate::words::{LISTING, matches_of};
+use crate::sources::{read_source, source_asked};
+use crate::words::LISTING;
 use call_replies::replies::Reply;
 use ghost_cli::compile::object_of;
 use gr_base::Memory;
@@ -33,23 +32,7 @@ fn listed<'a, S: Shelf>(
 ) -> Result<Report, Reply<'a>>
     ensures { (S.seen shelf.new).files ≡ (S.seen shelf.old).files }
 {
-    let Some(matches) = matches_of(alloc, LISTING, words)? else {
-        return Err(Reply::Usage);
-    };
-    let Some(asked) = source_in_words(&matches) else {
-        return Err(Reply::Usage);
-    };
-    list_file(alloc, asked, shelf)
-}
-
-fn list_file<'a, S: Shelf>(
-    alloc: Global,
-    asked: SourceWords<'a>,
-    shelf: &mut S,
-) -> Result<Report, Reply<'a>>
-    requires { ProfileFits asked.target.profile }
-    ensures { (S.seen shelf.new).files ≡ (S.seen shelf.old).files }
-{
+    let asked = source_asked(alloc, LISTING, words)?;
     let source = read_source(alloc, asked, shelf)?;
     let object = object_of(alloc, &source.program, &asked.target)?;
     let Some(rows) = rows_of_code(alloc, source, object.code(), asked)? else {

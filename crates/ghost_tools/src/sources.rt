@@ -3,9 +3,11 @@
 ghost use Rattle.std.specs.Prelude.{◌≡◌, ◌≤◌, IfOk, IfSome, length};
 ghost use Rattle.lt_isa.specs.Ranges.{ProfileFits};
 
+use crate::words::matches_of;
 use call_replies::replies::{Reply, Verdict};
 use clap::ArgMatches;
 use command_words::options::{block_log_given, flag_given, value};
+use command_words::verbs::VerbWords;
 use command_words::windows::{window_given, windowed};
 use flow_types::Typed;
 use ghost_cli::sources::find_source;
@@ -42,6 +44,23 @@ pub(crate) fn source_in_words<'a>(matches: &ArgMatches<'a>) -> Option<SourceWord
         },
         procs: flag_given(value(matches, "procs")),
     })
+}
+
+/// The source that the words of a call of a tool name, or the reply if the words don't fit.
+pub(crate) fn source_asked<'a>(
+    alloc: Global,
+    tool: VerbWords<'static>,
+    words: &'a [&'a str],
+) -> Result<SourceWords<'a>, Reply<'a>>
+    ensures { IfOk result (λ asked. ProfileFits asked.target.profile) }
+{
+    let Some(matches) = matches_of(alloc, tool, words)? else {
+        return Err(Reply::Usage);
+    };
+    match source_in_words(&matches) {
+        Some(asked) => Ok(asked),
+        None => Err(Reply::Usage),
+    }
 }
 
 /// The contents of the file of this name, or the reply if it can't be read, has more bytes than the limit, or memory ran
