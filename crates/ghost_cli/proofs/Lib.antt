@@ -40,7 +40,6 @@ pub mod PutLines
 pub mod PutBehind
 pub mod BusWatches
 pub mod Pairing
-pub mod BusCalls
 pub mod SharedBus
 pub mod BusAgreeing
 pub mod OneAnswers

@@ -1,6 +1,5 @@
 -- From pair to pair of a bus.
-use Rattle.std.proofs.Common.{◌≡◌, ℕ, zero, suc, ◌+◌, ◌<◌, ℤ, List, [], ◌∷◌, ◌++◌, drop, get_or, length, map, Some, None, refl, sym, ap, ◌∙◌, subst, ◌⊎◌, inl, inr, ⊎_elim, arith}
-use Rattle.gr_outside.specs.Shelf.{ShelfSeen}
+use Rattle.std.proofs.Common.{◌≡◌, ℕ, zero, suc, ◌+◌, ◌<◌, ℤ, List, [], ◌∷◌, ◌++◌, drop, get_or, length, map, Option, Some, None, refl, sym, ap, ◌∙◌, subst, ◌⊎◌, inl, inr, ⊎_elim, arith}
 use Rattle.lt_isa.specs.Object.{Parts}
 use Rattle.lt_isa.specs.Ranges.{IsInRange}
 use Rattle.lt_isa.specs.Start.{FitsObject}
@@ -14,14 +13,13 @@ use Rattle.bus_arbiter.proofs.Refusals.{refuses, takes}
 use Rattle.bus_arbiter.proofs.ShareRanges.{share-fits}
 use Rattle.call_replies.specs.declared.replies.Verdict.TheVariants.{OffBus}
 use Rattle.command_words.specs.Pairs.{Pair}
-use Rattle.ghost_cli.specs.Bus.{Read, bus_said, none_read, on_plan, one_read, with_core, with_cores}
-use Rattle.ghost_cli.specs.Progress.{HasLeft, Stops}
+use Rattle.ghost_cli.specs.Bus.{Read, bus_said, bus_work, none_read, on_plan, one_read, shares_bus, with_core, with_cores}
+use Rattle.ghost_cli.specs.Reached.{Finds, FindsNone, HasReached, HasStopped, Stage}
 use Rattle.ghost_cli.specs.Sharing.{AreRead}
-use Rattle.ghost_cli.specs.Showing.{nothing_seen}
 use Rattle.ghost_cli.specs.Steps.{with_accepted, with_inputs}
-use Rattle.call_replies.specs.Texts.{Said, comes_to}
-use Rattle.ghost_cli.specs.Work.{IsVerdict, Work, said_at}
-use Rattle.ghost_cli.proofs.Progressing.{ends-at, leads-later, read-starved, stops-later}
+use Rattle.call_replies.specs.Texts.{Said, comes_to, no_memory}
+use Rattle.ghost_cli.specs.Work.{Work}
+use Rattle.ghost_cli.proofs.Reaching.{not-begun, out-of-memory, then-reached, then-stopped, with-verdict}
 
 -- ---- the plan's result is the computed one
 
@@ -39,59 +37,84 @@ taken-worked plan o fits range is = (takes plan (share_of o) fits.fits (share-fi
 
 -- ---- one pair
 
-module _ (shelf : ShelfSeen) (pair : Pair) (k : ℕ) (read : Read) (next : Read → Work) (o : Parts)
-    (found : (n : Parts → Work) → HasLeft shelf (with_accepted pair.object n) (n o)) where
-  -- the plan takes the object
-  planned : refusal read.plan (share_of o) ≡ None
-      → HasLeft shelf (with_core pair k read next) (with_inputs o pair.input (λ d. next (one_read read o d)))
-  planned taken =
-      subst (λ e. HasLeft shelf (with_core pair k read next)
-      (on_plan k e (with_inputs o pair.input (λ d. next (one_read read o d))))) taken
-      (found (λ p. on_plan k (refusal read.plan (share_of p))
-      (with_inputs p pair.input (λ d. next (one_read read p d)))))
+abbrev pub pair_of : List ℕ → List ℕ → Pair
+pair_of object input = record { object = object; input = input }
 
-  -- it refuses it
-  pub core-refused : (now : ShelfSeen) (cause : BusError) → now ≡ shelf → refusal read.plan (share_of o) ≡ Some cause
-      → Stops shelf now (with_core pair k read next) (said_at (IsVerdict nothing_seen (OffBus k cause)))
-  core-refused now cause same is =
-      ends-at shelf now (with_core pair k read next) (OffBus k cause)
-      (subst (λ e. HasLeft shelf (with_core pair k read next)
-      (on_plan k e (with_inputs o pair.input (λ d. next (one_read read o d))))) is
-      (found (λ p. on_plan k (refusal read.plan (share_of p))
-      (with_inputs p pair.input (λ d. next (one_read read p d)))))) same
+module _ {object input : List ℕ} {pair : Pair} (named : pair_of object input ≡ pair) (read : Read) where
+  -- the work on the pair's object
+  on_object : (Read → Work) → Parts → Work
+  on_object next o =
+      on_plan (length read.plan) (refusal read.plan (share_of o))
+      (with_inputs o input (λ d. next (one_read read o d)))
 
-  refused-as : (now : ShelfSeen) (cause : BusError) → now ≡ shelf → (cause ≡ bus.Memory → ⊥)
-      → (cause ≡ bus.Memory) ⊎ (refusal read.plan (share_of o) ≡ Some cause)
-      → Stops shelf now (with_core pair k read next) (comes_to (OffBus k cause))
-  refused-as now cause same other why =
-      ⊎_elim (λ memory. absurd (other memory)) (λ is. core-refused now cause same is) why
+  -- its object isn't found
+  pub core-unfound : {before after : Stage} {what : Said} → FindsNone before after (with_accepted object) what
+      → FindsNone before after (with_core pair (length read.plan) read) what
+  core-unfound {before} {after} {what} none next =
+      subst (λ (p : Pair). HasStopped before after (with_core p (length read.plan) read next) what) named
+      (none (on_object next))
 
-  -- so this is printed
-  pub core-off : (now : ShelfSeen) (cause : BusError) → now ≡ shelf
-      → (cause ≡ bus.Memory) ⊎ (refusal read.plan (share_of o) ≡ Some cause)
-      → Stops shelf now (with_core pair k read next) (bus_said k cause)
-  core-off now bus.NoWindow same why = refused-as now bus.NoWindow same (λ e. cc) why
-  core-off now (bus.OtherPeriod period) same why = refused-as now (bus.OtherPeriod period) same (λ e. cc) why
-  core-off now (bus.TooLong end) same why = refused-as now (bus.TooLong end) same (λ e. cc) why
-  core-off now (bus.Overlap other) same why = refused-as now (bus.Overlap other) same (λ e. cc) why
-  core-off now bus.Memory same why = read-starved shelf now (with_core pair k read next) same
+  module _ {before between : Stage} {plan : List Share} (o : Parts)
+      (found : Finds before between (with_accepted object) o) (same : plan ≡ read.plan) (is_plan : IsPlan plan)
+      (range : IsInRange o) where
+    -- what the plan says of it
+    at-plan : (next : Read → Work) (refused : Option BusError) → refusal plan (share_of o) ≡ refused
+        → HasReached before between (with_core pair (length read.plan) read next)
+        (on_plan (length read.plan) refused (with_inputs o input (λ d. next (one_read read o d))))
+    at-plan next refused is =
+        subst (λ (e : Option BusError). HasReached before between (with_core pair (length read.plan) read next)
+        (on_plan (length read.plan) e (with_inputs o input (λ d. next (one_read read o d)))))
+        (ap (λ l. refusal l (share_of o)) (sym same) ∙ is)
+        (subst (λ (p : Pair). HasReached before between (with_core p (length read.plan) read next) (on_object next o))
+        named (found (on_object next)))
 
-  module _ (between : ShelfSeen) (same : between ≡ shelf) (taken : refusal read.plan (share_of o) ≡ None) where
-    pub core-leads : (d : List (List ℤ))
-        → ((n : List (List ℤ) → Work) → HasLeft between (with_inputs o pair.input n) (n d))
-        → HasLeft shelf (with_core pair k read next) (next (one_read read o d))
-    core-leads d given =
-        leads-later shelf between (with_core pair k read next)
-        (with_inputs o pair.input (λ d. next (one_read read o d))) (next (one_read read o d)) same (planned taken)
-        (given (λ d. next (one_read read o d)))
+    refused-as : (cause : BusError) → (cause ≡ bus.Memory → ⊥)
+        → (cause ≡ bus.Memory) ⊎ (refusal plan (share_of o) ≡ Some cause)
+        → FindsNone before between (with_core pair (length read.plan) read) (comes_to (OffBus (length read.plan) cause))
+    refused-as cause other why next =
+        with-verdict (OffBus (length read.plan) cause)
+        (at-plan next (Some cause) (⊎_elim (λ memory. absurd (other memory)) (λ is. is) why))
 
-    pub core-stops : (now : ShelfSeen) (said : Said)
-        → ((n : List (List ℤ) → Work) → Stops between now (with_inputs o pair.input n) said)
-        → Stops shelf now (with_core pair k read next) said
-    core-stops now said stops =
-        stops-later shelf between now (with_core pair k read next)
-        (with_inputs o pair.input (λ d. next (one_read read o d))) said same (planned taken)
-        (stops (λ d. next (one_read read o d)))
+    starved : FindsNone before between (with_core pair (length read.plan) read) no_memory
+    starved next = out-of-memory (at-plan next (refusal plan (share_of o)) refl) refl
+
+    off : (cause : BusError) → (cause ≡ bus.Memory) ⊎ (refusal plan (share_of o) ≡ Some cause)
+        → FindsNone before between (with_core pair (length read.plan) read) (bus_said (length read.plan) cause)
+    off bus.NoWindow why = refused-as bus.NoWindow (λ e. cc) why
+    off (bus.OtherPeriod period) why = refused-as (bus.OtherPeriod period) (λ e. cc) why
+    off (bus.TooLong end) why = refused-as (bus.TooLong end) (λ e. cc) why
+    off (bus.Overlap other) why = refused-as (bus.Overlap other) (λ e. cc) why
+    off bus.Memory why = starved
+
+    -- the plan refuses it, so this is printed
+    pub core-off : {what : Said} (cause : BusError) {core : ℕ} → core ≡ length plan → what ≡ bus_said core cause
+        → (cause ≡ bus.Memory) ⊎ PlanRefuses plan (share_of o) cause
+        → FindsNone before between (with_core pair (length read.plan) read) what
+    core-off {what} cause {core} at is why =
+        subst (λ (s : Said). FindsNone before between (with_core pair (length read.plan) read) s)
+        (sym (is ∙ ap (λ k. bus_said k cause) (at ∙ ap length same))) (off cause (refused-worked plan o cause is_plan range why))
+
+    module _ (fits : PlanTakes plan (share_of o)) {after : Stage} where
+      core-taken : (next : Read → Work) → HasReached before between (with_core pair (length read.plan) read next)
+          (with_inputs o input (λ d. next (one_read read o d)))
+      core-taken next = at-plan next None (taken-worked plan o is_plan range fits)
+
+      -- its inputs aren't found
+      pub core-unread : {what : Said} → FindsNone between after (with_inputs o input) what
+          → FindsNone before after (with_core pair (length read.plan) read) what
+      core-unread none next = then-stopped (core-taken next) (none (λ d. next (one_read read o d)))
+
+      module _ (d : List (List ℤ)) (given : Finds between after (with_inputs o input) d) where
+        -- both were found
+        pub core-found : {more : Read} → one_read read o d ≡ more
+            → Finds before after (with_core pair (length read.plan) read) more
+        core-found {more} is next =
+            subst (λ (r : Read). HasReached before after (with_core pair (length read.plan) read next) (next r)) is
+            (then-reached (core-taken next) (given (λ d. next (one_read read o d))))
+
+        -- there is no memory to keep them
+        pub core-unkept : FindsNone before after (with_core pair (length read.plan) read) no_memory
+        core-unkept next = out-of-memory (core-found refl next) refl
 
 -- ---- all pairs
 
@@ -102,38 +125,48 @@ next-pair (p ∷ pairs) zero d within = refl
 next-pair (p ∷ pairs) (suc i) d within = next-pair pairs i d (omega arith)
 
 -- the work on some pairs has reached the remaining ones
-abbrev pub HasRead : ShelfSeen → List Pair → ℕ → Read → Type 0
-HasRead shelf pairs i read =
-    (next : Read → Work) → HasLeft shelf (with_cores pairs 0 none_read next) (with_cores (drop i pairs) i read next)
+abbrev pub HasRead : Stage → Stage → List Pair → ℕ → Read → Type 0
+HasRead before now pairs i read = (next : Read → Work)
+    → HasReached before now (with_cores pairs 0 none_read next) (with_cores (drop i pairs) i read next)
 
-pub reads-first : (shelf : ShelfSeen) (pairs : List Pair) → HasRead shelf pairs 0 none_read
-reads-first shelf pairs next now ending comes = comes
+pub reads-first : {before : Stage} (pairs : List Pair) → HasRead before before pairs 0 none_read
+reads-first pairs next = not-begun
 
-module _ (shelf : ShelfSeen) (pairs : List Pair) (i : ℕ) (d : Pair) (within : i < length pairs) (read : Read)
-    (has : HasRead shelf pairs i read) (between : ShelfSeen) (same : between ≡ shelf) where
-  at-pair : (next : Read → Work) → HasLeft shelf (with_cores pairs 0 none_read next)
-      (with_core (get_or pairs i d) i read (λ more. with_cores (drop (i + 1) pairs) (i + 1) more next))
+module _ {before now later : Stage} (pairs : List Pair) (i : ℕ) (item : Pair) (within : i < length pairs)
+    (read : Read) (has : HasRead before now pairs i read) (at : item ≡ get_or pairs i item)
+    (count : length read.plan ≡ i) where
+  at-pair : (next : Read → Work) → HasReached before now (with_cores pairs 0 none_read next)
+      (with_core item (length read.plan) read (λ more. with_cores (drop (i + 1) pairs) (i + 1) more next))
   at-pair next =
       let one : suc i ≡ i + 1 = omega arith in
-      subst (λ left. HasLeft shelf (with_cores pairs 0 none_read next) (with_cores left i read next))
-      (next-pair pairs i d within ∙ ap (λ j. get_or pairs i d ∷ drop j pairs) one) (has next)
+      subst (λ (p : Pair). HasReached before now (with_cores pairs 0 none_read next)
+      (with_core p (length read.plan) read (λ more. with_cores (drop (i + 1) pairs) (i + 1) more next))) (sym at)
+      (subst (λ k. HasReached before now (with_cores pairs 0 none_read next)
+      (with_core (get_or pairs i item) k read (λ more. with_cores (drop (i + 1) pairs) (i + 1) more next))) (sym count)
+      (subst (λ left. HasReached before now (with_cores pairs 0 none_read next) (with_cores left i read next))
+      (next-pair pairs i item within ∙ ap (λ j. get_or pairs i item ∷ drop j pairs) one) (has next)))
 
-  pub reads-next : (more : Read)
-      → ((next : Read → Work) → HasLeft between (with_core (get_or pairs i d) i read next) (next more))
-      → HasRead shelf pairs (i + 1) more
-  reads-next more step next =
-      leads-later shelf between (with_cores pairs 0 none_read next)
-      (with_core (get_or pairs i d) i read (λ more. with_cores (drop (i + 1) pairs) (i + 1) more next))
-      (with_cores (drop (i + 1) pairs) (i + 1) more next) same (at-pair next)
-      (step (λ more. with_cores (drop (i + 1) pairs) (i + 1) more next))
+  pub reads-next : (more : Read) → Finds now later (with_core item (length read.plan) read) more
+      → HasRead before later pairs (i + 1) more
+  reads-next more found next =
+      then-reached (at-pair next) (found (λ more. with_cores (drop (i + 1) pairs) (i + 1) more next))
 
-  pub reads-stop : (now : ShelfSeen) (said : Said)
-      → ((next : Read → Work) → Stops between now (with_core (get_or pairs i d) i read next) said)
-      → (next : Read → Work) → Stops shelf now (with_cores pairs 0 none_read next) said
-  reads-stop now said step next =
-      stops-later shelf between now (with_cores pairs 0 none_read next)
-      (with_core (get_or pairs i d) i read (λ more. with_cores (drop (i + 1) pairs) (i + 1) more next)) said same
-      (at-pair next) (step (λ more. with_cores (drop (i + 1) pairs) (i + 1) more next))
+  pub reads-stop : {what : Said} → FindsNone now later (with_core item (length read.plan) read) what
+      → FindsNone before later (with_cores pairs 0 none_read) what
+  reads-stop none next = then-stopped (at-pair next) (none (λ more. with_cores (drop (i + 1) pairs) (i + 1) more next))
+
+-- the pairs that words name were read, or weren't
+module _ {before after : Stage} {slice pairs : List Pair} (cycles : ℕ) (is : slice ≡ pairs) where
+  pub bus-reached : {read : Read} → Finds before after (with_cores slice 0 none_read) read
+      → HasReached before after (bus_work pairs cycles) (shares_bus cycles read)
+  bus-reached {read} found =
+      subst (λ (l : List Pair). HasReached before after (bus_work l cycles) (shares_bus cycles read)) is
+      (found (shares_bus cycles))
+
+  pub bus-stopped : {what : Said} → FindsNone before after (with_cores slice 0 none_read) what
+      → HasStopped before after (bus_work pairs cycles) what
+  bus-stopped {what} none =
+      subst (λ (l : List Pair). HasStopped before after (bus_work l cycles) what) is (none (shares_bus cycles))
 
 -- ---- what is read
 
@@ -162,9 +195,12 @@ one-read read o d are range fits = record {
 abbrev pub read_of : List Share → List Parts → List (List (List ℤ)) → Read
 read_of plan objects inputs = record { plan = plan; objects = objects; inputs = inputs }
 
-pub read-is : (read : Read) (o : Parts) (d : List (List ℤ)) (plan : List Share) (objects : List Parts)
-    (inputs : List (List (List ℤ))) → plan ≡ read.plan ++ share_of o ∷ [] → objects ≡ read.objects ++ o ∷ []
-    → inputs ≡ read.inputs ++ d ∷ [] → one_read read o d ≡ read_of plan objects inputs
-read-is read o d plan objects inputs planned given found =
-    ap (λ l. read_of l (read.objects ++ o ∷ []) (read.inputs ++ d ∷ [])) (sym planned)
-    ∙ ap (λ l. read_of plan l (read.inputs ++ d ∷ [])) (sym given) ∙ ap (λ l. read_of plan objects l) (sym found)
+pub read-is : {read : Read} {plan more : List Share} {objects accepted : List Parts}
+    {inputs given : List (List (List ℤ))} (o : Parts) (d : List (List ℤ)) → read_of plan objects inputs ≡ read
+    → more ≡ plan ++ share_of o ∷ [] → accepted ≡ objects ++ o ∷ [] → given ≡ inputs ++ d ∷ []
+    → one_read read o d ≡ read_of more accepted given
+read-is {read} {plan} {more} {objects} {accepted} {inputs} {given} o d view planned pushed put =
+    ap (λ (r : Read). one_read r o d) (sym view)
+    ∙ ap (λ (l : List Share). read_of l (objects ++ o ∷ []) (inputs ++ d ∷ [])) (sym planned)
+    ∙ ap (λ (l : List Parts). read_of more l (inputs ++ d ∷ [])) (sym pushed)
+    ∙ ap (λ (l : List (List (List ℤ))). read_of more accepted l) (sym put)

@@ -1,23 +1,19 @@
--- How far the steps of a verb's work come: a file that is read, a question with its right answer, steps in sequence.
-use Rattle.std.proofs.Common.{◌≡◌, ℕ, ℤ, Bool, true, List, [], ◌∷◌, Result, Ok, Err, IfErr, IsErrAnd, refl, sym, ap₂, ◌∙◌, subst}
+-- How far the steps of a verb's work come: a file that is read, a question with its right result, steps in sequence.
+use Rattle.std.proofs.Common.{◌≡◌, ℕ, true, List, [], ◌∷◌, Result, Ok, Err, IfErr, IsErrAnd, refl, sym, ap₂, ◌∙◌, subst}
 use Rattle.gr_base.specs.Added.{Adds}
 use Rattle.gr_outside.specs.Shelf.{read_of}
-use Rattle.gr_word.specs.declared.variables.Want.{Want}
-use Rattle.lt_isa.specs.Object.{Parts}
-use Rattle.src_tree.specs.Trees.{Source}
 use Rattle.call_replies.specs.declared.replies.Done.{Done}
 use Rattle.call_replies.specs.declared.replies.Reply.{Reply}
 use Rattle.call_replies.specs.declared.replies.Reply.TheVariants.{NoMemory}
 use Rattle.call_replies.specs.declared.replies.Verdict.{Verdict}
 use Rattle.call_replies.specs.Texts.{Said, comes_to, no_memory, said}
-use Rattle.ghost_cli.specs.CallsFollow.{StopsHere, AsksOn, TriesRead}
+use Rattle.ghost_cli.specs.CallsFollow.{StopsHere, AsksOn, ReadsOn, TriesRead}
 use Rattle.ghost_cli.specs.Progress.{EndsWorkWith, HasLeft, NoRoomLeft, Stops}
 use Rattle.ghost_cli.specs.Questions.{Answer, IsRight, Question}
-use Rattle.ghost_cli.specs.Reached.{HasReached, HasStopped, Stage}
+use Rattle.ghost_cli.specs.Reached.{Finds, HasReached, HasStopped, Stage}
 use Rattle.ghost_cli.specs.Showing.{nothing_seen}
-use Rattle.ghost_cli.specs.Steps.{with_accepted, with_assembly, with_object, with_source, with_variables}
 use Rattle.ghost_cli.specs.Work.{Asks, Ends, Reads, Work, Writes}
-use Rattle.ghost_cli.proofs.CallsMade.{accepted-read, assembly-read, object-read, read-tried, source-read, variables-read}
+use Rattle.ghost_cli.proofs.CallsMade.{read-tried}
 use Rattle.ghost_cli.proofs.Progressing.{ends-at, leads-later, leads-on, refused-stops, stops-later}
 use Rattle.ghost_cli.proofs.Promised.{same-only}
 
@@ -27,7 +23,7 @@ use Rattle.ghost_cli.proofs.Promised.{same-only}
 pub not-begun : {before : Stage} {work : Work} → HasReached before before work work
 not-begun = record { leads = λ now ending comes. comes; calm = refl; calls = λ last rest. rest }
 
--- a question with its right answer
+-- the right result of a question
 pub with-answer : {before after : Stage} {work : Work} (question : Question) (next : Answer question → Work)
     (answer : Answer question) → HasReached before after work (Asks question next) → IsRight question answer
     → HasReached before after work (next answer)
@@ -79,7 +75,7 @@ with-verdict {before} {after} {work} verdict reached = record {
   calls = reached.calls after.log (StopsHere (Ends nothing_seen verdict) after.log);
 }
 
--- the answer to a question ended it
+-- a question's result ended it
 pub with-refusal : {before after : Stage} {work : Work} {what : Said} (question : Question)
     (next : Answer question → Work) → HasReached before after work (Asks question next)
     → EndsWorkWith question next what → HasStopped before after work what
@@ -112,50 +108,12 @@ unread-stopped {before} {after} {name} {limit} {next} stops tried = record {
   calls = read-tried name limit next before.log after.log tried;
 }
 
--- an object that was read, accepted or not; an assembly text; a source; and inputs
-module _ {before after : Stage} (name : List ℕ) (calm : after.seen ≡ before.seen)
-    (whole : Adds before.log after.log (read_of name true ∷ [])) where
-  pub object-reached : (o : Parts) (next : Parts → Work)
-      → ((n : Parts → Work) → HasLeft before.seen (with_object name n) (n o))
-      → HasReached before after (with_object name next) (next o)
-  object-reached o next found = record {
-    leads = found next;
-    calm = calm;
-    calls = λ last rest. object-read name o next before.log after.log last whole rest;
-  }
-
-  pub accepted-reached : (o : Parts) (next : Parts → Work)
-      → ((n : Parts → Work) → HasLeft before.seen (with_accepted name n) (n o))
-      → HasReached before after (with_accepted name next) (next o)
-  accepted-reached o next found = record {
-    leads = found next;
-    calm = calm;
-    calls = λ last rest. accepted-read name o next before.log after.log last whole rest;
-  }
-
-  pub assembly-reached : (o : Parts) (next : Parts → Work)
-      → ((n : Parts → Work) → HasLeft before.seen (with_assembly name n) (n o))
-      → HasReached before after (with_assembly name next) (next o)
-  assembly-reached o next found = record {
-    leads = found next;
-    calm = calm;
-    calls = λ last rest. assembly-read name o next before.log after.log last whole rest;
-  }
-
-  pub source-reached : (procs : Bool) (p : Source) (next : Source → Work)
-      → ((n : Source → Work) → HasLeft before.seen (with_source procs name n) (n p))
-      → HasReached before after (with_source procs name next) (next p)
-  source-reached procs p next found = record {
-    leads = found next;
-    calm = calm;
-    calls = λ last rest. source-read procs name p next before.log after.log last whole rest;
-  }
-
-  pub variables-reached : (wants : List Want) (inputs : List (List ℤ)) (next : List (List ℤ) → Work)
-      → ((n : List (List ℤ) → Work) → HasLeft before.seen (with_variables wants name n) (n inputs))
-      → HasReached before after (with_variables wants name next) (next inputs)
-  variables-reached wants inputs next found = record {
-    leads = found next;
-    calm = calm;
-    calls = λ last rest. variables-read wants name inputs next before.log after.log last whole rest;
-  }
+-- the bytes of a file
+pub bytes-read : {before after : Stage} {name : List ℕ} {limit : ℕ} {bytes : List ℕ}
+    → ((next : List ℕ → Work) → HasLeft before.seen (Reads name limit next) (next bytes)) → after.seen ≡ before.seen
+    → Adds before.log after.log (read_of name true ∷ []) → Finds before after (Reads name limit) bytes
+bytes-read {before} {after} {name} {limit} {bytes} leads calm adds next = record {
+  leads = leads next;
+  calm = calm;
+  calls = λ last rest. ReadsOn name limit next bytes before.log after.log last adds rest;
+}

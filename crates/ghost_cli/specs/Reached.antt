@@ -31,6 +31,14 @@ pub record HasStopped (before after : Stage) (work : Work) (said : Said) : Type 
   pub stops : Stops before.seen after.seen work said
   pub calls : Follows work before.log after.log
 
+-- what was found: the rest of any work on it is reached
+abbrev pub Finds : {X : Type 0} → Stage → Stage → ((X → Work) → Work) → X → Type 0
+Finds {X} before after work_on found = (next : X → Work) → HasReached before after (work_on next) (next found)
+
+-- nothing was found, and any work on it ended so
+abbrev pub FindsNone : {X : Type 0} → Stage → Stage → ((X → Work) → Work) → Said → Type 0
+FindsNone {X} before after work_on said = (next : X → Work) → HasStopped before after (work_on next) said
+
 -- with an object, where it is accepted, and the inputs that another file gives for it
 abbrev pub with_given : List ℕ → List ℕ → (Parts → List (List ℤ) → Work) → Work
 with_given object input next = with_accepted object (λ o. with_inputs o input (next o))

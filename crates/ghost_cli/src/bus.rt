@@ -6,14 +6,11 @@ ghost use Rattle.bus_arbiter.specs.Shares.{share_of};
 ghost use Rattle.bus_arbiter.specs.Turns.{AllLeft};
 ghost use Rattle.command_words.specs.Asks.{bus_asks, bus_named, bus_named_on};
 ghost use Rattle.command_words.specs.Pairs.{pairs_of};
-ghost use Rattle.ghost_cli.specs.Bus.{Read, bus_said, bus_work, none_read, with_core, with_cores};
+ghost use Rattle.ghost_cli.specs.Bus.{bus_said, bus_work, none_read, with_core, with_cores};
 ghost use Rattle.command_words.specs.Options.{texts};
-ghost use Rattle.ghost_cli.specs.CallsFollow.{Follows};
-ghost use Rattle.ghost_cli.specs.Happened.{Log};
-ghost use Rattle.ghost_cli.specs.Progress.{HasLeft, Stops};
+ghost use Rattle.ghost_cli.specs.Reached.{Finds, FindsNone, stage};
 ghost use Rattle.ghost_cli.specs.Sharing.{AllBegin, AreRead, PutsShared};
 ghost use Rattle.call_replies.specs.Texts.{said};
-ghost use Rattle.ghost_cli.specs.Work.{Work};
 
 use crate::bus_run::put_bus;
 use crate::oblivious::{SeededOram, load_seeded};
@@ -247,17 +244,11 @@ fn read_core<'a, F: Shelf>(
     requires room { length cores.old.plan < 8 }
     requires read { AreRead cores.old }
     ensures read { OnOk result (AreRead cores.new) }
-    ensures found { OnOk result ((next : Read → Work)
-        → HasLeft (F.seen shelf.old) (with_core pair.now (length cores.old.plan) cores.old next) (next cores.new)) }
+    ensures found { OnOk result (Finds (stage (F.seen shelf.old) (F.log shelf.old))
+        (stage (F.seen shelf.new) (F.log shelf.new)) (with_core pair.now (length cores.old.plan) cores.old) cores.new) }
     ensures one { OnOk result (length cores.new.plan ≡ length cores.old.plan + 1) }
-    ensures calm { OnOk result (F.seen shelf.new ≡ F.seen shelf.old) }
-    ensures stopped { IfErr result (λ reply. (next : Read → Work)
-        → Stops (F.seen shelf.old) (F.seen shelf.new) (with_core pair.now (length cores.old.plan) cores.old next)
-        (said reply)) }
-    ensures onward { OnOk result ((next : Read → Work) (after : Log) → Follows (next cores.new) (F.log shelf.new) after
-        → Follows (with_core pair.now (length cores.old.plan) cores.old next) (F.log shelf.old) after) }
-    ensures part { OnErr result ((next : Read → Work)
-        → Follows (with_core pair.now (length cores.old.plan) cores.old next) (F.log shelf.old) (F.log shelf.new)) }
+    ensures stopped { IfErr result (λ reply. FindsNone (stage (F.seen shelf.old) (F.log shelf.old))
+        (stage (F.seen shelf.new) (F.log shelf.new)) (with_core pair.now (length cores.old.plan) cores.old) (said reply)) }
 {
     let core = cores.plan.len();
     let accepted = find_accepted(alloc, pair.object, shelf)?;
@@ -278,18 +269,12 @@ pub fn read_cores<'a, F: Shelf>(
     shelf: &mut F,
 ) -> Result<Cores, Reply<'a>>
     requires most { length pairs.now ≤ 8 }
-    ensures found { IfOk result (λ cores. (next : Read → Work)
-        → HasLeft (F.seen shelf.old) (with_cores pairs.now 0 none_read next) (next cores)) }
+    ensures found { IfOk result (λ cores. Finds (stage (F.seen shelf.old) (F.log shelf.old))
+        (stage (F.seen shelf.new) (F.log shelf.new)) (with_cores pairs.now 0 none_read) cores) }
     ensures read { IfOk result AreRead }
     ensures few { IfOk result (λ cores. length cores.objects ≤ 8) }
-    ensures calm { OnOk result (F.seen shelf.new ≡ F.seen shelf.old) }
-    ensures stopped { IfErr result (λ reply. (next : Read → Work)
-        → Stops (F.seen shelf.old) (F.seen shelf.new) (with_cores pairs.now 0 none_read next) (said reply)) }
-    ensures onward { IfOk result (λ cores. (next : Read → Work) (after : Log)
-        → Follows (next cores) (F.log shelf.new) after
-        → Follows (with_cores pairs.now 0 none_read next) (F.log shelf.old) after) }
-    ensures part { OnErr result ((next : Read → Work)
-        → Follows (with_cores pairs.now 0 none_read next) (F.log shelf.old) (F.log shelf.new)) }
+    ensures stopped { IfErr result (λ reply. FindsNone (stage (F.seen shelf.old) (F.log shelf.old))
+        (stage (F.seen shelf.new) (F.log shelf.new)) (with_cores pairs.now 0 none_read) (said reply)) }
 {
     let mut cores = Cores {
         plan: Plan::new(alloc),

@@ -1,17 +1,15 @@
-ghost use Rattle.std.specs.Prelude.{◌≡◌, ◌≤◌, ℕ, ℤ, IfErr, IfOk, List, OnOk, Option, length, [], ◌∷◌, OnErr, true};
-ghost use Rattle.gr_base.specs.Added.{Adds};
-ghost use Rattle.gr_outside.specs.Shelf.{read_of};
+ghost use Rattle.std.specs.Prelude.{◌≡◌, ◌≤◌, ℕ, ℤ, IfErr, IfOk, List, OnOk, Option, length};
 ghost use Rattle.gr_word.specs.Fitting.{AreVariables, FitsWants};
 ghost use Rattle.lt_isa.specs.Object.{Parts};
 ghost use Rattle.lt_isa.specs.Ranges.{IsInRange};
 ghost use Rattle.lt_isa.specs.Start.{FitsObject};
 ghost use Rattle.lt_assembler.specs.Spelled.{SpellsInText};
 ghost use Rattle.trace_patterns.specs.Accepts.{Accepts};
-ghost use Rattle.ghost_cli.specs.CallsFollow.{TriesRead};
 ghost use Rattle.ghost_cli.specs.Objects.{SpellsObject, object_limit};
-ghost use Rattle.ghost_cli.specs.Progress.{HasLeft, EndsWorkWith, SaysInputs, SaysObject, SaysText, Stops};
+ghost use Rattle.ghost_cli.specs.Progress.{EndsWorkWith, SaysInputs, SaysObject, SaysText};
 ghost use Rattle.ghost_cli.specs.Questions.{AreInputs, Shows, WhetherAccepted, WhichAssembly, WhichInputs, WhichObject};
 ghost use Rattle.call_replies.specs.declared.replies.Verdict.TheVariants.{BadAssembly, BadInput, Malformed};
+ghost use Rattle.ghost_cli.specs.Reached.{Finds, FindsNone, stage};
 ghost use Rattle.ghost_cli.specs.Steps.{input_limit, on_judged, or_ends, text_limit, with_accepted, with_assembly, with_inputs, with_object, with_variables};
 ghost use Rattle.call_replies.specs.Texts.{said};
 ghost use Rattle.ghost_cli.specs.Work.{Reads, Work};
@@ -43,14 +41,12 @@ pub(crate) fn read_whole<'a, F: Shelf>(
     limit: u32,
     shelf: &mut F,
 ) -> Result<Vec<u8>, Reply<'a>>
-    ensures found { IfOk result
-        (λ bytes. (next : List ℕ → Work) → HasLeft (F.seen shelf.old) (Reads name.now limit next) (next bytes.items)) }
+    ensures found { IfOk result (λ bytes. Finds (stage (F.seen shelf.old) (F.log shelf.old))
+        (stage (F.seen shelf.new) (F.log shelf.new)) (Reads name.now limit) bytes.items) }
     ensures size { IfOk result (λ bytes. length bytes.items ≤ limit) }
     ensures calm { OnOk result (F.seen shelf.new ≡ F.seen shelf.old) }
-    ensures whole { OnOk result (Adds (F.log shelf.old) (F.log shelf.new) (read_of name.now true ∷ [])) }
-    ensures part { OnErr result (TriesRead name.now (F.log shelf.old) (F.log shelf.new)) }
-    ensures stopped { IfErr result (λ reply.
-        (next : List ℕ → Work) → Stops (F.seen shelf.old) (F.seen shelf.new) (Reads name.now limit next) (said reply)) }
+    ensures stopped { IfErr result (λ reply. FindsNone (stage (F.seen shelf.old) (F.log shelf.old))
+        (stage (F.seen shelf.new) (F.log shelf.new)) (Reads name.now limit) (said reply)) }
 {
     match shelf.read(name, limit as usize + 1) {
         Ok(bytes) => {
@@ -71,13 +67,11 @@ pub fn find_object<'a, F: Shelf>(
     name: &'a str,
     shelf: &mut F,
 ) -> Result<Object, Reply<'a>>
-    ensures found { IfOk result
-        (λ o. (next : Parts → Work) → HasLeft (F.seen shelf.old) (with_object name.now next) (next o)) }
+    ensures found { IfOk result (λ o. Finds (stage (F.seen shelf.old) (F.log shelf.old))
+        (stage (F.seen shelf.new) (F.log shelf.new)) (with_object name.now) o) }
     ensures calm { OnOk result (F.seen shelf.new ≡ F.seen shelf.old) }
-    ensures whole { OnOk result (Adds (F.log shelf.old) (F.log shelf.new) (read_of name.now true ∷ [])) }
-    ensures part { OnErr result (TriesRead name.now (F.log shelf.old) (F.log shelf.new)) }
-    ensures stopped { IfErr result (λ reply.
-        (next : Parts → Work) → Stops (F.seen shelf.old) (F.seen shelf.new) (with_object name.now next) (said reply)) }
+    ensures stopped { IfErr result (λ reply. FindsNone (stage (F.seen shelf.old) (F.log shelf.old))
+        (stage (F.seen shelf.new) (F.log shelf.new)) (with_object name.now) (said reply)) }
 {
     let bytes = read_whole(name, OBJECT_BYTES, shelf)?;
     object_in(alloc, &bytes)
@@ -89,14 +83,12 @@ pub fn find_accepted<'a, F: Shelf>(
     name: &'a str,
     shelf: &mut F,
 ) -> Result<Accepted, Reply<'a>>
-    ensures found { IfOk result
-        (λ o. (next : Parts → Work) → HasLeft (F.seen shelf.old) (with_accepted name.now next) (next o)) }
+    ensures found { IfOk result (λ o. Finds (stage (F.seen shelf.old) (F.log shelf.old))
+        (stage (F.seen shelf.new) (F.log shelf.new)) (with_accepted name.now) o) }
     ensures in_range { IfOk result (λ o. IsInRange o) }
     ensures calm { OnOk result (F.seen shelf.new ≡ F.seen shelf.old) }
-    ensures whole { OnOk result (Adds (F.log shelf.old) (F.log shelf.new) (read_of name.now true ∷ [])) }
-    ensures part { OnErr result (TriesRead name.now (F.log shelf.old) (F.log shelf.new)) }
-    ensures stopped { IfErr result (λ reply. (next : Parts → Work)
-        → Stops (F.seen shelf.old) (F.seen shelf.new) (with_accepted name.now next) (said reply)) }
+    ensures stopped { IfErr result (λ reply. FindsNone (stage (F.seen shelf.old) (F.log shelf.old))
+        (stage (F.seen shelf.new) (F.log shelf.new)) (with_accepted name.now) (said reply)) }
 {
     let object = find_object(alloc, name, shelf)?;
     checked(alloc, object)
@@ -108,13 +100,10 @@ pub fn find_assembly<'a, F: Shelf>(
     name: &'a str,
     shelf: &mut F,
 ) -> Result<Object, Reply<'a>>
-    ensures found { IfOk result
-        (λ o. (next : Parts → Work) → HasLeft (F.seen shelf.old) (with_assembly name.now next) (next o)) }
-    ensures calm { OnOk result (F.seen shelf.new ≡ F.seen shelf.old) }
-    ensures whole { OnOk result (Adds (F.log shelf.old) (F.log shelf.new) (read_of name.now true ∷ [])) }
-    ensures part { OnErr result (TriesRead name.now (F.log shelf.old) (F.log shelf.new)) }
-    ensures stopped { IfErr result (λ reply. (next : Parts → Work)
-        → Stops (F.seen shelf.old) (F.seen shelf.new) (with_assembly name.now next) (said reply)) }
+    ensures found { IfOk result (λ o. Finds (stage (F.seen shelf.old) (F.log shelf.old))
+        (stage (F.seen shelf.new) (F.log shelf.new)) (with_assembly name.now) o) }
+    ensures stopped { IfErr result (λ reply. FindsNone (stage (F.seen shelf.old) (F.log shelf.old))
+        (stage (F.seen shelf.new) (F.log shelf.new)) (with_assembly name.now) (said reply)) }
 {
     let bytes = read_whole(name, TEXT_BYTES, shelf)?;
     assembly_in(alloc, &bytes)
@@ -127,14 +116,12 @@ pub fn find_inputs<'a, F: Shelf>(
     name: &'a str,
     shelf: &mut F,
 ) -> Result<Inputs, Reply<'a>>
-    ensures found { IfOk result (λ inputs. (next : List (List ℤ) → Work)
-        → HasLeft (F.seen shelf.old) (with_inputs accepted.now name.now next) (next inputs)) }
+    ensures found { IfOk result (λ inputs. Finds (stage (F.seen shelf.old) (F.log shelf.old))
+        (stage (F.seen shelf.new) (F.log shelf.new)) (with_inputs accepted.now name.now) inputs) }
     ensures fits { IfOk result (λ inputs. FitsObject accepted.now inputs) }
     ensures calm { OnOk result (F.seen shelf.new ≡ F.seen shelf.old) }
-    ensures whole { OnOk result (Adds (F.log shelf.old) (F.log shelf.new) (read_of name.now true ∷ [])) }
-    ensures part { OnErr result (TriesRead name.now (F.log shelf.old) (F.log shelf.new)) }
-    ensures stopped { IfErr result (λ reply. (next : List (List ℤ) → Work)
-        → Stops (F.seen shelf.old) (F.seen shelf.new) (with_inputs accepted.now name.now next) (said reply)) }
+    ensures stopped { IfErr result (λ reply. FindsNone (stage (F.seen shelf.old) (F.log shelf.old))
+        (stage (F.seen shelf.new) (F.log shelf.new)) (with_inputs accepted.now name.now) (said reply)) }
 {
     let wants = accepted.object().wants(alloc)?;
     find_variables(alloc, &wants, name, shelf)
@@ -148,14 +135,12 @@ pub fn find_variables<'a, F: Shelf>(
     shelf: &mut F,
 ) -> Result<Inputs, Reply<'a>>
     requires { AreVariables wants.now }
-    ensures found { IfOk result (λ inputs. (next : List (List ℤ) → Work)
-        → HasLeft (F.seen shelf.old) (with_variables wants.now name.now next) (next inputs)) }
+    ensures found { IfOk result (λ inputs. Finds (stage (F.seen shelf.old) (F.log shelf.old))
+        (stage (F.seen shelf.new) (F.log shelf.new)) (with_variables wants.now name.now) inputs) }
     ensures fits { IfOk result (λ inputs. FitsWants wants.now inputs) }
     ensures calm { OnOk result (F.seen shelf.new ≡ F.seen shelf.old) }
-    ensures whole { OnOk result (Adds (F.log shelf.old) (F.log shelf.new) (read_of name.now true ∷ [])) }
-    ensures part { OnErr result (TriesRead name.now (F.log shelf.old) (F.log shelf.new)) }
-    ensures stopped { IfErr result (λ reply. (next : List (List ℤ) → Work)
-        → Stops (F.seen shelf.old) (F.seen shelf.new) (with_variables wants.now name.now next) (said reply)) }
+    ensures stopped { IfErr result (λ reply. FindsNone (stage (F.seen shelf.old) (F.log shelf.old))
+        (stage (F.seen shelf.new) (F.log shelf.new)) (with_variables wants.now name.now) (said reply)) }
 {
     let bytes = read_whole(name, INPUT_BYTES, shelf)?;
     inputs_in(alloc, wants, &bytes)

@@ -1,10 +1,8 @@
-ghost use Rattle.std.specs.Prelude.{◌≡◌, ◌≤◌, IfErr, IfOk, IfSome, OnOk, false, length, true, [], ◌∷◌, OnErr};
-ghost use Rattle.gr_base.specs.Added.{Adds};
-ghost use Rattle.gr_outside.specs.Shelf.{read_of};
+ghost use Rattle.std.specs.Prelude.{◌≤◌, IfErr, IfOk, IfSome, false, length, true};
 ghost use Rattle.src_tree.specs.Trees.{Source, source_of};
-ghost use Rattle.ghost_cli.specs.CallsFollow.{TriesRead};
-ghost use Rattle.ghost_cli.specs.Progress.{HasLeft, EndsWorkWith, SaysSource, Stops};
+ghost use Rattle.ghost_cli.specs.Progress.{EndsWorkWith, SaysSource};
 ghost use Rattle.ghost_cli.specs.Questions.{WhichSource};
+ghost use Rattle.ghost_cli.specs.Reached.{Finds, FindsNone, stage};
 ghost use Rattle.ghost_cli.specs.Sources.{IsFirstSourceFault, Spells, SpellsTyped, source_limit};
 ghost use Rattle.call_replies.specs.declared.replies.Verdict.TheVariants.{BadSource};
 ghost use Rattle.ghost_cli.specs.Steps.{or_ends, with_source};
@@ -33,14 +31,10 @@ pub fn find_source<'a, F: Shelf>(
     procs: bool,
     shelf: &mut F,
 ) -> Result<Typed, Reply<'a>>
-    ensures found { IfOk result
-        (λ p. (next : Source → Work) → HasLeft (F.seen shelf.old) (with_source procs name.now next)
-        (next (source_of p))) }
-    ensures calm { OnOk result (F.seen shelf.new ≡ F.seen shelf.old) }
-    ensures whole { OnOk result (Adds (F.log shelf.old) (F.log shelf.new) (read_of name.now true ∷ [])) }
-    ensures part { OnErr result (TriesRead name.now (F.log shelf.old) (F.log shelf.new)) }
-    ensures stopped { IfErr result (λ reply. (next : Source → Work)
-        → Stops (F.seen shelf.old) (F.seen shelf.new) (with_source procs name.now next) (said reply)) }
+    ensures found { IfOk result (λ p. Finds (stage (F.seen shelf.old) (F.log shelf.old))
+        (stage (F.seen shelf.new) (F.log shelf.new)) (with_source procs name.now) (source_of p)) }
+    ensures stopped { IfErr result (λ reply. FindsNone (stage (F.seen shelf.old) (F.log shelf.old))
+        (stage (F.seen shelf.new) (F.log shelf.new)) (with_source procs name.now) (said reply)) }
 {
     let bytes = read_whole(name, SOURCE_BYTES, shelf)?;
     source_in(alloc, &bytes, procs)

@@ -1,6 +1,6 @@
 use Rattle.std.proofs.Common.{◌≡◌, length}
+use Rattle.ghost_cli.specs.Reached.{stage}
 use Rattle.ghost_cli.specs.Sharing.{AreRead}
-use Rattle.ghost_cli.proofs.BusCalls.{HasMade}
 use Rattle.ghost_cli.proofs.Pairing.{HasRead}
 use Rattle.ghost_cli.proofs.bus.read_cores.Given as goal
 
@@ -8,7 +8,6 @@ abbrev pub invariant-reading : goal.invariant-reading
 invariant-reading g l = record {
   count : length l.cores.plan ≡ l.pair-index;
   are : AreRead l.cores;
-  seen : g.F.Shelf.seen l.shelf ≡ g.F.Shelf.seen l.fn.shelf;
-  read : HasRead (g.F.Shelf.seen l.fn.shelf) l.pairs l.pair-index l.cores;
-  made : HasMade (g.F.Shelf.log l.fn.shelf) (g.F.Shelf.log l.shelf) l.pairs l.pair-index l.cores;
+  read : HasRead (stage (g.F.Shelf.seen l.fn.shelf) (g.F.Shelf.log l.fn.shelf))
+  (stage (g.F.Shelf.seen l.shelf) (g.F.Shelf.log l.shelf)) l.pairs l.pair-index l.cores;
 }

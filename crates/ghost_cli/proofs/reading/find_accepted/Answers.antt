@@ -13,11 +13,10 @@ returns-in_err-object-clause-stopped g c =
 
 pub returns-clause-found : goal.returns-clause-found
 returns-clause-found g c =
-    accepted-found c.checked.result (g.F.Shelf.seen c.args.shelf.now) _ c.in_ok-object.object
-    c.in_ok-object.ensures.found c.checked.ensures.same c.checked.ensures.accepts
+    accepted-found c.checked.result c.in_ok-object.object c.in_ok-object.ensures.found c.checked.ensures.same
+    c.checked.ensures.accepts
 
 pub returns-clause-stopped : goal.returns-clause-stopped
 returns-clause-stopped g c =
-    IfErr-weaker c.checked.result _ _ (λ reply.
-    accepted-refused (g.F.Shelf.seen c.args.shelf.now) _ _ c.in_ok-object.object _ c.in_ok-object.ensures.found
-    c.in_ok-object.ensures.calm) c.checked.ensures.refused
+    IfErr-weaker c.checked.result _ _
+    (λ reply. accepted-refused c.in_ok-object.object c.in_ok-object.ensures.found) c.checked.ensures.refused

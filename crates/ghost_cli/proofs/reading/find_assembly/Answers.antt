@@ -2,7 +2,7 @@ use Rattle.std.proofs.Common.{Ok}
 use Rattle.std.proofs.lemmas.Result.{IfErr-weaker, IfOk-weaker, err_from_is_err_and}
 use Rattle.ghost_cli.specs.Work.{Asks}
 use Rattle.call_replies.specs.declared.replies.Verdict.TheVariants.{BadAssembly}
-use Rattle.ghost_cli.specs.Steps.{or_ends, text_limit}
+use Rattle.ghost_cli.specs.Steps.{or_ends}
 use Rattle.ghost_cli.specs.Questions.{WhichAssembly}
 use Rattle.ghost_cli.proofs.Finding.{bytes-found, bytes-refused}
 use Rattle.ghost_cli.proofs.reading.find_assembly.Goals as goal
@@ -16,12 +16,11 @@ returns-in_err-bytes-clause-stopped g c =
 pub returns-clause-found : goal.returns-clause-found
 returns-clause-found g c =
     IfOk-weaker c.assembly_in.result _ _ (λ o found next.
-    bytes-found (g.F.Shelf.seen c.args.shelf.now) _ text_limit WhichAssembly (λ b. or_ends BadAssembly next) _ _
-    (λ b. Ok o) c.deref.ensures.value c.in_ok-bytes.ensures.found found) c.assembly_in.ensures.found
+    bytes-found WhichAssembly (λ b. or_ends BadAssembly next) (λ b. Ok o) c.deref.ensures.value
+    c.in_ok-bytes.ensures.found found) c.assembly_in.ensures.found
 
 pub returns-clause-stopped : goal.returns-clause-stopped
 returns-clause-stopped g c =
     IfErr-weaker c.assembly_in.result _ _ (λ reply refused next.
-    bytes-refused (g.F.Shelf.seen c.args.shelf.now) _ _ text_limit WhichAssembly (λ b. or_ends BadAssembly next) _ _ _
-    c.deref.ensures.value c.in_ok-bytes.ensures.found c.in_ok-bytes.ensures.calm (refused next))
-    c.assembly_in.ensures.refused
+    bytes-refused WhichAssembly (λ b. or_ends BadAssembly next) c.deref.ensures.value c.in_ok-bytes.ensures.found
+    (refused next)) c.assembly_in.ensures.refused

@@ -1,6 +1,5 @@
 use Rattle.std.proofs.Common.{Ok}
 use Rattle.std.proofs.lemmas.Result.{IfErr-weaker, IfOk-weaker, err_from_is_err_and}
-use Rattle.ghost_cli.specs.Objects.{object_limit}
 use Rattle.ghost_cli.specs.Work.{Asks}
 use Rattle.call_replies.specs.declared.replies.Verdict.TheVariants.{Malformed}
 use Rattle.ghost_cli.specs.Steps.{or_ends}
@@ -17,12 +16,11 @@ returns-in_err-bytes-clause-stopped g c =
 pub returns-clause-found : goal.returns-clause-found
 returns-clause-found g c =
     IfOk-weaker c.object_in.result _ _ (λ o found next.
-    bytes-found (g.F.Shelf.seen c.args.shelf.now) _ object_limit WhichObject (λ b. or_ends Malformed next) _ _
-    (λ b. Ok o) c.deref.ensures.value c.in_ok-bytes.ensures.found found) c.object_in.ensures.found
+    bytes-found WhichObject (λ b. or_ends Malformed next) (λ b. Ok o) c.deref.ensures.value
+    c.in_ok-bytes.ensures.found found) c.object_in.ensures.found
 
 pub returns-clause-stopped : goal.returns-clause-stopped
 returns-clause-stopped g c =
     IfErr-weaker c.object_in.result _ _ (λ reply refused next.
-    bytes-refused (g.F.Shelf.seen c.args.shelf.now) _ _ object_limit WhichObject (λ b. or_ends Malformed next) _ _ _
-    c.deref.ensures.value c.in_ok-bytes.ensures.found c.in_ok-bytes.ensures.calm (refused next))
-    c.object_in.ensures.refused
+    bytes-refused WhichObject (λ b. or_ends Malformed next) c.deref.ensures.value c.in_ok-bytes.ensures.found
+    (refused next)) c.object_in.ensures.refused

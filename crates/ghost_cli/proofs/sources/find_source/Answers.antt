@@ -1,7 +1,6 @@
 use Rattle.std.proofs.Common.{Ok}
 use Rattle.std.proofs.lemmas.Result.{IfErr-weaker, IfOk-weaker, err_from_is_err_and}
 use Rattle.src_tree.specs.Trees.{source_of}
-use Rattle.ghost_cli.specs.Sources.{source_limit}
 use Rattle.ghost_cli.specs.Work.{Asks}
 use Rattle.call_replies.specs.declared.replies.Verdict.TheVariants.{BadSource}
 use Rattle.ghost_cli.specs.Steps.{or_ends}
@@ -18,14 +17,11 @@ returns-in_err-bytes-clause-stopped g c =
 pub returns-clause-found : goal.returns-clause-found
 returns-clause-found g c =
     IfOk-weaker c.source_in.result _ _ (λ p found next.
-    bytes-found (g.F.Shelf.seen c.args.shelf.now) _ source_limit (WhichSource c.args.procs)
-    (λ b. or_ends BadSource next) _ _ (λ b. Ok (source_of p)) c.deref.ensures.value c.in_ok-bytes.ensures.found found)
-    c.source_in.ensures.found
+    bytes-found (WhichSource c.args.procs) (λ b. or_ends BadSource next) (λ b. Ok (source_of p)) c.deref.ensures.value
+    c.in_ok-bytes.ensures.found found) c.source_in.ensures.found
 
 pub returns-clause-stopped : goal.returns-clause-stopped
 returns-clause-stopped g c =
     IfErr-weaker c.source_in.result _ _ (λ reply refused next.
-    bytes-refused (g.F.Shelf.seen c.args.shelf.now) _ _ source_limit (WhichSource c.args.procs)
-    (λ b. or_ends BadSource next) _ _ _ c.deref.ensures.value c.in_ok-bytes.ensures.found c.in_ok-bytes.ensures.calm
-    (refused next))
-    c.source_in.ensures.refused
+    bytes-refused (WhichSource c.args.procs) (λ b. or_ends BadSource next) c.deref.ensures.value c.in_ok-bytes.ensures.found
+    (refused next)) c.source_in.ensures.refused

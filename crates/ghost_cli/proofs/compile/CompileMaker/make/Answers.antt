@@ -2,30 +2,26 @@ use Rattle.std.proofs.Common.{Ok}
 use Rattle.src_tree.specs.Trees.{source_of}
 use Rattle.ghost_cli.specs.Compile.{compiles_to, on_compiled}
 use Rattle.ghost_cli.specs.Questions.{WhichCompiled}
-use Rattle.ghost_cli.proofs.Reaching.{passed, source-reached, unread-stopped, with-answer, with-refusal}
+use Rattle.ghost_cli.proofs.Reaching.{passed, with-answer, with-refusal}
 use Rattle.ghost_cli.proofs.compile.CompileMaker.make.Goals as goal
 
 pub returns-in_err-program-clause-stopped : goal.returns-in_err-program-clause-stopped
 returns-in_err-program-clause-stopped g c =
     passed c.from_residual.result _ c.from_residual.ensures.1
-    (unread-stopped (c.in_err-program.ensures.stopped (compiles_to c.args.words.output.now c.args.words.target))
-    c.in_err-program.ensures.part)
+    (c.in_err-program.ensures.stopped (compiles_to c.args.words.output.now c.args.words.target))
 
 pub returns-in_err-bytes-clause-stopped : goal.returns-in_err-bytes-clause-stopped
 returns-in_err-bytes-clause-stopped g c =
-    let p = source_of c.in_ok-program.program in
     let output = c.args.words.output.now in
     let target = c.args.words.target in
     passed c.from_residual-in_err-bytes.result _ c.from_residual-in_err-bytes.ensures.1
-    (with-refusal (WhichCompiled p target) (on_compiled output)
-    (source-reached _ c.in_ok-program.ensures.calm c.in_ok-program.ensures.whole c.args.words.procs p
-    (compiles_to output target) c.in_ok-program.ensures.found) (c.in_err-bytes.ensures.refused output))
+    (with-refusal (WhichCompiled (source_of c.in_ok-program.program) target) (on_compiled output)
+    (c.in_ok-program.ensures.found (compiles_to output target)) (c.in_err-bytes.ensures.refused output))
 
 pub returns-clause-made : goal.returns-clause-made
 returns-clause-made g c =
-    let p = source_of c.in_ok-program.program in
     let output = c.args.words.output.now in
     let target = c.args.words.target in
-    with-answer (WhichCompiled p target) (on_compiled output) (Ok c.in_ok-bytes.bytes.items)
-    (source-reached _ c.in_ok-program.ensures.calm c.in_ok-program.ensures.whole c.args.words.procs p
-    (compiles_to output target) c.in_ok-program.ensures.found) c.in_ok-bytes.ensures.compiled
+    with-answer (WhichCompiled (source_of c.in_ok-program.program) target) (on_compiled output)
+    (Ok c.in_ok-bytes.bytes.items) (c.in_ok-program.ensures.found (compiles_to output target))
+    c.in_ok-bytes.ensures.compiled

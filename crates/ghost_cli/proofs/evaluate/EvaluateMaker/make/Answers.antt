@@ -7,49 +7,41 @@ use Rattle.ghost_cli.specs.Evaluate.{evaluates_on, on_left}
 use Rattle.ghost_cli.specs.Evaluated.{LeavesText}
 use Rattle.ghost_cli.specs.Questions.{WhatIsLeft}
 use Rattle.ghost_cli.specs.Steps.{with_variables}
-use Rattle.ghost_cli.proofs.Evaluating.{inputs-reached, inputs-stopped, program-reached}
-use Rattle.ghost_cli.proofs.Reaching.{passed, passed-memory, to-write, unread-stopped, with-answer, with-verdict}
+use Rattle.ghost_cli.proofs.Evaluating.{inputs-reached, inputs-stopped}
+use Rattle.ghost_cli.proofs.Reaching.{passed, passed-memory, to-write, with-answer, with-verdict}
 use Rattle.ghost_cli.proofs.evaluate.EvaluateMaker.make.Goals as goal
 
 pub returns-in_err-program-clause-stopped : goal.returns-in_err-program-clause-stopped
 returns-in_err-program-clause-stopped g c =
     let words = c.args.words in
     passed c.from_residual.result _ c.from_residual.ensures.1
-    (unread-stopped
     (c.in_err-program.ensures.stopped (λ p.
     with_variables (declared_wants p.decls) words.input.now (evaluates_on words.output.now words.turns p)))
-    c.in_err-program.ensures.part)
 
 pub returns-in_err-wants-clause-stopped : goal.returns-in_err-wants-clause-stopped
 returns-in_err-wants-clause-stopped g c =
     let words = c.args.words in
     passed-memory c.from_residual-in_err-wants.result c.from_residual-in_err-wants.ensures.1
-    (program-reached words.procs words.source.now words.input.now words.output.now words.turns
-    (source_of c.in_ok-program.program) c.in_ok-program.ensures.calm c.in_ok-program.ensures.whole
-    c.in_ok-program.ensures.found)
+    (c.in_ok-program.ensures.found (λ p.
+    with_variables (declared_wants p.decls) words.input.now (evaluates_on words.output.now words.turns p)))
 
 pub returns-in_err-inputs-clause-stopped : goal.returns-in_err-inputs-clause-stopped
 returns-in_err-inputs-clause-stopped g c =
     let words = c.args.words in
-    let p = source_of c.in_ok-program.program in
     passed c.from_residual-in_err-inputs.result _ c.from_residual-in_err-inputs.ensures.1
-    (inputs-stopped words.input.now (evaluates_on words.output.now words.turns p)
-    (program-reached words.procs words.source.now words.input.now words.output.now words.turns p
-    c.in_ok-program.ensures.calm c.in_ok-program.ensures.whole c.in_ok-program.ensures.found)
-    (c.deref.ensures.value ∙ c.in_ok-wants.ensures.wants)
-    (unread-stopped (c.in_err-inputs.ensures.stopped (evaluates_on words.output.now words.turns p))
-    c.in_err-inputs.ensures.part))
+    (inputs-stopped words.input.now (evaluates_on words.output.now words.turns (source_of c.in_ok-program.program))
+    (c.in_ok-program.ensures.found (λ p.
+    with_variables (declared_wants p.decls) words.input.now (evaluates_on words.output.now words.turns p)))
+    (c.deref.ensures.value ∙ c.in_ok-wants.ensures.wants) c.in_err-inputs.ensures.stopped)
 
 pub returns-in_err-bytes-clause-stopped : goal.returns-in_err-bytes-clause-stopped
 returns-in_err-bytes-clause-stopped g c =
     let words = c.args.words in
-    let p = source_of c.in_ok-program.program in
     passed-memory c.from_residual-in_err-bytes.result c.from_residual-in_err-bytes.ensures.1
-    (inputs-reached words.input.now c.in_ok-inputs.inputs (evaluates_on words.output.now words.turns p)
-    (program-reached words.procs words.source.now words.input.now words.output.now words.turns p
-    c.in_ok-program.ensures.calm c.in_ok-program.ensures.whole c.in_ok-program.ensures.found)
-    (c.deref.ensures.value ∙ c.in_ok-wants.ensures.wants) c.in_ok-inputs.ensures.calm c.in_ok-inputs.ensures.whole
-    c.in_ok-inputs.ensures.found)
+    (inputs-reached words.input.now (evaluates_on words.output.now words.turns (source_of c.in_ok-program.program))
+    (c.in_ok-program.ensures.found (λ p.
+    with_variables (declared_wants p.decls) words.input.now (evaluates_on words.output.now words.turns p)))
+    (c.deref.ensures.value ∙ c.in_ok-wants.ensures.wants) c.in_ok-inputs.inputs c.in_ok-inputs.ensures.found)
 
 pub returns-in-Done-clause-made : goal.returns-in-Done-clause-made
 returns-in-Done-clause-made g c =
@@ -60,11 +52,10 @@ returns-in-Done-clause-made g c =
     subst (LeavesText p inputs words.turns) c.in-Done.is c.in_ok-bytes.ensures in
     to-write
     (with-answer (WhatIsLeft p inputs words.turns) (on_left p words.output.now words.turns) (Some left.0)
-    (inputs-reached words.input.now inputs (evaluates_on words.output.now words.turns p)
-    (program-reached words.procs words.source.now words.input.now words.output.now words.turns p
-    c.in_ok-program.ensures.calm c.in_ok-program.ensures.whole c.in_ok-program.ensures.found)
-    (c.deref.ensures.value ∙ c.in_ok-wants.ensures.wants) c.in_ok-inputs.ensures.calm c.in_ok-inputs.ensures.whole
-    c.in_ok-inputs.ensures.found)
+    (inputs-reached words.input.now (evaluates_on words.output.now words.turns p)
+    (c.in_ok-program.ensures.found (λ p.
+    with_variables (declared_wants p.decls) words.input.now (evaluates_on words.output.now words.turns p)))
+    (c.deref.ensures.value ∙ c.in_ok-wants.ensures.wants) inputs c.in_ok-inputs.ensures.found)
     left.1)
     left.2 refl
 
@@ -75,9 +66,8 @@ returns-clause-stopped g c =
     let inputs = c.in_ok-inputs.inputs in
     with-verdict (Spent words.turns)
     (with-answer (WhatIsLeft p inputs words.turns) (on_left p words.output.now words.turns) None
-    (inputs-reached words.input.now inputs (evaluates_on words.output.now words.turns p)
-    (program-reached words.procs words.source.now words.input.now words.output.now words.turns p
-    c.in_ok-program.ensures.calm c.in_ok-program.ensures.whole c.in_ok-program.ensures.found)
-    (c.deref.ensures.value ∙ c.in_ok-wants.ensures.wants) c.in_ok-inputs.ensures.calm c.in_ok-inputs.ensures.whole
-    c.in_ok-inputs.ensures.found)
+    (inputs-reached words.input.now (evaluates_on words.output.now words.turns p)
+    (c.in_ok-program.ensures.found (λ p.
+    with_variables (declared_wants p.decls) words.input.now (evaluates_on words.output.now words.turns p)))
+    (c.deref.ensures.value ∙ c.in_ok-wants.ensures.wants) inputs c.in_ok-inputs.ensures.found)
     (subst (LeavesText p inputs words.turns) c.in-Spent.is c.in_ok-bytes.ensures))
