@@ -1,5 +1,6 @@
 -- From pair to pair of a bus.
-use Rattle.std.proofs.Common.{◌≡◌, ℕ, zero, suc, ◌+◌, ◌<◌, ℤ, List, [], ◌∷◌, ◌++◌, drop, get_or, length, map, Option, Some, None, refl, sym, ap, ◌∙◌, subst, ◌⊎◌, inl, inr, ⊎_elim, arith}
+use Rattle.std.proofs.Common.{◌≡◌, ℕ, zero, suc, ◌+◌, ◌<◌, ◌≤◌, ℤ, List, [], ◌∷◌, ◌++◌, drop, get_or, length, map, Option, Some, None, refl, sym, ap, ◌∙◌, subst, ◌⊎◌, inl, inr, ⊎_elim, arith}
+use Rattle.std.proofs.lemmas.List.{drop_all}
 use Rattle.lt_isa.specs.Object.{Parts}
 use Rattle.lt_isa.specs.Ranges.{IsInRange}
 use Rattle.lt_isa.specs.Start.{FitsObject}
@@ -42,7 +43,7 @@ pair_of object input = record { object = object; input = input }
 
 module _ {object input : List ℕ} {pair : Pair} (named : pair_of object input ≡ pair) (read : Read) where
   -- the work on the pair's object
-  on_object : (Read → Work) → Parts → Work
+  abbrev on_object : (Read → Work) → Parts → Work
   on_object next o =
       on_plan (length read.plan) (refusal read.plan (share_of o))
       (with_inputs o input (λ d. next (one_read read o d)))
@@ -94,27 +95,28 @@ module _ {object input : List ℕ} {pair : Pair} (named : pair_of object input �
         subst (λ (s : Said). FindsNone before between (with_core pair (length read.plan) read) s)
         (sym (is ∙ ap (λ k. bus_said k cause) (at ∙ ap length same))) (off cause (refused-worked plan o cause is_plan range why))
 
-    module _ (fits : PlanTakes plan (share_of o)) {after : Stage} where
+    module _ (fits : PlanTakes plan (share_of o)) where
       core-taken : (next : Read → Work) → HasReached before between (with_core pair (length read.plan) read next)
           (with_inputs o input (λ d. next (one_read read o d)))
       core-taken next = at-plan next None (taken-worked plan o is_plan range fits)
 
       -- its inputs aren't found
-      pub core-unread : {what : Said} → FindsNone between after (with_inputs o input) what
+      pub core-unread : {after : Stage} {what : Said} → FindsNone between after (with_inputs o input) what
           → FindsNone before after (with_core pair (length read.plan) read) what
       core-unread none next = then-stopped (core-taken next) (none (λ d. next (one_read read o d)))
 
-      module _ (d : List (List ℤ)) (given : Finds between after (with_inputs o input) d) where
-        -- both were found
-        pub core-found : {more : Read} → one_read read o d ≡ more
-            → Finds before after (with_core pair (length read.plan) read) more
-        core-found {more} is next =
-            subst (λ (r : Read). HasReached before after (with_core pair (length read.plan) read next) (next r)) is
-            (then-reached (core-taken next) (given (λ d. next (one_read read o d))))
+      -- both were found
+      pub core-found : {after : Stage} (d : List (List ℤ)) → Finds between after (with_inputs o input) d
+          → {more : Read} → one_read read o d ≡ more
+          → Finds before after (with_core pair (length read.plan) read) more
+      core-found {after} d given {more} is next =
+          subst (λ (r : Read). HasReached before after (with_core pair (length read.plan) read next) (next r)) is
+          (then-reached (core-taken next) (given (λ d. next (one_read read o d))))
 
-        -- there is no memory to keep them
-        pub core-unkept : FindsNone before after (with_core pair (length read.plan) read) no_memory
-        core-unkept next = out-of-memory (core-found refl next) refl
+      -- there is no memory to keep them
+      pub core-unkept : {after : Stage} (d : List (List ℤ)) → Finds between after (with_inputs o input) d
+          → FindsNone before after (with_core pair (length read.plan) read) no_memory
+      core-unkept d given next = out-of-memory (core-found d given refl next) refl
 
 -- ---- all pairs
 
@@ -132,7 +134,7 @@ HasRead before now pairs i read = (next : Read → Work)
 pub reads-first : {before : Stage} (pairs : List Pair) → HasRead before before pairs 0 none_read
 reads-first pairs next = not-begun
 
-module _ {before now later : Stage} (pairs : List Pair) (i : ℕ) (item : Pair) (within : i < length pairs)
+module _ {before now : Stage} (pairs : List Pair) (i : ℕ) (item : Pair) (within : i < length pairs)
     (read : Read) (has : HasRead before now pairs i read) (at : item ≡ get_or pairs i item)
     (count : length read.plan ≡ i) where
   at-pair : (next : Read → Work) → HasReached before now (with_cores pairs 0 none_read next)
@@ -146,14 +148,21 @@ module _ {before now later : Stage} (pairs : List Pair) (i : ℕ) (item : Pair) 
       (subst (λ left. HasReached before now (with_cores pairs 0 none_read next) (with_cores left i read next))
       (next-pair pairs i item within ∙ ap (λ j. get_or pairs i item ∷ drop j pairs) one) (has next)))
 
-  pub reads-next : (more : Read) → Finds now later (with_core item (length read.plan) read) more
+  pub reads-next : {later : Stage} (more : Read) → Finds now later (with_core item (length read.plan) read) more
       → HasRead before later pairs (i + 1) more
   reads-next more found next =
       then-reached (at-pair next) (found (λ more. with_cores (drop (i + 1) pairs) (i + 1) more next))
 
-  pub reads-stop : {what : Said} → FindsNone now later (with_core item (length read.plan) read) what
+  pub reads-stop : {later : Stage} {what : Said} → FindsNone now later (with_core item (length read.plan) read) what
       → FindsNone before later (with_cores pairs 0 none_read) what
   reads-stop none next = then-stopped (at-pair next) (none (λ more. with_cores (drop (i + 1) pairs) (i + 1) more next))
+
+-- no pair is left
+pub reads-last : {before now : Stage} (pairs : List Pair) (i : ℕ) (read : Read) → HasRead before now pairs i read
+    → length pairs ≤ i → Finds before now (with_cores pairs 0 none_read) read
+reads-last {before} {now} pairs i read has past next =
+    subst (λ left. HasReached before now (with_cores pairs 0 none_read next) (with_cores left i read next))
+    (drop_all i pairs past) (has next)
 
 -- the pairs that words name were read, or weren't
 module _ {before after : Stage} {slice pairs : List Pair} (cycles : ℕ) (is : slice ≡ pairs) where

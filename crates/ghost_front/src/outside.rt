@@ -12,9 +12,9 @@ pub trait Reasons {
     fn reason(&self, alloc: Global) -> Option<String>;
 }
 
-/// Files that may have several names.
+/// Files that may have several names. Contracts can't see which names those are, so none states the result.
 pub trait Identities {
-    /// Whether both names are names of one regular file, links followed. False if either can't be looked at.
+    /// Whether both names refer to one regular file. Links are followed. False if either can't be looked up.
     fn are_one_file(&self, one: &str, other: &str) -> bool;
 }
 
