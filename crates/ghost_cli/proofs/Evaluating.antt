@@ -15,7 +15,8 @@ module _ {before between after : Stage} {work : Work} {wants declared : List Wan
       → HasReached before after work (next inputs)
   inputs-reached inputs found =
       then-reached first
-      (subst (λ (ws : List Want). HasReached between after (with_variables ws input next) (next inputs)) is (found next))
+      (subst (λ (ws : List Want). HasReached between after (with_variables ws input next) (next inputs)) is
+      (found next))
 
   -- they weren't found
   pub inputs-stopped : {what : Said} → FindsNone between after (with_variables wants input) what

@@ -93,7 +93,8 @@ module _ {object input : List ℕ} {pair : Pair} (named : pair_of object input �
         → FindsNone before between (with_core pair (length read.plan) read) what
     core-off {what} cause {core} at is why =
         subst (λ (s : Said). FindsNone before between (with_core pair (length read.plan) read) s)
-        (sym (is ∙ ap (λ k. bus_said k cause) (at ∙ ap length same))) (off cause (refused-worked plan o cause is_plan range why))
+        (sym (is ∙ ap (λ k. bus_said k cause) (at ∙ ap length same)))
+        (off cause (refused-worked plan o cause is_plan range why))
 
     module _ (fits : PlanTakes plan (share_of o)) where
       core-taken : (next : Read → Work) → HasReached before between (with_core pair (length read.plan) read next)

@@ -248,7 +248,8 @@ fn read_core<'a, F: Shelf>(
         (stage (F.seen shelf.new) (F.log shelf.new)) (with_core pair.now (length cores.old.plan) cores.old) cores.new) }
     ensures one { OnOk result (length cores.new.plan ≡ length cores.old.plan + 1) }
     ensures stopped { IfErr result (λ reply. FindsNone (stage (F.seen shelf.old) (F.log shelf.old))
-        (stage (F.seen shelf.new) (F.log shelf.new)) (with_core pair.now (length cores.old.plan) cores.old) (said reply)) }
+        (stage (F.seen shelf.new) (F.log shelf.new)) (with_core pair.now (length cores.old.plan) cores.old)
+        (said reply)) }
 {
     let core = cores.plan.len();
     let accepted = find_accepted(alloc, pair.object, shelf)?;

@@ -9,5 +9,5 @@ invariant-reading g l = record {
   count : length l.cores.plan ≡ l.pair-index;
   are : AreRead l.cores;
   read : HasRead (stage (g.F.Shelf.seen l.fn.shelf) (g.F.Shelf.log l.fn.shelf))
-  (stage (g.F.Shelf.seen l.shelf) (g.F.Shelf.log l.shelf)) l.pairs l.pair-index l.cores;
+      (stage (g.F.Shelf.seen l.shelf) (g.F.Shelf.log l.shelf)) l.pairs l.pair-index l.cores;
 }

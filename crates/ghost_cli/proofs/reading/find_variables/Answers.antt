@@ -11,7 +11,8 @@ pub returns-in_err-bytes-clause-stopped : goal.returns-in_err-bytes-clause-stopp
 returns-in_err-bytes-clause-stopped g c =
     let passed = err_from_is_err_and c.from_residual.result c.from_residual.ensures.1 in
     rw (passed.1, passed.2)
-    (λ next. c.in_err-bytes.ensures.stopped (λ bytes. Asks (WhichInputs c.args.wants.now bytes) (or_ends BadInput next)))
+    (λ next. c.in_err-bytes.ensures.stopped
+    (λ bytes. Asks (WhichInputs c.args.wants.now bytes) (or_ends BadInput next)))
 
 pub returns-clause-found : goal.returns-clause-found
 returns-clause-found g c =
@@ -22,5 +23,5 @@ returns-clause-found g c =
 pub returns-clause-stopped : goal.returns-clause-stopped
 returns-clause-stopped g c =
     IfErr-weaker c.inputs_in.result _ _ (λ reply refused next.
-    bytes-refused (WhichInputs c.args.wants.now) (λ b. or_ends BadInput next) c.deref.ensures.value c.in_ok-bytes.ensures.found
-    (refused next)) c.inputs_in.ensures.refused
+    bytes-refused (WhichInputs c.args.wants.now) (λ b. or_ends BadInput next) c.deref.ensures.value
+    c.in_ok-bytes.ensures.found (refused next)) c.inputs_in.ensures.refused

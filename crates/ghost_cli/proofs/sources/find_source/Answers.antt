@@ -23,5 +23,5 @@ returns-clause-found g c =
 pub returns-clause-stopped : goal.returns-clause-stopped
 returns-clause-stopped g c =
     IfErr-weaker c.source_in.result _ _ (λ reply refused next.
-    bytes-refused (WhichSource c.args.procs) (λ b. or_ends BadSource next) c.deref.ensures.value c.in_ok-bytes.ensures.found
-    (refused next)) c.source_in.ensures.refused
+    bytes-refused (WhichSource c.args.procs) (λ b. or_ends BadSource next) c.deref.ensures.value
+    c.in_ok-bytes.ensures.found (refused next)) c.source_in.ensures.refused

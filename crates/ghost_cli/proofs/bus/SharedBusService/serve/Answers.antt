@@ -1,8 +1,10 @@
 use Rattle.std.proofs.Common.{refl}
+use Rattle.call_replies.specs.declared.replies.Reply.TheVariants.{NoMemory}
 use Rattle.ghost_cli.specs.CallsFollow.{StopsHere}
-use Rattle.ghost_cli.specs.Progress.{WorkStops}
+use Rattle.ghost_cli.specs.Progress.{NoRoomYet, WorkStops}
 use Rattle.ghost_cli.proofs.Answering.{passed-on}
 use Rattle.ghost_cli.proofs.Pairing.{bus-reached, bus-stopped}
+use Rattle.ghost_cli.proofs.Promised.{same-only}
 use Rattle.ghost_cli.proofs.SharedBus.{shared-said}
 use Rattle.ghost_cli.proofs.bus.SharedBusService.serve.Goals as goal
 
@@ -11,6 +13,12 @@ returns-in_err-cores-clause-stopped g c =
     passed-on c.from_residual.result _ _ _ _ c.from_residual.ensures.1
     (WorkStops _ refl
     (bus-stopped c.args.words.cycles c.as_slice.ensures.value c.in_err-cores.ensures.stopped).stops)
+
+pub returns-in_err-share_bus-clause-stopped : goal.returns-in_err-share_bus-clause-stopped
+returns-in_err-share_bus-clause-stopped g c =
+    let reached = bus-reached c.args.words.cycles c.as_slice.ensures.value c.in_ok-cores.ensures.found in
+    passed-on c.from_residual-in_err-share_bus.result NoMemory _ _ _ c.from_residual-in_err-share_bus.ensures.1
+    (NoRoomYet (same-only reached.calm) refl)
 
 pub returns-clause-done : goal.returns-clause-done
 returns-clause-done g c =
