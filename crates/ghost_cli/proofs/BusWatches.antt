@@ -8,9 +8,9 @@ use Rattle.lt_isa.specs.Machine.{Observed}
 use Rattle.processor.specs.Watching.{TellsMore}
 use Rattle.run_data.specs.TraceText.{event_line, event_text}
 use Rattle.bus_arbiter.specs.Transfers.{Transfer}
-use Rattle.ghost_cli.specs.Showing.{halt_text, transfer_line, transfer_lines}
-use Rattle.ghost_cli.specs.Watched.{Grows, HoldsLines, HoldsTransfers, TearsTransfer}
-use Rattle.ghost_cli.proofs.PutLines.{cut_at_next, line_held, part_held, torn_line}
+use Rattle.call_steps.specs.Showing.{halt_text, transfer_line, transfer_lines}
+use Rattle.call_laws.specs.Watched.{Grows, HoldsLines, HoldsTransfers, TearsTransfer}
+use Rattle.call_laws.proofs.PutLines.{cut_at_next, line_held, part_held, torn_line}
 
 -- ---- no line is empty
 

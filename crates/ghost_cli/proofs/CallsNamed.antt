@@ -1,5 +1,5 @@
 -- The calls of a shelf that follow a verb's work are those of its files in their order.
-use Rattle.std.proofs.Common.{◌≡◌, ◌⊎◌, inl, inr, ℕ, ◌+◌, ℤ, Bool, true, false, cond, List, [], ◌∷◌, codes, length, Option, Some, None, Result, Ok, Err, refl, sym, ap, ◌∙◌, subst}
+use Rattle.std.proofs.Common.{◌≡◌, ◌⊎◌, inl, inr, ℕ, ◌+◌, ℤ, Bool, true, false, cond, List, [], ◌∷◌, codes, length, Option, Some, None, Result, Ok, Err, refl, sym, ap, ◌∙◌, subst, arith}
 use Rattle.std.specs.Prelude.{nat_lt}
 use Rattle.std.specs.Option.{option_map}
 use Rattle.std.proofs.lemmas.Option.{same_Some}
@@ -22,26 +22,28 @@ use Rattle.command_words.specs.VerbLines.{flags_of, name_of, options_of}
 use Rattle.command_words.specs.WordsAsk.{verb_names}
 use Rattle.command_words.specs.declared.verbs.Verb.{Verb}
 use Rattle.command_words.specs.declared.verbs.Verb.TheVariants.{Assemble, Bus, Check, Compile, Disassemble, Evaluate, Infer, Run, Sample, Trace}
-use Rattle.ghost_cli.specs.declared.targets.Target.{Target}
-use Rattle.ghost_cli.specs.Assemble.{assemble_work}
-use Rattle.ghost_cli.specs.Bus.{Read, bus_work, none_read, on_plan, one_read, shares_bus, with_cores, with_halts}
-use Rattle.ghost_cli.specs.CallsFollow.{AsksOn, CallsOf, Follows, Makes, NoCalls, ReadFails, ReadsOn, StopsHere, TriesWrite, WritesLast}
-use Rattle.ghost_cli.specs.Check.{check_work}
-use Rattle.ghost_cli.specs.Compile.{compile_work, on_compiled}
-use Rattle.ghost_cli.specs.Disassemble.{disassemble_work}
-use Rattle.ghost_cli.specs.Evaluate.{evaluate_work, on_left}
-use Rattle.ghost_cli.specs.Happened.{AreFiles, CallsItsFiles, FailsToRead, InOrder, Log, NoFurther, ReadsNext, WritesOutput}
-use Rattle.ghost_cli.specs.Histogram.{Made}
-use Rattle.ghost_cli.specs.Infer.{infer_work, on_inferred}
-use Rattle.ghost_cli.specs.Questions.{Answer, Question}
-use Rattle.ghost_cli.specs.Run.{on_halt, run_work}
-use Rattle.ghost_cli.specs.Sample.{on_sampled, sample_work}
-use Rattle.ghost_cli.specs.Steps.{on_judged, or_ends, with_accepted, with_assembly, with_object, with_source, with_variables}
-use Rattle.ghost_cli.specs.Trace.{shows_on, trace_work}
-use Rattle.ghost_cli.specs.Verbs.{work_of, works}
-use Rattle.ghost_cli.specs.Work.{Asks, Ends, Reads, Work, Writes}
+use Rattle.call_steps.specs.declared.targets.Target.{Target}
+use Rattle.call_laws.specs.Assemble.{assemble_work}
+use Rattle.call_laws.specs.Bus.{Read, bus_work, none_read, on_plan, one_read, shares_bus, with_cores, with_halts}
+use Rattle.call_steps.specs.CallsFollow.{AsksOn, CallsOf, Follows, Makes, NoCalls, ReadFails, ReadsOn, StopsHere, TriesWrite, WritesLast}
+use Rattle.call_laws.specs.Check.{check_work}
+use Rattle.call_steps.specs.Compile.{compile_work, on_compiled}
+use Rattle.call_laws.specs.Disassemble.{disassemble_work}
+use Rattle.call_laws.specs.Evaluate.{evaluate_work, on_left}
+use Rattle.call_steps.specs.Happened.{AreFiles, CallsItsFiles, FailsToRead, InOrder, Log, NoFurther, ReadsNext, WritesOutput}
+use Rattle.call_steps.specs.Histogram.{Made}
+use Rattle.call_laws.specs.Infer.{infer_work, on_inferred}
+use Rattle.call_steps.specs.Questions.{Answer, Question}
+use Rattle.call_laws.specs.Run.{on_halt, run_work}
+use Rattle.call_laws.specs.Sample.{on_sampled, sample_work}
+use Rattle.call_steps.specs.Steps.{on_judged, or_ends, with_accepted, with_assembly, with_object, with_source, with_variables}
+use Rattle.call_laws.specs.Trace.{shows_on, trace_work}
+use Rattle.call_laws.specs.Verbs.{work_of, works}
+use Rattle.call_steps.specs.Work.{Asks, Ends, Reads, Work, Writes}
 use Rattle.command_words.proofs.VerbWords.{words-ask}
-use Rattle.ghost_cli.proofs.EachVerb.{each-verb}
+use Rattle.call_laws.proofs.EachVerb.{each-verb}
+use Rattle.std.specs.Borrow.{Bor}
+use Rattle.command_words.specs.Options.{texts}
 
 -- ---- the calls that follow a work, by its kind
 
@@ -374,3 +376,8 @@ calls-of {words = words} {before = before} {after = after} texts makes = go (wor
         → (two ≡ one) ⊎ CallsItsFiles words one two
     go asked one two (NoCalls asked' log) is = inl refl
     go asked one two (CallsOf work one' two' follows) is = inr (calls-named words texts work is one two follows)
+
+-- no words at all
+pub no-words : (words : List (Bor (List ℕ))) → length words ≡ 0 → ◌≡◌ {A = Option Work} None (work_of (texts words))
+no-words [] none = refl
+no-words (word ∷ words) none = absurd (omega (arith, none))

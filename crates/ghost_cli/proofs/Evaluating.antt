@@ -2,10 +2,10 @@
 use Rattle.std.proofs.Common.{◌≡◌, ℕ, ℤ, List, subst}
 use Rattle.gr_word.specs.declared.variables.Want.{Want}
 use Rattle.call_replies.specs.Texts.{Said}
-use Rattle.ghost_cli.specs.Reached.{Finds, FindsNone, HasReached, HasStopped, Stage}
-use Rattle.ghost_cli.specs.Steps.{with_variables}
-use Rattle.ghost_cli.specs.Work.{Work}
-use Rattle.ghost_cli.proofs.Reaching.{then-reached, then-stopped}
+use Rattle.call_steps.specs.Reached.{Finds, FindsNone, HasReached, HasStopped, Stage}
+use Rattle.call_steps.specs.Steps.{with_variables}
+use Rattle.call_steps.specs.Work.{Work}
+use Rattle.call_steps.proofs.Reaching.{then-reached, then-stopped}
 
 module _ {before between after : Stage} {work : Work} {wants declared : List Want} (input : List ℕ)
     (next : List (List ℤ) → Work) (first : HasReached before between work (with_variables declared input next))

@@ -5,9 +5,9 @@ use Rattle.gr_base.specs.Counts.{Rose}
 use Rattle.gr_base.proofs.Counts.{rose_before}
 use Rattle.gr_outside.specs.Shelf.{ShelfSeen}
 use Rattle.gr_outside.specs.Sink.{SinkSeen}
-use Rattle.ghost_cli.specs.Outside.{Outside, outside, PutsSaid, LeftBy, Unread, Long, Judged, Written, NotWritten, Starved, Explains, NoWork, NoRoom, Worked}
+use Rattle.call_steps.specs.Outside.{Outside, outside, PutsSaid, LeftBy, Unread, Long, Judged, Written, NotWritten, Starved, Explains, NoWork, NoRoom, Worked}
 use Rattle.call_replies.specs.Texts.{Said, usage, unread, unwritten, no_memory, too_long, wrote}
-use Rattle.ghost_cli.specs.Work.{Ending, IsVerdict, Work, said_at}
+use Rattle.call_steps.specs.Work.{Ending, IsVerdict, Work, said_at}
 
 -- nothing is stated about a sink that reveals no bytes
 untold : (before now : Option (List ℕ)) (text : List ℕ) → now ≡ None → AddsLess before now text

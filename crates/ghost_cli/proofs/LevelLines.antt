@@ -15,7 +15,7 @@ use Rattle.rand_chacha.specs.ChaCha.{ChaCha}
 use Rattle.run_data.specs.PathText.{level_text, levels_behind, levels_head, levels_line}
 use Rattle.run_data.specs.Putting.{PutsText}
 use Rattle.run_data.proofs.PathTexts.{behind-text, behind-parts}
-use Rattle.ghost_cli.specs.Levels.{OfOram, StandNow}
+use Rattle.call_steps.specs.Levels.{OfOram, StandNow}
 
 -- part of a text was printed after others
 pub cut-so : (old mid new : SinkSeen) (done piece more text : List ℕ) (e : SinkFailed)

@@ -7,12 +7,12 @@ use Rattle.gr_outside.specs.Sink.{SinkSeen}
 use Rattle.lt_isa.specs.Trace.{Stamped}
 use Rattle.processor.specs.Watching.{WatcherTold}
 use Rattle.call_replies.specs.declared.replies.Verdict.TheVariants.{Traced}
-use Rattle.ghost_cli.specs.Outside.{PutsSaid}
-use Rattle.ghost_cli.specs.Runs.{HaltOf}
-use Rattle.ghost_cli.specs.Showing.{shown_lines}
+use Rattle.call_steps.specs.Outside.{PutsSaid}
+use Rattle.call_steps.specs.Runs.{HaltOf}
+use Rattle.call_steps.specs.Showing.{shown_lines}
 use Rattle.call_replies.specs.Texts.{comes_to}
-use Rattle.ghost_cli.specs.Watched.{PutsShown, PutsTrace}
-use Rattle.ghost_cli.proofs.Saying.{halts-or-not}
+use Rattle.call_laws.specs.Watched.{PutsShown, PutsTrace}
+use Rattle.call_steps.proofs.Saying.{halts-or-not}
 
 longs : (halted : Bool) → 1 ≤ length (comes_to (Traced halted)).text
 longs true = omega arith

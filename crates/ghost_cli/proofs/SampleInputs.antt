@@ -7,7 +7,7 @@ use Rattle.std.proofs.lemmas.List.FromFn.{length-map-range_with_len, get_or-map-
 use Rattle.gr_word.specs.Fitting.{AreWords, FitsWants}
 use Rattle.gr_word.specs.Words.{IsWord}
 use Rattle.gr_word.specs.declared.variables.Want.{Want}
-use Rattle.ghost_cli.specs.Histogram.{next_number, histogram_number, histogram_numbers, sample_inputs}
+use Rattle.call_steps.specs.Histogram.{next_number, histogram_number, histogram_numbers, sample_inputs}
 
 -- a number is below 2^31
 pub number_at-small : (k : ℕ) → histogram_number k < 2 ^ 31

@@ -6,12 +6,12 @@ use Rattle.lt_isa.specs.Start.{FitsObject, start_state, trace, wants_of}
 use Rattle.lt_isa.specs.Trace.{HaltsAt, Stamped, trace_from}
 use Rattle.banks.specs.declared.bank.Leaves.{Leaves}
 use Rattle.processor.specs.Watching.{with_paths}
-use Rattle.ghost_cli.specs.Counting.{Counts, how_many, is_plain, is_encrypted, is_second}
-use Rattle.ghost_cli.specs.Histogram.{sample_cycles, sample_inputs, sample_trace}
+use Rattle.call_steps.specs.Counting.{Counts, how_many, is_plain, is_encrypted, is_second}
+use Rattle.call_steps.specs.Histogram.{sample_cycles, sample_inputs, sample_trace}
 use Rattle.processor.specs.Ends.{NoHalt}
 use Rattle.ghost_cli.specs.Sampled.{RanSo}
-use Rattle.ghost_cli.specs.declared.count_watch.CountWatch.{CountWatch}
-use Rattle.ghost_cli.proofs.EventCounts.{run-counted}
+use Rattle.call_steps.specs.declared.count_watch.CountWatch.{CountWatch}
+use Rattle.call_steps.proofs.EventCounts.{run-counted}
 use Rattle.ghost_cli.proofs.SampleInputs.{sample-fit}
 
 -- the sample's inputs fit its object

@@ -12,14 +12,14 @@ use Rattle.bank_alloc.specs.Layout.{IsLaidOut}
 use Rattle.code_gen.specs.Implements.{by_name}
 use Rattle.ghost_cli.specs.declared.sample.CountedRun.{CountedRun}
 use Rattle.ghost_cli.specs.declared.sample.SampleFile.{SampleFile}
-use Rattle.ghost_cli.specs.Compiled.{IsCompiledTo, plan_for}
-use Rattle.ghost_cli.specs.Histogram.{Made, IsMade, sample_profile, sample_target, sample_cycles, sample_inputs, sample_store, sample_trace, sample_words, sum_left}
+use Rattle.call_steps.specs.Compiled.{IsCompiledTo, plan_for}
+use Rattle.call_steps.specs.Histogram.{Made, IsMade, sample_profile, sample_target, sample_cycles, sample_inputs, sample_store, sample_trace, sample_words, sum_left}
 use Rattle.ghost_cli.specs.Sampled.{IsFileOf, SampleIsReady, RanSo}
-use Rattle.ghost_cli.specs.SampleTree.{sample_decls}
-use Rattle.ghost_cli.proofs.CompiledRuns.{compiled-runs}
-use Rattle.ghost_cli.proofs.OnTarget.{target-sound}
+use Rattle.call_laws.specs.SampleTree.{sample_decls}
+use Rattle.call_laws.proofs.CompiledRuns.{compiled-runs}
+use Rattle.call_laws.proofs.OnTarget.{target-sound}
 use Rattle.ghost_cli.proofs.SampleInputs.{sample-fit}
-use Rattle.ghost_cli.proofs.SampleMade.{compiled-object}
+use Rattle.call_laws.proofs.SampleMade.{compiled-object}
 use Rattle.code_gen.proofs.WantedInputs.{planned-inputs_wanted}
 
 -- ---- what is made

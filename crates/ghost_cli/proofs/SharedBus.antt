@@ -21,20 +21,20 @@ use Rattle.bus_arbiter.specs.Transfers.{Transfer}
 use Rattle.path_oram.specs.Orams.{Oram}
 use Rattle.rand_chacha.specs.ChaCha.{ChaCha}
 use Rattle.call_replies.specs.declared.replies.Verdict.TheVariants.{Shared}
-use Rattle.ghost_cli.specs.Beginning.{BankBegins, HasBegun}
+use Rattle.call_steps.specs.Beginning.{BankBegins, HasBegun}
 use Rattle.command_words.specs.Pairs.{Pair}
-use Rattle.ghost_cli.specs.Bus.{Read, all_halted, bus_work, shares_bus, with_halts}
-use Rattle.ghost_cli.specs.Outside.{Explains, outside}
-use Rattle.ghost_cli.specs.Progress.{HasLeft}
-use Rattle.ghost_cli.specs.Questions.{WhatIsJoined, WhenItHalts}
-use Rattle.ghost_cli.specs.Runs.{HaltOf}
-use Rattle.ghost_cli.specs.Sharing.{AllBegin, AreHalts, PutsHalts, PutsJoined, PutsShared, halts_of}
-use Rattle.ghost_cli.specs.Showing.{bus_seen, core_line, core_lines, halt_text, transfer_lines}
-use Rattle.ghost_cli.specs.Work.{Asks, Ends, Work}
-use Rattle.ghost_cli.proofs.Answering.{judged-said}
+use Rattle.call_laws.specs.Bus.{Read, all_halted, bus_work, shares_bus, with_halts}
+use Rattle.call_steps.specs.Outside.{Explains, outside}
+use Rattle.call_steps.specs.Progress.{HasLeft}
+use Rattle.call_steps.specs.Questions.{WhatIsJoined, WhenItHalts}
+use Rattle.call_steps.specs.Runs.{HaltOf}
+use Rattle.call_laws.specs.Sharing.{AllBegin, AreHalts, PutsHalts, PutsJoined, PutsShared, halts_of}
+use Rattle.call_steps.specs.Showing.{bus_seen, core_line, core_lines, halt_text, transfer_lines}
+use Rattle.call_steps.specs.Work.{Asks, Ends, Work}
+use Rattle.call_steps.proofs.Answering.{judged-said}
 use Rattle.ghost_cli.proofs.BusWatches.{halt-some}
-use Rattle.ghost_cli.proofs.Progressing.{leads-on}
-use Rattle.ghost_cli.proofs.Saying.{halts-or-not}
+use Rattle.call_steps.proofs.Progressing.{leads-on}
+use Rattle.call_steps.proofs.Saying.{halts-or-not}
 
 -- ---- cores at the start of their runs
 

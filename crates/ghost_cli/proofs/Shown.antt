@@ -4,7 +4,7 @@ use Rattle.std.specs.List.{All}
 use Rattle.banks.specs.declared.bank.Leaves.{Leaves}
 use Rattle.banks.specs.Accesses.{accesses_from}
 use Rattle.banks.proofs.AccessBounds.{accesses-counted, blocks-exist}
-use Rattle.ghost_cli.specs.Showing.{run_seen}
+use Rattle.call_steps.specs.Showing.{run_seen}
 use Rattle.std.proofs.lemmas.List.{length-map}
 use Rattle.std.proofs.lemmas.List.Elements.{All-map}
 use Rattle.std.proofs.lemmas.Nat.{pow_pos}
@@ -24,12 +24,12 @@ use Rattle.path_oram.proofs.Ahead.{length-first_words}
 use Rattle.path_oram.proofs.Beginning.{first_whole}
 use Rattle.path_oram.proofs.Ending.{settled_after}
 use Rattle.rand_chacha.specs.ChaCha.{ChaCha}
-use Rattle.ghost_cli.specs.Beginning.{BankBegins, BeginFrom}
-use Rattle.ghost_cli.specs.Levels.{AllStand, MayEndOn, MayRun, OfOram}
-use Rattle.ghost_cli.specs.Paths.{IsShown, OfBank, words_drawn}
-use Rattle.ghost_cli.specs.Seeds.{seeded_words, stream_from}
-use Rattle.ghost_cli.proofs.Beginnings.{each-begins}
-use Rattle.ghost_cli.proofs.PathsShown.{leaf-count, paths-with_paths, shows-with_paths}
+use Rattle.call_steps.specs.Beginning.{BankBegins, BeginFrom}
+use Rattle.call_steps.specs.Levels.{AllStand, MayEndOn, MayRun, OfOram}
+use Rattle.call_steps.specs.Paths.{IsShown, OfBank, words_drawn}
+use Rattle.call_steps.specs.Seeds.{seeded_words, stream_from}
+use Rattle.call_steps.proofs.Beginnings.{each-begins}
+use Rattle.call_laws.proofs.PathsShown.{leaf-count, paths-with_paths, shows-with_paths}
 
 -- the leaves that a bank shows for accesses to blocks
 abbrev pub shows : Oram ChaCha → List ℕ → List Leaves

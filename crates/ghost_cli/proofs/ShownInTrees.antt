@@ -16,13 +16,13 @@ use Rattle.recursive_oram.specs.Levels.{shown_ahead}
 use Rattle.recursive_oram.specs.RecLeaves.{rec_leaves, size_of, words_made}
 use Rattle.recursive_oram.specs.RecursiveOrams.{Recursive, levels_of, all_trees}
 use Rattle.rand_chacha.specs.ChaCha.{ChaCha}
-use Rattle.ghost_cli.specs.Beginning.{RecursiveBegins, BeginFrom}
-use Rattle.ghost_cli.specs.Levels.{OfOram}
-use Rattle.ghost_cli.specs.RecursivePaths.{IsShownInTrees, OfRecursiveBank}
-use Rattle.ghost_cli.specs.Showing.{run_seen}
-use Rattle.ghost_cli.specs.Seeds.{seeded_words, stream_from}
-use Rattle.ghost_cli.proofs.Beginnings.{each-begins}
-use Rattle.ghost_cli.proofs.PathsShown.{paths-with_paths, rec-leaf-count, shows-with_paths}
+use Rattle.call_steps.specs.Beginning.{RecursiveBegins, BeginFrom}
+use Rattle.call_steps.specs.Levels.{OfOram}
+use Rattle.call_steps.specs.RecursivePaths.{IsShownInTrees, OfRecursiveBank}
+use Rattle.call_steps.specs.Showing.{run_seen}
+use Rattle.call_steps.specs.Seeds.{seeded_words, stream_from}
+use Rattle.call_steps.proofs.Beginnings.{each-begins}
+use Rattle.call_laws.proofs.PathsShown.{paths-with_paths, rec-leaf-count, shows-with_paths}
 
 -- the leaves that a bank shows for accesses to blocks
 abbrev pub shows : Recursive ChaCha → List ℕ → List Leaves

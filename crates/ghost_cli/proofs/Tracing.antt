@@ -22,13 +22,13 @@ use Rattle.rand_chacha.specs.ChaCha.{ChaCha}
 use Rattle.run_data.specs.PathText.{levels_behind}
 use Rattle.run_data.proofs.PathTexts.{behind-text, behind-parts}
 use Rattle.call_replies.specs.declared.replies.Verdict.TheVariants.{Traced}
-use Rattle.ghost_cli.specs.Levels.{AreBehind, FirstBanks, MayEndOn, MayRun, OfOram, PutsLast, StandAfter, StandNow}
-use Rattle.ghost_cli.specs.Runs.{HaltOf}
-use Rattle.ghost_cli.specs.Seeds.{stream_from}
-use Rattle.ghost_cli.specs.Showing.{shown_lines}
+use Rattle.call_steps.specs.Levels.{AreBehind, FirstBanks, MayEndOn, MayRun, OfOram, PutsLast, StandAfter, StandNow}
+use Rattle.call_steps.specs.Runs.{HaltOf}
+use Rattle.call_steps.specs.Seeds.{stream_from}
+use Rattle.call_steps.specs.Showing.{shown_lines}
 use Rattle.call_replies.specs.Texts.{comes_to}
-use Rattle.ghost_cli.specs.Watched.{PutsShown, PutsTrace}
-use Rattle.ghost_cli.proofs.Saying.{halts-or-not}
+use Rattle.call_laws.specs.Watched.{PutsShown, PutsTrace}
+use Rattle.call_steps.proofs.Saying.{halts-or-not}
 
 -- ---- levels of bank after bank
 

@@ -4,7 +4,7 @@ use Rattle.std.specs.Prelude.{◌≡◌, ℕ, ℤ, Bool, List, Ok, Err}
 use Rattle.lt_isa.specs.Object.{Parts}
 use Rattle.lt_isa.specs.Oblivious.{IsOblivious}
 use Rattle.lt_isa.specs.Start.{wants_of}
-use Rattle.ghost_cli.specs.declared.targets.Target.{Target}
+use Rattle.call_steps.specs.declared.targets.Target.{Target}
 use Rattle.object_file.specs.FirstFaults.{IsFirstObjectFault}
 use Rattle.object_file.specs.declared.errors.DecodeError.{DecodeError}
 use Rattle.run_data.specs.InputsOf.{inputs_of, json_of}
@@ -15,11 +15,11 @@ use Rattle.call_replies.specs.declared.replies.InputFault.{InputFault}
 use Rattle.call_replies.specs.declared.replies.Verdict.TheVariants.{BadInput, BadSource, Malformed, Refused}
 use Rattle.ghost_cli.specs.declared.run.Ran.{Ran}
 use Rattle.call_replies.specs.declared.source_faults.SourceFault.{SourceFault}
-use Rattle.ghost_cli.specs.Compiled.{IsCompiled}
-use Rattle.ghost_cli.specs.Objects.{SpellsObject}
-use Rattle.ghost_cli.specs.Questions.{AreInputs}
+use Rattle.call_steps.specs.Compiled.{IsCompiled}
+use Rattle.call_steps.specs.Objects.{SpellsObject}
+use Rattle.call_steps.specs.Questions.{AreInputs}
 use Rattle.ghost_cli.specs.Ran.{RanTo}
-use Rattle.ghost_cli.specs.Sources.{IsFirstSourceFault, SpellsTyped}
+use Rattle.call_steps.specs.Sources.{IsFirstSourceFault, SpellsTyped}
 use Rattle.call_replies.specs.Texts.{Said, comes_to, no_memory}
 use Rattle.ghost_cli.specs.TracedText.{IsTextOfTrace}
 

@@ -4,7 +4,7 @@ use Rattle.lt_isa.specs.Object.{Parts}
 use Rattle.lt_isa.specs.Start.{trace}
 use Rattle.lt_isa.specs.Trace.{HaltsAt}
 use Rattle.processor.specs.Ends.{NoHalt}
-use Rattle.ghost_cli.specs.Runs.{run_outputs}
+use Rattle.call_steps.specs.Runs.{run_outputs}
 use Rattle.ghost_cli.specs.declared.run.Ran.{Ran}
 use Rattle.ghost_cli.specs.declared.run.Ran.TheVariants.{Halted, Spent}
 

@@ -5,11 +5,11 @@ use Rattle.lt_isa.specs.Ranges.{IsInRange}
 use Rattle.lt_isa.specs.Trace.{HaltsAt}
 use Rattle.object_file.specs.Spelling.{spelling}
 use Rattle.src_tree.specs.Trees.{Source}
-use Rattle.ghost_cli.specs.Compiled.{IsCompiledTo}
-use Rattle.ghost_cli.specs.Counting.{is_plain, is_encrypted, is_second, how_many}
-use Rattle.ghost_cli.specs.Histogram.{Made, IsMade, figures_of, sample_target, sample_text, sample_trace}
+use Rattle.call_steps.specs.Compiled.{IsCompiledTo}
+use Rattle.call_steps.specs.Counting.{is_plain, is_encrypted, is_second, how_many}
+use Rattle.call_steps.specs.Histogram.{Made, IsMade, figures_of, sample_target, sample_text, sample_trace}
 use Rattle.processor.specs.Ends.{NoHalt}
-use Rattle.ghost_cli.specs.Sources.{SpellsTyped}
+use Rattle.call_steps.specs.Sources.{SpellsTyped}
 use Rattle.ghost_cli.specs.declared.sample.CountedRun.{CountedRun}
 use Rattle.ghost_cli.specs.declared.sample.SampleFile.{SampleFile}
 

@@ -6,18 +6,18 @@ ghost use Rattle.bus_arbiter.specs.Shares.{share_of};
 ghost use Rattle.bus_arbiter.specs.Turns.{AllLeft};
 ghost use Rattle.command_words.specs.Asks.{bus_asks, bus_named, bus_named_on};
 ghost use Rattle.command_words.specs.Pairs.{pairs_of};
-ghost use Rattle.ghost_cli.specs.Bus.{bus_said, bus_work, none_read, with_core, with_cores};
+ghost use Rattle.call_laws.specs.Bus.{bus_said, bus_work, none_read, with_core, with_cores};
 ghost use Rattle.command_words.specs.Options.{texts};
-ghost use Rattle.ghost_cli.specs.Reached.{Finds, FindsNone, stage};
-ghost use Rattle.ghost_cli.specs.Sharing.{AllBegin, AreRead, PutsShared};
+ghost use Rattle.call_steps.specs.Reached.{Finds, FindsNone, stage};
+ghost use Rattle.call_laws.specs.Sharing.{AllBegin, AreRead, PutsShared};
 ghost use Rattle.call_replies.specs.Texts.{said};
 
 use crate::bus_run::put_bus;
-use crate::oblivious::{SeededOram, load_seeded};
-use crate::reading::{find_accepted, find_inputs};
-use crate::verbs::{Request, Service};
 use bus_arbiter::{Bus, BusError, Plan};
 use call_replies::replies::{Reply, Verdict};
+use call_steps::oblivious::{SeededOram, load_seeded};
+use call_steps::reading::{find_accepted, find_inputs};
+use call_steps::verbs::{Request, Service};
 use clap::ArgMatches;
 use command_words::options::{number_given, seed_given, value, values};
 use gr_base::Memory;
@@ -211,7 +211,7 @@ pub struct Cores {
 }
 
 impl Model for Cores {
-    ghost use Rattle.ghost_cli.specs.Bus.{Read};
+    ghost use Rattle.call_laws.specs.Bus.{Read};
 
     ghost Value = { Read };
 

@@ -1,15 +1,15 @@
 ghost use Rattle.std.specs.Prelude.{◌≡◌, ◌≤◌, ◌&&◌, [], IsTrue, is_some, length, true};
 ghost use Rattle.bus_arbiter.specs.Cores.{traces_to};
 ghost use Rattle.bus_arbiter.specs.Turns.{AllLeft};
-ghost use Rattle.ghost_cli.specs.Sharing.{PutsHalts, PutsJoined, PutsShared, halts_of};
+ghost use Rattle.call_laws.specs.Sharing.{PutsHalts, PutsJoined, PutsShared, halts_of};
 ghost use Rattle.call_replies.specs.Texts.{verdict_status};
-ghost use Rattle.ghost_cli.specs.Watched.{HoldsLines};
+ghost use Rattle.call_laws.specs.Watched.{HoldsLines};
 ghost use Rattle.call_replies.specs.declared.replies.Verdict.TheVariants.{Shared};
 
 use crate::bus_lines::{BusLines, put_core};
-use crate::oblivious::SeededOram;
-use crate::putting::NOT_PUT;
 use bus_arbiter::Bus;
+use call_steps::oblivious::SeededOram;
+use call_steps::putting::NOT_PUT;
 use gr_outside::Sink;
 
 /// Runs the cores of a bus, and prints its lines. It allocates no memory.

@@ -1,10 +1,10 @@
 ghost use Rattle.command_words.specs.Asks.{check_asks};
-ghost use Rattle.ghost_cli.specs.Check.{check_work};
+ghost use Rattle.call_laws.specs.Check.{check_work};
 
-use crate::putting::say;
-use crate::reading::find_accepted;
-use crate::verbs::{Request, Service};
 use call_replies::replies::{Reply, Verdict};
+use call_steps::putting::say;
+use call_steps::reading::find_accepted;
+use call_steps::verbs::{Request, Service};
 use clap::ArgMatches;
 use command_words::options::value;
 use gr_base::Memory;

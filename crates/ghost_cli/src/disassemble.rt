@@ -1,10 +1,10 @@
 ghost use Rattle.command_words.specs.Asks.{disassemble_asks};
-ghost use Rattle.ghost_cli.specs.Disassemble.{disassemble_work};
+ghost use Rattle.call_laws.specs.Disassemble.{disassemble_work};
 
-use crate::reading::find_object;
-use crate::two_names::{TwoNames, two_names};
-use crate::verbs::{Maker, NewFile, Request};
 use call_replies::replies::{Done, Reply};
+use call_steps::reading::find_object;
+use call_steps::two_names::{TwoNames, two_names};
+use call_steps::verbs::{Maker, NewFile, Request};
 use clap::ArgMatches;
 use command_words::options::value;
 use gr_base::Memory;

@@ -4,13 +4,13 @@ ghost use Rattle.gr_word.specs.Fitting.{FitsWants};
 ghost use Rattle.src_tree.specs.Trees.{source_of};
 ghost use Rattle.flow_types.specs.Wants.{declared_wants};
 ghost use Rattle.command_words.specs.Asks.{evaluate_asks, evaluate_named};
-ghost use Rattle.ghost_cli.specs.Evaluate.{evaluate_work};
+ghost use Rattle.call_laws.specs.Evaluate.{evaluate_work};
 ghost use Rattle.ghost_cli.specs.Evaluated.{LeavesText};
 
-use crate::reading::find_variables;
-use crate::sources::find_source;
-use crate::verbs::{Maker, NewFile, Request};
 use call_replies::replies::{Done, Reply, Verdict};
+use call_steps::reading::find_variables;
+use call_steps::sources::find_source;
+use call_steps::verbs::{Maker, NewFile, Request};
 use clap::ArgMatches;
 use command_words::options::{flag_given, number_given, value};
 use flow_types::Typed;

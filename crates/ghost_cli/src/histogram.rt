@@ -2,12 +2,12 @@ ghost use Rattle.std.specs.Prelude.{◌≡◌, ◌<◌, ◌≤◌, IfErr, IfOk, 
 ghost use Rattle.gr_base.specs.Lists.{Within};
 ghost use Rattle.gr_word.specs.Fitting.{AreWords, words_at};
 ghost use Rattle.src_tree.specs.Trees.{source_of};
-ghost use Rattle.ghost_cli.specs.Histogram.{next_number, histogram_numbers, sample_inputs, sample_text, sample_words, sum_of};
-ghost use Rattle.ghost_cli.specs.Sources.{SpellsTyped};
+ghost use Rattle.call_steps.specs.Histogram.{next_number, histogram_numbers, sample_inputs, sample_text, sample_words, sum_of};
+ghost use Rattle.call_steps.specs.Sources.{SpellsTyped};
 ghost use Rattle.call_replies.specs.Texts.{no_memory, said};
 
-use crate::sources::source_in;
 use call_replies::replies::Reply;
+use call_steps::sources::source_in;
 use flow_types::Typed;
 use gr_base::Memory;
 use gr_word::{Inputs, Want};
@@ -33,7 +33,7 @@ pub(crate) fn sample_program<'a>(alloc: Global, items: u32) -> Result<Typed, Rep
     source_in(alloc, text.as_bytes(), false)
 }
 
-#[tactic(auto, unfolding(crate::specs::Histogram::sample_text))]
+#[tactic(auto, unfolding(call_steps::specs::Histogram::sample_text))]
 fn text_of(alloc: Global, items: u32) -> Result<String, Memory>
     ensures { IfOk result (λ text. string_bytes text ≡ sample_text items) }
 {

@@ -2,9 +2,9 @@ ghost use Rattle.std.specs.Prelude.{◌≡◌, ◌<◌, ◌≤◌, [], length, O
 ghost use Rattle.path_oram.specs.Settles.{AreLevels};
 ghost use Rattle.run_data.specs.PathText.{levels_line};
 ghost use Rattle.run_data.specs.Putting.{PutsText};
-ghost use Rattle.ghost_cli.specs.Levels.{PutsBank, PutsLevels};
+ghost use Rattle.call_steps.specs.Levels.{PutsBank, PutsLevels};
 
-use crate::oblivious::SeededOram;
+use call_steps::oblivious::SeededOram;
 use gr_outside::{Sink, SinkFailed};
 use processor::{Bank, Machine};
 use run_data::{put_level, put_levels_head};

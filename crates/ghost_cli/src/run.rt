@@ -6,12 +6,12 @@ ghost use Rattle.lt_isa.specs.Start.{FitsObject, wants_of};
 ghost use Rattle.run_data.specs.OutputText.{output_of};
 ghost use Rattle.ghost_cli.specs.Ran.{RanTo};
 ghost use Rattle.command_words.specs.Asks.{run_asks, run_named};
-ghost use Rattle.ghost_cli.specs.Run.{run_work};
+ghost use Rattle.call_laws.specs.Run.{run_work};
 
-use crate::given::find_given;
-use crate::oblivious::{Seeded, SeededOram, SeededRecursive, load_seeded};
-use crate::verbs::{Maker, NewFile, Request};
 use call_replies::replies::{Done, Reply, Verdict};
+use call_steps::given::find_given;
+use call_steps::oblivious::{Seeded, SeededOram, SeededRecursive, load_seeded};
+use call_steps::verbs::{Maker, NewFile, Request};
 use clap::ArgMatches;
 use command_words::options::{flag_given, number_given, seed_given, value};
 use gr_base::Memory;

@@ -4,23 +4,23 @@ ghost use Rattle.gr_base.specs.Lists.{Within};
 ghost use Rattle.lt_isa.specs.Ranges.{IsInRange};
 ghost use Rattle.src_tree.specs.Meaning.{Store, meaning};
 ghost use Rattle.src_tree.specs.Trees.{source_of};
-ghost use Rattle.ghost_cli.specs.Histogram.{sample_cycles, sample_store, sum_left};
+ghost use Rattle.call_steps.specs.Histogram.{sample_cycles, sample_store, sum_left};
 ghost use Rattle.command_words.specs.Asks.{sample_asks, sample_named};
-ghost use Rattle.ghost_cli.specs.Sample.{sample_work};
+ghost use Rattle.call_laws.specs.Sample.{sample_work};
 ghost use Rattle.ghost_cli.specs.Sampled.{SampleCameTo, SampleIsReady, RanCounted};
-ghost use Rattle.ghost_cli.specs.SampleTree.{sample_program};
+ghost use Rattle.call_laws.specs.SampleTree.{sample_program};
 ghost use Rattle.call_replies.specs.Texts.{no_memory, said};
 
-use crate::compile::object_of;
-use crate::count_watch::CountWatch;
 use crate::histogram::{
     SAMPLE_BLOCK_LOG, SAMPLE_CYCLES, sample_inputs, sample_program, sum_of_counts,
 };
-use crate::oblivious::{SeededOram, load_seeded};
-use crate::reading::checked;
-use crate::targets::Target;
-use crate::verbs::{Maker, NewFile, Request};
 use call_replies::replies::{Done, Figures, Reply, Verdict};
+use call_steps::compiled_object::object_of;
+use call_steps::count_watch::CountWatch;
+use call_steps::oblivious::{SeededOram, load_seeded};
+use call_steps::reading::checked;
+use call_steps::targets::Target;
+use call_steps::verbs::{Maker, NewFile, Request};
 use clap::ArgMatches;
 use command_words::options::{flag_given, items_given, seed_given, value};
 use command_words::windows::{ALWAYS_OPEN, windowed};

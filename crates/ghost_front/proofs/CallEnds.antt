@@ -10,10 +10,10 @@ use Rattle.gr_base.specs.Added.{Adds}
 use Rattle.gr_base.specs.Counts.{Rose}
 use Rattle.gr_outside.specs.Shelf.{Files, SameBut}
 use Rattle.gr_outside.specs.Sink.{SinkSeen}
-use Rattle.ghost_cli.specs.Outside.{outside}
-use Rattle.ghost_cli.specs.Promises.{Promises, IsOutput}
-use Rattle.ghost_cli.specs.Work.{Work}
-use Rattle.ghost_cli.proofs.Safe.{promises-follow}
+use Rattle.call_steps.specs.Outside.{outside}
+use Rattle.call_laws.specs.Promises.{Promises, IsOutput}
+use Rattle.call_steps.specs.Work.{Work}
+use Rattle.call_laws.proofs.Safe.{promises-follow}
 use Rattle.ghost_front.specs.Streams.{Streams, as_shelf, overlaid, stream_of, told}
 use Rattle.ghost_front.specs.Served.{Around, Delivers, NotDone, Whole, NotPut, Serves, Refused, NoRoom, Printed, Streamed, StreamsFile, KeepsOthers, around, bytes_of}
 use Rattle.ghost_front.proofs.Overlaid.{get_other, kept_below}

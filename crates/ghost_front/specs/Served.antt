@@ -6,9 +6,9 @@ use Rattle.gr_base.specs.Added.{Adds}
 use Rattle.gr_base.specs.Counts.{Rose}
 use Rattle.gr_outside.specs.Shelf.{Files}
 use Rattle.gr_outside.specs.Sink.{SinkSeen}
-use Rattle.ghost_cli.specs.Outside.{outside}
-use Rattle.ghost_cli.specs.Promises.{Promises, IsOutput}
-use Rattle.ghost_cli.specs.Work.{Work}
+use Rattle.call_steps.specs.Outside.{outside}
+use Rattle.call_laws.specs.Promises.{Promises, IsOutput}
+use Rattle.call_steps.specs.Work.{Work}
 use Rattle.ghost_front.specs.Streams.{Streams, as_shelf, dash}
 
 -- the shelf, standard output and standard error, before or after a call

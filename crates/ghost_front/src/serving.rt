@@ -2,9 +2,9 @@
 
 ghost use Rattle.std.specs.Prelude.{◌≡◌, ◌⊎◌, option_copied};
 ghost use Rattle.command_words.specs.Options.{texts};
-ghost use Rattle.ghost_cli.specs.Outside.{outside};
-ghost use Rattle.ghost_cli.specs.Promises.{Promises};
-ghost use Rattle.ghost_cli.specs.Verbs.{work_of};
+ghost use Rattle.call_steps.specs.Outside.{outside};
+ghost use Rattle.call_laws.specs.Promises.{Promises};
+ghost use Rattle.call_laws.specs.Verbs.{work_of};
 ghost use Rattle.ghost_front.specs.Served.{Delivers, Serves, StreamsFile, around, bytes_of};
 ghost use Rattle.ghost_front.specs.Streams.{as_shelf};
 

@@ -2,7 +2,7 @@
 
 ghost use Rattle.std.specs.Prelude.{◌≡◌, ◌⊎◌, false};
 ghost use Rattle.command_words.specs.Options.{texts};
-ghost use Rattle.ghost_cli.specs.Verbs.{work_of};
+ghost use Rattle.call_laws.specs.Verbs.{work_of};
 ghost use Rattle.ghost_front.specs.Requests.{asked, asks_front, asks_tool};
 ghost use Rattle.ghost_front.specs.Served.{KeepsOthers, Serves, around};
 

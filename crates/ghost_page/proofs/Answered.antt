@@ -3,9 +3,9 @@ use Rattle.std.proofs.Common.{◌≡◌, ℕ, List, [], Some, sym, subst}
 use Rattle.gr_outside.specs.Sink.{SinkSeen}
 use Rattle.gr_outside.specs.MemShelf.{Shelved}
 use Rattle.gr_outside.specs.MemSink.{Held}
-use Rattle.ghost_cli.specs.Outside.{Outside, outside}
-use Rattle.ghost_cli.specs.Promises.{Promises}
-use Rattle.ghost_cli.specs.Verbs.{work_of}
+use Rattle.call_steps.specs.Outside.{Outside, outside}
+use Rattle.call_laws.specs.Promises.{Promises}
+use Rattle.call_laws.specs.Verbs.{work_of}
 use Rattle.ghost_page.specs.Page.{IsAnswered, IsFile, IsText, page_outside, page_shelf, shelf_seen, sink_seen, words_in}
 
 -- what is seen of a sink with these bytes and this many faults

@@ -7,9 +7,9 @@ use Rattle.gr_outside.specs.Sink.{SinkSeen}
 use Rattle.gr_outside.specs.MemShelf.{Shelved}
 use Rattle.gr_outside.specs.MemSink.{Held}
 use Rattle.explain_words.specs.Plain.{IsPlain}
-use Rattle.ghost_cli.specs.Outside.{Outside, outside}
-use Rattle.ghost_cli.specs.Promises.{Promises}
-use Rattle.ghost_cli.specs.Verbs.{work_of}
+use Rattle.call_steps.specs.Outside.{Outside, outside}
+use Rattle.call_laws.specs.Promises.{Promises}
+use Rattle.call_laws.specs.Verbs.{work_of}
 
 -- the words of a call, of which each line has one
 abbrev pub words_in : List ℕ → List (List ℕ)

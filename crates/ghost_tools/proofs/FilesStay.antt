@@ -1,11 +1,11 @@
 -- A verb that stops before a write leaves the files as they were.
 use Rattle.std.proofs.Common.{◌≡◌, refl, sym, ap}
 use Rattle.gr_outside.specs.Shelf.{ShelfSeen}
-use Rattle.ghost_cli.specs.Outside.{LeavesShelf, OnlyReads}
-use Rattle.ghost_cli.specs.Progress.{NoRoomLeft, Stops, StopsAt}
-use Rattle.ghost_cli.specs.Showing.{nothing_seen}
+use Rattle.call_steps.specs.Outside.{LeavesShelf, OnlyReads}
+use Rattle.call_steps.specs.Progress.{NoRoomLeft, Stops, StopsAt}
+use Rattle.call_steps.specs.Showing.{nothing_seen}
 use Rattle.call_replies.specs.Texts.{Said}
-use Rattle.ghost_cli.specs.Work.{Ends, Ending, IsTooLong, IsUnread, IsVerdict, IsWritten, Work}
+use Rattle.call_steps.specs.Work.{Ends, Ending, IsTooLong, IsUnread, IsVerdict, IsWritten, Work}
 use Rattle.call_replies.specs.declared.replies.Verdict.TheVariants.{Accepted}
 
 -- a work that follows a read

@@ -8,7 +8,7 @@ use Rattle.std.proofs.lemmas.List.Sums.{count_by-le-length, sum_by_push}
 use Rattle.lt_isa.specs.Machine.{Observed, RamRead, RamWrite, EncRead, EncWrite, Oram, Halted}
 use Rattle.lt_isa.specs.Trace.{Stamped}
 use Rattle.processor.specs.declared.ends.End.TheVariants as end
-use Rattle.ghost_cli.specs.Counting.{counted, how_many}
+use Rattle.call_steps.specs.Counting.{counted, how_many}
 use Rattle.ghost_tools.specs.Counting.{CountsEvents, CountsOneMore, access_counted, is_oram, is_ram_read, is_ram_write, is_eram_read, is_eram_write, orams_counted}
 use Rattle.ghost_tools.specs.Comparing.{Ends}
 use Rattle.ghost_tools.specs.CountedSoFar.{CountedSoFar}

@@ -2,7 +2,7 @@
 use Rattle.std.specs.Prelude.{◌≡◌, ℕ, ◌<◌, ◌==◌, nat_lt, if◌then◌else◌, Bool, true, false, List, length, slice_index, slice_set}
 use Rattle.lt_isa.specs.Machine.{Observed, RamRead, RamWrite, EncRead, EncWrite, Oram, Halted}
 use Rattle.lt_isa.specs.Trace.{Stamped}
-use Rattle.ghost_cli.specs.Counting.{counted, how_many}
+use Rattle.call_steps.specs.Counting.{counted, how_many}
 use Rattle.ghost_tools.specs.Comparing.{Ends}
 use Rattle.ghost_tools.specs.Recorded.{observed_in}
 use Rattle.ghost_tools.specs.SoFar.{end_after}

@@ -7,7 +7,7 @@ use crate::sources::{ReadSource, read_source, source_asked};
 use crate::variables::{label_text, push_name};
 use crate::words::LAYOUT;
 use call_replies::replies::Reply;
-use ghost_cli::compile::object_of;
+use call_steps::compiled_object::object_of;
 use gr_base::Memory;
 use gr_outside::{Shelf, Sink};
 use gr_word::{Name, Shape};

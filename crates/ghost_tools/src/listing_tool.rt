@@ -7,7 +7,7 @@ use crate::reports::{Report, print};
 use crate::sources::{read_source, source_asked};
 use crate::words::LISTING;
 use call_replies::replies::Reply;
-use ghost_cli::compile::object_of;
+use call_steps::compiled_object::object_of;
 use gr_base::Memory;
 use gr_outside::{Shelf, Sink};
 use std::alloc::Global;

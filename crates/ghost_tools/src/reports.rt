@@ -2,7 +2,7 @@ ghost use Rattle.std.specs.Prelude.{◌≡◌, ◌≢◌};
 ghost use Rattle.ghost_tools.specs.Statuses.{end_status};
 
 use call_replies::replies::Reply;
-use ghost_cli::putting::{NOT_PUT, put_text, say};
+use call_steps::putting::{NOT_PUT, put_text, say};
 use gr_outside::Sink;
 use processor::End;
 use std::alloc::Global;

@@ -11,10 +11,10 @@ ghost use Rattle.ghost_tools.specs.Comparing.{Compares};
 ghost use Rattle.ghost_tools.specs.Runs.{LeavesWords};
 
 use crate::comparing::{Comparison, compare};
+use call_steps::oblivious::{Seeded, SeededOram, SeededRecursive, load_seeded};
 use clap::ArgMatches;
 use command_words::options::{flag_given, number_given, seed_given, value};
 use flow_types::Typed;
-use ghost_cli::oblivious::{Seeded, SeededOram, SeededRecursive, load_seeded};
 use gr_base::Memory;
 use gr_word::Inputs;
 use lt_checker::Accepted;

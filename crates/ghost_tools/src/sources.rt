@@ -5,13 +5,13 @@ ghost use Rattle.lt_isa.specs.Ranges.{ProfileFits};
 
 use crate::words::matches_of;
 use call_replies::replies::{Reply, Verdict};
+use call_steps::sources::find_source;
+use call_steps::targets::Target;
 use clap::ArgMatches;
 use command_words::options::{block_log_given, flag_given, value};
 use command_words::verbs::VerbWords;
 use command_words::windows::{window_given, windowed};
 use flow_types::Typed;
-use ghost_cli::sources::find_source;
-use ghost_cli::targets::Target;
 use gr_base::Memory;
 use gr_outside::{File, Shelf, ShelfError, SureShelf};
 use lt_checker::{Accepted, CheckError, check};

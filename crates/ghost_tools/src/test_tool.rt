@@ -7,9 +7,9 @@ use crate::sources::{SourceWords, accepted_of, read_file, read_source, source_in
 use crate::suites::{Subject, Tried, try_cases};
 use crate::words::{TEST, matches_of};
 use call_replies::replies::{InputFault, Reply, Verdict};
+use call_steps::compiled_object::object_of;
 use clap::ArgMatches;
 use command_words::options::{number_given, value};
-use ghost_cli::compile::object_of;
 use gr_base::Memory;
 use gr_outside::{Shelf, Sink};
 use std::alloc::Global;

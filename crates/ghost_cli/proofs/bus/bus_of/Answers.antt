@@ -7,8 +7,8 @@ use Rattle.lt_isa.specs.Start.{FitsObject}
 use Rattle.bus_arbiter.specs.Cores.{Core}
 use Rattle.path_oram.specs.Orams.{Oram}
 use Rattle.rand_chacha.specs.ChaCha.{ChaCha}
-use Rattle.ghost_cli.specs.Beginning.{BankBegins, HasBegun}
-use Rattle.ghost_cli.specs.Sharing.{AllBegin}
+use Rattle.call_steps.specs.Beginning.{BankBegins, HasBegun}
+use Rattle.call_laws.specs.Sharing.{AllBegin}
 use Rattle.ghost_cli.proofs.SharedBus.{begin-more, fit-at, fit-count, start-cycle, start-place, take-more}
 use Rattle.ghost_cli.proofs.bus.bus_of.Goals as goal
 

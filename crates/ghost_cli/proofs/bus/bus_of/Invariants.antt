@@ -1,6 +1,6 @@
 use Rattle.std.proofs.Common.{◌≡◌, length, take}
 use Rattle.std.specs.Prelude.{IsTrue}
-use Rattle.ghost_cli.specs.Sharing.{AllBegin}
+use Rattle.call_laws.specs.Sharing.{AllBegin}
 use Rattle.ghost_cli.proofs.bus.bus_of.Given as goal
 
 abbrev pub invariant-entering : goal.invariant-entering

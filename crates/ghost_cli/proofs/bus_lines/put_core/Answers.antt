@@ -1,7 +1,7 @@
 use Rattle.std.proofs.Common.{rules, ◌≡◌, ◌++◌, ℕ, Err, subst}
 use Rattle.std.specs.Prelude.{codes, decimal}
 use Rattle.run_data.specs.Putting.{PutsText}
-use Rattle.ghost_cli.specs.Showing.{halt_text}
+use Rattle.call_steps.specs.Showing.{halt_text}
 use Rattle.ghost_cli.proofs.BusWatches.{halt-some}
 use Rattle.ghost_cli.proofs.PutBehind.{puts-cut, puts-then}
 use Rattle.ghost_cli.proofs.bus_lines.put_core.Goals as goal

@@ -1,6 +1,6 @@
 use Rattle.std.proofs.Common.{rules}
 use Rattle.bus_arbiter.specs.Cores.{traces_to}
-use Rattle.ghost_cli.specs.Sharing.{halts_of}
+use Rattle.call_laws.specs.Sharing.{halts_of}
 use Rattle.ghost_cli.proofs.SharedBus.{left-halts, shared-cut, shared-put}
 use Rattle.ghost_cli.proofs.bus_run.put_bus.Goals as goal
 

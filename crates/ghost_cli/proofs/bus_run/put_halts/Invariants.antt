@@ -1,8 +1,8 @@
 use Rattle.std.proofs.Common.{◌≡◌, take}
 use Rattle.gr_base.specs.Added.{Adds}
-use Rattle.ghost_cli.specs.Bus.{all_halted}
-use Rattle.ghost_cli.specs.Sharing.{halts_of}
-use Rattle.ghost_cli.specs.Showing.{core_lines}
+use Rattle.call_laws.specs.Bus.{all_halted}
+use Rattle.call_laws.specs.Sharing.{halts_of}
+use Rattle.call_steps.specs.Showing.{core_lines}
 use Rattle.ghost_cli.proofs.bus_run.put_halts.Given as goal
 
 abbrev pub invariant-ending : goal.invariant-ending

@@ -3,9 +3,9 @@ use Rattle.lt_isa.specs.Trace.{Stamped}
 use Rattle.bus_arbiter.specs.Cores.{traces_to}
 use Rattle.bus_arbiter.specs.Transfers.{IsJoined, joined_of}
 use Rattle.bus_arbiter.proofs.CoresJoined.{cores-joined}
-use Rattle.ghost_cli.specs.Showing.{transfer_lines}
+use Rattle.call_steps.specs.Showing.{transfer_lines}
 use Rattle.ghost_cli.proofs.BusWatches.{transfers_cut}
-use Rattle.ghost_cli.proofs.PutLines.{lines_put}
+use Rattle.call_laws.proofs.PutLines.{lines_put}
 use Rattle.ghost_cli.proofs.bus_run.run_watched.Goals as goal
 
 pub returns-in-Ok-clause-put : goal.returns-in-Ok-clause-put

@@ -1,4 +1,4 @@
-use Rattle.ghost_cli.proofs.Saying.{no-notes}
+use Rattle.call_laws.proofs.Inferring.{no-notes}
 use Rattle.ghost_cli.proofs.infer.with_notes.Goals as goal
 
 pub returns-in-Err-clause-refused : goal.returns-in-Err-clause-refused

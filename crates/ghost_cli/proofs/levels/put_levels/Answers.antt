@@ -3,7 +3,7 @@ use Rattle.std.proofs.lemmas.List.{append-nil}
 use Rattle.gr_base.specs.Added.{Adds}
 use Rattle.gr_base.proofs.Added.{Adds-then}
 use Rattle.run_data.specs.PathText.{levels_behind, levels_line}
-use Rattle.ghost_cli.specs.Levels.{StandNow}
+use Rattle.call_steps.specs.Levels.{StandNow}
 use Rattle.ghost_cli.proofs.LevelLines.{behind-one, cut-so, line-some, stands}
 use Rattle.ghost_cli.proofs.Tracing.{one-bank}
 use Rattle.ghost_cli.proofs.levels.put_levels.Goals as goal

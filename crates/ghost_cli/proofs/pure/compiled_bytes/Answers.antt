@@ -1,6 +1,6 @@
 use Rattle.std.proofs.lemmas.Result.{IfErr-weaker, IfOk-weaker, err_from_is_err_and}
 use Rattle.src_tree.specs.Trees.{source_of}
-use Rattle.ghost_cli.proofs.HeadlineVerbs.{compiled-program}
+use Rattle.call_laws.proofs.HeadlineVerbs.{compiled-program}
 use Rattle.ghost_cli.proofs.PureCalls.{no-program, not-compiled}
 use Rattle.ghost_cli.proofs.pure.compiled_bytes.Goals as goal
 

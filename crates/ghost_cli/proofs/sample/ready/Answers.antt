@@ -4,13 +4,13 @@ use Rattle.lt_isa.specs.Object.{Parts}
 use Rattle.src_tree.specs.Trees.{source_of}
 use Rattle.lt_isa.specs.declared.profiles.Profile.{Profile}
 use Rattle.object_file.specs.Spelling.{spelling}
-use Rattle.ghost_cli.specs.Compile.{on_compiled}
-use Rattle.ghost_cli.specs.Compiled.{IsCompiledTo}
-use Rattle.ghost_cli.specs.Progress.{EndsWorkWith}
-use Rattle.ghost_cli.specs.Questions.{WhichCompiled}
+use Rattle.call_steps.specs.Compile.{on_compiled}
+use Rattle.call_steps.specs.Compiled.{IsCompiledTo}
+use Rattle.call_steps.specs.Progress.{EndsWorkWith}
+use Rattle.call_steps.specs.Questions.{WhichCompiled}
 use Rattle.call_replies.specs.Texts.{said}
 use Rattle.ghost_cli.specs.Sampled.{SampleIsReady}
-use Rattle.ghost_cli.proofs.SampleMade.{compile-starved, check-starved, compiled-accepted}
+use Rattle.call_laws.proofs.SampleMade.{compile-starved, check-starved, compiled-accepted}
 use Rattle.ghost_cli.proofs.sample.ready.Goals as goal
 
 pub returns-in_err-object-clause-starved : goal.returns-in_err-object-clause-starved

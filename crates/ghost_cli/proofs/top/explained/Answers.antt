@@ -1,4 +1,4 @@
-use Rattle.ghost_cli.proofs.Answering.{left-said}
+use Rattle.call_steps.proofs.Answering.{left-said}
 use Rattle.ghost_cli.proofs.top.explained.Goals as goal
 
 pub returns-in-Err-clause-explained : goal.returns-in-Err-clause-explained

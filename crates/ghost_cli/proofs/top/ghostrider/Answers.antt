@@ -1,7 +1,7 @@
 use Rattle.std.proofs.Common.{refl}
 use Rattle.ghost_cli.proofs.CallsNamed.{calls-of}
 use Rattle.ghost_cli.proofs.Flushed.{cut_explains, flushed_explains}
-use Rattle.ghost_cli.proofs.HeadlineAll.{headlined}
+use Rattle.call_laws.proofs.HeadlineAll.{headlined}
 use Rattle.ghost_cli.proofs.top.ghostrider.Goals as goal
 
 pub returns-in-Ok : goal.returns-in-Ok

@@ -3,14 +3,14 @@ use Rattle.std.specs.Prelude.{option_and_then}
 use Rattle.clap.specs.Words.{found_of, rows_of}
 use Rattle.clap.specs.declared.parser.matches.ArgMatches.{ArgMatches}
 use Rattle.command_words.specs.Options.{texts}
-use Rattle.ghost_cli.specs.Progress.{NothingAsked}
+use Rattle.call_steps.specs.Progress.{NothingAsked}
 use Rattle.command_words.specs.Verbs.{asked_for, asks_of}
 use Rattle.command_words.specs.declared.verbs.Verb.{Verb}
-use Rattle.ghost_cli.specs.Verbs.{works}
+use Rattle.call_laws.specs.Verbs.{works}
 use Rattle.command_words.proofs.Wording.{verb-found}
-use Rattle.ghost_cli.specs.CallsFollow.{NoCalls}
-use Rattle.ghost_cli.proofs.Answering.{told-done, told-left}
-use Rattle.ghost_cli.proofs.CallsMade.{told-made}
+use Rattle.call_steps.specs.CallsFollow.{NoCalls}
+use Rattle.call_steps.proofs.Answering.{told-done, told-left}
+use Rattle.call_steps.proofs.CallsMade.{told-made}
 use Rattle.ghost_cli.proofs.top.perform.Goals as goal
 
 pub returns-in_default-clause-stopped : goal.returns-in_default-clause-stopped

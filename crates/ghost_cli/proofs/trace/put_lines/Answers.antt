@@ -2,7 +2,7 @@ use Rattle.std.proofs.Common.{Some, None, refl, subst}
 use Rattle.lt_isa.specs.Trace.{trace_from}
 use Rattle.processor.specs.Watching.{run_shown}
 use Rattle.processor.specs.declared.ends.End.{End}
-use Rattle.ghost_cli.specs.Watched.{PutsShown, kept}
+use Rattle.call_laws.specs.Watched.{PutsShown, kept}
 use Rattle.ghost_cli.proofs.LinesAlone.{ended, cut}
 use Rattle.ghost_cli.proofs.trace.put_lines.Goals as goal
 

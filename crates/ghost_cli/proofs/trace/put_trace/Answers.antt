@@ -2,7 +2,7 @@ use Rattle.std.proofs.Common.{Some, None, refl, subst, arith}
 use Rattle.lt_isa.specs.Trace.{trace_from}
 use Rattle.processor.specs.Watching.{run_shown}
 use Rattle.processor.specs.declared.ends.End.{End}
-use Rattle.ghost_cli.specs.Watched.{PutsShown, kept}
+use Rattle.call_laws.specs.Watched.{PutsShown, kept}
 use Rattle.ghost_cli.proofs.Shown.{shows}
 use Rattle.ghost_cli.proofs.Tracing.{ended-put, cut-put}
 use Rattle.ghost_cli.proofs.trace.put_trace.Goals as goal

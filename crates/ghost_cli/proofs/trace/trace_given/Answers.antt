@@ -6,14 +6,14 @@ use Rattle.lt_isa.specs.Start.{start_state}
 use Rattle.lt_isa.specs.Trace.{trace_from}
 use Rattle.processor.specs.Watching.{run_shown}
 use Rattle.processor.proofs.TellingPaths.{events_in-with_paths}
-use Rattle.ghost_cli.specs.Levels.{AreBehind, MayRun}
-use Rattle.ghost_cli.specs.Reached.{ExplainsRest}
-use Rattle.ghost_cli.specs.RecursivePaths.{IsShownInTrees}
-use Rattle.ghost_cli.specs.Showing.{run_seen}
-use Rattle.ghost_cli.specs.Trace.{traces_on}
+use Rattle.call_steps.specs.Levels.{AreBehind, MayRun}
+use Rattle.call_steps.specs.Reached.{ExplainsRest}
+use Rattle.call_steps.specs.RecursivePaths.{IsShownInTrees}
+use Rattle.call_steps.specs.Showing.{run_seen}
+use Rattle.call_laws.specs.Trace.{traces_on}
 use Rattle.ghost_cli.specs.TracedInTrees.{TracedInTrees}
-use Rattle.ghost_cli.specs.Watched.{PutsTrace, kept}
-use Rattle.ghost_cli.proofs.Answering.{traced-said}
+use Rattle.call_laws.specs.Watched.{PutsTrace, kept}
+use Rattle.ghost_cli.proofs.TraceTexts.{traced-said}
 use Rattle.ghost_cli.proofs.Shown.{is-shown, may-run, shows}
 use Rattle.ghost_cli.proofs.trace.trace_given.Goals as goal
 

@@ -6,7 +6,7 @@ use Rattle.lt_isa.specs.Start.{start_state}
 use Rattle.lt_isa.specs.Trace.{trace_from}
 use Rattle.processor.specs.Watching.{run_shown}
 use Rattle.processor.proofs.TellingPaths.{events_in-with_paths}
-use Rattle.ghost_cli.specs.Watched.{PutsTrace, kept}
+use Rattle.call_laws.specs.Watched.{PutsTrace, kept}
 use Rattle.ghost_cli.proofs.Shown.{shows}
 use Rattle.ghost_cli.proofs.TraceTexts.{traced-text}
 use Rattle.ghost_cli.proofs.trace.trace_text.Goals as goal

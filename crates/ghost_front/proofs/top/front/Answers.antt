@@ -1,5 +1,5 @@
 use Rattle.std.proofs.Common.{◌≡◌, false, List, ℕ, subst}
-use Rattle.ghost_cli.specs.Verbs.{work_of}
+use Rattle.call_laws.specs.Verbs.{work_of}
 use Rattle.ghost_front.specs.Requests.{asks_front, asks_tool}
 use Rattle.ghost_front.specs.Served.{KeepsOthers, Serves, around}
 use Rattle.ghost_front.proofs.top.front.Goals as goal

@@ -1,5 +1,5 @@
 use Rattle.command_words.specs.Options.{texts}
-use Rattle.ghost_cli.specs.Verbs.{work_of}
+use Rattle.call_laws.specs.Verbs.{work_of}
 use Rattle.ghost_front.specs.Served.{around}
 use Rattle.ghost_front.proofs.CallEnds.{said_later}
 use Rattle.ghost_front.proofs.top.serve_words.Goals as goal

@@ -1,6 +1,6 @@
 use Rattle.std.proofs.Common.{◌+◌, arith, subst, sym}
 use Rattle.lt_isa.specs.Trace.{trace_from}
-use Rattle.ghost_cli.proofs.EventCounts.{trace-short}
+use Rattle.call_steps.proofs.EventCounts.{trace-short}
 use Rattle.ghost_tools.specs.SoFar.{EqualSoFar}
 use Rattle.ghost_tools.specs.TraceReading.{left_to_read}
 use Rattle.ghost_tools.proofs.Compared.{compared-begin, compared-less, compared-other, compared-over, compared-room, compared-same}

@@ -1,7 +1,7 @@
 use Rattle.std.proofs.Common.{length, refl, ap, arith, ◌∙◌}
 use Rattle.std.proofs.lemmas.List.{length-replicate}
 use Rattle.lt_isa.specs.Trace.{trace_from}
-use Rattle.ghost_cli.proofs.EventCounts.{trace-short}
+use Rattle.call_steps.proofs.EventCounts.{trace-short}
 use Rattle.ghost_tools.specs.TraceReading.{left_to_read}
 use Rattle.ghost_tools.proofs.Tallied.{orams-length, tallied-begin, tallied-found}
 use Rattle.ghost_tools.proofs.Windows.{left-at-start}

@@ -1,8 +1,8 @@
 use Rattle.std.proofs.Common.{refl}
 use Rattle.object_file.specs.Spelling.{spelling}
 use Rattle.call_replies.specs.declared.replies.Done.TheVariants.{Assembled}
-use Rattle.ghost_cli.specs.Work.{Writes}
-use Rattle.ghost_cli.proofs.Reaching.{passed, passed-memory, to-write}
+use Rattle.call_steps.specs.Work.{Writes}
+use Rattle.call_steps.proofs.Reaching.{passed, passed-memory, to-write}
 use Rattle.ghost_cli.proofs.assemble.AssembleMaker.make.Goals as goal
 
 pub returns-in_err-object-clause-stopped : goal.returns-in_err-object-clause-stopped

@@ -2,8 +2,8 @@ use Rattle.std.proofs.Common.{◌≡◌, ◌≤◌, length, Option, Some, None, 
 use Rattle.std.specs.Option.{option_map}
 use Rattle.command_words.specs.Asks.{bus_named}
 use Rattle.ghost_cli.specs.declared.bus.BusWords.{BusWords}
-use Rattle.ghost_cli.specs.Bus.{bus_work}
-use Rattle.ghost_cli.specs.Work.{Work}
+use Rattle.call_laws.specs.Bus.{bus_work}
+use Rattle.call_steps.specs.Work.{Work}
 use Rattle.ghost_cli.proofs.bus.SharedBusRequest.words.Goals as goal
 
 both : {T E : Type 0} (P Q : T → Type 0) (result : Result (Option T) E) → IfOk result (λ found. IfSome found P)

@@ -1,10 +1,10 @@
 use Rattle.std.proofs.Common.{refl}
 use Rattle.call_replies.specs.declared.replies.Reply.TheVariants.{NoMemory}
-use Rattle.ghost_cli.specs.CallsFollow.{StopsHere}
-use Rattle.ghost_cli.specs.Progress.{NoRoomYet, WorkStops}
-use Rattle.ghost_cli.proofs.Answering.{passed-on}
-use Rattle.ghost_cli.proofs.Pairing.{bus-reached, bus-stopped}
-use Rattle.ghost_cli.proofs.Promised.{same-only}
+use Rattle.call_steps.specs.CallsFollow.{StopsHere}
+use Rattle.call_steps.specs.Progress.{NoRoomYet, WorkStops}
+use Rattle.call_steps.proofs.Answering.{passed-on}
+use Rattle.call_laws.proofs.Pairing.{bus-reached, bus-stopped}
+use Rattle.call_steps.proofs.Progressing.{same-only}
 use Rattle.ghost_cli.proofs.SharedBus.{shared-said}
 use Rattle.ghost_cli.proofs.bus.SharedBusService.serve.Goals as goal
 

@@ -1,10 +1,10 @@
 use Rattle.std.proofs.Common.{refl}
 use Rattle.call_replies.specs.declared.replies.Verdict.TheVariants.{Accepted}
-use Rattle.ghost_cli.specs.Progress.{WorkStops}
-use Rattle.ghost_cli.specs.Showing.{nothing_seen}
-use Rattle.ghost_cli.specs.Work.{Ends}
-use Rattle.ghost_cli.proofs.Answering.{left-said, passed-on}
-use Rattle.ghost_cli.proofs.Reaching.{with-verdict}
+use Rattle.call_steps.specs.Progress.{WorkStops}
+use Rattle.call_steps.specs.Showing.{nothing_seen}
+use Rattle.call_steps.specs.Work.{Ends}
+use Rattle.call_steps.proofs.Answering.{left-said, passed-on}
+use Rattle.call_steps.proofs.Reaching.{with-verdict}
 use Rattle.ghost_cli.proofs.check.CheckService.serve.Goals as goal
 
 pub returns-in_err-find_accepted-clause-stopped : goal.returns-in_err-find_accepted-clause-stopped

@@ -1,8 +1,8 @@
 use Rattle.std.proofs.Common.{Ok}
 use Rattle.src_tree.specs.Trees.{source_of}
-use Rattle.ghost_cli.specs.Compile.{compiles_to, on_compiled}
-use Rattle.ghost_cli.specs.Questions.{WhichCompiled}
-use Rattle.ghost_cli.proofs.Reaching.{passed, with-answer, with-refusal}
+use Rattle.call_steps.specs.Compile.{compiles_to, on_compiled}
+use Rattle.call_steps.specs.Questions.{WhichCompiled}
+use Rattle.call_steps.proofs.Reaching.{passed, with-answer, with-refusal}
 use Rattle.ghost_cli.proofs.compile.CompileMaker.make.Goals as goal
 
 pub returns-in_err-program-clause-stopped : goal.returns-in_err-program-clause-stopped

@@ -1,8 +1,8 @@
 use Rattle.std.proofs.Common.{refl}
 use Rattle.lt_assembler.specs.Canonical.{canonical}
 use Rattle.call_replies.specs.declared.replies.Done.TheVariants.{Disassembled}
-use Rattle.ghost_cli.specs.Work.{Writes}
-use Rattle.ghost_cli.proofs.Reaching.{passed, passed-memory, to-write}
+use Rattle.call_steps.specs.Work.{Writes}
+use Rattle.call_steps.proofs.Reaching.{passed, passed-memory, to-write}
 use Rattle.ghost_cli.proofs.disassemble.DisassembleMaker.make.Goals as goal
 
 pub returns-in_err-object-clause-stopped : goal.returns-in_err-object-clause-stopped

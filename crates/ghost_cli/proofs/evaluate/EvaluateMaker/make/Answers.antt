@@ -3,12 +3,12 @@ use Rattle.src_tree.specs.Trees.{source_of}
 use Rattle.flow_types.specs.Wants.{declared_wants}
 use Rattle.call_replies.specs.declared.replies.Verdict.TheVariants.{Spent}
 use Rattle.ghost_cli.specs.declared.evaluate.Left.TheVariants.{Done}
-use Rattle.ghost_cli.specs.Evaluate.{evaluates_on, on_left}
+use Rattle.call_laws.specs.Evaluate.{evaluates_on, on_left}
 use Rattle.ghost_cli.specs.Evaluated.{LeavesText}
-use Rattle.ghost_cli.specs.Questions.{WhatIsLeft}
-use Rattle.ghost_cli.specs.Steps.{with_variables}
+use Rattle.call_steps.specs.Questions.{WhatIsLeft}
+use Rattle.call_steps.specs.Steps.{with_variables}
 use Rattle.ghost_cli.proofs.Evaluating.{inputs-reached, inputs-stopped}
-use Rattle.ghost_cli.proofs.Reaching.{passed, passed-memory, to-write, with-answer, with-verdict}
+use Rattle.call_steps.proofs.Reaching.{passed, passed-memory, to-write, with-answer, with-verdict}
 use Rattle.ghost_cli.proofs.evaluate.EvaluateMaker.make.Goals as goal
 
 pub returns-in_err-program-clause-stopped : goal.returns-in_err-program-clause-stopped

@@ -1,8 +1,8 @@
 use Rattle.std.proofs.Common.{ap, Ok}
 use Rattle.call_replies.specs.declared.replies.Done.TheVariants.{Inferred}
-use Rattle.ghost_cli.specs.Infer.{infers_to, on_inferred}
-use Rattle.ghost_cli.specs.Questions.{WhatIsInferred}
-use Rattle.ghost_cli.proofs.Reaching.{passed, passed-memory, to-write, with-answer, with-refusal}
+use Rattle.call_laws.specs.Infer.{infers_to, on_inferred}
+use Rattle.call_steps.specs.Questions.{WhatIsInferred}
+use Rattle.call_steps.proofs.Reaching.{passed, passed-memory, to-write, with-answer, with-refusal}
 use Rattle.ghost_cli.proofs.infer.InferMaker.make.Goals as goal
 
 pub returns-in_err-object-clause-stopped : goal.returns-in_err-object-clause-stopped

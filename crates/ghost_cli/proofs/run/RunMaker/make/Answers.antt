@@ -1,10 +1,10 @@
 use Rattle.std.proofs.Common.{refl, subst, None, Some}
 use Rattle.call_replies.specs.declared.replies.Verdict.TheVariants.{Spent}
 use Rattle.ghost_cli.specs.declared.run.Ran.TheVariants.{Halted}
-use Rattle.ghost_cli.specs.Questions.{WhenItHalts}
+use Rattle.call_steps.specs.Questions.{WhenItHalts}
 use Rattle.ghost_cli.specs.Ran.{RanTo}
-use Rattle.ghost_cli.specs.Run.{on_halt, runs_on}
-use Rattle.ghost_cli.proofs.Reaching.{passed, passed-memory, to-write, with-answer, with-verdict}
+use Rattle.call_laws.specs.Run.{on_halt, runs_on}
+use Rattle.call_steps.proofs.Reaching.{passed, passed-memory, to-write, with-answer, with-verdict}
 use Rattle.ghost_cli.proofs.run.RunMaker.make.Goals as goal
 
 pub returns-in_err-given-clause-stopped : goal.returns-in_err-given-clause-stopped

@@ -2,11 +2,11 @@ use Rattle.std.proofs.Common.{ap, subst, None, Some}
 use Rattle.lt_isa.specs.Start.{wants_of}
 use Rattle.call_replies.specs.declared.replies.Done.TheVariants.{Sampled}
 use Rattle.call_replies.specs.declared.replies.Verdict.TheVariants.{Spent}
-use Rattle.ghost_cli.specs.Histogram.{sample_cycles, sample_inputs}
-use Rattle.ghost_cli.specs.Questions.{WhatIsMade, WhenItHalts}
-use Rattle.ghost_cli.specs.Sample.{on_sampled, samples_on}
+use Rattle.call_steps.specs.Histogram.{sample_cycles, sample_inputs}
+use Rattle.call_steps.specs.Questions.{WhatIsMade, WhenItHalts}
+use Rattle.call_laws.specs.Sample.{on_sampled, samples_on}
 use Rattle.ghost_cli.specs.Sampled.{SampleCameTo}
-use Rattle.ghost_cli.proofs.Reaching.{not-begun, out-of-memory, passed, to-write, with-answer, with-verdict}
+use Rattle.call_steps.proofs.Reaching.{not-begun, out-of-memory, passed, to-write, with-answer, with-verdict}
 use Rattle.ghost_cli.proofs.sample.SampleMaker.make.Goals as goal
 
 pub returns-in_err-file-clause-stopped : goal.returns-in_err-file-clause-stopped

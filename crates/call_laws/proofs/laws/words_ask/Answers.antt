@@ -1,0 +1,6 @@
+use Rattle.call_laws.specs.Verbs.{works}
+use Rattle.command_words.proofs.VerbWords.{words-ask}
+use Rattle.call_laws.proofs.laws.words_ask.Goals as goal
+
+pub returns : goal.returns
+returns c = words-ask works

@@ -1,0 +1,179 @@
+-- How a work continues, step by step, and how it stops.
+use Rattle.std.proofs.Common.{◌≡◌, ◌⊎◌, inl, inr, ℕ, ◌+◌, ◌<◌, ◌≤◌, List, length, take, Option, Some, None, MatchOption, IfSome, refl, sym, ap, ◌∙◌, subst, arith}
+use Rattle.std.specs.Option.{option_map}
+use Rattle.std.specs.FinMap.{get}
+use Rattle.std.proofs.lemmas.List.{length-take, take_all}
+use Rattle.gr_base.specs.Counts.{Rose}
+use Rattle.gr_outside.specs.Shelf.{Files, ShelfSeen, front_of}
+use Rattle.call_replies.specs.Texts.{Said, no_memory, unread, too_long}
+use Rattle.call_replies.specs.declared.replies.Verdict.{Verdict}
+use Rattle.call_steps.specs.Questions.{Question, Answer, IsRight}
+use Rattle.call_steps.specs.Showing.{nothing_seen}
+use Rattle.call_steps.specs.Work.{Work, Ends, Reads, Asks, Ending, IsUnread, IsTooLong, IsVerdict, IsWritten, MayEnd, Ended, Missing, TooLong, Found, Answered, said_at}
+use Rattle.call_steps.specs.Outside.{Outside, Gives, PutsSaid, OnlyReads, LeavesShelf, LeavesUnread, LeftBy, Unread, Long, Judged, Explains, NoRoom, Worked}
+use Rattle.call_steps.specs.Progress.{HasLeft, Stops, NoRoomLeft, StopsAt, EndsWorkWith}
+
+abbrev pub reads-of : ShelfSeen → ℕ
+reads-of s = s.read_faults
+
+abbrev last-unread : ShelfSeen → Option (List ℕ)
+last-unread s = s.unread
+
+-- a shelf that stays was only read
+pub same-only : {before after : ShelfSeen} → after ≡ before → OnlyReads before after
+same-only {before} {after} same = (
+  same
+      ∙ (ap (λ n. record before { read_faults = n }) (sym (ap reads-of same))
+      ∙ ap (λ n. record before { read_faults = after.read_faults; unread = n }) (sym (ap last-unread same))),
+  omega (arith, ap reads-of same),
+)
+
+-- ---- a read
+
+-- a front that is no longer than the limit is the whole file
+front-whole : (found : Option (List ℕ)) (n : ℕ) (bytes : List ℕ)
+    → option_map (take (n + 1)) found ≡ Some bytes → length bytes ≤ n → found ≡ Some bytes
+front-whole None n bytes is short = absurd (let f : ◌≡◌ {A = Option (List ℕ)} None (Some bytes) = is in cc)
+front-whole (Some file) n bytes is short =
+    let same : take (n + 1) file ≡ bytes = cc in
+    ap Some (sym (take_all (n + 1) file (omega (arith, length-take (n + 1) file, ap length same))) ∙ same)
+
+-- a front that is longer than the limit is one of a longer file
+front-long : (found : Option (List ℕ)) (n : ℕ) (bytes : List ℕ) → option_map (take (n + 1)) found ≡ Some bytes
+    → n < length bytes → (file : List ℕ) × (found ≡ Some file) × (n < length file)
+front-long None n bytes is long = absurd (let f : ◌≡◌ {A = Option (List ℕ)} None (Some bytes) = is in cc)
+front-long (Some file) n bytes is long =
+    let same : take (n + 1) file ≡ bytes = cc in
+    (file, refl, omega (arith, length-take (n + 1) file, ap length same))
+
+gives-whole : (files : Option Files) (before now : ℕ) (name : List ℕ) (n : ℕ) (bytes : List ℕ)
+    → IfSome files (λ all. front_of all name (n + 1) ≡ Some bytes) → length bytes ≤ n
+    → Gives files before now name (Some bytes)
+gives-whole None before now name n bytes read short = tt
+gives-whole (Some all) before now name n bytes read short = front-whole (get all name) n bytes read short
+
+-- a file within the limit continues the work
+pub read-leads : (before : ShelfSeen) (name : List ℕ) (n : ℕ) (bytes : List ℕ)
+    → IfSome before.files (λ all. front_of all name (n + 1) ≡ Some bytes) → length bytes ≤ n
+    → (next : List ℕ → Work) → HasLeft before (Reads name n next) (next bytes)
+read-leads before name n bytes read short next now ending comes =
+    Found name n next bytes ending (gives-whole before.files before.read_faults now name n bytes read short) short comes
+
+gives-long : (files : Option Files) (before now : ℕ) (name : List ℕ) (n : ℕ) (bytes : List ℕ)
+    → IfSome files (λ all. front_of all name (n + 1) ≡ Some bytes) → n < length bytes
+    → (file : List ℕ) × Gives files before now name (Some file) × (n < length file)
+gives-long None before now name n bytes read long = (bytes, tt, long)
+gives-long (Some all) before now name n bytes read long = front-long (get all name) n bytes read long
+
+-- a longer file stops
+pub read-long : (before after : ShelfSeen) (name : List ℕ) (n : ℕ) (bytes : List ℕ)
+    → IfSome before.files (λ all. front_of all name (n + 1) ≡ Some bytes) → n < length bytes → after ≡ before
+    → (next : List ℕ → Work) → Stops before after (Reads name n next) (too_long name n)
+read-long before after name n bytes read long same next =
+    let found = gives-long before.files before.read_faults after.read_faults name n bytes read long in
+    StopsAt (IsTooLong name n) (TooLong name n next found.0 found.1 found.2) same refl
+
+gives-none : (files : Option Files) (before now : ℕ) (name : List ℕ)
+    → MatchOption files (Rose before now) (λ all. get all name ≡ None) → Gives files before now name None
+gives-none None before now name rose = rose
+gives-none (Some all) before now name missing = inl missing
+
+gives-failed : (files : Option Files) (before now : ℕ) (name : List ℕ)
+    → Rose before now → Gives files before now name None
+gives-failed None before now name rose = rose
+gives-failed (Some all) before now name rose = inr rose
+
+-- so does one that is missing
+pub read-missing : (before after : ShelfSeen) (name : List ℕ) (n : ℕ)
+    → MatchOption before.files (Rose before.read_faults after.read_faults) (λ all. get all name ≡ None)
+    → LeavesUnread name before after → (next : List ℕ → Work) → Stops before after (Reads name n next) (unread name)
+read-missing before after name n missing left next =
+    StopsAt (IsUnread name)
+    (Missing name n next (gives-none before.files before.read_faults after.read_faults name missing)) left refl
+
+-- and one whose read fails
+pub read-failed : (before after : ShelfSeen) (name : List ℕ) (n : ℕ)
+    → Rose before.read_faults after.read_faults → LeavesUnread name before after
+    → (next : List ℕ → Work) → Stops before after (Reads name n next) (unread name)
+read-failed before after name n rose left next =
+    StopsAt (IsUnread name)
+    (Missing name n next (gives-failed before.files before.read_faults after.read_faults name rose)) left refl
+
+pub read-starved : (before after : ShelfSeen) (work : Work) → after ≡ before → Stops before after work no_memory
+read-starved before after work same = NoRoomLeft (same-only same) refl
+
+-- ---- a question
+
+-- a question with its right answer continues the work
+pub leads-on : (before : ShelfSeen) (work : Work) (question : Question) (next : Answer question → Work)
+    (answer : Answer question) → HasLeft before work (Asks question next) → IsRight question answer
+    → HasLeft before work (next answer)
+leads-on before work question next answer leads right now ending comes =
+    leads now ending (Answered question next answer ending right comes)
+
+-- a question that is refused stops
+pub refused-stops : (before after : ShelfSeen) (work : Work) (question : Question) (next : Answer question → Work)
+    (said : Said) → HasLeft before work (Asks question next) → after ≡ before
+    → EndsWorkWith question next said → Stops before after work said
+refused-stops before after work question next said leads same refuses = elim refuses [
+  | inl no_room ↦ NoRoomLeft (same-only same) no_room
+  | inr why ↦
+      let ended =
+      subst (λ w. MayEnd (Gives before.files before.read_faults after.read_faults) w (IsVerdict nothing_seen why.1))
+      (sym why.3) (Ended nothing_seen why.1) in
+      StopsAt (IsVerdict nothing_seen why.1) (leads after.read_faults (IsVerdict nothing_seen why.1)
+      (Answered question next why.0 (IsVerdict nothing_seen why.1) why.2 ended)) same why.4
+]
+
+-- what was found still holds after reads that changed nothing
+pub stops-later : (before between after : ShelfSeen) (work rest : Work) (said : Said)
+    → between ≡ before → HasLeft before work rest → Stops between after rest said → Stops before after work said
+stops-later before between after work rest said same leads stops = go (subst (λ b. Stops b after rest said) same stops)
+  where
+    go : Stops before after rest said → Stops before after work said
+    go (NoRoomLeft only is) = NoRoomLeft only is
+    go (StopsAt ending comes left is) = StopsAt ending (leads after.read_faults ending comes) left is
+
+-- two steps in sequence are a step
+pub leads-later : (before between : ShelfSeen) (work rest last : Work)
+    → between ≡ before → HasLeft before work rest → HasLeft between rest last → HasLeft before work last
+leads-later before between work rest last same leads on now ending comes =
+    leads now ending (subst (λ (b : ShelfSeen). HasLeft b rest last) same on now ending comes)
+
+-- work that ends without a file
+pub ends-at : (before after : ShelfSeen) (work : Work) (verdict : Verdict)
+    → HasLeft before work (Ends nothing_seen verdict)
+    → after ≡ before → Stops before after work (said_at (IsVerdict nothing_seen verdict))
+ends-at before after work verdict leads same =
+    StopsAt (IsVerdict nothing_seen verdict)
+    (leads after.read_faults (IsVerdict nothing_seen verdict) (Ended nothing_seen verdict)) same refl
+
+-- ---- the printed text
+
+-- the text that is printed for a work that stops explains the call
+pub stopped : (before after : Outside) (status : ℕ) (work : Work) (said : Said)
+    → Stops before.shelf after.shelf work said
+    → PutsSaid before.sink after.sink said status ⊎ PutsSaid before.sink after.sink no_memory status
+    → Explains before after status (Some work)
+stopped before after status work said (NoRoomLeft only is) put = elim put [
+  | inl done ↦ NoRoom (Some work) only (subst (λ s. PutsSaid before.sink after.sink s status) is done)
+  | inr done ↦ NoRoom (Some work) only done
+]
+stopped before after status work said (StopsAt ending comes left is) put = elim put [
+  | inl done ↦
+      Worked work ending comes (left-so ending left (subst (λ s. PutsSaid before.sink after.sink s status) is done))
+  | inr done ↦ NoRoom (Some work) (only ending left) done
+]
+  where
+    left-so : (ending : Ending) → LeavesShelf ending before.shelf after.shelf
+        → PutsSaid before.sink after.sink (said_at ending) status → LeftBy before after status ending
+    left-so (IsUnread name) left done = Unread name left done
+    left-so (IsTooLong name limit) left done = Long name limit left done
+    left-so (IsVerdict seen verdict) left done = Judged seen verdict left done
+    left-so (IsWritten name bytes done) left put = absurd left
+
+    only : (ending : Ending) → LeavesShelf ending before.shelf after.shelf → OnlyReads before.shelf after.shelf
+    only (IsUnread name) left = left.only
+    only (IsTooLong name limit) left = same-only left
+    only (IsVerdict seen verdict) left = same-only left
+    only (IsWritten name bytes done) left = absurd left

@@ -1,0 +1,118 @@
+-- How far the steps of a verb's work come: a file that is read, a question with its right result, steps in sequence.
+use Rattle.std.proofs.Common.{◌≡◌, ℕ, true, List, [], ◌∷◌, Result, Ok, Err, IfErr, IsErrAnd, refl, sym, ap₂, ◌∙◌, subst}
+use Rattle.gr_base.specs.Added.{Adds}
+use Rattle.gr_outside.specs.Shelf.{read_of}
+use Rattle.call_replies.specs.declared.replies.Done.{Done}
+use Rattle.call_replies.specs.declared.replies.Reply.{Reply}
+use Rattle.call_replies.specs.declared.replies.Reply.TheVariants.{NoMemory}
+use Rattle.call_replies.specs.declared.replies.Verdict.{Verdict}
+use Rattle.call_replies.specs.Texts.{Said, comes_to, no_memory, said}
+use Rattle.call_steps.specs.CallsFollow.{StopsHere, AsksOn, ReadsOn, TriesRead}
+use Rattle.call_steps.specs.Progress.{EndsWorkWith, HasLeft, NoRoomLeft, Stops}
+use Rattle.call_steps.specs.Questions.{Answer, IsRight, Question}
+use Rattle.call_steps.specs.Reached.{Finds, HasReached, HasStopped, Stage}
+use Rattle.call_steps.specs.Showing.{nothing_seen}
+use Rattle.call_steps.specs.Work.{Asks, Ends, Reads, Work, Writes}
+use Rattle.call_steps.proofs.CallsMade.{read-tried}
+use Rattle.call_steps.proofs.Progressing.{ends-at, leads-later, leads-on, refused-stops, stops-later, same-only}
+
+-- ---- steps
+
+-- no step yet
+pub not-begun : {before : Stage} {work : Work} → HasReached before before work work
+not-begun = record { leads = λ now ending comes. comes; calm = refl; calls = λ last rest. rest }
+
+-- the right result of a question
+pub with-answer : {before after : Stage} {work : Work} (question : Question) (next : Answer question → Work)
+    (answer : Answer question) → HasReached before after work (Asks question next) → IsRight question answer
+    → HasReached before after work (next answer)
+with-answer {before} {after} {work} question next answer reached right = record {
+  leads = leads-on before.seen work question next answer reached.leads right;
+  calm = reached.calm;
+  calls = λ last rest. reached.calls last (AsksOn question next answer after.log last rest);
+}
+
+-- steps in sequence
+pub then-reached : {before between after : Stage} {work rest last : Work} → HasReached before between work rest
+    → HasReached between after rest last → HasReached before after work last
+then-reached {before} {between} {after} {work} {rest} {last} first second = record {
+  leads = leads-later before.seen between.seen work rest last first.calm first.leads second.leads;
+  calm = second.calm ∙ first.calm;
+  calls = λ end done. first.calls end (second.calls end done);
+}
+
+-- these are the bytes that are left to write, and what is printed then
+pub to-write : {before after : Stage} {work : Work} {name bytes slice : List ℕ} {done told : Done}
+    → HasReached before after work (Writes name bytes done) → slice ≡ bytes → told ≡ done
+    → HasReached before after work (Writes name slice told)
+to-write {before} {after} {work} {name} {bytes} {slice} {done} {told} reached is same =
+    subst (HasReached before after work) (sym (ap₂ (Writes name) is same)) reached
+
+-- ---- stops
+
+-- a step after others stopped
+pub then-stopped : {before between after : Stage} {work rest : Work} {what : Said} → HasReached before between work rest
+    → HasStopped between after rest what → HasStopped before after work what
+then-stopped {before} {between} {after} {work} {rest} {what} first stopped = record {
+  stops = stops-later before.seen between.seen after.seen work rest what first.calm first.leads stopped.stops;
+  calls = first.calls after.log stopped.calls;
+}
+
+-- memory ran out
+pub out-of-memory : {before after : Stage} {work rest : Work} {what : Said} → HasReached before after work rest
+    → what ≡ no_memory → HasStopped before after work what
+out-of-memory {before} {after} {work} {rest} reached is = record {
+  stops = NoRoomLeft (same-only reached.calm) is;
+  calls = reached.calls after.log (StopsHere rest after.log);
+}
+
+-- the work ended with a verdict
+pub with-verdict : {before after : Stage} {work : Work} (verdict : Verdict)
+    → HasReached before after work (Ends nothing_seen verdict) → HasStopped before after work (comes_to verdict)
+with-verdict {before} {after} {work} verdict reached = record {
+  stops = ends-at before.seen after.seen work verdict reached.leads reached.calm;
+  calls = reached.calls after.log (StopsHere (Ends nothing_seen verdict) after.log);
+}
+
+-- a question's result ended it
+pub with-refusal : {before after : Stage} {work : Work} {what : Said} (question : Question)
+    (next : Answer question → Work) → HasReached before after work (Asks question next)
+    → EndsWorkWith question next what → HasStopped before after work what
+with-refusal {before} {after} {work} {what} question next reached refuses = record {
+  stops = refused-stops before.seen after.seen work question next what reached.leads reached.calm refuses;
+  calls = reached.calls after.log (StopsHere (Asks question next) after.log);
+}
+
+-- what a `?` passes on: a reply, and want of memory
+pub passed : {T : Type 0} {before after : Stage} {work : Work} (result : Result T Reply) (reply : Reply)
+    → IsErrAnd result (λ r. r ≡ reply) → HasStopped before after work (said reply)
+    → IfErr result (λ r. HasStopped before after work (said r))
+passed (Ok x) reply is stopped = tt
+passed {before = before} {after = after} {work = work} (Err r) reply is stopped =
+    subst (λ (q : Reply). HasStopped before after work (said q)) (sym is) stopped
+
+pub passed-memory : {T : Type 0} {before after : Stage} {work rest : Work} (result : Result T Reply)
+    → IsErrAnd result (λ r. r ≡ NoMemory) → HasReached before after work rest
+    → IfErr result (λ r. HasStopped before after work (said r))
+passed-memory result is reached = passed result NoMemory is (out-of-memory reached refl)
+
+-- ---- files
+
+-- a file that couldn't be read, or whose contents ended the work
+pub unread-stopped : {before after : Stage} {name : List ℕ} {limit : ℕ} {next : List ℕ → Work} {what : Said}
+    → Stops before.seen after.seen (Reads name limit next) what → TriesRead name before.log after.log
+    → HasStopped before after (Reads name limit next) what
+unread-stopped {before} {after} {name} {limit} {next} stops tried = record {
+  stops = stops;
+  calls = read-tried name limit next before.log after.log tried;
+}
+
+-- the bytes of a file
+pub bytes-read : {before after : Stage} {name : List ℕ} {limit : ℕ} {bytes : List ℕ}
+    → ((next : List ℕ → Work) → HasLeft before.seen (Reads name limit next) (next bytes)) → after.seen ≡ before.seen
+    → Adds before.log after.log (read_of name true ∷ []) → Finds before after (Reads name limit) bytes
+bytes-read {before} {after} {name} {limit} {bytes} leads calm adds next = record {
+  leads = leads next;
+  calm = calm;
+  calls = λ last rest. ReadsOn name limit next bytes before.log after.log last adds rest;
+}

@@ -1,0 +1,25 @@
+use Rattle.src_procs.specs.Seen.{file_of}
+use Rattle.call_steps.proofs.FirstSourceFaults.{file-first, call-first}
+use Rattle.call_steps.proofs.sources.inlined.Goals as goal
+
+pub returns-in-Ok-inline-clause-found : goal.returns-in-Ok-inline-clause-found
+returns-in-Ok-inline-clause-found c = record {
+  tokens = c.in-Ok.ensures.spelled.tokens;
+  split = c.in-Ok.ensures.spelled.split;
+  of_file = record {
+    file = file_of c.in-Ok.file;
+    spelled = c.in-Ok.ensures.spelled.is;
+    faultless = c.in-Ok-inline.ensures.faultless;
+    made = c.in-Ok-inline.ensures.inlined;
+    means = c.in-Ok-inline.ensures.meaning;
+  };
+}
+
+pub returns-in-Ok-clause-refused : goal.returns-in-Ok-clause-refused
+returns-in-Ok-clause-refused c =
+    call-first c.args.text.now (file_of c.in-Ok.file) c.in-Err-inline.fault c.shown_call_fault.result
+    c.shown_call_fault.ensures c.in-Ok.ensures.spelled c.in-Err-inline.ensures.refused
+
+pub returns-clause-refused : goal.returns-clause-refused
+returns-clause-refused c =
+    file-first c.args.text.now c.in-Err.fault c.text_fault.result c.text_fault.ensures c.in-Err.ensures.refused

@@ -1,0 +1,87 @@
+ghost use Rattle.std.specs.Prelude.{◌≡◌};
+ghost use Rattle.call_steps.specs.Compiled.{room_fault};
+ghost use Rattle.call_steps.specs.Sources.{shown_call_fault, piece_fault, program_fault, text_fault, token_fault};
+
+use call_replies::source_faults::SourceFault;
+use code_gen::CompileError;
+use flow_types::TypeError;
+use src_lexer::LexError;
+use src_parser::{ParseError, TextError};
+use src_procs::InlineError;
+
+/// The fault of a text as it is shown; want of memory is none.
+pub(crate) fn text_fault(fault: TextError) -> Option<SourceFault>
+    ensures { result ≡ text_fault fault }
+{
+    match fault {
+        TextError::Pieces(fault) => piece_fault(fault),
+        TextError::Tokens(fault) => token_fault(fault),
+    }
+}
+
+/// The fault of a text's pieces as it is shown; want of memory is none.
+fn piece_fault(fault: LexError) -> Option<SourceFault>
+    ensures { result ≡ piece_fault fault }
+{
+    match fault {
+        LexError::BadByte(at) => Some(SourceFault::Byte(at)),
+        LexError::NumberTooBig(at) => Some(SourceFault::Number(at)),
+        LexError::NameTooLong(at) => Some(SourceFault::Name(at)),
+        LexError::Memory => None,
+    }
+}
+
+/// The fault of a text's tokens as it is shown; want of memory is none.
+fn token_fault(fault: ParseError) -> Option<SourceFault>
+    ensures { result ≡ token_fault fault }
+{
+    match fault {
+        ParseError::Unexpected(at) => Some(SourceFault::Unexpected(at)),
+        ParseError::EndOfText => Some(SourceFault::End),
+        ParseError::TooDeep(at) => Some(SourceFault::Deep(at)),
+        ParseError::Memory => None,
+    }
+}
+
+/// The fault of a file's calls as it is shown; want of memory is none.
+pub(crate) fn shown_call_fault(fault: InlineError) -> Option<SourceFault>
+    ensures { result ≡ shown_call_fault fault }
+{
+    match fault {
+        InlineError::TwiceNamed(n) => Some(SourceFault::ProcedureTwice(n)),
+        InlineError::Undeclared(n) => Some(SourceFault::ProcedureUndeclared(n)),
+        InlineError::NoProcedure(n) => Some(SourceFault::CallUnknown(n)),
+        InlineError::WrongCount(n) => Some(SourceFault::CallCount(n)),
+        InlineError::NotAnArray(n) => Some(SourceFault::CallArray(n)),
+        InlineError::TooLarge => Some(SourceFault::CallsLarge),
+        InlineError::Memory => None,
+    }
+}
+
+/// The fault of a program as it is shown; want of memory is none.
+pub(crate) fn program_fault(fault: TypeError) -> Option<SourceFault>
+    ensures { result ≡ program_fault fault }
+{
+    match fault {
+        TypeError::TwiceDeclared(n) => Some(SourceFault::Twice(n)),
+        TypeError::Undeclared(n) => Some(SourceFault::Undeclared(n)),
+        TypeError::WrongShape(n) => Some(SourceFault::Shape(n)),
+        TypeError::FlowToPublic(n) => Some(SourceFault::Flow(n)),
+        TypeError::SecretIndexOfPublic(n) => Some(SourceFault::Index(n)),
+        TypeError::SecretGuardOfLoop(n) => Some(SourceFault::Guard(n)),
+        TypeError::LoopInSecret(n) => Some(SourceFault::Loop(n)),
+        TypeError::Limit(which, n) => Some(SourceFault::Limit(which, n)),
+        TypeError::Memory => None,
+    }
+}
+
+/// What lacks room as it is shown; want of memory is none.
+pub(crate) fn room_fault(fault: CompileError) -> Option<SourceFault>
+    ensures { result ≡ room_fault fault }
+{
+    match fault {
+        CompileError::TooManyScalars(label) => Some(SourceFault::Scalars(label)),
+        CompileError::BankFull(bank) => Some(SourceFault::BankFull(bank)),
+        CompileError::Memory => None,
+    }
+}

@@ -1,5 +1,0 @@
-use Rattle.ghost_cli.proofs.EventCounts.{path-uncounted}
-use Rattle.ghost_cli.proofs.count_watch.CountWatchWatch.path.Goals as goal
-
-pub returns-clause-heard : goal.returns-clause-heard
-returns-clause-heard c = path-uncounted c.args.self.now c.args._stamp c.args._bank c.args._leaves.now

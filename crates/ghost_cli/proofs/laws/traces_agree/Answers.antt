@@ -1,8 +1,0 @@
-use Rattle.ghost_cli.proofs.Saying.{texts-agree, traces-agree}
-use Rattle.ghost_cli.proofs.laws.traces_agree.Goals as goal
-
-pub returns-clause-traces : goal.returns-clause-traces
-returns-clause-traces c = traces-agree
-
-pub returns-clause-texts : goal.returns-clause-texts
-returns-clause-texts c = texts-agree

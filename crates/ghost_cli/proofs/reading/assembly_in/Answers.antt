@@ -1,5 +1,0 @@
-use Rattle.ghost_cli.proofs.Saying.{no-assembly}
-use Rattle.ghost_cli.proofs.reading.assembly_in.Goals as goal
-
-pub returns-in-Err-clause-refused : goal.returns-in-Err-clause-refused
-returns-in-Err-clause-refused c = no-assembly _ _ _ c.in-Err.ensures.first c.not_assembled.ensures
