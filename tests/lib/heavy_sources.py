@@ -1,7 +1,7 @@
 """Sources of the greatest size that take the most memory for it: many tokens, many small trees, or many short blocks."""
 
 SIZE = 1 << 20
-MOST_BYTES = 80  # of memory for each byte of a source
+MOST_BYTES = 70  # of memory for each byte of a source
 
 
 def filled(statement):
