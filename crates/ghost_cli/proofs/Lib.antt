@@ -1,16 +1,7 @@
 pub mod Flushed
-pub mod Tracing
-pub mod LevelLines
-pub mod Shown
-pub mod ShownInTrees
-pub mod LinesAlone
 pub mod Evaluating
 pub mod SampleInputs
 pub mod Samples
 pub mod SampleRuns
-pub mod PutBehind
-pub mod BusWatches
-pub mod SharedBus
 pub mod CallsNamed
-pub mod TraceTexts
 pub mod PureCalls

@@ -13,15 +13,15 @@ use Rattle.trace_patterns.specs.Accepts.{FirstRefusal}
 use Rattle.trace_patterns.specs.declared.reasons.Reason.{Reason}
 use Rattle.call_replies.specs.declared.replies.InputFault.{InputFault}
 use Rattle.call_replies.specs.declared.replies.Verdict.TheVariants.{BadInput, BadSource, Malformed, Refused}
-use Rattle.ghost_cli.specs.declared.run.Ran.{Ran}
+use Rattle.machine_verbs.specs.declared.run.Ran.{Ran}
 use Rattle.call_replies.specs.declared.source_faults.SourceFault.{SourceFault}
 use Rattle.call_steps.specs.Compiled.{IsCompiled}
 use Rattle.call_steps.specs.Objects.{SpellsObject}
 use Rattle.call_steps.specs.Questions.{AreInputs}
-use Rattle.ghost_cli.specs.Ran.{RanTo}
+use Rattle.machine_verbs.specs.Ran.{RanTo}
 use Rattle.call_steps.specs.Sources.{IsFirstSourceFault, SpellsTyped}
 use Rattle.call_replies.specs.Texts.{Said, comes_to, no_memory}
-use Rattle.ghost_cli.specs.TracedText.{IsTextOfTrace}
+use Rattle.machine_verbs.specs.TracedText.{IsTextOfTrace}
 
 -- Why bytes give no accepted object: memory ran out; or they don't encode an object, and this is their first fault; or
 -- the check rejects their object, and this is its first refusal.

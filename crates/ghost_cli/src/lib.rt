@@ -8,34 +8,25 @@
 //! crate `call_steps`.
 //!
 //! To add a verb, add its words to the crate `command_words`, write its tree in a file of its own in
-//! `call_laws/specs/`, its work in a file of its own in `src/`, and in `proofs/` a proof that the work is that of the
-//! tree. Then add it to the tables in `call_laws/specs/Verbs.antt` and `src/top.rt`. A new question is added to
-//! `call_steps/specs/Questions.antt`, a new line to the crate `call_replies`. No other verb's files change.
+//! `call_laws/specs/`, its work in a file of its own in `src/` here (or in `machine_verbs`, if it runs the machine),
+//! and in `proofs/` a proof that the work is that of the tree. Then add it to the tables in
+//! `call_laws/specs/Verbs.antt` and `src/top.rt`. A new question is added to `call_steps/specs/Questions.antt`, a new
+//! line to the crate `call_replies`. No other verb's files change.
 //!
 //! A function returns the status if it printed its own text. If nothing was printed yet, its `Err` is the reply to
 //! print, also for want of memory. They are printed in one place.
 #![tactic(auto)]
 
 mod assemble;
-pub mod bus;
-pub mod bus_lines;
-mod bus_run;
 mod check;
 pub mod compile;
 mod disassemble;
 pub mod evaluate;
 mod histogram;
 mod infer;
-mod levels;
 pub mod pure;
-pub mod run;
 pub mod sample;
-pub mod text_sink;
 pub mod top;
-pub mod trace;
-pub mod trace_watch;
 
-pub use bus_lines::BusLines;
 pub use pure::{checked_bytes, compiled_bytes, run_bytes, trace_bytes};
 pub use top::ghostrider;
-pub use trace_watch::TraceWatch;

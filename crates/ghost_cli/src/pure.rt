@@ -13,8 +13,6 @@ ghost use Rattle.call_replies.specs.Texts.{said};
 ghost use Rattle.call_steps.specs.Work.{Work};
 ghost use Rattle.call_replies.specs.declared.replies.Verdict.TheVariants.{BadInput};
 
-use crate::run::{Ran, run_to_end};
-use crate::trace::trace_text;
 use call_replies::replies::Reply;
 use call_steps::compiled_object::object_bytes;
 use call_steps::oblivious::SeededOram;
@@ -23,6 +21,8 @@ use call_steps::sources::source_in;
 use call_steps::targets::Target;
 use gr_word::Inputs;
 use lt_checker::Accepted;
+use machine_verbs::run::{Ran, run_to_end};
+use machine_verbs::trace::trace_text;
 use std::alloc::Global;
 
 /// The accepted object that these bytes encode: `check` over bytes. The bytes are at most 33,554,432.

@@ -13,21 +13,21 @@ ghost use Rattle.call_laws.specs.Verbs.{work_of, works};
 ghost use Rattle.clap.specs.Words.{found_of, rows_of};
 
 use crate::assemble::Assemble;
-use crate::bus::SharedBus;
 use crate::check::Check;
 use crate::compile::Compile;
 use crate::disassemble::Disassemble;
 use crate::evaluate::Evaluate;
 use crate::infer::Infer;
-use crate::run::Run;
 use crate::sample::Sample;
-use crate::trace::Trace;
 use call_replies::replies::Reply;
 use call_steps::putting::{NOT_PUT, say};
 use call_steps::verbs::answer;
 use clap::ArgMatches;
 use command_words::verbs::{Verb, matches_of, verb_named};
 use gr_outside::{Shelf, Sink};
+use machine_verbs::bus::SharedBus;
+use machine_verbs::run::Run;
+use machine_verbs::trace::Trace;
 use std::alloc::Global;
 
 /// All that the program does: reads the words after the program's name, does the work of the verb that they name with

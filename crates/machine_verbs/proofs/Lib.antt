@@ -1,0 +1,9 @@
+pub mod Tracing
+pub mod LevelLines
+pub mod Shown
+pub mod ShownInTrees
+pub mod LinesAlone
+pub mod PutBehind
+pub mod BusWatches
+pub mod SharedBus
+pub mod TraceTexts

@@ -1,0 +1,10 @@
+use Rattle.std.proofs.Common.{◌∙◌}
+use Rattle.command_words.specs.Asks.{trace_named}
+use Rattle.call_laws.specs.Trace.{trace_work}
+use Rattle.machine_verbs.proofs.trace.TraceRequest.words.Goals as goal
+
+pub returns-clause-asked : goal.returns-clause-asked
+returns-clause-asked c =
+    c.words_in.ensures.works
+    ∙ (λ k. trace_named trace_work (c.value.ensures k) (c.value-2.ensures k) (c.value-3.ensures k)
+    (c.value-4.ensures k) (c.value-5.ensures k) (c.value-6.ensures k))

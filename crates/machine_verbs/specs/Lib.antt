@@ -1,0 +1,4 @@
+pub mod TracedInTrees
+pub mod TracedText
+pub mod Growing
+pub mod Ran

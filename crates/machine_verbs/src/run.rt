@@ -1,0 +1,163 @@
+ghost use Rattle.std.specs.Prelude.{◌≡◌, ◌≤◌, IfOk, IfSome};
+ghost use Rattle.std.specs.Option.{option_map};
+ghost use Rattle.lt_isa.specs.Outputs.{outputs};
+ghost use Rattle.lt_isa.specs.Ranges.{IsInRange};
+ghost use Rattle.lt_isa.specs.Start.{FitsObject, wants_of};
+ghost use Rattle.run_data.specs.OutputText.{output_of};
+ghost use Rattle.machine_verbs.specs.Ran.{RanTo};
+ghost use Rattle.command_words.specs.Asks.{run_asks, run_named};
+ghost use Rattle.call_laws.specs.Run.{run_work};
+
+use call_replies::replies::{Done, Reply, Verdict};
+use call_steps::given::find_given;
+use call_steps::oblivious::{Seeded, SeededOram, SeededRecursive, load_seeded};
+use call_steps::verbs::{Maker, NewFile, Request};
+use clap::ArgMatches;
+use command_words::options::{flag_given, number_given, seed_given, value};
+use gr_base::Memory;
+use gr_outside::Shelf;
+use gr_word::Inputs;
+use lt_checker::Accepted;
+use processor::{Bank, End, Machine, NoWatch};
+use run_data::output_text;
+use std::alloc::Global;
+
+/// The names of the files of a run, its number of cycles, the seed of its random words, and whether its banks are
+/// recursive.
+#[derive(Clone, Copy)]
+pub struct RunWords<'a> {
+    object: &'a str,
+    input: &'a str,
+    output: &'a str,
+    cycles: u32,
+    seed: u64,
+    recursive: bool,
+}
+
+/// The verb `run OBJ INPUT OUT [--cycles n] [--seed s] [--recursive]`: runs an object on inputs, and writes its outputs.
+pub struct Run;
+
+impl<'a> Request<'a> for Run {
+    type Words = RunWords<'a>;
+
+    ghost asks = { run_asks run_work };
+
+    ghost work = { λ words. run_work words.object.now words.input.now words.output.now words.cycles };
+
+    ghost Fits = { λ words. 1 ≤ words.cycles };
+
+    fn words(_alloc: Global, matches: &ArgMatches<'a>) -> Result<Option<RunWords<'a>>, Memory> {
+        Ok(words_in(
+            value(matches, "OBJ"),
+            value(matches, "INPUT"),
+            value(matches, "OUT"),
+            value(matches, "cycles"),
+            value(matches, "seed"),
+            value(matches, "recursive"),
+        ))
+    }
+}
+
+impl<'a> Maker<'a> for Run {
+    fn make<F: Shelf>(
+        alloc: Global,
+        words: RunWords<'a>,
+        shelf: &mut F,
+    ) -> Result<NewFile<'a>, Reply<'a>> {
+        let given = find_given(alloc, words.object, words.input, shelf)?;
+        match run_asked(alloc, &given.accepted, &given.inputs, words)? {
+            Ran::Halted(at, bytes) => Ok(NewFile {
+                name: words.output,
+                bytes,
+                done: Done::Halted(at),
+            }),
+            Ran::Spent => Err(Reply::Comes(Verdict::Spent(words.cycles))),
+        }
+    }
+}
+
+fn words_in<'a>(
+    object: Option<&'a str>,
+    input: Option<&'a str>,
+    output: Option<&'a str>,
+    cycles: Option<&'a str>,
+    seed: Option<&'a str>,
+    recursive: Option<&'a str>,
+) -> Option<RunWords<'a>>
+    ensures works { option_map (λ a. run_work a.object.now a.input.now a.output.now a.cycles) result
+        ≡ run_named run_work (option_map (λ t. t.now) object.entry) (option_map (λ t. t.now) input.entry)
+        (option_map (λ t. t.now) output.entry)
+        (option_map (λ t. t.now) cycles.entry) (option_map (λ t. t.now) seed.entry) }
+    ensures some_cycle { IfSome result (λ a. 1 ≤ a.cycles) }
+{
+    Some(RunWords {
+        object: object?,
+        input: input?,
+        output: output?,
+        cycles: number_given(cycles)?,
+        seed: seed_given(seed)?,
+        recursive: flag_given(recursive),
+    })
+}
+
+/// How a run ended: it halted at a cycle and left the outputs of this text, or its cycles were spent.
+#[derive(Drop)]
+pub enum Ran {
+    Halted(u32, Vec<u8>),
+    Spent,
+}
+
+/// Runs an accepted object on inputs that fit it, over banks of the kind that is asked for.
+fn run_asked(
+    alloc: Global,
+    accepted: &Accepted,
+    inputs: &Inputs,
+    asked: RunWords<'_>,
+) -> Result<Ran, Memory>
+    requires in_range { IsInRange accepted.now }
+    requires fits { FitsObject accepted.now inputs.now }
+    requires some_cycle { 1 ≤ asked.cycles }
+    ensures { IfOk result (λ ran. RanTo accepted.now inputs.now asked.entry.cycles ran) }
+{
+    if asked.recursive {
+        return run_to_end::<SeededRecursive>(alloc, accepted, inputs, asked.cycles, asked.seed);
+    }
+    run_to_end::<SeededOram>(alloc, accepted, inputs, asked.cycles, asked.seed)
+}
+
+/// Runs an accepted object on inputs that fit it. The result is the same for any seed and banks.
+pub fn run_to_end<B: Seeded + Drop>(
+    alloc: Global,
+    accepted: &Accepted,
+    inputs: &Inputs,
+    cycles: u32,
+    seed: u64,
+) -> Result<Ran, Memory>
+    requires in_range { IsInRange accepted.now }
+    requires fits { FitsObject accepted.now inputs.now }
+    requires some_cycle { 1 ≤ cycles }
+    ensures { IfOk result (λ ran. RanTo accepted.now inputs.now cycles ran) }
+{
+    let mut machine = load_seeded::<B>(alloc, accepted, inputs, seed, 0)?;
+    match machine.run(cycles, &mut NoWatch::new()) {
+        Ok(End::Halted(at)) => Ok(Ran::Halted(at, outputs_of(alloc, accepted, &machine)?)),
+        Ok(End::Spent) => Ok(Ran::Spent),
+        Err(_) => unreachable!(),
+    }
+}
+
+/// The text of what a machine holds for the symbols of its object.
+fn outputs_of<B: Bank + Drop>(
+    alloc: Global,
+    accepted: &Accepted,
+    machine: &Machine<'_, B>,
+) -> Result<Vec<u8>, Memory>
+    requires object { machine.now.object ≡ accepted.now }
+    requires fits { FitsObject accepted.now (outputs accepted.now machine.now.state) }
+    ensures { IfOk result
+        (λ text. text.items ≡ output_of (wants_of accepted.now) (outputs accepted.now machine.now.state)) }
+{
+    let wants = accepted.object().wants(alloc)?;
+    let values = machine.outputs(alloc)?;
+    output_text(alloc, &wants, &values)
+}
