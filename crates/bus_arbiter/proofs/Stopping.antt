@@ -4,7 +4,7 @@ use Rattle.std.specs.Prelude.{slice_get}
 use Rattle.std.proofs.lemmas.Option.{same_Some, slice_get_within}
 use Rattle.std.proofs.lemmas.Bool.{cases_eq}
 use Rattle.bus_arbiter.specs.Cores.{Core, OnItsWay}
-use Rattle.bus_arbiter.specs.Rounds.{GoOn, JoinedOn, JoinedSoFar, StopOn}
+use Rattle.bus_arbiter.specs.Rounds.{GoOn, JoinedOn, StopOn}
 use Rattle.bus_arbiter.specs.Transfers.{Transfer}
 use Rattle.bus_arbiter.specs.Turns.{AllOnTheirWay, TurnStopped}
 use Rattle.bus_arbiter.proofs.CoreRuns.{both-way, left-way}

@@ -1,5 +1,5 @@
 -- The plan of memory of a program that is compiled with `--fast` is sound, and slot 1 holds a block of encrypted memory.
-use Rattle.std.proofs.Common.{◌≡◌, ℕ, Some, refl, ◌∙◌, arith}
+use Rattle.std.proofs.Common.{◌≡◌, ℕ, Some, refl, arith}
 use Rattle.gr_base.specs.Lists.{Within}
 use Rattle.src_tree.specs.Limits.{IsWithinLimits}
 use Rattle.src_tree.specs.Trees.{Source}

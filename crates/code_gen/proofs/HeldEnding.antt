@@ -8,7 +8,6 @@ use Rattle.std.proofs.lemmas.List.{get_or-set_same, set-set}
 use Rattle.std.proofs.lemmas.Option.{slice_get_within}
 use Rattle.gr_word.specs.Words.{IsWord}
 use Rattle.gr_word.specs.declared.variables.Label.{Label}
-use Rattle.gr_word.specs.declared.variables.Shape.{Shape}
 use Rattle.gr_word.specs.declared.variables.Shape.TheVariants.{Scalar, Array}
 use Rattle.lt_isa.specs.declared.instructions.Instr.TheVariants.{Li, Stw}
 use Rattle.lt_isa.specs.Object.{Parts, block_words}
@@ -16,7 +15,6 @@ use Rattle.lt_isa.specs.Ranges.{IsInRange}
 use Rattle.lt_isa.specs.Machine.{State, Slot, Bound, register, slot, word_in, set_slot, slot_words}
 use Rattle.lt_isa.specs.Shape.{IsShaped}
 use Rattle.lt_isa.specs.Step.{word_named}
-use Rattle.lt_isa.proofs.Shapes.{IsWord-register}
 use Rattle.lt_isa.proofs.Steps.{bound-fits}
 use Rattle.stretches.specs.Standing.{StandsAt, greatest_costs}
 use Rattle.stretches.specs.Coming.{Comes, RunsThrough, Sets}
@@ -31,7 +29,7 @@ use Rattle.held_registers.specs.declared.registers.Held.TheVariants as thing
 use Rattle.held_registers.specs.Held.{held_at, word_held, secret_zero, public_zero, IsSoundHeld}
 use Rattle.held_registers.proofs.Found.{held-high, scalar-held}
 use Rattle.block_cache_gen.specs.HeldCodes.{home_numbered, end_code, each_held, held_ending}
-use Rattle.block_cache_gen.specs.Homes.{Held, Home, Pin, Setting, HasHomes, home_of, no_home, pin_of, register_for, slot_of_word, words_a_block}
+use Rattle.block_cache_gen.specs.Homes.{Held, Home, Setting, HasHomes, home_of, no_home, pin_of, register_for, slot_of_word, words_a_block}
 use Rattle.block_cache_gen.specs.StandsFor.{StandsFor, FitsHomes}
 use Rattle.block_cache_gen.proofs.HeldBeginning.{HasName, unheld, held-name}
 use Rattle.block_cache_gen.proofs.HeldScalars.{array-free, held-listed, held-words, scalar-found}

@@ -32,7 +32,6 @@ use Rattle.code_gen.specs.Programs.{at_start, load_code, pin_store, each_slot, b
 use Rattle.block_cache_gen.specs.PublicIndexes.{BlockHasPublicIndexes}
 use Rattle.gr_word.specs.declared.variables.Label.{Label}
 use Rattle.src_tree.specs.Labels.{secret_label}
-use Rattle.held_registers.specs.declared.registers.Held.TheVariants as thing
 use Rattle.held_registers.specs.Held.{held_at, label_held}
 use Rattle.held_registers.proofs.Found.{held-high}
 use Rattle.block_cache_gen.proofs.HeldScalars.{held-listed}

@@ -11,7 +11,7 @@ use Rattle.lt_isa.specs.Object.{Parts}
 use Rattle.src_tree.specs.Contexts.{Context, context_of}
 use Rattle.src_tree.specs.Labels.{inside, label_of_test}
 use Rattle.src_tree.specs.Limits.{max_weight, Low, LowStatement, LowBlock, parts_weight, statement_weight, block_weight, test_weight}
-use Rattle.src_tree.specs.Trees.{Variable, Test, Statement, SetVariable, SetElement, Choice, Loop, Block, Nothing, Then}
+use Rattle.src_tree.specs.Trees.{Test, Statement, SetVariable, SetElement, Choice, Loop, Block, Nothing, Then}
 use Rattle.src_tree.specs.Typing.{TypedStatement, TypedBlock, TypedTest, DeclaredOnce}
 use Rattle.trace_patterns.specs.Known.{Known, note_known}
 use Rattle.trace_patterns.specs.Rules.{note_of_place, claimed_at}

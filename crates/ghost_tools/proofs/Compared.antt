@@ -1,5 +1,5 @@
 -- Two traces, compared event by event.
-use Rattle.std.proofs.Common.{◌≡◌, ◌≢◌, ℕ, zero, suc, ◌+◌, ◌<◌, ◌≤◌, ◌-◌, get_or, List, [], ◌∷◌, ◌++◌, length, take, Option, Some, None, refl, sym, ap, ◌∙◌, subst, ⊎_elim, arith, append_assoc}
+use Rattle.std.proofs.Common.{◌≡◌, ℕ, zero, suc, ◌+◌, ◌<◌, ◌≤◌, ◌-◌, get_or, List, [], ◌∷◌, ◌++◌, length, take, Option, Some, None, refl, sym, ap, ◌∙◌, subst, ⊎_elim, arith, append_assoc}
 use Rattle.std.specs.List.{slice_get}
 use Rattle.std.specs.Option.{option_map}
 use Rattle.std.proofs.Math.Seq.{take-append_seam}
@@ -15,7 +15,6 @@ use Rattle.ghost_tools.specs.Judging.{Judges}
 use Rattle.ghost_tools.specs.Recorded.{observed_in, stamped_of}
 use Rattle.ghost_tools.specs.SoFar.{EqualSoFar, end_after, end_by}
 use Rattle.ghost_tools.specs.TraceReading.{TakesNext}
-use Rattle.ghost_tools.specs.declared.comparing.Comparison.{Comparison}
 use Rattle.ghost_tools.specs.declared.comparing.Comparison.TheVariants.{Equal, Differ}
 use Rattle.ghost_tools.specs.declared.comparing.Judgement.TheVariants.{Over, Same, Other}
 use Rattle.ghost_tools.specs.declared.recorder.OwnedEvent.{OwnedEvent}

@@ -1,5 +1,5 @@
 -- Events are equal exactly where their parts are.
-use Rattle.std.proofs.Common.{◌≡◌, ℕ, zero, suc, ℤ, List, [], refl, sym, ap, ◌∙◌}
+use Rattle.std.proofs.Common.{◌≡◌, ℕ, zero, suc, ℤ, List, refl, sym, ap, ◌∙◌}
 use Rattle.lt_isa.specs.Machine.{Observed, RamRead, RamWrite, EncRead, EncWrite, Oram, Halted}
 use Rattle.lt_isa.specs.Trace.{Stamped, seen_at}
 use Rattle.ghost_tools.specs.EventParts.{HaveEqualParts, kind_of, number_of, words_of}

@@ -1,5 +1,5 @@
 -- A verb that stops before a write leaves the files as they were.
-use Rattle.std.proofs.Common.{◌≡◌, refl, sym, ap}
+use Rattle.std.proofs.Common.{◌≡◌, ap}
 use Rattle.gr_outside.specs.Shelf.{ShelfSeen}
 use Rattle.call_steps.specs.Outside.{LeavesShelf, OnlyReads}
 use Rattle.call_steps.specs.Progress.{NoRoomLeft, Stops, StopsAt}

@@ -1,5 +1,5 @@
 -- What the statuses of the tools say follows from what their results say.
-use Rattle.std.proofs.Common.{◌≡◌, ℕ, List, ap}
+use Rattle.std.proofs.Common.{List, ap}
 use Rattle.std.specs.List.{slice_get}
 use Rattle.lt_isa.specs.Trace.{Stamped}
 use Rattle.processor.specs.declared.ends.End.TheVariants as end

@@ -1,12 +1,12 @@
 -- A run through one window of cycles, and what is left to be shown after it.
-use Rattle.std.proofs.Common.{◌≡◌, ℕ, ◌<◌, ◌≤◌, Bool, true, false, ◌&&◌, cond, nat_lt, List, [], ◌++◌, map, Ok, refl, sym, ap, ◌∙◌, ⊎_elim, arith, lt-ltb, le-ltb}
+use Rattle.std.proofs.Common.{◌≡◌, ℕ, ◌≤◌, Bool, true, ◌&&◌, nat_lt, List, [], ◌++◌, map, Ok, sym, ap, ◌∙◌, ⊎_elim, arith, lt-ltb, le-ltb}
 use Rattle.std.proofs.lemmas.Bool.{cases_lt}
 use Rattle.std.proofs.lemmas.List.{append-nil}
 use Rattle.lt_isa.specs.Object.{Parts}
 use Rattle.lt_isa.specs.Machine.{State}
 use Rattle.lt_isa.specs.Ranges.{IsInRange}
 use Rattle.lt_isa.specs.Shape.{IsShaped}
-use Rattle.lt_isa.specs.Trace.{Stamped, trace_from, final_from}
+use Rattle.lt_isa.specs.Trace.{trace_from, final_from}
 use Rattle.lt_isa.proofs.Ends.{trace_resumed, trace_halted}
 use Rattle.lt_isa.proofs.Runs.{trace_from-past}
 use Rattle.processor.specs.declared.ends.End.{End}

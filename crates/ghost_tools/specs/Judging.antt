@@ -1,9 +1,6 @@
 -- What the next events of two traces are to each other. (Only private clauses and proofs say so.)
 use Rattle.std.specs.Prelude.{◌≡◌, ◌≢◌, Option, Some, None}
 use Rattle.std.specs.Option.{option_map}
-use Rattle.lt_isa.specs.Machine.{Observed, RamRead, RamWrite, EncRead, EncWrite, Oram, Halted}
-use Rattle.processor.specs.declared.ends.End.{End}
-use Rattle.processor.specs.declared.ends.End.TheVariants as end
 use Rattle.ghost_tools.specs.Recorded.{stamped_of}
 use Rattle.ghost_tools.specs.declared.recorder.Recorded.{Recorded}
 use Rattle.ghost_tools.specs.declared.comparing.Judgement.{Judgement}

@@ -9,7 +9,7 @@ use Rattle.lt_isa.specs.declared.instructions.Instr.{Instr}
 use Rattle.lt_isa.specs.declared.instructions.Instr.TheVariants.{Nop, Halt, Li, Alu, Ldb, Stb, Idb, Ldw, Stw, Jmp, Br}
 use Rattle.lt_isa.specs.Object.{Parts, is_ram, is_eram, latency_of}
 use Rattle.lt_isa.specs.Ranges.{IsInRange, InstrFits}
-use Rattle.lt_isa.specs.Machine.{Slot, Bound, State, Observed, register, slot, bank_blocks, block_at, word_in, read_event, write_event}
+use Rattle.lt_isa.specs.Machine.{Slot, Bound, State, Observed, register, slot, block_at, word_in, read_event, write_event}
 use Rattle.lt_isa.specs.Machine as seen
 use Rattle.lt_isa.specs.Costs.{cost_of}
 use Rattle.lt_isa.specs.Windows.{access_start}
@@ -23,7 +23,7 @@ use Rattle.trace_patterns.specs.Patterns.{Shown, joined}
 use Rattle.trace_patterns.specs.Events.{TreeEvent, RamRead, EncRead, EncWrite, Oram}
 use Rattle.trace_patterns.specs.SymStates.{Loaded, SymSlot, RamSlot, EramSlot, OramSlot, SymState, tree_held, slot_held, hold_tree, hold_slot}
 use Rattle.trace_patterns.specs.Single as walked
-use Rattle.trace_patterns.specs.Single.{gap, event, named_block, applied_trees, block_held, word_held, at_tree, stores, single}
+use Rattle.trace_patterns.specs.Single.{gap, event, named_block, applied_trees, block_held, word_held, single}
 use Rattle.symbolic_values.specs.TreeValues.{as_number, value_of}
 use Rattle.lt_checker.proofs.PatternValues.{shown_by, accessed_bank, played, ends, played-joined, ends-joined, ends-gap}
 use Rattle.lt_checker.proofs.Singles.{OnSingle, on_single, on_if, on_tree, on_bound, on_stored, on_stores}

@@ -5,7 +5,7 @@ use Rattle.symbolic_values.specs.declared.nodes.Node.{Node}
 use Rattle.symbolic_values.specs.Trees.{Value, tree_of}
 use Rattle.symbolic_values.specs.Tables.{IsTable}
 use Rattle.trace_patterns.specs.SymStates as trees
-use Rattle.trace_patterns.specs.SymStates.{SymState, SymSlot, AnySlot, RamSlot, EramSlot, OramSlot, tree_held, slot_held, common_tree, common_slot, common, same_origin}
+use Rattle.trace_patterns.specs.SymStates.{SymSlot, AnySlot, RamSlot, EramSlot, OramSlot, tree_held, slot_held, common_tree, common_slot, common}
 use Rattle.trace_patterns.proofs.SymStateLaws.{IsSized, own_tree, own_slot, tree-common, slot-common, sized-common, common_tree-cases, common_slot-cases}
 use Rattle.region_walk.specs.declared.states.Origin.{Origin}
 use Rattle.region_walk.specs.declared.states.Origin.TheVariants.{Entry, Loaded}

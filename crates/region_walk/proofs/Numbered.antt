@@ -8,7 +8,7 @@ use Rattle.symbolic_values.specs.declared.nodes.Node.{Node}
 use Rattle.symbolic_values.specs.Trees.{Value}
 use Rattle.symbolic_values.specs.Tables.{KeepsTrees}
 use Rattle.trace_patterns.specs.SymStates as trees
-use Rattle.trace_patterns.specs.SymStates.{SymState, SymSlot, tree_held, slot_held, hold_tree, hold_slot, slot_bank, known_after, common_tree, common_slot, common, same_origin}
+use Rattle.trace_patterns.specs.SymStates.{SymState, tree_held, slot_held, hold_tree, hold_slot, slot_bank, known_after}
 use Rattle.region_walk.specs.declared.states.Slot.{Slot}
 use Rattle.region_walk.specs.declared.states.Slot.TheVariants.{Any, Ram, Eram, Oram}
 use Rattle.region_walk.specs.declared.states.RegionState.{RegionState}

@@ -1,5 +1,5 @@
 -- A program whose names are replaced by numbers has the same meaning, and its iterations never increase.
-use Rattle.std.proofs.Common.{◌≡◌, ℕ, Bool, true, false, if◌then◌else◌, Option, Some, None, List, refl, ap, ◌∙◌}
+use Rattle.std.proofs.Common.{◌≡◌, Bool, true, false, if◌then◌else◌, Option, Some, List, refl, ap, ◌∙◌}
 use Rattle.std.specs.Option.{option_and_then}
 use Rattle.gr_word.specs.Words.{applied, compared}
 use Rattle.src_tree.specs.declared.trees.Decl.{Decl}

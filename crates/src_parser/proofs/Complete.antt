@@ -10,7 +10,7 @@ use Rattle.src_lexer.specs.declared.tokens.TokenKind.TheVariants as kind
 use Rattle.src_tree.specs.Trees.{Tree, Number, Variable, Operation}
 use Rattle.src_parser.specs.Grammar.{Limits, operator_of, level_of, operators, SpellsTree, Numeral, Named, Indexed, Bracketed, Negated, Joined}
 use Rattle.src_parser.specs.Operands as m
-use Rattle.src_parser.specs.Operands.{Waiting, Open, Index, Sign, Pending, OperandState, Wanted, Given, Reading, At, TokenStep, Moves, Stops, Deep, Joint, Joins, tree_joined, where_room, wanting, pending, closing, having, naming, reads}
+use Rattle.src_parser.specs.Operands.{Waiting, Open, Index, Sign, Pending, Wanted, Given, Reading, At, Moves, Joins, tree_joined, where_room, pending, closing, having, reads}
 use Rattle.src_parser.proofs.Levels.{level_low}
 
 -- the level from which on what waits leaves operators to the operand

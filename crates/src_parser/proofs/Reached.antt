@@ -8,7 +8,7 @@ use Rattle.src_lexer.specs.declared.tokens.TokenKind.TheVariants as kind
 use Rattle.src_tree.specs.Trees.{Tree, Number, Variable, Element}
 use Rattle.src_parser.specs.Grammar.{Limits, operator_of, level_of, operators, SpellsTree, Numeral, Named, Indexed, Bracketed}
 use Rattle.src_parser.specs.Operands as m
-use Rattle.src_parser.specs.Operands.{Waiting, Open, Index, Sign, Pending, OperandState, Wanted, Given, Reading, At, TokenStep, Moves, Stops, Deep, Joint, Joins, tree_joined, where_room, wanting, pending, closing, having, naming, reads, whole, used_of}
+use Rattle.src_parser.specs.Operands.{Waiting, Open, Index, Pending, Wanted, Given, Reading, At, Moves, Stops, Joint, Joins, tree_joined, where_room, wanting, pending, closing, having, naming, reads, whole, used_of}
 use Rattle.src_parser.proofs.Levels.{level_low, lower}
 use Rattle.src_parser.proofs.Held.{HasNoName, Held, Start, Opened, Chosen, Signed, Waits, weight, closes, takes, Taken}
 

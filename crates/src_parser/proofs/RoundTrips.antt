@@ -8,7 +8,7 @@ use Rattle.src_tree.specs.Trees.{Tree, Number, Variable, Element, Operation, Tes
 use Rattle.src_tree.specs.Heights.{height_of}
 use Rattle.src_tree.proofs.TreeHeights.{height-some}
 use Rattle.src_tree.specs.Printed.{in_braces, tree_text, test_text, statement_text, block_text, decls_text, source_text}
-use Rattle.src_parser.specs.Grammar.{limits, operator_of, level_of, comparison_of, keyword_of, operators, SpellsTree, Numeral, Named, Indexed, Bracketed, Joined, Compares, Compared, Writes, Sets, Puts, ChoosesElse, Repeats, Declares, NoMore, Scalar, Array, Sentence, Program}
+use Rattle.src_parser.specs.Grammar.{limits, level_of, keyword_of, operators, SpellsTree, Numeral, Named, Indexed, Bracketed, Joined, Compares, Compared, Writes, Sets, Puts, ChoosesElse, Repeats, Declares, NoMore, Scalar, Array, Sentence, Program}
 use Rattle.src_parser.specs.Printable.{IsFree, IsPlain, IsLow, TestFits, StatementFits, BlockFits, SizeFits, DeclsFit, IsPrintable}
 use Rattle.src_parser.specs.Source.{SpellsSource}
 use Rattle.src_lexer.specs.Splits.{Splits, Ends}

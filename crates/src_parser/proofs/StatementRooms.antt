@@ -4,7 +4,7 @@ use Rattle.src_lexer.specs.declared.tokens.TokenKind.{TokenKind}
 use Rattle.src_lexer.specs.declared.tokens.TokenKind.TheVariants as kind
 use Rattle.src_tree.specs.Trees.{Test}
 use Rattle.src_parser.specs.Parts.{Form}
-use Rattle.src_parser.specs.Statements.{Makers, Outer, InFirst, Phase, Ready, MayElse, InPart, Guarded, Otherwise, Blocks, Among, depth_in, depth_of, leaving, between_statements, chosen, elsing, with_part, entering, otherwise, performed}
+use Rattle.src_parser.specs.Statements.{Makers, Outer, InFirst, Ready, MayElse, InPart, Guarded, Otherwise, Blocks, Among, depth_in, depth_of, leaving, between_statements, chosen, elsing, with_part, entering, otherwise, performed}
 use Rattle.src_parser.specs.Tokenwise.{Wrong, TooMuch}
 use Rattle.src_parser.proofs.Tokenwise.{Shape}
 use Rattle.src_parser.proofs.Rooms.{constant, wrong_not_much, brace_room, mapped_shape, part_shape}

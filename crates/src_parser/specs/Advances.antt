@@ -4,10 +4,10 @@ use Rattle.gr_word.specs.declared.variables.Label.TheVariants.{Public, Secret}
 use Rattle.src_lexer.specs.declared.tokens.TokenKind.{TokenKind}
 use Rattle.src_lexer.specs.declared.tokens.TokenKind.TheVariants as kind
 use Rattle.src_tree.specs.declared.trees.Decl.{Decl}
-use Rattle.src_tree.specs.Trees.{Statement, SetVariable, SetElement, Choice, Loop, Nothing, block_of, Source}
+use Rattle.src_tree.specs.Trees.{Statement, SetVariable, SetElement, Choice, Loop, block_of, Source}
 use Rattle.src_parser.specs.Grammar.{Limits}
 use Rattle.src_parser.specs.Headings.{Heading, Labelled, HeadingState, Begun, Declared, heading_advanced}
-use Rattle.src_parser.specs.Statements.{Makers, Blocks, Among, Ready, between_statements, performed, complete_of, depth_of}
+use Rattle.src_parser.specs.Statements.{Makers, Blocks, between_statements, performed, complete_of, depth_of}
 use Rattle.src_parser.specs.Tokenwise.{Advance, Goes, mapped}
 
 -- the statements of programs

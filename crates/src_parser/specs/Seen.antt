@@ -2,7 +2,6 @@
 -- statements and their parts, and of declarations.
 use Rattle.std.specs.Prelude.{List, map, reverse}
 use Rattle.src_tree.specs.Trees.{expr_tree, test_of, statement_of}
-use Rattle.src_tree.specs.declared.trees.Stmt.{Stmt}
 use Rattle.src_parser.specs.declared.readings.Waiting.TheVariants as frame
 use Rattle.src_parser.specs.declared.readings.OperandState.TheVariants as operand
 use Rattle.src_parser.specs.declared.readings.TokenStep.TheVariants as step

@@ -6,7 +6,7 @@ use Rattle.std.proofs.lemmas.List.{length-append}
 use Rattle.gr_word.specs.declared.variables.Label.{Label}
 use Rattle.src_tree.specs.declared.trees.Decl.{Decl}
 use Rattle.src_tree.specs.Trees as plain
-use Rattle.src_tree.specs.Trees.{Tree, Test}
+use Rattle.src_tree.specs.Trees.{Tree}
 use Rattle.src_tree.specs.Meaning.{Store, Left, Execution, variable_number, evaluated, guard_holds, scalar_set, element_set, in_turn, turn_taken, looped, loop, run_of, run_of_block}
 use Rattle.src_tree.proofs.KeptByRuns.{left}
 use Rattle.src_procs.specs.Trees.{Statement, SetVariable, SetElement, Choice, Loop, Call, Block, Nothing, Then, Procedure}

@@ -1,4 +1,4 @@
-use Rattle.std.proofs.Common.{◌≡◌, ◌==◌, Bool, pos, sym, ap, ◌∙◌, rules, w64, to_z, of_z}
+use Rattle.std.proofs.Common.{◌≡◌, Bool, pos, sym, ap, ◌∙◌, rules, w64, to_z, of_z}
 use Rattle.std.specs.Prelude.{if◌then◌else◌}
 use Rattle.std.proofs.lemmas.Bool.{ne_eqb}
 use Rattle.std.proofs.lemmas.Int.{wraps}

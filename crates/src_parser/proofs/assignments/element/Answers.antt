@@ -1,4 +1,4 @@
-use Rattle.std.proofs.Common.{◌-◌, ◌≤◌, drop, length, take, subst, arith}
+use Rattle.std.proofs.Common.{◌-◌, ◌≤◌, drop, length, take, subst}
 use Rattle.std.specs.Prelude.{IfSome}
 use Rattle.src_lexer.specs.declared.tokens.TokenKind.TheVariants.{RBracket, Semi}
 use Rattle.src_tree.specs.Trees.{expr_tree, statement_of}
