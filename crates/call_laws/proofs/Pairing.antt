@@ -114,7 +114,7 @@ module _ {object input : List ℕ} {pair : Pair} (named : pair_of object input �
           subst (λ (r : Read). HasReached before after (with_core pair (length read.plan) read next) (next r)) is
           (then-reached (core-taken next) (given (λ d. next (one_read read o d))))
 
-      -- there is no memory to keep them
+      -- memory runs out before they are kept
       pub core-unkept : {after : Stage} (d : List (List ℤ)) → Finds between after (with_inputs o input) d
           → FindsNone before after (with_core pair (length read.plan) read) no_memory
       core-unkept d given next = out-of-memory (core-found d given refl next) refl

@@ -282,7 +282,7 @@ impl<'a> Variables<'a> {
         self.unsettled == 0
     }
 
-    /// The least length of an array, or the greatest number if there is no array.
+    /// The least length of an array, or the greatest number if nothing is an array.
     pub(crate) fn least_length(&self, tokens: Tokens<'a>) -> u64 {
         let mut least = u64::MAX;
         for variable in &self.all {

@@ -140,17 +140,17 @@ module _ (o : Parts) (s : State) (n : ℕ) (parts : List Part) (rows : ℕ) (now
       omega (arith, moved.1, few-accesses once.event)
 
   -- no count exceeds 64 bits
-  pub cycles-fit : get_or before.cycles.items part.row 0 + took < 2 ^ 64
+  pub cycles-fit : get_or before.cycles.items (part.row) 0 + took < 2 ^ 64
   cycles-fit =
       let most = count-most before.cycles.items part.row (in-length before.cycles.items so_far.cycles.count) in
       omega (arith, most, so_far.cycles.all, so_far.elapsed, once.took_is, once.fits)
 
-  pub accesses-fit : (made : ℕ) → made ≡ accesses_made i → get_or before.accesses.items part.row 0 + made < 2 ^ 64
+  pub accesses-fit : (made : ℕ) → made ≡ accesses_made i → get_or before.accesses.items (part.row) 0 + made < 2 ^ 64
   accesses-fit made is =
       let most = count-most before.accesses.items part.row (in-length before.accesses.items so_far.accesses.count) in
       omega (arith, is, most, one-access, so_far.accesses.all, so_far.few, once.took_is, once.some, once.fits)
 
-  pub padding-fits : get_or before.padding.items part.row 0 + took < 2 ^ 64
+  pub padding-fits : get_or before.padding.items (part.row) 0 + took < 2 ^ 64
   padding-fits =
       let most = count-most before.padding.items part.row (in-length before.padding.items so_far.padding.count) in
       omega (arith, most, so_far.padding.all, so_far.padded, once.took_is, once.fits)

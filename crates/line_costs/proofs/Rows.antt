@@ -26,25 +26,25 @@ pub count-most : (counts : List ℕ) (r : ℕ) → r < length counts → get_or 
 count-most counts r within = get_or-le-sum_by (λ (n : ℕ). n) counts r 0 within
 
 module _ (parts : List Part) (rows : ℕ) (f : Taken → ℕ) (taken : List Taken) (counts : List ℕ)
-    (adds : AddsUp parts rows f taken counts) (x : Taken) (row : ℕ) (within : row < rows)
-    (is : (part_of parts rows x.place).row ≡ row) where
-  in-length : row < length counts
+    (adds : AddsUp parts rows f taken counts) (x : Taken) (line : ℕ) (within : line < rows)
+    (is : (part_of parts rows x.place).row ≡ line) where
+  in-length : line < length counts
   in-length = omega (arith, adds.count, within)
 
   next-each : (r : ℕ) → r < rows
-      → get_or (added counts row (f x)) r 0 ≡ sum_by (in_row parts rows f r) (x ∷ taken)
+      → get_or (added counts line (f x)) r 0 ≡ sum_by (in_row parts rows f r) (x ∷ taken)
   next-each r less =
       ⊎_elim
       (λ (hit, same).
-      ap (λ k. get_or (added counts row (f x)) k 0) (sym same ∙ is)
-      ∙ get_or-set_same counts row (get_or counts row 0 + f x) 0 in-length
+      ap (λ k. get_or (added counts line (f x)) k 0) (sym same ∙ is)
+      ∙ get_or-set_same counts line (get_or counts line 0 + f x) 0 in-length
       ∙ ap (λ k. get_or counts k 0 + f x) (sym is ∙ same)
       ∙ ap (λ n. n + f x) (adds.each r less)
       ∙ swapped (sum_by (in_row parts rows f r) taken) (f x)
       ∙ ap (λ b. cond b (f x) 0 + sum_by (in_row parts rows f r) taken) (sym hit)
       ∙ sym (sum_by-cons (in_row parts rows f r) x taken))
       (λ (missed, other).
-      get_or-set_other counts row r (get_or counts row 0 + f x) 0 (λ same. other (is ∙ sym same))
+      get_or-set_other counts line r (get_or counts line 0 + f x) 0 (λ same. other (is ∙ sym same))
       ∙ adds.each r less
       ∙ alone (sum_by (in_row parts rows f r) taken)
       ∙ ap (λ b. cond b (f x) 0 + sum_by (in_row parts rows f r) taken) (sym missed)
@@ -58,15 +58,15 @@ module _ (parts : List Part) (rows : ℕ) (f : Taken → ℕ) (taken : List Take
       alone a = omega arith
 
   -- a step is counted in its row
-  pub adds-next : (more : ℕ) (after : List ℕ) → more ≡ f x → after ≡ added counts row more
+  pub adds-next : (more : ℕ) (after : List ℕ) → more ≡ f x → after ≡ added counts line more
       → AddsUp parts rows f (x ∷ taken) after
   adds-next more after amount put =
-      let now : after ≡ added counts row (f x) = put ∙ ap (added counts row) amount in
+      let now : after ≡ added counts line (f x) = put ∙ ap (added counts line) amount in
       record {
-        count = ap length now ∙ length-set counts row (get_or counts row 0 + f x) ∙ adds.count;
+        count = ap length now ∙ length-set counts line (get_or counts line 0 + f x) ∙ adds.count;
         each = λ r less. ap (λ l. get_or l r 0) now ∙ next-each r less;
         all =
             ap total now
-            ∙ (let sums = sum_by-set (λ (n : ℕ). n) counts row (get_or counts row 0 + f x) 0 in-length in
+            ∙ (let sums = sum_by-set (λ (n : ℕ). n) counts line (get_or counts line 0 + f x) 0 in-length in
             let cons = sum_by-cons f x taken in omega (arith, sums, cons, adds.all));
       }

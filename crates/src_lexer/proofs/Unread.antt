@@ -35,7 +35,7 @@ begins_with_both {first} tokens more a b =
           (a.splits (with_tokens more reading) (b.splits reading s));
     }
 
--- where nothing is left, there are no tokens
+-- where nothing is left, the list of tokens is empty
 pub ends_there : (left : Unread) → left.rest ≡ [] → Splits left.at left.rest (Ok [])
 ends_there left e = subst (λ z. Splits left.at z (Ok [])) (sym e) Ends
 

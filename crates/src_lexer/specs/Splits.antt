@@ -13,12 +13,12 @@ use Rattle.src_lexer.specs.Pieces.{is_white, is_in_line, Is, Big, Long, Mixed, l
 abbrev pub Lexed : Type 0
 Lexed = Result (List Token) LexError
 
--- a token before the others, if there is no error
+-- a token before the others, if none of them is an error
 abbrev pub with_token : Token → Lexed → Lexed
 with_token token (Ok tokens) = Ok (token ∷ tokens)
 with_token token (Err e) = Err e
 
--- tokens before the others, if there is no error
+-- tokens before the others, if none of them is an error
 abbrev pub with_tokens : List Token → Lexed → Lexed
 with_tokens [] reading = reading
 with_tokens (token ∷ tokens) reading = with_token token (with_tokens tokens reading)
