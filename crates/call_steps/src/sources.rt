@@ -89,7 +89,7 @@ fn inlined(alloc: Global, text: &[u8]) -> Result<Program, Option<SourceFault>>
     ensures refused { IfErr result (λ shown. IfSome shown (IsFirstSourceFault true text.now)) }
 {
     match read_file(alloc, text) {
-        Ok(file) => match inline(alloc, &file) {
+        Ok(file) => match inline(alloc, file) {
             Ok(program) => Ok(program),
             Err(fault) => Err(shown_call_fault(fault)),
         },

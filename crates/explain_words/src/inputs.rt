@@ -58,7 +58,7 @@ fn program_of(alloc: Global, tokens: &[Token], has_procs: bool) -> Option<Progra
         return parse(alloc, tokens).ok();
     }
     match parse_procs(alloc, tokens) {
-        Ok(file) => inline(alloc, &file).ok(),
+        Ok(file) => inline(alloc, file).ok(),
         Err(_) => None,
     }
 }

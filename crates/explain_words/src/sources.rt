@@ -81,14 +81,12 @@ fn typed_source(alloc: Global, text: &[u8]) -> Result<Typed, Fault>
     typed(alloc, read_source(alloc, text)?)
 }
 
-// The program without calls of a source with procedures. The source's own tree isn't kept beside it.
+// The program without calls of a source with procedures.
 fn typed_file(alloc: Global, text: &[u8]) -> Result<Typed, Fault>
     requires { length text.now ≤ 2 ^ 20 }
 {
     let file = read_file(alloc, text)?;
-    let made = inline(alloc, &file);
-    drop(file);
-    match made {
+    match inline(alloc, file) {
         Ok(program) => typed(alloc, program),
         Err(fault) => Err(Fault::Call(fault)),
     }

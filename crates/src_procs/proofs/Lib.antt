@@ -25,3 +25,5 @@ pub mod Pruning
 pub mod HandedOn
 pub mod NeededNames
 pub mod NeededBindings
+pub mod KeptNames
+pub mod OwnSteps

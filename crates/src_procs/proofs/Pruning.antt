@@ -1,14 +1,13 @@
 -- Statements without the calls that add nothing make the same code.
 use Rattle.std.proofs.Common.{inl, inr, map, ◌≡◌, ◌≢◌, Option, Some, None, ℕ, zero, suc, ◌+◌, ◌<◌, ◌≤◌, List, [], ◌∷◌, ◌++◌, length, take, drop, reverse, get_or, refl, sym, ap, ◌∙◌, subst, arith}
 use Rattle.std.proofs.lemmas.Bool.{cases_lt}
-use Rattle.std.proofs.lemmas.List.{get_or-map, length-map, length_push, take_all, drop_all, get_or_append_left, get_or_push}
+use Rattle.std.proofs.lemmas.List.{get_or-map, length-map, length_push, drop_all, get_or_append_left, get_or_push}
 use Rattle.gr_word.specs.declared.variables.Label.{Label}
 use Rattle.src_tree.specs.FirstFault.{shown_number}
 use Rattle.src_tree.specs.Trees as plain
 use Rattle.src_tree.specs.Trees.{Tree, Test}
 use Rattle.src_procs.specs.CallMeaning.{Names}
-use Rattle.src_procs.specs.Expanding.{Held, expanded, held_start, with_made}
-use Rattle.src_procs.specs.Inlined.{Renaming, Inlines, Inlined, both, choice_of, loop_of, inlined, inlined_all, inlines_of, kept_name, renamed_test}
+use Rattle.src_procs.specs.Inlined.{Renaming, Inlines, Inlined, both, choice_of, loop_of, inlined, inlined_all, inlines_of, renamed_test}
 use Rattle.src_procs.specs.Measured.{HasSizes, sizes_by}
 use Rattle.src_procs.specs.Numbered.{AreNumbered, by_number}
 use Rattle.src_procs.specs.Pruned.{ArePruned, IsPruned, SameCode, behind, pruned, unless_none, with_first}
@@ -156,15 +155,6 @@ one_body_more ps bodies b known same =
             (sym (get_or_push bodies b no_body (length bodies) refl)) same))
       ];
     }
-
--- all procedures can be called by the file's own statements
-pub whole_live : (ps : List Procedure) (n : ℕ) (less b : Block) → length ps ≤ n → SameCode (reverse (take n ps)) less b
-    → (h : Held) → h ≡ expanded less (held_start ps)
-    → h ≡ with_made (held_start ps) (inlined_all (inlines_of (reverse ps)) kept_name b 0)
-whole_live ps n less b le same h is =
-    let all : SameCode (reverse ps) less b =
-    subst (λ (qs : List Procedure). SameCode (reverse qs) less b) (take_all n ps le) same in
-    is ∙ ap (with_made (held_start ps)) (all kept_name 0)
 
 bodies_push : (bodies : List Body) (body : Body) → bodies_of (bodies ++ body ∷ []) ≡ bodies_of bodies ++ body_of body ∷ []
 bodies_push [] body = refl

@@ -1,14 +1,14 @@
 -- For the proofs and for private clauses only: a file's program made step by step, with what is still to be done on a
 -- stack.
-use Rattle.std.specs.Prelude.{ℕ, pos, List, [], ◌∷◌, ◌++◌, length, reverse, Option, Some, None, if◌then◌else◌, bytes_eq, unwrap_or}
+use Rattle.std.specs.Prelude.{ℕ, pos, Bool, false, ◌||◌, List, [], ◌∷◌, ◌++◌, length, reverse, Option, Some, None, if◌then◌else◌, bytes_eq, unwrap_or}
 use Rattle.std.specs.Option.{option_or}
 use Rattle.gr_word.specs.declared.variables.Label.{Label}
 use Rattle.src_tree.specs.declared.trees.Decl.{Decl}
 use Rattle.src_tree.specs.Trees as plain
-use Rattle.src_tree.specs.Trees.{Tree, Number, Test}
+use Rattle.src_tree.specs.Trees.{Tree, Number, Variable, Element, Operation, Test}
 use Rattle.src_procs.specs.Trees.{Statement, SetVariable, SetElement, Block, Parameter, OfValue, OfVariable, Procedure}
 use Rattle.src_procs.specs.Frames.{naming_all, named_by, new_values, new_labels}
-use Rattle.src_procs.specs.Inlined.{Renaming, renamed, Inlined, inlined, inlined_all, inlines_of, assigned, new_name, no_name, kept_name}
+use Rattle.src_procs.specs.Inlined.{Renaming, renamed, Inlined, inlined, inlined_all, inlines_of, assigned, is_hidden, new_name, no_name, kept_name}
 
 -- what is still to be done: the statements that are left of a block; the caller's names count again; a block opens; a
 -- choice ends with its second part, or a loop with its body
@@ -182,6 +182,13 @@ abbrev pub with_parameters : Renaming → Binding → List Parameter → List Tr
 with_parameters caller b [] es = b
 with_parameters caller b (p ∷ ps) [] = b
 with_parameters caller b (p ∷ ps) (e ∷ es) = with_parameters caller (with_parameter caller b p e) ps es
+
+-- a name in an expression begins with `__`
+abbrev pub has_hidden : Tree → Bool
+has_hidden (Number z) = false
+has_hidden (Variable x) = is_hidden x
+has_hidden (Element x i) = is_hidden x || has_hidden i
+has_hidden (Operation op a b) = has_hidden a || has_hidden b
 
 abbrev pub looked_up : Bound → Renaming
 looked_up bound y = unwrap_or (bound y) no_name

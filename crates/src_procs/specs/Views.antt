@@ -1,5 +1,5 @@
 -- For private clauses only: the types with which a file's program is made, as the proofs see them.
-use Rattle.std.specs.Prelude.{ℕ, List, [], map, take, reverse, slice_index_or, Option, Some, None}
+use Rattle.std.specs.Prelude.{ℕ, List, [], ◌∷◌, ◌++◌, map, take, reverse, slice_index_or, Option, Some, None}
 use Rattle.std.specs.Borrow.{Bor}
 use Rattle.src_tree.specs.Trees as plain
 use Rattle.src_tree.specs.Trees.{Tree, expr_tree, test_of}
@@ -17,6 +17,9 @@ use Rattle.src_procs.specs.declared.expanding.Pending as pendings
 use Rattle.src_procs.specs.declared.expanding.Pending.TheVariants as pending
 use Rattle.src_procs.specs.declared.expanding.Held as helds
 use Rattle.src_procs.specs.declared.expanding.Made as mades
+use Rattle.src_procs.specs.declared.own_statements.Own as owns
+use Rattle.src_procs.specs.declared.own_statements.Own.TheVariants as own
+use Rattle.src_tree.specs.declared.trees.Decl.{Decl}
 use Rattle.src_procs.specs.declared.live.Live.{Live}
 use Rattle.src_procs.specs.declared.needed.Kept as lives
 use Rattle.src_procs.specs.declared.needed.Body as lives_of
@@ -24,10 +27,10 @@ use Rattle.src_procs.specs.Needed.{LiveBody, Placed}
 use Rattle.src_procs.specs.declared.live.Live.TheOpen.{Live-F}
 use Rattle.src_procs.specs.declared.live.Live.TheOpen as open_live
 use Rattle.src_procs.specs.declared.live.Live.TheFolds.{fold-Live}
-use Rattle.src_procs.specs.Inlined.{Renaming, kept_name}
+use Rattle.src_procs.specs.Inlined.{Renaming, added, kept_name}
 use Rattle.src_procs.specs.Seen.{block_of, block_of_all, parameter_of, procedure_of}
 use Rattle.src_procs.specs.Trees.{Statement, SetVariable, SetElement, Choice, Loop, Call, Block, Nothing, Procedure, File}
-use Rattle.src_procs.specs.Expanding.{Binding, Found, looked_up, nothing_bound, Pending, Rest, Return, Open, EndChoice, EndLoop, Scope, Held}
+use Rattle.src_procs.specs.Expanding.{Binding, Found, looked_up, first_block, nothing_bound, Pending, Rest, Return, Open, EndChoice, EndLoop, Scope, Held}
 
 abbrev pub names_of : namings.Naming → Renaming
 names_of naming.Own = kept_name
@@ -94,9 +97,35 @@ pending_of pending.Open = Open
 pending_of (pending.EndChoice guard) = EndChoice (test_of guard)
 pending_of (pending.EndLoop guard) = EndLoop (test_of guard)
 
+-- the statements that are left of a block are in a list of which the next is the last
+abbrev pub own_of : owns.Own → Pending
+own_of (own.Rest left) = Rest (block_of_all (reverse left.items))
+own_of own.Open = Open
+own_of (own.EndChoice guard) = EndChoice (test_of guard)
+own_of (own.EndLoop guard) = EndLoop (test_of guard)
+
+-- the next first
+abbrev pub owns_all : List owns.Own → List Pending
+owns_all waiting = reverse (map own_of waiting)
+
 -- the next first
 abbrev pub pending_all : List pendings.Pending → List Pending
 pending_all waiting = reverse (map pending_of waiting)
+
+-- what was made of a file's own statements, in the file's scope
+abbrev pub own_held : List Proc → mades.Made → Held
+own_held procs m = record {
+  scopes = record { callable = reverse (map procedure_of procs); names = kept_name } ∷ [];
+  open_blocks = blocks_of m.open_blocks.items;
+  labels = m.labels.items;
+}
+
+-- the program with these declarations, and with what was made
+abbrev pub source_made : List Decl → mades.Made → plain.Source
+source_made decls m = record {
+  decls = decls ++ added 0 m.labels.items;
+  body = plain.block_of (first_block (blocks_of m.open_blocks.items));
+}
 
 abbrev pub binding_of : BTreeMap (Bor (List ℕ)) (List ℕ) → mades.Made → Binding
 binding_of bounds m = record {

@@ -83,7 +83,7 @@ fn new_assignment<'a>(
     alloc: Global,
     caller: &Naming<'a>,
     stands: &Name,
-    argument: &'a Expr,
+    argument: &Expr,
 ) -> Result<Stmt, Memory>
     ensures { IfOk result (λ s. statement_of s
         ≡ SetVariable stands.now (renamed (names_of caller.now) (expr_tree argument.now))) }
@@ -94,7 +94,7 @@ fn new_assignment<'a>(
 }
 
 // What an argument names for the caller.
-fn alias<'a>(alloc: Global, caller: &Naming<'a>, e: &'a Expr) -> Result<Name, Memory>
+fn alias<'a>(alloc: Global, caller: &Naming<'a>, e: &Expr) -> Result<Name, Memory>
     ensures { IfOk result (λ name. name ≡ named_by no_name (names_of caller.now) (expr_tree e.now)) }
 {
     match e {
@@ -119,7 +119,7 @@ fn with_parameter<'a>(
     made: &mut Made,
     bounds: &mut Bounds<'a>,
     param: &'a Param,
-    argument: &'a Expr,
+    argument: &Expr,
 ) -> Result<(), Memory>
     ensures { OnOk result (binding_of bounds.new made.new
         ≡ spec.with_parameter (names_of caller.now) (binding_of bounds.old made.old) (parameter_of param.now)
@@ -145,7 +145,7 @@ fn with_argument<'a>(
     made: &mut Made,
     bounds: &mut Bounds<'a>,
     param: &'a Param,
-    argument: Option<&'a Expr>,
+    argument: Option<&Expr>,
 ) -> Result<(), Memory>
     ensures { OnOk result (binding_of bounds.new made.new
         ≡ needed.with_argument (names_of caller.now) (binding_of bounds.old made.old) (parameter_of param.now)
@@ -163,7 +163,7 @@ fn with_kept<'a>(
     made: &mut Made,
     bounds: &mut Bounds<'a>,
     kept: &[Kept<'a>],
-    arguments: &[&'a Expr],
+    arguments: &[&Expr],
 ) -> Result<(), Memory>
     ensures { OnOk result (binding_of bounds.new made.new
         ≡ needed.with_kept (names_of caller.now) (binding_of bounds.old made.old) (map placed_of kept.now)
@@ -200,7 +200,7 @@ pub(crate) fn bound_names<'a>(
     made: &mut Made,
     kept: &[Kept<'a>],
     locals: &'a [Decl],
-    arguments: &[&'a Expr],
+    arguments: &[&Expr],
 ) -> Result<Bounds<'a>, Memory>
     ensures { IfOk result (λ bounds. binding_of bounds made.new
         ≡ spec.with_locals (needed.with_kept (names_of caller.now) (unbound made.old) (map placed_of kept.now)

@@ -73,7 +73,7 @@ fn call_fault<'a>(
     numbers: &Numbers<'a>,
     callable: usize,
     n: u32,
-    name: &'a Name,
+    name: &Name,
     arguments: &[Expr],
 ) -> Option<InlineError>
     ensures { result ≡ spec.call_fault n (trees_of arguments.now)
@@ -100,7 +100,7 @@ fn walk_statement<'a>(
     numbers: &Numbers<'a>,
     callable: usize,
     n: u32,
-    s: &'a PStmt,
+    s: &PStmt,
 ) -> Result<u32, InlineError>
     ensures { result ≡ spec.calls_walked
         (procedure_by_number (map procedure_of procs.now) callable (found_under numbers.now)) n (statement_of s.now) }
@@ -128,7 +128,7 @@ fn walk_block<'a>(
     numbers: &Numbers<'a>,
     callable: usize,
     n: u32,
-    statements: &'a [PStmt],
+    statements: &[PStmt],
 ) -> Result<u32, InlineError>
     ensures { result ≡ spec.calls_walked_all
         (procedure_by_number (map procedure_of procs.now) callable (found_under numbers.now)) n
@@ -156,7 +156,7 @@ fn walk_procedures<'a>(procs: &'a [Proc], numbers: &Numbers<'a>) -> Result<u32, 
 pub(crate) fn walk_file<'a>(
     procs: &'a [Proc],
     numbers: &Numbers<'a>,
-    body: &'a [PStmt],
+    body: &[PStmt],
 ) -> Result<u32, InlineError>
     requires { AreNumbered (map procedure_of procs.now) (found_under numbers.now) }
     ensures { result ≡ spec.file_walked (map procedure_of procs.now) (block_of_all body.now) }

@@ -41,13 +41,6 @@ pub(crate) struct Held<'a> {
     pub made: Made,
 }
 
-// What was made, and a stack of what is still to be done, with the next on top.
-#[derive(Drop)]
-pub(crate) struct Work<'b, 'a> {
-    pub waiting: Vec<Pending<'b, 'a>>,
-    pub held: Held<'a>,
-}
-
 // One statement more in the innermost open block. What isn't used is dropped by a call, here and below: where a
 // statement, a guard or an expression is dropped in line, all that it may hold is proved there.
 pub(crate) fn put_statement(open_blocks: &mut Vec<Vec<Stmt>>, s: Stmt) -> Result<(), Memory>

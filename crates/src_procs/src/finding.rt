@@ -28,14 +28,14 @@ pub(crate) fn called<'a>(
     procs: &[Proc],
     numbers: &Numbers<'a>,
     callable: usize,
-    name: &'a [u8],
+    name: &[u8],
 ) -> Option<usize>
     ensures within { IfSome result (λ k. k < length procs.now) }
     ensures before { IfSome result (λ k. k < callable) }
     ensures found { found_at procs.now result
         ≡ found_before (map procedure_of procs.now) callable (found_under numbers.now name.now) }
 {
-    let Some(k) = numbers.get(&name).copied() else {
+    let Some(k) = numbers.get(name).copied() else {
         return None;
     };
     if k < callable.min(procs.len()) {

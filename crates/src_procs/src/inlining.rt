@@ -2,27 +2,26 @@ ghost use Rattle.std.specs.Prelude.{◌≡◌, ◌++◌, ◌∷◌, [], IfErr, I
 ghost use Rattle.gr_base.specs.NameMaps.{found_under};
 ghost use Rattle.src_tree.specs.Trees.{source_of};
 ghost use Rattle.src_procs.specs.declared.errors.InlineError.{InlineError};
-ghost use Rattle.src_procs.specs.Expanding.{Rest, expanded, first_block, held_start, with_made};
+ghost use Rattle.src_procs.specs.Expanding.{first_block, held_start, with_made};
 ghost use Rattle.src_procs.specs.CallCauses.{ExplainsInlining, IsFirstCallFault};
 ghost use Rattle.src_procs.specs.InlineFaults.{IsFoundFault, inline_fault};
 ghost use Rattle.src_procs.specs.Inlined.{added, inlined_body, inlined_file};
 ghost use Rattle.src_procs.specs.Measured.{HasSizes};
 ghost use Rattle.src_procs.specs.Numbered.{AreNumbered};
-ghost use Rattle.src_procs.specs.Pruned.{AreReady};
 ghost use Rattle.src_procs.specs.Promise.{ArePlain, KeepsMeaning};
 ghost use Rattle.src_procs.specs.Seen.{block_of_all, file_of, procedure_of};
-ghost use Rattle.src_procs.specs.Views.{bare_file, blocks_of, held_of, live_block, pending_all, statements_seen};
+ghost use Rattle.src_procs.specs.Views.{bare_file, blocks_of, own_held, source_made, statements_seen};
 
 use crate::binding::new_name;
 use crate::call_faults::walk_file;
 use crate::errors::InlineError;
-use crate::expanding::{Held, Left, Made, Pending, Work};
+use crate::expanding::Made;
 use crate::finding::numbers_of;
-use crate::live::{Live, live_bodies, live_statements};
+use crate::live::live_bodies;
 use crate::own_names::{Numbers, procedures_fault};
-use crate::scopes::{Naming, Scope};
+use crate::own_statements::expand_own;
 use crate::sizes::{block_size, body_sizes};
-use crate::stepping::{Procedures, expand};
+use crate::stepping::Procedures;
 use crate::trees::{PStmt, Proc, ProcFile};
 use gr_base::Memory;
 use gr_word::Label;
@@ -40,7 +39,7 @@ struct Judged<'a> {
 }
 
 // What is known of the procedures of a file without a fault, or its first fault.
-fn judge<'a>(alloc: Global, procs: &'a [Proc], body: &'a [PStmt]) -> Result<Judged<'a>, InlineError>
+fn judge<'a>(alloc: Global, procs: &'a [Proc], body: &[PStmt]) -> Result<Judged<'a>, InlineError>
     ensures numbers { IfOk result (λ r. AreNumbered (map procedure_of procs.now) (found_under r.numbers)) }
     ensures sizes { IfOk result (λ r. HasSizes (map procedure_of procs.now) r.sizes.items) }
     ensures faultless { OnOk result (inline_fault (bare_file procs.now body.now) ≡ None) }
@@ -62,26 +61,6 @@ fn judge<'a>(alloc: Global, procs: &'a [Proc], body: &'a [PStmt]) -> Result<Judg
     Ok(Judged { numbers, sizes })
 }
 
-fn copied(alloc: Global, decl: &Decl) -> Result<Decl, Memory>
-    ensures { IfOk result (λ d. d ≡ decl.now) }
-{
-    Ok(Decl {
-        name: decl.name.copy(alloc)?,
-        label: decl.label,
-        length: decl.length,
-    })
-}
-
-fn all_copied(alloc: Global, decls: &[Decl]) -> Result<Vec<Decl>, Memory>
-    ensures { IfOk result (λ all. all.items ≡ decls.now) }
-{
-    let mut all = Vec::new(alloc);
-    for decl in decls {
-        all.push(copied(alloc, decl)?)?;
-    }
-    Ok(all)
-}
-
 fn added(alloc: Global, n: usize, label: Label) -> Result<Decl, Memory>
     ensures { IfOk result (λ d. d ∷ [] ≡ added n (label ∷ [])) }
 {
@@ -93,86 +72,50 @@ fn added(alloc: Global, n: usize, label: Label) -> Result<Decl, Memory>
 }
 
 // Declarations, followed by those of the new variables.
-fn with_added(alloc: Global, decls: &[Decl], labels: &[Label]) -> Result<Vec<Decl>, Memory>
-    ensures { IfOk result (λ all. all.items ≡ decls.now ++ added 0 labels.now) }
+fn with_added(alloc: Global, decls: Vec<Decl>, labels: &[Label]) -> Result<Vec<Decl>, Memory>
+    ensures { IfOk result (λ all. all.items ≡ decls.items ++ added 0 labels.now) }
 {
-    let mut all = all_copied(alloc, decls)?;
+    let mut all = decls;
     for (i, label) in labels.iter().enumerate() {
         all.push(added(alloc, i, *label)?)?;
     }
     Ok(all)
 }
 
-// What is to be done with a file's statements.
-fn start<'b, 'a>(
-    alloc: Global,
-    procs: &'a [Proc],
-    body: &'b [Live<'a>],
-) -> Result<Work<'b, 'a>, Memory>
-    ensures waiting { IfOk result (λ w. pending_all w.waiting.items ≡ Rest (live_block body.now) ∷ []) }
-    ensures held { IfOk result (λ w. held_of procs.now w.held ≡ held_start (map procedure_of procs.now)) }
+// What is made of no statement.
+fn begun(alloc: Global, procs: &[Proc]) -> Result<Made, Memory>
+    ensures { IfOk result (λ m. own_held procs.now m ≡ held_start (map procedure_of procs.now)) }
 {
-    let mut scopes = Vec::new(alloc);
-    scopes.push(Scope {
-        callable: procs.len(),
-        names: Naming::Own,
-    })?;
     let mut open_blocks = Vec::new(alloc);
     open_blocks.push(Vec::new(alloc))?;
-    let mut waiting = Vec::new(alloc);
-    waiting.push(Pending::Rest(Left { statements: body }))?;
-    Ok(Work {
-        waiting,
-        held: Held {
-            scopes,
-            made: Made {
-                open_blocks,
-                labels: Vec::new(alloc),
-            },
-        },
+    Ok(Made {
+        open_blocks,
+        labels: Vec::new(alloc),
     })
 }
 
-// What is held once all calls are replaced, of statements from which the calls that add nothing were taken out.
-fn expanded_live<'b, 'a>(
-    alloc: Global,
-    file: Procedures<'b, 'a>,
-    body: &'b [Live<'a>],
-) -> Result<Held<'a>, Memory>
-    requires { AreReady file }
-    ensures { IfOk result (λ h. held_of file.entry.procs.now h
-        ≡ expanded (live_block body.now) (held_start (map procedure_of file.entry.procs.now))) }
-{
-    let Work {
-        mut waiting,
-        mut held,
-    } = start(alloc, file.procs, body)?;
-    expand(alloc, file, &mut waiting, &mut held)?;
-    Ok(held)
-}
-
-// What is held once no call is left.
+// What is made of a file's own statements, with no call left.
 fn expanded<'a>(
     alloc: Global,
     procs: &'a [Proc],
     numbers: &Numbers<'a>,
     sizes: &[u64],
-    body: &'a [PStmt],
-) -> Result<Held<'a>, Memory>
+    body: Vec<PStmt>,
+) -> Result<Made, Memory>
     requires numbers { AreNumbered (map procedure_of procs.now) (found_under numbers.now) }
     requires sizes { HasSizes (map procedure_of procs.now) sizes.now }
-    ensures { IfOk result (λ h. held_of procs.now h
-        ≡ with_made (held_start (map procedure_of procs.now)) (inlined_body (bare_file procs.now body.now))) }
+    ensures { IfOk result (λ m. own_held procs.now m
+        ≡ with_made (held_start (map procedure_of procs.now)) (inlined_body (bare_file procs.now body.items))) }
 {
     let bodies = live_bodies(alloc, procs, numbers, sizes)?;
-    let body = live_statements(alloc, procs, numbers, sizes, procs.len(), body)?;
     let file = Procedures {
         procs,
         numbers,
         bodies: bodies.as_slice(),
     };
-    let held = expanded_live(alloc, file, body.as_slice())?;
-    Ok(held)
+    let mut made = begun(alloc, procs)?;
+    expand_own(alloc, file, sizes, body, &mut made)?;
+    Ok(made)
 }
 
 // The statements of the innermost block that is open.
@@ -185,20 +128,10 @@ fn innermost(alloc: Global, mut open_blocks: Vec<Vec<Stmt>>) -> Vec<Stmt>
     }
 }
 
-// The program whose statements and new variables are held.
-fn finish<'a>(
-    alloc: Global,
-    decls: &[Decl],
-    procs: &'a [Proc],
-    body: &'a [PStmt],
-    held: Held<'a>,
-) -> Result<Program, Memory>
-    requires { held_of procs.now held
-        ≡ with_made (held_start (map procedure_of procs.now)) (inlined_body (bare_file procs.now body.now)) }
-    ensures { IfOk result (λ p. source_of p ≡ inlined_file (record (bare_file procs.now body.now) { decls = decls.now })) }
+// The program with these declarations, and with what was made.
+fn finish(alloc: Global, decls: Vec<Decl>, made: Made) -> Result<Program, Memory>
+    ensures { IfOk result (λ p. source_of p ≡ source_made decls.items made) }
 {
-    let Held { scopes, made } = held;
-    drop(scopes);
     let Made {
         open_blocks,
         labels,
@@ -216,17 +149,19 @@ fn finish<'a>(
 /// The program does with the file's own variables what the file means, for every store and any starting values of its
 /// new variables. The errors come in the order of [`InlineError`]'s variants, those of procedures procedure by
 /// procedure, then those of calls call by call, and the first is returned. `Memory` says nothing about the file.
-pub fn inline(alloc: Global, f: &ProcFile) -> Result<Program, InlineError>
-    requires plain { ArePlain f.now.decls.items }
-    ensures inlined { IfOk result (λ p. source_of p ≡ inlined_file (file_of f.now)) }
-    ensures faultless { OnOk result ((e : InlineError) → IsFirstCallFault (file_of f.now) e → ⊥) }
-    ensures meaning { IfOk result (λ p. KeepsMeaning (file_of f.now) (source_of p)) }
-    ensures refused { IfErr result (λ e. ExplainsInlining e (file_of f.now)) }
+///
+/// The expressions of the file's own statements are moved into the program; those of procedures are copied at each call.
+pub fn inline(alloc: Global, f: ProcFile) -> Result<Program, InlineError>
+    requires plain { ArePlain f.decls.items }
+    ensures inlined { IfOk result (λ p. source_of p ≡ inlined_file (file_of f)) }
+    ensures faultless { OnOk result ((e : InlineError) → IsFirstCallFault (file_of f) e → ⊥) }
+    ensures meaning { IfOk result (λ p. KeepsMeaning (file_of f) (source_of p)) }
+    ensures refused { IfErr result (λ e. ExplainsInlining e (file_of f)) }
 {
-    let procs = f.procs.as_slice();
-    let body = f.body.as_slice();
-    let Judged { numbers, sizes } = judge(alloc, procs, body)?;
-    let held = expanded(alloc, procs, &numbers, sizes.as_slice(), body)?;
-    let program = finish(alloc, f.decls.as_slice(), procs, body, held)?;
+    let ProcFile { decls, procs, body } = f;
+    let procs = procs.as_slice();
+    let Judged { numbers, sizes } = judge(alloc, procs, body.as_slice())?;
+    let made = expanded(alloc, procs, &numbers, sizes.as_slice(), body)?;
+    let program = finish(alloc, decls, made)?;
     Ok(program)
 }

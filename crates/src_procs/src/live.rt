@@ -28,7 +28,7 @@ pub(crate) enum Live<'a> {
 }
 
 // Each of some arguments.
-fn each<'a>(alloc: Global, arguments: &'a [Expr]) -> Result<Vec<&'a Expr>, Memory>
+pub(crate) fn each<'a>(alloc: Global, arguments: &'a [Expr]) -> Result<Vec<&'a Expr>, Memory>
     ensures { IfOk result (λ all. trees_seen all.items ≡ trees_of arguments.now) }
 {
     let mut all = Vec::new(alloc);
@@ -112,7 +112,7 @@ fn live_all<'a>(
 }
 
 // Statements without the calls that add nothing, where the first `callable` procedures can be called.
-pub(crate) fn live_statements<'a>(
+fn live_statements<'a>(
     alloc: Global,
     procs: &[Proc],
     numbers: &Numbers<'a>,

@@ -56,10 +56,10 @@ fn kept_name(alloc: Global, name: &Name) -> Result<Name, Memory>
     name.copy(alloc)
 }
 
-fn bound_name<'a>(alloc: Global, bounds: &Bounds<'a>, name: &'a Name) -> Result<Name, Memory>
+fn bound_name<'a>(alloc: Global, bounds: &Bounds<'a>, name: &Name) -> Result<Name, Memory>
     ensures { IfOk result (λ stands. stands ≡ looked_up (found_under bounds.now) name.now) }
 {
-    match bounds.get(&name.bytes()) {
+    match bounds.get(name.bytes()) {
         None => no_name(alloc),
         Some(stands) => stands.copy(alloc),
     }
@@ -68,7 +68,7 @@ fn bound_name<'a>(alloc: Global, bounds: &Bounds<'a>, name: &'a Name) -> Result<
 pub(crate) fn new_name_of<'a>(
     alloc: Global,
     names: &Naming<'a>,
-    name: &'a Name,
+    name: &Name,
 ) -> Result<Name, Memory>
     ensures { IfOk result (λ stands. stands ≡ names_of names.now name.now) }
 {
@@ -78,7 +78,7 @@ pub(crate) fn new_name_of<'a>(
     }
 }
 
-pub(crate) fn renamed<'a>(alloc: Global, names: &Naming<'a>, e: &'a Expr) -> Result<Expr, Memory>
+pub(crate) fn renamed<'a>(alloc: Global, names: &Naming<'a>, e: &Expr) -> Result<Expr, Memory>
     ensures { IfOk result (λ r. expr_tree r ≡ renamed (names_of names.now) (expr_tree e.now)) }
 {
     match e {
@@ -100,7 +100,7 @@ pub(crate) fn renamed<'a>(alloc: Global, names: &Naming<'a>, e: &'a Expr) -> Res
 pub(crate) fn renamed_guard<'a>(
     alloc: Global,
     names: &Naming<'a>,
-    guard: &'a Guard,
+    guard: &Guard,
 ) -> Result<Guard, Memory>
     ensures { IfOk result (λ g. test_of g ≡ renamed_test (names_of names.now) (test_of guard.now)) }
 {

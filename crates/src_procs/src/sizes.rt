@@ -55,7 +55,7 @@ pub(crate) fn call_size<'a>(
     numbers: &Numbers<'a>,
     sizes: &[u64],
     callable: usize,
-    name: &'a Name,
+    name: &Name,
     arguments: &[Expr],
 ) -> u64
     ensures { result ≡ shown_number
@@ -78,7 +78,7 @@ fn statement_count<'a>(
     numbers: &Numbers<'a>,
     sizes: &[u64],
     callable: usize,
-    s: &'a PStmt,
+    s: &PStmt,
 ) -> u64
     ensures { result ≡ shown_number
         (size_of (sizes_by sizes.now (by_number (map procedure_of procs.now) callable (found_under numbers.now)))
@@ -107,7 +107,7 @@ fn block_count<'a>(
     numbers: &Numbers<'a>,
     sizes: &[u64],
     callable: usize,
-    statements: &'a [PStmt],
+    statements: &[PStmt],
 ) -> u64
     ensures { result ≡ shown_number (size_of_all
         (sizes_by sizes.now (by_number (map procedure_of procs.now) callable (found_under numbers.now)))
@@ -126,7 +126,7 @@ pub(crate) fn block_size<'a>(
     numbers: &Numbers<'a>,
     sizes: &[u64],
     callable: usize,
-    statements: &'a [PStmt],
+    statements: &[PStmt],
 ) -> u64
     requires numbers { AreNumbered (map procedure_of procs.now) (found_under numbers.now) }
     requires sizes { IsMeasured (map procedure_of procs.now) sizes.now callable }

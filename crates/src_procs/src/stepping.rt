@@ -49,7 +49,7 @@ fn begin_call<'a>(
     k: usize,
     kept: &[Kept<'a>],
     locals: &'a [Decl],
-    arguments: &[&'a Expr],
+    arguments: &[&Expr],
     scope: Scope<'a>,
     held: &mut Held<'a>,
 ) -> Result<(), Memory>
@@ -68,12 +68,12 @@ fn begin_call<'a>(
 }
 
 // A call of a procedure.
-fn call<'b, 'a>(
+pub(crate) fn call<'b, 'a>(
     alloc: Global,
     file: Procedures<'b, 'a>,
     waiting: &mut Vec<Pending<'b, 'a>>,
-    name: &'a Name,
-    arguments: &[&'a Expr],
+    name: &Name,
+    arguments: &[&Expr],
     callable: usize,
     scope: Scope<'a>,
     held: &mut Held<'a>,
